@@ -1,0 +1,17 @@
+//! Where a program's files are and where its output goes: the traits, a store and a sink in memory
+//! that tell what they hold, and the system's own, which tell nothing.
+#![tactic(auto)]
+
+mod disk;
+mod files;
+mod memory;
+mod output;
+mod sink;
+#[cfg(test)]
+mod tests;
+
+pub use disk::DiskFiles;
+pub use files::{Files, Loaded, Saved};
+pub use memory::{MemFiles, MemSink};
+pub use output::StdSink;
+pub use sink::{Put, Sink};
