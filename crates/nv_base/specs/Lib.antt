@@ -1,0 +1,5 @@
+pub mod Words
+pub mod Memories
+pub mod Log
+pub mod Meanings
+pub mod Progress

@@ -1,0 +1,21 @@
+//! What all crates of the compiler speak of: words and their operations, primitives, the packet's
+//! memories, writes and their log, and the outcome of a run.
+#![tactic(auto)]
+
+mod error;
+pub mod laws;
+mod log;
+mod outcome;
+mod packet;
+mod term;
+#[cfg(test)]
+mod tests;
+pub mod word;
+mod words;
+
+pub use error::{NoMemory, PacketError};
+pub use log::WriteLog;
+pub use outcome::{Outcome, Write};
+pub use packet::Packet;
+pub use term::{Access, Args, Atom, Bin, Cmp, Mem, Primitive, Primitive as Prim, Una, Vars};
+pub use words::Words;
