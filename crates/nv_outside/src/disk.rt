@@ -1,18 +1,18 @@
 // The files of the system.
 ghost use Rattle.std.specs.Prelude.{◌≡◌, ◌≢◌, ◌+◌, ◌≤◌, ◌++◌, ℕ, List, None, length};
+ghost use Rattle.nv_outside.specs.System.{disk_load_count, disk_save_count};
 ghost use Rattle.nv_outside.specs.declared.files.Loaded.{Loaded};
 
 use crate::files::{Files, Loaded, Saved};
 use arrayvec::ArrayString;
 use std::fmt::Write as _;
-use std::fs;
 use std::fs::{File, OpenFile, OpenOptions, Permissions};
-use std::io;
 use std::io::{ErrorKind, Read, Write};
-use std::rt;
+use std::{fs, io, rt};
 
 // The longest path that is made for a temporary file, and how many names are tried for one.
 const PATH_BYTES: usize = 4096;
+
 const TEMPORARY_NAMES: u32 = 1000;
 
 /// The files of the system, over the runtime that `main` is given. A name is a path. It tells nothing of
@@ -30,7 +30,10 @@ pub struct DiskFiles<'a, R: rt::Files> {
 
 impl<'a, R: rt::Files> DiskFiles<'a, R> {
     /// The files of this runtime.
-    pub fn new(rt: &'a R) -> DiskFiles<'a, R> {
+    pub fn new(rt: &'a R) -> DiskFiles<'a, R>
+        ensures loads { disk_load_count result ≡ 0 }
+        ensures saves { disk_save_count result ≡ 0 }
+    {
         DiskFiles {
             rt,
             load_faults: 0,
@@ -44,9 +47,9 @@ impl<'a, R: rt::Files> Files for DiskFiles<'a, R> {
 
     ghost held = { λ _ _. None };
 
-    ghost load_faults = { λ f _. f.load_faults };
+    ghost load_faults = { λ f _. disk_load_count f };
 
-    ghost save_faults = { λ f _. f.save_faults };
+    ghost save_faults = { λ f _. disk_save_count f };
 
     fn load(&mut self, name: &str, limit: u64, into: &mut Vec<u8>) -> Loaded {
         let loaded = match fs::open(self.rt, name) {

@@ -1,5 +1,6 @@
 // The standard output.
 ghost use Rattle.std.specs.Prelude.{◌≡◌, ℕ, List, []};
+ghost use Rattle.nv_outside.specs.System.{output_count};
 
 use crate::sink::{Put, Sink};
 use std::io::{Print, Write};
@@ -13,7 +14,9 @@ pub struct StdSink<'a, R: Print> {
 
 impl<'a, R: Print> StdSink<'a, R> {
     /// The standard output of this runtime.
-    pub fn new(rt: &'a R) -> StdSink<'a, R> {
+    pub fn new(rt: &'a R) -> StdSink<'a, R>
+        ensures { output_count result ≡ 0 }
+    {
         StdSink { rt, faults: 0 }
     }
 }
@@ -23,7 +26,7 @@ impl<'a, R: Print> Sink for StdSink<'a, R> {
 
     ghost written = { λ _. [] };
 
-    ghost faults = { λ s. s.faults };
+    ghost faults = { output_count };
 
     fn put(&mut self, bytes: &[u8]) -> Put {
         match self.rt.write_all(bytes) {

@@ -1,0 +1,5 @@
+pub mod Rows
+pub mod Short
+pub mod Worked
+pub mod Names
+pub mod Reading

@@ -1,0 +1,17 @@
+//! The syntax trees of Nova, and the definitions of its grammar, layouts, types and sizes.
+#![tactic(auto)]
+
+pub mod laws;
+mod name;
+mod program;
+#[cfg(test)]
+mod tests;
+mod token;
+mod tree;
+mod typed;
+
+pub use name::Name;
+pub use program::Program;
+pub use token::{Sort, Span, Token};
+pub use tree::{Decl, Expr, FieldText, Fun, Kind, LayoutText, Op, Pat, ShiftOp, Stmt, TyText};
+pub use typed::Typed;

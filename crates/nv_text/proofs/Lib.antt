@@ -1,0 +1,5 @@
+pub mod Runs
+pub mod Bytes
+pub mod LongestToken
+pub mod Blanks
+pub mod Reading

@@ -1,0 +1,6 @@
+pub mod Code
+pub mod Lawful
+pub mod Step
+pub mod Engine
+pub mod Straight
+pub mod Agrees

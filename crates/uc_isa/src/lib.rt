@@ -1,0 +1,18 @@
+//! The microengine: its instructions, which code is lawful, and what the engine does.
+#![tactic(auto)]
+
+mod code;
+mod engine;
+mod instruction;
+pub mod laws;
+mod registers;
+mod rules;
+
+pub use code::Code;
+pub use engine::{Engine, Stepped, step};
+pub use instruction::{Cond, Dst, Gpr, Instr, Src, UnOp};
+pub use registers::{RegA, RegB, RegL, RegLD, RegS, RegSD};
+pub use rules::{broken, lint};
+
+#[cfg(test)]
+mod tests;

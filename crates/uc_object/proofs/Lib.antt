@@ -1,0 +1,12 @@
+pub mod Faults
+pub mod Reading
+pub mod Reader
+pub mod Single
+pub mod Fitting
+pub mod Rows
+pub mod Headers
+pub mod RowFaults
+pub mod Places
+pub mod RowPlaces
+pub mod Results
+pub mod Spelling

@@ -1,0 +1,3 @@
+pub mod Object
+pub mod Columns
+pub mod Header
