@@ -3,3 +3,4 @@ pub mod Short
 pub mod Worked
 pub mod Names
 pub mod Reading
+pub mod ExceptionCounts

@@ -2,6 +2,7 @@
 #![tactic(auto)]
 
 mod error;
+mod laws;
 mod scan;
 mod spelling;
 mod tables;
@@ -9,5 +10,6 @@ mod tables;
 mod tests;
 
 pub use error::TextError;
+pub use laws::one_program;
 pub use nv_ast::{Sort, Token};
 pub use scan::tokens;

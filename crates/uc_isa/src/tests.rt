@@ -5,7 +5,7 @@ use crate::{
     Code, Cond, Dst, Engine, Gpr, Instr, RegA, RegB, RegL, RegLD, RegS, RegSD, Src, Stepped, UnOp,
     broken, lint, step,
 };
-use nv_base::{Bin, Mem, Packet, Words, Write};
+use nv_base::{Access, Bin, Mem, Packet, Words, Write};
 use std::alloc::{AllocError, Global};
 use std::test::Fail;
 
@@ -205,83 +205,65 @@ fn a_branch_is_taken_by_its_flag(rt: HostRuntime) -> Result<(), Fail> {
 }
 
 #[test]
-fn a_run_moves_between_registers_and_memory(rt: HostRuntime) -> Result<(), Fail> {
+fn a_write_takes_a_run_of_registers(rt: HostRuntime) -> Result<(), Fail> {
     let mut p = Packet::new(rt.alloc(), 8, 3)?;
-    let mut e = Engine::start(&[1, 2], 512);
-    e.sd = [10, 11, 12, 13, 14, 15, 16, 17];
-    e.s = [20, 21, 22, 23, 24, 25, 26, 27];
+    let rows: [(Mem, u8, u8, u32, [u32; 4]); 3] = [
+        (Mem::Sram, 0, 4, 4, [20, 21, 22, 23]),
+        (Mem::Sdram, 2, 4, 1, [12, 13, 14, 15]),
+        (Mem::Scratch, 4, 4, 1_020, [24, 25, 26, 27]),
+    ];
+    for (mem, r, n, at, words) in rows {
+        let mut e = Engine::start(&[at], 512);
+        e.s = [20, 21, 22, 23, 24, 25, 26, 27];
+        e.sd = [10, 11, 12, 13, 14, 15, 16, 17];
+        let i = Instr::Write {
+            mem,
+            r,
+            n,
+            x: Gpr::A(A0),
+            off: 0,
+        };
+        let event = Write {
+            mem,
+            at,
+            words: Words::of(&words),
+        };
+        let what = stepped(rt.alloc(), i, e, &mut p)?.map(|(what, e)| (what, e.place));
+        assert_eq!(rt; what, Some((Stepped::Wrote(event), 1)), "{mem:?}");
+    }
+    Ok(())
+}
 
-    // Registers SD2 to SD5 go to the two quadwords from 1 on.
-    let i = Instr::Write {
-        mem: Mem::Sdram,
-        r: 2,
-        n: 4,
-        x: Gpr::A(A0),
-        off: 0,
-    };
-    let wrote = stepped(rt.alloc(), i, e, &mut p)?;
-    let Some((what, mut e)) = wrote else {
-        return Err(AllocError.into());
-    };
-    assert_eq!(rt;
-        what,
-        Stepped::Wrote(Write {
-            mem: Mem::Sdram,
-            at: 1,
-            words: Words::of(&[12, 13, 14, 15])
-        })
-    );
-    assert_eq!(rt; e.place, 1);
-
-    // Words 3 to 5 of SRAM come from S0 to S2, and come back into L5 to L7.
-    e.place = 0;
-    let i = Instr::Write {
-        mem: Mem::Sram,
-        r: 0,
-        n: 3,
-        x: Gpr::A(A1),
-        off: 1,
-    };
-    let wrote = stepped(rt.alloc(), i, e, &mut p)?;
-    let Some((what, mut e)) = wrote else {
-        return Err(AllocError.into());
-    };
-    assert_eq!(rt;
-        what,
-        Stepped::Wrote(Write {
-            mem: Mem::Sram,
-            at: 3,
-            words: Words::of(&[20, 21, 22])
-        })
-    );
-    e.place = 0;
-    let i = Instr::Read {
-        mem: Mem::Sram,
-        r: 5,
-        n: 3,
-        x: Gpr::A(A1),
-        off: 1,
-    };
-    let Some((what, mut e)) = stepped(rt.alloc(), i, e, &mut p)? else {
-        return Err(AllocError.into());
-    };
-    assert_eq!(rt; what, Stepped::Went);
-    assert_eq!(rt; e.l, [0, 0, 0, 0, 0, 20, 21, 22]);
-
-    // The quadwords from 1 on come into LD4 to LD7.
-    e.place = 0;
-    let i = Instr::Read {
-        mem: Mem::Sdram,
-        r: 4,
-        n: 4,
-        x: Gpr::A(A0),
-        off: 0,
-    };
-    let Some((what, e)) = stepped(rt.alloc(), i, e, &mut p)? else {
-        return Err(AllocError.into());
-    };
-    assert_eq!(rt; what, Stepped::Went);
-    assert_eq!(rt; e.ld, [0, 0, 0, 0, 12, 13, 14, 15]);
+#[test]
+fn a_read_fills_a_run_of_registers(rt: HostRuntime) -> Result<(), Fail> {
+    let mut p = Packet::new(rt.alloc(), 8, 5)?;
+    assert!(rt; p.write(Mem::Sram, 4, &[20, 21, 22, 23]) == Access::Done);
+    assert!(rt; p.write(Mem::Sdram, 3, &[10, 11, 12, 13]) == Access::Done);
+    let rows: [(Mem, u8, u8, [u32; 8], [u32; 8]); 3] = [
+        (Mem::Sram, 5, 1, [0, 0, 0, 0, 0, 20, 21, 22], [0; 8]),
+        (Mem::Sdram, 4, 0, [0; 8], [0, 0, 0, 0, 10, 11, 12, 13]),
+        (Mem::Scratch, 0, 0, [0; 8], [0; 8]),
+    ];
+    for (mem, r, off, l, ld) in rows {
+        let n = 8 - r;
+        let e = Engine::start(&[3], 512);
+        let i = Instr::Read {
+            mem,
+            r,
+            n,
+            x: Gpr::A(A0),
+            off,
+        };
+        let mut after = Engine::start(&[3], 512);
+        after.l = l;
+        after.ld = ld;
+        after.place = 1;
+        assert_eq!(rt;
+            stepped(rt.alloc(), i, e, &mut p)?,
+            Some((Stepped::Went, after)),
+            "{mem:?}"
+        );
+    }
     Ok(())
 }
 
@@ -337,60 +319,77 @@ fn a_halt_gives_the_first_words_of_a(rt: HostRuntime) -> Result<(), Fail> {
     Ok(())
 }
 
+// The rule that this instruction breaks before a halt.
+fn rule_of(alloc: Global, i: Instr) -> Result<Option<u8>, AllocError> {
+    let c = before_halt(alloc, i)?;
+    let len = c.list().len();
+    Ok(if len == 2 {
+        broken(&c, 0)
+    } else {
+        lint(&c).map(|found| found.1)
+    })
+}
+
 #[test]
-fn the_least_broken_rule_is_told(rt: HostRuntime) -> Result<(), Fail> {
-    let alu = |x: Src, y: Src| Instr::Alu {
-        dst: Dst::Nowhere,
-        op: Bin::Add,
-        x,
-        y,
+fn operands_come_from_different_banks(rt: HostRuntime) -> Result<(), Fail> {
+    let rows: [(Src, Src, Option<u8>); 6] = [
+        (Src::A(A0), Src::B(B0), None),
+        (Src::LD(LD7), Src::A(A0), None),
+        (Src::A(A0), Src::A(A1), Some(1)),
+        (Src::B(B0), Src::B(B0), Some(1)),
+        (Src::L(L0), Src::L(L0), Some(1)),
+        (Src::L(L0), Src::LD(LD7), Some(1)),
+    ];
+    for (x, y, rule) in rows {
+        let i = Instr::Alu {
+            dst: Dst::Nowhere,
+            op: Bin::Add,
+            x,
+            y,
+        };
+        assert_eq!(rt; rule_of(rt.alloc(), i)?, rule, "{i:?}");
+    }
+    Ok(())
+}
+
+#[test]
+fn the_least_rule_of_a_run_is_told(rt: HostRuntime) -> Result<(), Fail> {
+    let rows: [(Mem, u8, u8, u8, Option<u8>); 10] = [
+        (Mem::Sram, 0, 8, 127, None),
+        (Mem::Sdram, 2, 6, 127, None),
+        (Mem::Sram, 0, 0, 0, Some(2)),
+        (Mem::Sram, 6, 3, 0, Some(2)),
+        (Mem::Scratch, 255, 1, 0, Some(2)),
+        (Mem::Sdram, 1, 2, 0, Some(3)),
+        (Mem::Sdram, 2, 3, 0, Some(3)),
+        (Mem::Sdram, 1, 8, 128, Some(2)),
+        (Mem::Sdram, 1, 4, 128, Some(3)),
+        (Mem::Sram, 1, 3, 128, Some(4)),
+    ];
+    for (mem, r, n, off, rule) in rows {
+        let i = Instr::Read {
+            mem,
+            r,
+            n,
+            x: Gpr::B(B15),
+            off,
+        };
+        assert_eq!(rt; rule_of(rt.alloc(), i)?, rule, "{i:?}");
+    }
+    Ok(())
+}
+
+#[test]
+fn numbers_and_targets_are_bounded(rt: HostRuntime) -> Result<(), Fail> {
+    let un = |op: UnOp| Instr::Un {
+        dst: Dst::A(A0),
+        op,
+        x: Src::A(A0),
     };
-    let read = |mem: Mem, r: u8, n: u8, off: u8| Instr::Read {
-        mem,
-        r,
-        n,
-        x: Gpr::B(B15),
-        off,
-    };
-    let rows: [(Instr, Option<u8>); 20] = [
-        (alu(Src::A(A0), Src::B(B0)), None),
-        (alu(Src::A(A0), Src::A(A1)), Some(1)),
-        (alu(Src::B(B0), Src::B(B0)), Some(1)),
-        (alu(Src::L(L0), Src::LD(LD7)), Some(1)),
-        (alu(Src::LD(LD7), Src::A(A0)), None),
-        (read(Mem::Sram, 0, 8, 127), None),
-        (read(Mem::Sram, 0, 0, 0), Some(2)),
-        (read(Mem::Sram, 6, 3, 0), Some(2)),
-        (read(Mem::Scratch, 255, 1, 0), Some(2)),
-        (read(Mem::Sdram, 1, 2, 0), Some(3)),
-        (read(Mem::Sdram, 2, 3, 0), Some(3)),
-        (read(Mem::Sdram, 1, 8, 128), Some(2)),
-        (read(Mem::Sdram, 1, 4, 128), Some(3)),
-        (read(Mem::Sram, 1, 3, 128), Some(4)),
-        (
-            Instr::Un {
-                dst: Dst::A(A0),
-                op: UnOp::Rol(0),
-                x: Src::A(A0),
-            },
-            Some(4),
-        ),
-        (
-            Instr::Un {
-                dst: Dst::A(A0),
-                op: UnOp::Shr(32),
-                x: Src::A(A0),
-            },
-            Some(4),
-        ),
-        (
-            Instr::Immed {
-                dst: Dst::A(A0),
-                v: 1,
-                s: 4,
-            },
-            Some(4),
-        ),
+    let rows: [(Instr, Option<u8>); 6] = [
+        (un(UnOp::Rol(0)), Some(4)),
+        (un(UnOp::Shr(32)), Some(4)),
+        (un(UnOp::Shl(31)), None),
         (
             Instr::Br {
                 cond: Cond::Z,
@@ -402,10 +401,7 @@ fn the_least_broken_rule_is_told(rt: HostRuntime) -> Result<(), Fail> {
         (Instr::Halt { k: 1, n: 8 }, None),
     ];
     for (i, rule) in rows {
-        let c = before_halt(rt.alloc(), i)?;
-        assert!(rt; c.list().len() == 2);
-        assert_eq!(rt; broken(&c, 0), rule, "{i:?}");
-        assert_eq!(rt; lint(&c), rule.map(|rule| (0, rule)), "{i:?}");
+        assert_eq!(rt; rule_of(rt.alloc(), i)?, rule, "{i:?}");
     }
     Ok(())
 }

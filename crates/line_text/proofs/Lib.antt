@@ -1,0 +1,5 @@
+pub mod LineLemmas
+pub mod NumberLemmas
+pub mod SplitLaws
+pub mod FormatLaws
+pub mod NumberLaws

@@ -1,0 +1,4 @@
+pub mod Number
+pub mod Line
+pub mod Format
+pub mod Left

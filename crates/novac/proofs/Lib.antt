@@ -1,0 +1,13 @@
+pub mod Loads
+pub mod WordParams
+pub mod Errors
+pub mod Texts
+pub mod Apart
+pub mod Names
+pub mod Spans
+pub mod Params
+pub mod Terms
+pub mod Spelling
+pub mod Values
+pub mod Sums
+pub mod Correct

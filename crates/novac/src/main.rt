@@ -1,0 +1,44 @@
+//! The compiler's program: `run` does what the words of a command line say, over any files and any sink.
+#![tactic(auto)]
+
+mod build;
+mod compile;
+mod emit;
+mod parse;
+mod status;
+mod sum;
+#[cfg(test)]
+mod tests;
+mod top;
+mod words;
+
+pub use build::{First, FirstError, compile_first};
+use nv_base::NoMemory;
+use nv_outside::{DiskFiles, StdSink};
+pub use status::Status;
+use std::env;
+use std::io::ErrorKind;
+use std::process::ExitCode;
+use std::rt::Env;
+pub use top::run;
+
+fn main(rt: HostRuntime) -> ExitCode {
+    let status = match command_line(&rt) {
+        Ok(words) => {
+            let mut files = DiskFiles::new(&rt);
+            let mut out = StdSink::new(&rt);
+            run(rt.alloc(), &words, &mut files, &mut out)
+        }
+        Err(NoMemory) => Status::NoMemory,
+    };
+    ExitCode::from(status.code())
+}
+
+// The words of the command line without the program's name, or no words where they aren't all texts.
+fn command_line<R: Env + AllocGlobal>(rt: &R) -> Result<Vec<String>, NoMemory> {
+    match env::args(rt) {
+        Ok(words) => Ok(words.skip(1).collect(rt.alloc())?),
+        Err(e) if e.kind() == ErrorKind::OutOfMemory => Err(NoMemory),
+        Err(_) => Ok(Vec::new(rt.alloc())),
+    }
+}

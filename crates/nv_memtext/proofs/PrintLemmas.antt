@@ -1,0 +1,97 @@
+-- Texts that are written piece by piece.
+use Rattle.std.proofs.Common.{◌≡◌, ℕ, zero, suc, ◌+◌, ◌-◌, ◌*◌, ◌/◌, ◌%◌, ◌<◌, ◌≤◌, List, [], ◌∷◌, ◌++◌, length, get_or, take, drop, map, refl, sym, ap, ◌∙◌, subst, arith, append_assoc, codes, decimal, add-one, Bool, true, false, eqb, Result, OnOk}
+use Rattle.std.proofs.lemmas.Result.{on_ok_weaker}
+use Rattle.std.proofs.lemmas.List.{append-nil, take_all, length-drop}
+use Rattle.std.proofs.lemmas.Grind.{take_at_read}
+use Rattle.std.specs.List.{flat_map, list_all}
+use Rattle.line_text.specs.Line.{text_of, parted}
+use Rattle.line_text.specs.Number.{hex_word}
+use Rattle.line_text.proofs.SplitLaws.{parted-cons, text_of-append}
+use Rattle.nv_base.specs.declared.term.Mem.{Mem}
+use Rattle.nv_base.specs.declared.outcome.Write.{Write}
+use Rattle.nv_memtext.specs.Spelling.{name_of}
+use Rattle.nv_memtext.specs.OutcomeText.{stretch_line, write_line, stretch_lines, stretch_words, stretch_start, numbers_below, memory_lines}
+
+pub flat_map-append : {X A : Type 0} (f : X → List A) (xs ys : List X) → flat_map f (xs ++ ys) ≡ flat_map f xs ++ flat_map f ys
+flat_map-append f [] ys = refl
+flat_map-append f (x ∷ xs) ys = ap (λ t. f x ++ t) (flat_map-append f xs ys) ∙ sym (append_assoc (f x) (flat_map f xs) (flat_map f ys))
+
+pub flat_map-map : {X Y : Type 0} (g : X → Y) (f : Y → List ℕ) (xs : List X) → flat_map f (map g xs) ≡ flat_map (λ x. f (g x)) xs
+flat_map-map g f [] = refl
+flat_map-map g f (x ∷ xs) = ap (λ t. f (g x) ++ t) (flat_map-map g f xs)
+
+-- one piece more
+pub piece_more : {X : Type 0} (f : X → List ℕ) (start : List ℕ) (xs : List X) (i : ℕ) (x : X) → i < length xs → get_or xs i x ≡ x → (start ++ flat_map f (take i xs)) ++ f x ≡ start ++ flat_map f (take (i + 1) xs)
+piece_more f start xs i x lt e =
+    append_assoc start (flat_map f (take i xs)) (f x)
+    ∙ ap (λ t. start ++ t) (ap (λ t. flat_map f (take i xs) ++ t) (sym (append-nil (f x))) ∙ (sym (flat_map-append f (take i xs) (x ∷ [])) ∙ ap (flat_map f) (ap (λ y. take i xs ++ y ∷ []) (sym e) ∙ sym (take_at_read xs i x lt).1)))
+
+-- a line of words, each behind a space
+pub words_line : (p : List ℕ) (ws : List ℕ) → parted (p ∷ map hex_word ws) ≡ p ++ flat_map (λ w. 32 ∷ hex_word w) ws
+words_line p ws = parted-cons p (map hex_word ws) ∙ ap (λ t. p ++ t) (flat_map-map hex_word (λ q. 32 ∷ q) ws)
+
+pub all_pieces : {X : Type 0} (f : X → List ℕ) (start : List ℕ) (xs : List X) (i : ℕ) → length xs ≤ i → start ++ flat_map f (take i xs) ≡ start ++ flat_map f xs
+all_pieces f start xs i le = ap (λ t. start ++ flat_map f t) (take_all i xs le)
+
+pub join2 : (i j k a b : List ℕ) → j ≡ i ++ a → k ≡ j ++ b → k ≡ i ++ (a ++ b)
+join2 i j k a b e f = f ∙ (ap (λ t. t ++ b) e ∙ append_assoc i a b)
+
+pub join3 : (i j k l a b c : List ℕ) → j ≡ i ++ a → k ≡ j ++ b → l ≡ k ++ c → l ≡ i ++ (a ++ (b ++ c))
+join3 i j k l a b c e f g = join2 i j l a (b ++ c) e (join2 j k l b c f g)
+
+pub join4 : (i j k l m a b c d : List ℕ) → j ≡ i ++ a → k ≡ j ++ b → l ≡ k ++ c → m ≡ l ++ d → m ≡ i ++ (a ++ (b ++ (c ++ d)))
+join4 i j k l m a b c d e f g h = join2 i j m a (b ++ (c ++ d)) e (join3 j k l m b c d f g h)
+
+pub join5 : (i j k l m n a b c d e : List ℕ) → j ≡ i ++ a → k ≡ j ++ b → l ≡ k ++ c → m ≡ l ++ d → n ≡ m ++ e → n ≡ i ++ (a ++ (b ++ (c ++ (d ++ e))))
+join5 i j k l m n a b c d e p q r s t = join2 i j n a (b ++ (c ++ (d ++ e))) p (join4 j k l m n b c d e q r s t)
+
+-- the pieces of a stretch's line
+pub stretch_pieces : (m : Mem) (at : ℕ) (ws : List ℕ) → name_of m ++ (32 ∷ (decimal at ++ (flat_map (λ w. 32 ∷ hex_word w) ws ++ 10 ∷ []))) ≡ stretch_line m at ws ++ 10 ∷ []
+stretch_pieces m at ws =
+    ap (λ t. name_of m ++ (32 ∷ t)) (sym (append_assoc (decimal at) (flat_map (λ w. 32 ∷ hex_word w) ws) (10 ∷ [])) ∙ ap (λ t. t ++ 10 ∷ []) (sym (words_line (decimal at) ws)))
+    ∙ sym (append_assoc (name_of m) (32 ∷ parted (decimal at ∷ map hex_word ws)) (10 ∷ []))
+
+pub listed_pieces : (p : List ℕ) (ws : List ℕ) → p ++ (flat_map (λ w. 32 ∷ hex_word w) ws ++ 10 ∷ []) ≡ parted (p ∷ map hex_word ws) ++ 10 ∷ []
+listed_pieces p ws = sym (append_assoc p (flat_map (λ w. 32 ∷ hex_word w) ws) (10 ∷ [])) ∙ ap (λ t. t ++ 10 ∷ []) (sym (words_line p ws))
+
+pub piece_as : {E : Type 0} (r : Result (Unit {0}) E) (old new x y : List ℕ) → x ≡ y → OnOk r (new ≡ old ++ x) → OnOk r (new ≡ old ++ y)
+piece_as r old new x y e h = on_ok_weaker r (λ k. k ∙ ap (λ t. old ++ t) e) h
+
+pub blank_part : (m : Mem) (ws : List ℕ) (k : ℕ) (part out : List ℕ) → part ≡ stretch_words ws k → true ≡ list_all (λ w. eqb w 0) part → out ≡ out ++ text_of (stretch_lines m ws k)
+blank_part m ws k part out e h =
+    let t : list_all (λ w. eqb w 0) (stretch_words ws k) ≡ true = ap (list_all (λ w. eqb w 0)) (sym e) ∙ sym h in
+    rw t (sym (append-nil out))
+
+pub filled_part : (m : Mem) (ws : List ℕ) (k at : ℕ) (part old new : List ℕ) → part ≡ stretch_words ws k → at ≡ stretch_start m k → false ≡ list_all (λ w. eqb w 0) part → new ≡ old ++ (stretch_line m at part ++ 10 ∷ []) → new ≡ old ++ text_of (stretch_lines m ws k)
+filled_part m ws k at part old new e f h g =
+    let t : list_all (λ w. eqb w 0) (stretch_words ws k) ≡ false = ap (list_all (λ w. eqb w 0)) (sym e) ∙ sym h in
+    rw t (g ∙ ap (λ x. old ++ x) (ap (λ a. stretch_line m a part ++ 10 ∷ []) f ∙ (ap (λ p. stretch_line m (stretch_start m k) p ++ 10 ∷ []) e ∙ sym (append-nil (stretch_line m (stretch_start m k) (stretch_words ws k) ++ 10 ∷ [])))))
+
+pub memory_more : (m : Mem) (ws start out out' : List ℕ) (k : ℕ) → out ≡ start ++ text_of (flat_map (stretch_lines m ws) (numbers_below k)) → out' ≡ out ++ text_of (stretch_lines m ws k) → out' ≡ start ++ text_of (flat_map (stretch_lines m ws) (numbers_below (k + 1)))
+memory_more m ws start out out' k e f =
+    rw add-one (
+    join2 start out out' (text_of (flat_map (stretch_lines m ws) (numbers_below k))) (text_of (stretch_lines m ws k)) e f
+    ∙ ap (λ t. start ++ t) (
+    sym (text_of-append (flat_map (stretch_lines m ws) (numbers_below k)) (stretch_lines m ws k))
+    ∙ ap text_of (ap (λ t. flat_map (stretch_lines m ws) (numbers_below k) ++ t) (sym (append-nil (stretch_lines m ws k))) ∙ sym (flat_map-append (stretch_lines m ws) (numbers_below k) (k ∷ [])))))
+
+-- a text and one line more, or a text more
+text_line : (ls : List (List ℕ)) (i j x : List ℕ) → i ≡ text_of ls → j ≡ i ++ (x ++ 10 ∷ []) → j ≡ text_of (ls ++ x ∷ [])
+text_line ls i j x e f = f ∙ (ap (λ t. t ++ (x ++ 10 ∷ [])) e ∙ (ap (λ t. text_of ls ++ t) (sym (append-nil (x ++ 10 ∷ []))) ∙ sym (text_of-append ls (x ∷ []))))
+
+text_more : (ls ms : List (List ℕ)) (i j : List ℕ) → i ≡ text_of ls → j ≡ i ++ text_of ms → j ≡ text_of (ls ++ ms)
+text_more ls ms i j e f = f ∙ (ap (λ t. t ++ text_of ms) e ∙ sym (text_of-append ls ms))
+
+pub outcome_pieces : (o w : List ℕ) (ws : List (List ℕ)) (s : List ℕ) (m1 m2 m3 : List (List ℕ)) (i1 i2 i3 i4 i5 i6 i7 : List ℕ) → i1 ≡ o ++ 10 ∷ [] → i2 ≡ i1 ++ (w ++ 10 ∷ []) → i3 ≡ i2 ++ text_of ws → i4 ≡ i3 ++ (s ++ 10 ∷ []) → i5 ≡ i4 ++ text_of m1 → i6 ≡ i5 ++ text_of m2 → i7 ≡ i6 ++ text_of m3 → i7 ≡ text_of (o ∷ w ∷ ws ++ s ∷ m1 ++ m2 ++ m3)
+outcome_pieces o w ws s m1 m2 m3 i1 i2 i3 i4 i5 i6 i7 e1 e2 e3 e4 e5 e6 e7 =
+    let t1 : i1 ≡ text_of (o ∷ []) = e1 ∙ sym (append-nil (o ++ 10 ∷ [])) in
+    let t2 : i2 ≡ text_of (o ∷ w ∷ []) = text_line (o ∷ []) i1 i2 w t1 e2 in
+    let t3 : i3 ≡ text_of (o ∷ w ∷ ws) = text_more (o ∷ w ∷ []) ws i2 i3 t2 e3 in
+    let t4 = text_line (o ∷ w ∷ ws) i3 i4 s t3 e4 in
+    let t5 = text_more ((o ∷ w ∷ ws) ++ s ∷ []) m1 i4 i5 t4 e5 ∙ ap text_of (append_assoc (o ∷ w ∷ ws) (s ∷ []) m1) in
+    let t6 = text_more ((o ∷ w ∷ ws) ++ s ∷ m1) m2 i5 i6 t5 e6 in
+    text_more (((o ∷ w ∷ ws) ++ s ∷ m1) ++ m2) m3 i6 i7 t6 e7
+
+-- a stretch's words, read in two cuts
+pub part_is : (ws : List ℕ) (k : ℕ) (part : List ℕ) → part ≡ take 8 (take (length ws - 8 * k) (drop (8 * k) ws)) → part ≡ stretch_words ws k
+part_is ws k part e = e ∙ ap (take 8) (take_all (length ws - 8 * k) (drop (8 * k) ws) (omega (arith, length-drop (8 * k) ws)))

@@ -1,0 +1,5 @@
+pub mod Spelling
+pub mod MemoryText
+pub mod OutcomeText
+pub mod Answer
+pub mod Reading

@@ -1,0 +1,67 @@
+-- The text of an outcome, of the writes that a log kept, and of the memories.
+use Rattle.std.specs.Prelude.{ℕ, zero, suc, ◌+◌, ◌*◌, ◌/◌, ◌==◌, Bool, List, [], ◌∷◌, ◌++◌, length, map, take, drop, codes, decimal, if◌then◌else◌}
+use Rattle.std.specs.List.{flat_map, list_all}
+use Rattle.line_text.specs.Line.{text_of, parted}
+use Rattle.line_text.specs.Number.{hex_word}
+use Rattle.nv_base.specs.Log.{Log}
+use Rattle.nv_base.specs.Memories.{Memories}
+use Rattle.nv_base.specs.declared.outcome.Outcome.{Outcome}
+use Rattle.nv_base.specs.declared.outcome.Outcome.TheVariants.{Ended, Raised, Fault, Going}
+use Rattle.nv_base.specs.declared.outcome.Write.{Write}
+use Rattle.nv_base.specs.declared.term.Mem.{Mem}
+use Rattle.nv_base.specs.declared.term.Mem.TheVariants.{Sram, Sdram, Scratch}
+use Rattle.nv_memtext.specs.Spelling.{name_of}
+
+-- how the run stands
+abbrev pub outcome_line : Outcome → List ℕ
+outcome_line (Ended ws) = parted (codes "ended" ∷ map hex_word ws)
+outcome_line (Raised k ws) = parted (codes "raised" ∷ decimal k ∷ map hex_word ws)
+outcome_line (Fault m at) = parted (codes "fault" ∷ name_of m ∷ decimal at ∷ [])
+outcome_line Going = codes "going"
+
+-- a write: its memory, its first address and its words
+abbrev pub write_line : Write → List ℕ
+write_line w = parted (codes "write" ∷ name_of w.mem ∷ decimal w.at ∷ map hex_word w.words)
+
+-- words from an address of a memory on
+abbrev pub stretch_line : Mem → ℕ → List ℕ → List ℕ
+stretch_line m at ws = parted (name_of m ∷ decimal at ∷ map hex_word ws)
+
+-- the numbers below n, rising
+abbrev pub numbers_below : ℕ → List ℕ
+numbers_below zero = []
+numbers_below (suc n) = numbers_below n ++ n ∷ []
+
+-- the address of a memory's stretch k: stretches have eight words, and a quadword has two
+abbrev pub stretch_start : Mem → ℕ → ℕ
+stretch_start Sram k = 8 * k
+stretch_start Sdram k = 4 * k
+stretch_start Scratch k = 8 * k
+
+-- the words of stretch k; the last stretch may be shorter
+abbrev pub stretch_words : List ℕ → ℕ → List ℕ
+stretch_words ws k = take 8 (drop (8 * k) ws)
+
+-- the line of stretch k, or none where all its words are 0
+abbrev pub stretch_lines : Mem → List ℕ → ℕ → List (List ℕ)
+stretch_lines m ws k =
+    if list_all (λ w. w == 0) (stretch_words ws k) then [] else stretch_line m (stretch_start m k) (stretch_words ws k) ∷ []
+
+-- the lines of a memory's stretches, in order
+abbrev pub memory_lines : Mem → List ℕ → List (List ℕ)
+memory_lines m ws = flat_map (stretch_lines m ws) (numbers_below ((length ws + 7) / 8))
+
+-- the sizes of SRAM, in words, and of SDRAM, in quadwords
+abbrev pub sizes_line : Memories → List ℕ
+sizes_line p = parted (codes "memory" ∷ decimal (length p.sram) ∷ decimal (length p.sdram / 2) ∷ [])
+
+-- the outcome, the number of writes, the first 64 of those that were kept, the sizes, and what isn't 0 of SRAM, SDRAM
+-- and the scratch of the source
+abbrev pub outcome_lines : Outcome → Memories → Log → List (List ℕ)
+outcome_lines o p log =
+    outcome_line o ∷ parted (codes "writes" ∷ decimal log.count ∷ []) ∷ map write_line (take 64 log.kept)
+    ++ sizes_line p ∷ memory_lines Sram p.sram ++ memory_lines Sdram p.sdram ++ memory_lines Scratch (take 512 p.scratch)
+
+-- the text of these lines
+unfoldable pub outcome_text : Outcome → Memories → Log → List ℕ
+outcome_text o p log = text_of (outcome_lines o p log)

@@ -1,0 +1,202 @@
+//! An outcome text, written.
+
+ghost use Rattle.std.specs.Prelude.{◌≡◌, ◌+◌, ◌*◌, ◌/◌, ◌<◌, ◌≤◌, ◌^◌, ◌++◌, ◌∷◌, ◌==◌, [], ℕ, List, map, take, length, codes, decimal, IfOk, OnOk};
+ghost use Rattle.std.specs.List.{flat_map, list_all};
+ghost use Rattle.line_text.specs.Line.{text_of};
+ghost use Rattle.line_text.specs.Number.{hex_word};
+ghost use Rattle.nv_memtext.specs.Spelling.{name_of};
+ghost use Rattle.nv_memtext.specs.OutcomeText.{outcome_line, write_line, stretch_line, stretch_start, stretch_words, stretch_lines, memory_lines, sizes_line, outcome_text};
+
+use line_text::{push_decimal, push_word};
+use nv_base::{Mem, NoMemory, Outcome, Packet, Write, WriteLog};
+use std::alloc::{AllocError, Global};
+
+/// How many writes an outcome text shows.
+const SHOWN: usize = 64;
+
+/// The words of scratch that belong to the source.
+const SOURCE_SCRATCH: usize = 512;
+
+/// The name of a memory.
+fn name(mem: Mem) -> &'static [u8]
+    ensures { result.now ≡ name_of mem }
+{
+    match mem {
+        Mem::Sram => b"sram",
+        Mem::Sdram => b"sdram",
+        Mem::Scratch => b"scratch",
+    }
+}
+
+/// Writes words, each behind a space.
+fn push_words(out: &mut Vec<u8>, words: &[u32]) -> Result<(), AllocError>
+    ensures { OnOk result (out.new.items ≡ out.old.items ++ flat_map (λ w. 32 ∷ hex_word w) words.now) }
+{
+    for word in words {
+        out.push(b' ')?;
+        push_word(out, *word)?;
+    }
+    Ok(())
+}
+
+/// Writes a line of a memory's name, an address and words.
+fn push_stretch(out: &mut Vec<u8>, mem: Mem, at: u64, words: &[u32]) -> Result<(), AllocError>
+    ensures { OnOk result (out.new.items ≡ out.old.items ++ (stretch_line mem at words.now ++ 10 ∷ [])) }
+{
+    out.extend_from_slice(name(mem))?;
+    out.push(b' ')?;
+    push_decimal(out, at)?;
+    push_words(out, words)?;
+    out.push(b'\n')?;
+    Ok(())
+}
+
+/// Writes a line of this text and a number.
+fn push_counted(out: &mut Vec<u8>, text: &[u8], n: u64) -> Result<(), AllocError>
+    ensures { OnOk result (out.new.items ≡ out.old.items ++ (text.now ++ (decimal n ++ 10 ∷ []))) }
+{
+    out.extend_from_slice(text)?;
+    push_decimal(out, n)?;
+    out.push(b'\n')?;
+    Ok(())
+}
+
+/// Writes a line of this text and words.
+fn push_listed(out: &mut Vec<u8>, text: &[u8], words: &[u32]) -> Result<(), AllocError>
+    ensures { OnOk result (out.new.items ≡ out.old.items ++ (text.now ++ (flat_map (λ w. 32 ∷ hex_word w) words.now ++ 10 ∷ []))) }
+{
+    out.extend_from_slice(text)?;
+    push_words(out, words)?;
+    out.push(b'\n')?;
+    Ok(())
+}
+
+/// Writes the line of an exception that no handler took.
+fn push_raised(out: &mut Vec<u8>, number: u16, words: &[u32]) -> Result<(), AllocError>
+    ensures { OnOk result (out.new.items ≡ out.old.items ++ (codes "raised " ++ (decimal number ++ (flat_map (λ w. 32 ∷ hex_word w) words.now ++ 10 ∷ [])))) }
+{
+    out.extend_from_slice(b"raised ")?;
+    push_decimal(out, u64::from(number))?;
+    push_words(out, words)?;
+    out.push(b'\n')?;
+    Ok(())
+}
+
+/// Writes the line of an access that reached past a memory.
+fn push_fault(out: &mut Vec<u8>, mem: Mem, at: u64) -> Result<(), AllocError>
+    ensures { OnOk result (out.new.items ≡ out.old.items ++ (codes "fault " ++ (name_of mem ++ (32 ∷ (decimal at ++ 10 ∷ []))))) }
+{
+    out.extend_from_slice(b"fault ")?;
+    out.extend_from_slice(name(mem))?;
+    push_counted(out, b" ", at)
+}
+
+/// Writes the line of an outcome.
+fn push_outcome(out: &mut Vec<u8>, outcome: &Outcome) -> Result<(), AllocError>
+    ensures { OnOk result (out.new.items ≡ out.old.items ++ (outcome_line outcome.now ++ 10 ∷ [])) }
+{
+    match outcome {
+        Outcome::Ended(words) => push_listed(out, b"ended", words.list()),
+        Outcome::Raised(number, words) => push_raised(out, *number, words.list()),
+        Outcome::Fault(mem, at) => push_fault(out, *mem, *at),
+        Outcome::Going => out.extend_from_slice(b"going\n"),
+    }
+}
+
+/// Writes a line for each write.
+fn push_writes(out: &mut Vec<u8>, writes: &[Write]) -> Result<(), AllocError>
+    ensures { OnOk result (out.new.items ≡ out.old.items ++ text_of (map write_line writes.now)) }
+{
+    for write in writes {
+        out.extend_from_slice(b"write ")?;
+        push_stretch(out, write.mem, u64::from(write.at), write.words.list())?;
+    }
+    Ok(())
+}
+
+/// The address of a memory's stretch `k`.
+fn start(mem: Mem, k: usize) -> u64
+    requires { k < 2 ^ 32 }
+    ensures { result ≡ stretch_start mem k }
+{
+    match mem {
+        Mem::Sdram => 4 * k as u64,
+        Mem::Sram | Mem::Scratch => 8 * k as u64,
+    }
+}
+
+/// The first of these, at most so many.
+fn front<T>(items: &[T], most: usize) -> &[T]
+    ensures { result.now ≡ take most items.now }
+{
+    if items.len() <= most {
+        items
+    } else {
+        &items[..most]
+    }
+}
+
+/// Whether all words are 0.
+fn is_blank(words: &[u32]) -> bool
+    ensures { result ≡ list_all (λ w. w == 0) words.now }
+{
+    words.iter().all(|w| *w == 0)
+}
+
+/// Writes the line of stretch `k`, or nothing where all its words are 0.
+fn push_part(out: &mut Vec<u8>, mem: Mem, words: &[u32], k: usize) -> Result<(), AllocError>
+    requires inside { 8 * k ≤ length words.now }
+    requires small { length words.now ≤ 2 ^ 20 }
+    ensures { OnOk result (out.new.items ≡ out.old.items ++ text_of (stretch_lines mem words.now k)) }
+{
+    let part = front(&words[8 * k..], 8);
+    if is_blank(part) {
+        return Ok(());
+    }
+    push_stretch(out, mem, start(mem, k), part)
+}
+
+/// Writes the lines of a memory's words.
+fn push_memory(out: &mut Vec<u8>, mem: Mem, words: &[u32]) -> Result<(), AllocError>
+    requires { length words.now ≤ 2 ^ 20 }
+    ensures { OnOk result (out.new.items ≡ out.old.items ++ text_of (memory_lines mem words.now)) }
+{
+    for k in 0..(words.len() + 7) / 8 {
+        push_part(out, mem, words, k)?;
+    }
+    Ok(())
+}
+
+/// Writes the line of the memories' sizes.
+fn push_sizes(out: &mut Vec<u8>, packet: &Packet) -> Result<(), AllocError>
+    ensures { OnOk result (out.new.items ≡ out.old.items ++ (sizes_line packet.now ++ 10 ∷ [])) }
+{
+    out.extend_from_slice(b"memory ")?;
+    push_decimal(out, u64::from(packet.size(Mem::Sram)))?;
+    push_counted(out, b" ", u64::from(packet.size(Mem::Sdram)))
+}
+
+/// The text of an outcome: how the run stands, the number of its writes and the first 64 of those that the log kept,
+/// and the memories.
+pub fn print_outcome(
+    alloc: Global,
+    o: &Outcome,
+    p: &Packet,
+    log: &WriteLog,
+) -> Result<Vec<u8>, NoMemory>
+    ensures { IfOk result (λ text. text.items ≡ outcome_text o.now p.now log.now) }
+{
+    let mut out = Vec::new(alloc);
+    push_outcome(&mut out, o)?;
+    push_counted(&mut out, b"writes ", log.count())?;
+    push_writes(&mut out, front(log.kept(), SHOWN))?;
+    push_sizes(&mut out, p)?;
+    push_memory(&mut out, Mem::Sram, p.words(Mem::Sram))?;
+    push_memory(&mut out, Mem::Sdram, p.words(Mem::Sdram))?;
+    push_memory(
+        &mut out,
+        Mem::Scratch,
+        front(p.words(Mem::Scratch), SOURCE_SCRATCH),
+    )?;
+    Ok(out)
+}

@@ -1,0 +1,10 @@
+pub mod Rows
+pub mod Scale
+pub mod Sums
+pub mod Pieces
+pub mod LineLemmas
+pub mod TextLemmas
+pub mod CostLemmas
+pub mod TermLemmas
+pub mod FaultLemmas
+pub mod ExactLemmas

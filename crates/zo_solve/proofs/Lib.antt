@@ -1,0 +1,5 @@
+pub mod Close
+pub mod Endings
+pub mod Grow
+pub mod Rows
+pub mod Steps

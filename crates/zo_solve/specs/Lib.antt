@@ -1,0 +1,4 @@
+pub mod Pick
+pub mod Search
+pub mod Solved
+pub mod Vector

@@ -1,0 +1,127 @@
+//! The search, and its answers.
+
+ghost use Rattle.std.specs.Prelude.{◌≡◌, ◌+◌, ◌-◌, ◌*◌, ◌≤◌, ◌^◌, IfOk, IfSome, length, All};
+ghost use Rattle.zo_model.specs.Program.{IsValid, columns};
+ghost use Rattle.zo_cert.specs.Certificate.{IsShaped, IsTreeWith, branches};
+ghost use Rattle.zo_cert.specs.Report.{IsNode};
+ghost use Rattle.zo_cert.specs.Searched.{IsSearched};
+ghost use Rattle.zo_solve.specs.Pick.{Answers, CanPick};
+ghost use Rattle.zo_solve.specs.Search.{IsBelow, IsBest, IsFound, IsPicked};
+ghost use Rattle.zo_solve.specs.Solved.{CostsAtMost, EachIn, HadNoStart, IsAnswerOf, IsCutOff, IsDecided, IsProved, OfVector, claim_of, tree_of};
+ghost use Rattle.zo_solve.specs.Vector.{IsVector, cost_at, start_cost};
+
+use crate::node::{Best, step};
+use crate::pick::Pick;
+use crate::rounds::Rounds;
+use std::alloc::{AllocError, Global};
+use zo_cert::path::Path;
+use zo_cert::report::has_left;
+use zo_cert::{Cert, CertNode, Fixed};
+use zo_model::{Assignment, NoMemory, ZeroOne};
+
+/// What a search found, with its tree.
+#[derive(Debug, Drop)]
+pub enum Solved {
+    /// A vector, and a proof that none is cheaper.
+    Optimal(Assignment, Cert),
+    /// A vector; the search was cut off.
+    Feasible(Assignment, Cert),
+    /// A proof that no vector meets the rows.
+    Infeasible(Cert),
+    /// No vector; the search was cut off.
+    Spent(Cert),
+}
+
+/// The best vector and the nodes of a search that has ended.
+#[derive(Drop)]
+pub struct Found {
+    best: Best,
+    nodes: Vec<CertNode>,
+}
+
+/// A tree of at most `budget` branches, depth first.
+fn search<F: Fn(&ZeroOne, &Fixed) -> u32>(
+    alloc: Global,
+    z: &ZeroOne,
+    first: Best,
+    budget: u32,
+    pick: &Pick<F>,
+) -> Result<Found, AllocError>
+    requires valid { IsValid z.now }
+    requires can_pick { CanPick (F.pre pick.now.choose) (F.post pick.now.choose) }
+    requires best { IsBest z.now first }
+    ensures { IfOk result (λ found. IsFound z.now first.start (Answers (F.post pick.now.choose) z.now) budget found.best found.nodes.items) }
+{
+    let mut best = first;
+    let mut path = Path::new(alloc, z)?;
+    let mut weights = vec![in alloc; 0i128; z.costs.len()]?;
+    let mut rounds = Rounds::new(alloc, z)?;
+    let mut nodes = Vec::new(alloc);
+    let mut left = budget;
+    'nodes: while !path.is_done() {
+        left = step(
+            alloc,
+            z,
+            pick,
+            left,
+            &mut best,
+            &mut rounds,
+            &mut weights,
+            &mut path,
+            &mut nodes,
+        )?;
+    }
+    Ok(Found { best, nodes })
+}
+
+/// The answer of a search that has ended.
+fn answer(found: Found) -> Solved
+    ensures { IsAnswerOf found.best.x found.nodes.items result }
+{
+    let is_open = has_left(&found.nodes);
+    let tree = Cert { nodes: found.nodes };
+    match found.best.x {
+        Some(x) if is_open => Solved::Feasible(x, tree),
+        Some(x) => Solved::Optimal(x, tree),
+        None if is_open => Solved::Spent(tree),
+        None => Solved::Infeasible(tree),
+    }
+}
+
+/// Searches for the cheapest vector that meets the rows, depth first with at most `budget` branches.
+///
+/// `start` is a vector to begin with. The branches are on the columns that `pick` names. Every answer has the tree that was
+/// searched: where it was ended, it proves the answer; where it was cut off, it used the whole budget.
+pub fn solve<F: Fn(&ZeroOne, &Fixed) -> u32>(
+    alloc: Global,
+    z: &ZeroOne,
+    start: Option<Assignment>,
+    budget: u32,
+    pick: &Pick<F>,
+) -> Result<Solved, NoMemory>
+    requires valid { IsValid z.now }
+    requires start { IfSome start (IsVector z.now) }
+    requires budget { 1 ≤ budget }
+    requires can_pick { CanPick (F.pre pick.now.choose) (F.post pick.now.choose) }
+
+    // what the answer says
+    ensures vector { IfOk result (OfVector (IsVector z.now)) }
+    ensures proved { IfOk result (IsProved z.now) }
+    ensures cut_off { IfOk result (IsCutOff budget) }
+    ensures no_start { IfOk result (HadNoStart start) }
+    ensures no_dearer { IfOk result (OfVector (λ x. CostsAtMost (cost_at z.now x) (start_cost z.now start))) }
+    ensures decided { 2 ^ (columns z.now + 1) - 1 ≤ budget → IfOk result IsDecided }
+
+    // the tree
+    ensures shaped { IfOk result (λ s. IsTreeWith (IsShaped z.now) (tree_of s)) }
+    ensures searched { IfOk result (λ s. IsTreeWith (IsSearched z.now (claim_of z.now s)) (tree_of s)) }
+    ensures within_budget { IfOk result (λ s. branches (tree_of s).nodes.items ≤ budget) }
+    ensures few_nodes { IfOk result (λ s. length (tree_of s).nodes.items ≤ 2 * budget + 1) }
+    ensures within_limits { IfOk result (λ s. All IsNode (tree_of s).nodes.items) }
+    ensures picked { IfOk result (EachIn z.now (IsPicked (Answers (F.post pick.now.choose) z.now))) }
+    ensures below_start { IfOk result (EachIn z.now (IsBelow z.now (start_cost z.now start))) }
+{
+    let best = Best::new(z, start);
+    let found = search(alloc, z, best, budget, pick)?;
+    Ok(answer(found))
+}
