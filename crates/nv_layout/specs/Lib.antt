@@ -1,3 +1,0 @@
-pub mod OutlineView
-pub mod FieldList
-pub mod Shaping
