@@ -1,7 +1,9 @@
 pub mod Agreement
 pub mod Banks
+pub mod FirstBroken
 pub mod Follows
 pub mod Listing
 pub mod Places
 pub mod Runs
+pub mod States
 pub mod Steps

@@ -1,10 +1,11 @@
 -- Runs of the engine.
-use Rattle.std.specs.Prelude.{ℕ, zero, suc, ◌-◌, List, [], ◌∷◌, ◌++◌, length, replicate, false}
+use Rattle.std.specs.Prelude.{◌≡◌, ℕ, zero, suc, ◌-◌, List, [], ◌∷◌, ◌++◌, All, length, replicate, false}
 use Rattle.nv_base.specs.declared.outcome.Write.{Write as WriteEvent}
 use Rattle.nv_base.specs.declared.outcome.Outcome.{Outcome}
 use Rattle.nv_base.specs.declared.outcome.Outcome.TheVariants as outcome
 use Rattle.nv_base.specs.Memories.{Memories}
 use Rattle.nv_base.specs.Meanings.{FullOutcome, Meaning}
+use Rattle.nv_base.specs.Words.{IsWord}
 use Rattle.uc_isa.specs.Code.{CodeView}
 use Rattle.uc_isa.specs.Step.{Next, step}
 use Rattle.uc_isa.specs.declared.instruction.Instr.{Instr}
@@ -25,6 +26,19 @@ start args base = record {
   c = false;
   place = 0;
 }
+
+-- a bank of so many registers, each with a word
+abbrev pub IsBank : ℕ → List ℕ → Type 0
+IsBank n bank = (length bank ≡ n) × All IsWord bank
+
+-- a state in which the engine can be
+pub record IsEngine (e : Engine) : Type 0 where
+  pub bank_a : IsBank 16 e.a
+  pub bank_b : IsBank 16 e.b
+  pub bank_l : IsBank 8 e.l
+  pub bank_s : IsBank 8 e.s
+  pub bank_ld : IsBank 8 e.ld
+  pub bank_sd : IsBank 8 e.sd
 
 -- a halt with number 0 is an end, one with another number that exception
 abbrev pub halted : ℕ → List ℕ → Outcome

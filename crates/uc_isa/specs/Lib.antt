@@ -4,3 +4,4 @@ pub mod Step
 pub mod Engine
 pub mod Straight
 pub mod Agrees
+pub mod Moves

@@ -1,13 +1,15 @@
 //! Laws of the engine's runs and of lawful code: each is the contract of a function that does nothing.
-ghost use Rattle.std.specs.Prelude.{◌≡◌, ◌+◌, ◌<◌, ◌↔◌, ℕ, Some, List, ◌∷◌, ◌++◌, length, slice_get};
+ghost use Rattle.std.specs.Prelude.{◌≡◌, ◌+◌, ◌<◌, ◌≤◌, ◌↔◌, ℕ, All, Some, List, ◌∷◌, ◌++◌, length, slice_get};
 ghost use Rattle.nv_base.specs.Meanings.{IsOver, Same};
-ghost use Rattle.nv_base.specs.Memories.{Memories};
+ghost use Rattle.nv_base.specs.Memories.{HasSizes, Memories};
+ghost use Rattle.nv_base.specs.Words.{IsWord};
 ghost use Rattle.nv_base.specs.Progress.{FollowsAll, FollowsWrites, Grows, IsStepwise};
 ghost use Rattle.nv_base.specs.declared.outcome.Outcome.{Outcome};
 ghost use Rattle.nv_base.specs.declared.outcome.Write.{Write};
 ghost use Rattle.uc_isa.specs.Agrees.{Agrees, IsStart, KeepsToItsWords, SourceMeaning, scratch_access};
 ghost use Rattle.uc_isa.specs.Code.{CodeView};
-ghost use Rattle.uc_isa.specs.Engine.{after, engine, halted, run, start, stepped_at};
+ghost use Rattle.uc_isa.specs.Engine.{IsEngine, after, engine, halted, run, start, stepped_at};
+ghost use Rattle.uc_isa.specs.Lawful.{IsFirstBroken, IsLawful};
 ghost use Rattle.uc_isa.specs.Step.{EndsRun, step};
 ghost use Rattle.uc_isa.specs.Straight.{Stands, Reaches, RunsTo, went};
 ghost use Rattle.uc_isa.specs.declared.engine.Engine.{Engine};
@@ -56,4 +58,17 @@ pub fn straight_runs()
     ensures one { (code : List Instr) (p : Memories) (e e' : Engine) → step code e p ≡ went e' p → Reaches code p 1 e e' }
     ensures more { (code : List Instr) (p : Memories) (n m : ℕ) (e e' e'' : Engine) → Reaches code p n e e' → Reaches code p m e' e'' → Reaches code p (n + m) e e'' }
     ensures halt { (code : List Instr) (k : ℕ) (words : List ℕ) (e : Engine) (p : Memories) (ws : List Write) → step code e p ≡ record { stepped = Stepped.Halted k words; engine = e; packet = p } → RunsTo code 1 e p ws (record { outcome = halted k words; packet = p; writes = ws }) }
+{}
+
+/// At most one place and rule are the first that is broken, and in lawful code none is.
+pub fn first_broken_rule()
+    ensures one { (code : List Instr) (place rule place' rule' : ℕ) → IsFirstBroken code place rule → IsFirstBroken code place' rule' → (place ≡ place') × (rule ≡ rule') }
+    ensures unlawful { (code : List Instr) (place rule : ℕ) → IsFirstBroken code place rule → ¬ IsLawful code }
+{}
+
+/// From its start on the engine's banks have their sizes and hold words, and steps of lawful code keep that, and the
+/// memories' sizes too.
+pub fn engine_states()
+    ensures start { (args : List ℕ) (base : ℕ) → length args ≤ 16 → All IsWord args → IsWord base → IsEngine (start args base) }
+    ensures step { (code : List Instr) (e : Engine) (p : Memories) → IsLawful code → IsEngine e → HasSizes p → IsEngine (step code e p).engine × HasSizes (step code e p).packet }
 {}
