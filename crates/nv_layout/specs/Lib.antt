@@ -1,0 +1,3 @@
+pub mod OutlineView
+pub mod FieldList
+pub mod Shaping

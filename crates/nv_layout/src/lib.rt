@@ -1,0 +1,17 @@
+//! Layouts of packed words: their outlines, sizes and fields, and the numbers in the fields.
+#![tactic(auto)]
+
+mod bits;
+mod error;
+mod extent;
+mod outline;
+mod record;
+#[cfg(test)]
+mod tests;
+mod walk;
+
+pub use bits::{extract, insert};
+pub use error::LayoutError;
+pub use extent::{fields, size};
+pub use outline::{Field, Outline};
+pub use walk::shape;
