@@ -5,3 +5,8 @@ pub mod Path
 pub mod Report
 pub mod Searched
 pub mod Walk
+pub mod ReportText
+pub mod ReportFault
+pub mod ReportAnswer
+pub mod ReportLine
+pub mod ReportPart

@@ -5,14 +5,21 @@
 #![tactic(auto)]
 
 pub mod cert;
+pub mod laws;
 pub mod leaf;
 pub mod path;
 pub mod report;
+pub mod report_reader;
+pub mod report_text;
 
 pub use cert::{Cert, CertNode, Claim, Work, check, shaped};
 pub use path::Fixed;
 pub use report::{Report, Verdict, check_report, is_valid_report};
+pub use report_reader::read_report;
+pub use report_text::print_report;
 pub use zo_model::{Assignment, NoMemory, Row, ZeroOne, ZoError};
 
+#[cfg(test)]
+mod report_tests;
 #[cfg(test)]
 mod tests;

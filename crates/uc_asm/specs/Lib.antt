@@ -1,0 +1,8 @@
+pub mod Words
+pub mod Text
+pub mod Labels
+pub mod Seen
+pub mod First
+pub mod Resolving
+pub mod Reading
+pub mod Answer

@@ -1,0 +1,31 @@
+//! What holds of all assembly texts.
+ghost use Rattle.std.specs.Prelude.{◌≡◌, ◌<◌, ◌^◌, ℕ, All, List, Ok, length};
+ghost use Rattle.uc_isa.specs.Code.{CodeView, IsCode};
+ghost use Rattle.uc_isa.specs.Lawful.{IsLawful};
+ghost use Rattle.uc_asm.specs.Answer.{Answers};
+ghost use Rattle.uc_asm.specs.Labels.{IsCodeOf};
+ghost use Rattle.uc_asm.specs.Text.{listing};
+ghost use Rattle.uc_asm.specs.Words.{InRange};
+
+use crate::{AsmError, assemble, print};
+use std::alloc::Global;
+use uc_isa::Code;
+
+/// A text is that of one code.
+pub fn one_code()
+    ensures { (bytes : List ℕ) (c d : CodeView) → IsCodeOf bytes c → IsCodeOf bytes d → c ≡ d }
+{}
+
+/// The listing of a lawful code is a text of it.
+pub fn listing_is_text()
+    ensures { (c : CodeView) → IsCode c → All InRange c.list → IsLawful c.list → IsCodeOf (listing c) c }
+{}
+
+/// What was printed of a lawful code assembles to it.
+pub fn assemble_printed(alloc: Global, code: &Code) -> Result<Code, AsmError>
+    requires lawful { IsLawful code.now.list }
+    requires short { length (listing code.now) < 2 ^ 32 }
+    ensures { Answers result (Ok code.now) }
+{
+    assemble(alloc, &print(alloc, code)?)
+}

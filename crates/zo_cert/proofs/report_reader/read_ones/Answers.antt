@@ -1,0 +1,6 @@
+use Rattle.zo_model.proofs.LineLemmas.{no_line_other}
+use Rattle.zo_cert.proofs.report_reader.read_ones.Goals as goal
+
+pub returns-in-None-clause-err : goal.returns-in-None-clause-err
+returns-in-None-clause-err c =
+    (c.in_ok-line.ensures.number, no_line_other _ _ _ _ c.in_ok-line.ensures.line c.in_ok-line.ensures.one (rw c.in-None.is at c.in_ok-on.ensures.none))

@@ -1,0 +1,8 @@
+use Rattle.std.proofs.Common.{◌≡◌, ◌++◌, map, take}
+use Rattle.line_text.specs.Line.{text_of}
+use Rattle.zo_cert.specs.Contents.{node_contents}
+use Rattle.zo_cert.specs.ReportText.{node_line}
+use Rattle.zo_cert.proofs.report_text.push_nodes.Given as goal
+
+abbrev pub invariant-loop-node : goal.invariant-loop-node
+invariant-loop-node l = l.out.items ≡ l.initial.out.items ++ text_of (map node_line (map node_contents (take l.node-index l.nodes)))

@@ -1,0 +1,157 @@
+//! The text of a report: slots, budget, the program, the verdict, the columns that are 1 where it has a cost, and the tree.
+
+ghost use Rattle.std.specs.Prelude.{◌≡◌, ◌++◌, ◌∷◌, [], ℕ, List, map, length, codes, decimal, IfOk, OnOk};
+ghost use Rattle.std.specs.List.{flat_map};
+ghost use Rattle.line_text.specs.Line.{text_of};
+ghost use Rattle.zo_model.specs.Program.{IsValid, columns, cost_of, vector};
+ghost use Rattle.zo_cert.specs.Contents.{node_contents, report_contents};
+ghost use Rattle.zo_cert.specs.Report.{IsValidReport};
+ghost use Rattle.zo_cert.specs.ReportText.{counted_line, ones_from, x_line, verdict_lines, multiplier_text, node_line, report_text};
+
+use crate::cert::CertNode;
+use crate::report::{Report, Verdict};
+use line_text::push_decimal;
+use std::alloc::{AllocError, Global};
+use zo_model::{NoMemory, cost, push_program};
+
+/// Writes a line of this text and a number.
+fn push_counted(out: &mut Vec<u8>, text: &[u8], n: u64) -> Result<(), AllocError>
+    ensures { OnOk result (out.new.items ≡ out.old.items ++ (text.now ++ (decimal n ++ 10 ∷ []))) }
+{
+    out.extend_from_slice(text)?;
+    push_decimal(out, n)?;
+    out.push(b'\n')?;
+    Ok(())
+}
+
+/// Writes a multiplier behind a space.
+fn push_multiplier(out: &mut Vec<u8>, multiplier: &(u32, u32)) -> Result<(), AllocError>
+    ensures { OnOk result (out.new.items ≡ out.old.items ++ (32 ∷ multiplier_text multiplier.now)) }
+{
+    out.push(b' ')?;
+    push_decimal(out, u64::from(multiplier.0))?;
+    out.push(b':')?;
+    push_decimal(out, u64::from(multiplier.1))?;
+    Ok(())
+}
+
+/// Writes multipliers, each behind a space, and the line's end.
+fn push_multipliers(out: &mut Vec<u8>, multipliers: &[(u32, u32)]) -> Result<(), AllocError>
+    ensures { OnOk result (out.new.items ≡ out.old.items ++ (flat_map (λ m. 32 ∷ multiplier_text m) multipliers.now ++ 10 ∷ [])) }
+{
+    for multiplier in multipliers {
+        push_multiplier(out, multiplier)?;
+    }
+    out.push(b'\n')?;
+    Ok(())
+}
+
+/// Writes the line of a bound.
+fn push_bound(
+    out: &mut Vec<u8>,
+    denominator: u32,
+    multipliers: &[(u32, u32)],
+) -> Result<(), AllocError>
+    ensures { OnOk result (out.new.items ≡ out.old.items ++ (codes "d " ++ (decimal denominator ++ (flat_map (λ m. 32 ∷ multiplier_text m) multipliers.now ++ 10 ∷ [])))) }
+{
+    out.extend_from_slice(b"d ")?;
+    push_decimal(out, u64::from(denominator))?;
+    push_multipliers(out, multipliers)?;
+    Ok(())
+}
+
+/// Writes the line of a clash.
+fn push_clash(out: &mut Vec<u8>, multipliers: &[(u32, u32)]) -> Result<(), AllocError>
+    ensures { OnOk result (out.new.items ≡ out.old.items ++ (codes "k" ++ (flat_map (λ m. 32 ∷ multiplier_text m) multipliers.now ++ 10 ∷ []))) }
+{
+    out.extend_from_slice(b"k")?;
+    push_multipliers(out, multipliers)?;
+    Ok(())
+}
+
+/// Writes the line of a node.
+fn push_node(out: &mut Vec<u8>, node: &CertNode) -> Result<(), AllocError>
+    ensures { OnOk result (out.new.items ≡ out.old.items ++ (node_line (node_contents node.now) ++ 10 ∷ [])) }
+{
+    match node {
+        CertNode::Branch(column) => push_counted(out, b"b ", u64::from(*column)),
+        CertNode::Bound(denominator, multipliers) => push_bound(out, *denominator, multipliers),
+        CertNode::Clash(multipliers) => push_clash(out, multipliers),
+        CertNode::Left => out.extend_from_slice(b"o\n"),
+    }
+}
+
+/// Writes a line for each node.
+fn push_nodes(out: &mut Vec<u8>, nodes: &[CertNode]) -> Result<(), AllocError>
+    ensures { OnOk result (out.new.items ≡ out.old.items ++ text_of (map node_line (map node_contents nodes.now))) }
+{
+    for node in nodes {
+        push_node(out, node)?;
+    }
+    Ok(())
+}
+
+/// Writes the column, behind a space, where it is 1.
+fn push_one(out: &mut Vec<u8>, column: usize, on: bool) -> Result<(), AllocError>
+    ensures { OnOk result (out.new.items ≡ out.old.items ++ flat_map (λ j. 32 ∷ decimal j) (ones_from column (on ∷ []))) }
+{
+    if !on {
+        return Ok(());
+    }
+    out.push(b' ')?;
+    push_decimal(out, column as u64)?;
+    Ok(())
+}
+
+/// Writes the line of the columns that are 1.
+fn push_ones(out: &mut Vec<u8>, on: &[bool]) -> Result<(), AllocError>
+    ensures { OnOk result (out.new.items ≡ out.old.items ++ (x_line on.now ++ 10 ∷ [])) }
+{
+    out.extend_from_slice(b"x")?;
+    for column in 0..on.len() {
+        push_one(out, column, on[column])?;
+    }
+    out.push(b'\n')?;
+    Ok(())
+}
+
+/// Writes a verdict of this text with the cost, and the columns that are 1.
+fn push_costed(out: &mut Vec<u8>, text: &[u8], r: &Report) -> Result<(), AllocError>
+    requires program { IsValid r.now.z }
+    requires columns { length r.now.x.on.items ≡ columns r.now.z }
+    ensures { OnOk result (out.new.items ≡ out.old.items ++ ((text.now ++ (decimal (cost_of r.now.z (vector r.now.x.on.items)) ++ 10 ∷ [])) ++ (x_line r.now.x.on.items ++ 10 ∷ []))) }
+{
+    push_counted(out, text, cost(&r.z, &r.x))?;
+    push_ones(out, &r.x.on)?;
+    Ok(())
+}
+
+/// Writes the verdict, and the columns that are 1 where it has a cost.
+fn push_verdict(out: &mut Vec<u8>, r: &Report) -> Result<(), AllocError>
+    requires program { IsValid r.now.z }
+    requires columns { length r.now.x.on.items ≡ columns r.now.z }
+    ensures { OnOk result (out.new.items ≡ out.old.items ++ text_of (verdict_lines r.now.verdict r.now.z.costs.items r.now.x.on.items)) }
+{
+    match r.verdict {
+        Verdict::Optimal => push_costed(out, b"verdict optimal ", r),
+        Verdict::Feasible => push_costed(out, b"verdict feasible ", r),
+        Verdict::Infeasible => out.extend_from_slice(b"verdict infeasible\n"),
+        Verdict::Spent => out.extend_from_slice(b"verdict spent\n"),
+    }
+}
+
+/// The text of a report.
+pub fn print_report(alloc: Global, r: &Report) -> Result<Vec<u8>, NoMemory>
+    requires { IsValidReport r.now }
+    ensures { IfOk result (λ text. text.items ≡ report_text (report_contents r.now)) }
+{
+    let mut out = Vec::new(alloc);
+    out.extend_from_slice(b"novareport 1\n")?;
+    push_counted(&mut out, b"slots ", u64::from(r.slots))?;
+    push_counted(&mut out, b"budget ", u64::from(r.budget))?;
+    push_program(&mut out, &r.z)?;
+    push_verdict(&mut out, r)?;
+    push_counted(&mut out, b"tree ", r.tree.nodes.len() as u64)?;
+    push_nodes(&mut out, &r.tree.nodes)?;
+    Ok(out)
+}
