@@ -19,3 +19,4 @@ pub mod StopLemmas
 pub mod VerdictStops
 pub mod ReportAnswers
 pub mod ReportWhole
+pub mod SameReports

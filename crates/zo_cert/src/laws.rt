@@ -1,10 +1,11 @@
-//! A report is read back from its text.
+//! A report is read back from its text, and its truth rests on its contents.
 
 ghost use Rattle.std.specs.Prelude.{◌≡◌, ◌<◌, ◌^◌, All, map};
 ghost use Rattle.zo_cert.specs.Contents.{node_contents, report_contents};
-ghost use Rattle.zo_cert.specs.Report.{IsNode, IsValidReport};
+ghost use Rattle.zo_cert.specs.Report.{IsNode, IsTrueReport, IsValidReport};
 ghost use Rattle.zo_cert.specs.ReportFault.{IsNodeText};
 ghost use Rattle.zo_cert.specs.ReportAnswer.{AnswersReport};
+ghost use Rattle.zo_cert.specs.declared.report.Report.{Report};
 
 use crate::cert::CertNode;
 use crate::report::Report;
@@ -12,6 +13,11 @@ use crate::report_reader::read_report;
 use crate::report_text::print_report;
 use std::alloc::Global;
 use zo_model::ZoError;
+
+/// Whether a report is true rests on its contents.
+pub fn truth_is_of_contents()
+    ensures { (a b : Report) → report_contents a ≡ report_contents b → IsTrueReport a → IsTrueReport b }
+{}
 
 /// A number keeps the limit of its type.
 fn fits(number: u32)

@@ -1,10 +1,11 @@
 //! Depth-first branch and bound for 0-1 programs: each answer comes with the tree that was searched.
 #![tactic(auto)]
 
-pub mod node;
+mod dive;
+mod node;
 pub mod pick;
-pub mod reach;
-pub mod rounds;
+mod reach;
+mod rounds;
 pub mod search;
 
 pub use pick::{Pick, first_choice};

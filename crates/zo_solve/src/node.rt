@@ -52,6 +52,21 @@ impl Best {
         }
     }
 
+    /// Takes the vector where it is better.
+    pub fn replace(&mut self, z: &ZeroOne, x: Assignment)
+        requires valid { IsValid z.now }
+        requires vector { IsVector z.now x }
+        requires best { IsBest z.now self.old }
+        ensures best { IsBest z.now self.new }
+        ensures start { self.new.start ≡ self.old.start }
+    {
+        let cost = cost(z, &x);
+        if !costs_as_much(&self.claim, cost) {
+            self.x = Some(x);
+            self.claim = Claim::Least(cost);
+        }
+    }
+
     /// Takes the vector in which the columns fixed at 1 are 1, where it is better.
     fn improve(
         &mut self,

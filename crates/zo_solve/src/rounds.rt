@@ -29,9 +29,6 @@ const ROOT_ROUNDS: u32 = 200;
 const NODE_ROUNDS: u32 = 20;
 /// A leaf is tried after so many rounds each.
 const TRY_EVERY: u32 = 10;
-/// So many terms of rows are visited in one search; after that nodes are closed without multipliers.
-const WORK_LIMIT: u64 = 500_000_000;
-
 /// A column, as a fraction.
 #[derive(Clone, Copy, Drop)]
 struct Column {
@@ -178,8 +175,8 @@ impl Dual {
 }
 
 impl Rounds {
-    /// No multiplier yet.
-    pub fn new(alloc: Global, z: &ZeroOne) -> Result<Rounds, AllocError> {
+    /// No multiplier yet. The rounds may visit so many terms of rows.
+    pub fn new(alloc: Global, z: &ZeroOne, work: u64) -> Result<Rounds, AllocError> {
         let blank = Column {
             value: 0,
             ahead: 0,
@@ -210,9 +207,27 @@ impl Rounds {
             weight: weight_of(&z.costs, divisor),
             rounds: 0,
             nonzeros,
-            work: WORK_LIMIT,
+            work,
             is_root: true,
         })
+    }
+
+    /// What the rounds say of a column, in units of 1 / 65536.
+    pub fn value(&self, column: u32) -> i64 {
+        match self.columns.get(column as usize) {
+            Some(column) => column.value,
+            None => 0,
+        }
+    }
+
+    /// So many rounds more, by the costs, with these columns fixed.
+    pub fn run(&mut self, z: &ZeroOne, fixed: &[Option<bool>], rounds: u32) {
+        for _ in 0..rounds {
+            if self.work == 0 {
+                return;
+            }
+            self.round(z, &Claim::Least(0), fixed);
+        }
     }
 
     /// One move of all columns and all multipliers.

@@ -10,6 +10,7 @@ ghost use Rattle.zo_solve.specs.Search.{IsBelow, IsBest, IsFound, IsPicked};
 ghost use Rattle.zo_solve.specs.Solved.{CostsAtMost, EachIn, HadNoStart, IsAnswerOf, IsCutOff, IsDecided, IsProved, OfVector, claim_of, tree_of};
 ghost use Rattle.zo_solve.specs.Vector.{IsVector, cost_at, start_cost};
 
+use crate::dive::begin;
 use crate::node::{Best, step};
 use crate::pick::Pick;
 use crate::rounds::Rounds;
@@ -18,6 +19,9 @@ use zo_cert::path::Path;
 use zo_cert::report::has_left;
 use zo_cert::{Cert, CertNode, Fixed};
 use zo_model::{Assignment, NoMemory, ZeroOne};
+
+/// So many terms of rows are visited in the rounds of one search; after that nodes are closed without multipliers.
+const WORK_LIMIT: u64 = 500_000_000;
 
 /// What a search found, with its tree.
 #[derive(Debug, Drop)]
@@ -55,7 +59,7 @@ fn search<F: Fn(&ZeroOne, &Fixed) -> u32>(
     let mut best = first;
     let mut path = Path::new(alloc, z)?;
     let mut weights = vec![in alloc; 0i128; z.costs.len()]?;
-    let mut rounds = Rounds::new(alloc, z)?;
+    let mut rounds = Rounds::new(alloc, z, WORK_LIMIT)?;
     let mut nodes = Vec::new(alloc);
     let mut left = budget;
     'nodes: while !path.is_done() {
@@ -121,7 +125,7 @@ pub fn solve<F: Fn(&ZeroOne, &Fixed) -> u32>(
     ensures picked { IfOk result (EachIn z.now (IsPicked (Answers (F.post pick.now.choose) z.now))) }
     ensures below_start { IfOk result (EachIn z.now (IsBelow z.now (start_cost z.now start))) }
 {
-    let best = Best::new(z, start);
+    let best = begin(alloc, z, start)?;
     let found = search(alloc, z, best, budget, pick)?;
     Ok(answer(found))
 }

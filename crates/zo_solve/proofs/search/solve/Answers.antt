@@ -4,7 +4,7 @@ use Rattle.zo_solve.proofs.search.solve.Goals as goal
 
 pub returns : goal.returns
 returns g c =
-    let e = ended c.args.z.now c.new-best.result.start (start_cost c.args.z.now c.args.start) c.args.budget c.in_ok-found.found.best c.in_ok-found.found.nodes.items c.answer.result c.new-best.ensures.start c.in_ok-found.ensures c.answer.ensures in
+    let e = ended c.args.z.now c.in_ok-best.best.start (start_cost c.args.z.now c.args.start) c.args.budget c.in_ok-found.found.best c.in_ok-found.found.nodes.items c.answer.result c.in_ok-best.ensures.start c.in_ok-found.ensures c.answer.ensures in
     record {
       vector = ended_vector c.args.z.now (start_cost c.args.z.now c.args.start) _ c.args.budget c.in_ok-found.found.best c.in_ok-found.found.nodes.items c.answer.result e;
       proved = ended_proved c.args.z.now (start_cost c.args.z.now c.args.start) _ c.args.budget c.in_ok-found.found.best c.in_ok-found.found.nodes.items c.answer.result e;
