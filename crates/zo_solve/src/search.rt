@@ -94,8 +94,9 @@ fn answer(found: Found) -> Solved
 
 /// Searches for the cheapest vector that meets the rows, depth first with at most `budget` branches.
 ///
-/// `start` is a vector to begin with. The branches are on the columns that `pick` names. Every answer has the tree that was
-/// searched: where it was ended, it proves the answer; where it was cut off, it used the whole budget.
+/// `start` is a vector to begin with; a rounding dive may find a cheaper one before the tree is begun, or a first one. The
+/// branches are on the columns that `pick` names. Every answer has the tree that was searched: where it was ended, it proves the
+/// answer; where it was cut off, it used the whole budget.
 pub fn solve<F: Fn(&ZeroOne, &Fixed) -> u32>(
     alloc: Global,
     z: &ZeroOne,

@@ -108,3 +108,30 @@ fn two_of_three_cover_a_triangle(rt: HostRuntime) {
         }
     }
 }
+
+#[test]
+fn a_vector_is_found_before_the_first_branch(rt: HostRuntime) {
+    // two triangles, each pair of corners covered
+    let z = program(
+        rt.alloc(),
+        &[1, 1, 1, 1, 1, 1],
+        &[
+            (&[(0, 1), (1, 1)], 1),
+            (&[(1, 1), (2, 1)], 1),
+            (&[(0, 1), (2, 1)], 1),
+            (&[(3, 1), (4, 1)], 1),
+            (&[(4, 1), (5, 1)], 1),
+            (&[(3, 1), (5, 1)], 1),
+        ],
+    )
+    .expect(&rt, "memory");
+    assert!(rt; is_valid(&z));
+    let pick = Pick::new(first_choice);
+    match solve(rt.alloc(), &z, None, 1, &pick) {
+        Ok(Solved::Optimal(x, tree)) => {
+            assert_eq!(rt; x.on.iter().filter(|v| **v).count(), 4);
+            assert_eq!(rt; counts(&tree), (1, 0));
+        }
+        _ => assert!(rt; false),
+    }
+}
