@@ -1,4 +1,3 @@
-pub mod Loads
 pub mod WordParams
 pub mod Errors
 pub mod Texts
@@ -11,3 +10,8 @@ pub mod Spelling
 pub mod Values
 pub mod Sums
 pub mod Correct
+pub mod OneReport
+pub mod OneAnswer
+pub mod Steps
+pub mod Passing
+pub mod Printing

@@ -1,41 +1,116 @@
 -- Command lines.
-use Rattle.std.specs.Prelude.{ℕ, List, [], ◌∷◌, Option, Some, None, Vec, String, map, string_bytes, codes, Bool, not, ◌&&◌, if◌then◌else◌, Contains, ⊤}
+use Rattle.std.specs.Prelude.{◌≤◌, ℕ, List, [], ◌∷◌, ◌++◌, Option, Some, None, Vec, String, map, drop, string_bytes, codes, decimal, Bool, not, ◌&&◌, nat_le, if◌then◌else◌, Contains, ⊤, option_map}
 use Rattle.std.specs.Global.{Global}
 use Rattle.std.specs.Str.{bytes_eq}
+use Rattle.std.specs.Str.Parse.{digits_value}
+use Rattle.novac.specs.declared.command.Command.{Command as Spoken}
+use Rattle.novac.specs.declared.command.Command.TheVariants as spoken
 
 -- a command with what its words name
 pub data Command : Type 0 where
   Compile : (source object : List ℕ) → Command
+  Run : (object memory : List ℕ) (steps : ℕ) → Command
+  Asm : (text object : List ℕ) → Command
+  Dis : (object : List ℕ) → Command
+  Lint : (object : List ℕ) → Command
+  Check : (report : List ℕ) → Command
 
 -- the texts of words
 abbrev pub texts_of : Vec (String Global) Global → List (List ℕ)
 texts_of words = map string_bytes words.items
 
--- file names aren't empty, and differ
-abbrev pub are_names : List ℕ → List ℕ → Bool
-are_names a b = not (bytes_eq a []) && not (bytes_eq b []) && not (bytes_eq a b)
+-- a file name isn't empty
+abbrev pub is_name : List ℕ → Bool
+is_name a = not (bytes_eq a [])
 
--- the command of a list of words: compile SRC OBJ
+-- two file names differ
+abbrev pub are_names : List ℕ → List ℕ → Bool
+are_names a b = is_name a && is_name b && not (bytes_eq a b)
+
+-- the word for a number of steps
+abbrev pub steps_word : ℕ → List ℕ
+steps_word n = codes "steps=" ++ decimal n
+
+-- the number of steps, 1 to 100,000,000, that a word is for
+abbrev pub steps_of : List ℕ → Option ℕ
+steps_of word =
+    let n = digits_value 10 (drop 6 word) in
+    if bytes_eq word (steps_word n) && nat_le 1 n && nat_le n 100000000 then Some n else None
+
+-- dis OBJ, lint OBJ, check REPORT
+abbrev pub command_of_two : List ℕ → List ℕ → Option Command
+command_of_two verb name =
+    if bytes_eq verb (codes "dis") && is_name name then Some (Dis name)
+    else if bytes_eq verb (codes "lint") && is_name name then Some (Lint name)
+    else if bytes_eq verb (codes "check") && is_name name then Some (Check name)
+    else None
+
+-- compile SRC OBJ, asm TEXT OBJ
+abbrev pub command_of_three : List ℕ → List ℕ → List ℕ → Option Command
+command_of_three verb input object =
+    if bytes_eq verb (codes "compile") && are_names input object then Some (Compile input object)
+    else if bytes_eq verb (codes "asm") && are_names input object then Some (Asm input object)
+    else None
+
+-- run OBJ MEM steps=N
+abbrev pub command_of_four : List ℕ → List ℕ → List ℕ → List ℕ → Option Command
+command_of_four verb object memory steps =
+    if bytes_eq verb (codes "run") && are_names object memory then option_map (Run object memory) (steps_of steps) else None
+
+-- the command of a list of words
 abbrev pub command_of : List (List ℕ) → Option Command
-command_of (verb ∷ source ∷ object ∷ []) =
-    if bytes_eq verb (codes "compile") && are_names source object then Some (Compile source object) else None
+command_of (verb ∷ a ∷ []) = command_of_two verb a
+command_of (verb ∷ a ∷ b ∷ []) = command_of_three verb a b
+command_of (verb ∷ a ∷ b ∷ c ∷ []) = command_of_four verb a b c
 command_of _ = None
 
+-- a command without where its names lie
+abbrev pub command_as : Spoken → Command
+command_as (spoken.Compile source object) = Compile source.now object.now
+command_as (spoken.Run object memory steps) = Run object.now memory.now steps
+command_as (spoken.Asm text object) = Asm text.now object.now
+command_as (spoken.Dis object) = Dis object.now
+command_as (spoken.Lint object) = Lint object.now
+command_as (spoken.Check report) = Check report.now
+
 -- the names of the files that a command reads
-abbrev pub inputs_of : Option Command → List (List ℕ)
-inputs_of (Some (Compile source object)) = source ∷ []
-inputs_of None = []
+abbrev pub inputs_of : Command → List (List ℕ)
+inputs_of (Compile source object) = source ∷ []
+inputs_of (Run object memory steps) = object ∷ memory ∷ []
+inputs_of (Asm text object) = text ∷ []
+inputs_of (Dis object) = object ∷ []
+inputs_of (Lint object) = object ∷ []
+inputs_of (Check report) = report ∷ []
 
 -- the names of the files that it saves
-abbrev pub outputs_of : Option Command → List (List ℕ)
-outputs_of (Some (Compile source object)) = object ∷ []
-outputs_of None = []
+abbrev pub outputs_of : Command → List (List ℕ)
+outputs_of (Compile source object) = object ∷ []
+outputs_of (Run object memory steps) = []
+outputs_of (Asm text object) = object ∷ []
+outputs_of (Dis object) = []
+outputs_of (Lint object) = []
+outputs_of (Check report) = []
 
 -- a fact about one of these files
 abbrev pub SomeFile : List (List ℕ) → (List ℕ → Type 0) → Type 0
 SomeFile names P = (name : List ℕ) × Contains names name × P name
 
+-- a fact about the command, where there is one
+abbrev pub IfCommand : Option Command → (Command → Type 0) → Type 0
+IfCommand (Some command) P = P command
+IfCommand None P = ⊤
+
 -- a fact about the source and the object of `compile`, where the command is that one
 abbrev pub IfCompile : Option Command → (List ℕ → List ℕ → Type 0) → Type 0
 IfCompile (Some (Compile source object)) P = P source object
-IfCompile None P = ⊤
+IfCompile _ P = ⊤
+
+-- there is a command, of which this holds
+abbrev pub ForCommand : Option Command → (Command → Type 0) → Type 0
+ForCommand (Some command) P = P command
+ForCommand None P = ⊥
+
+-- the number of steps, where the command has one, is within its limit
+abbrev pub HasSteps : Spoken → Type 0
+HasSteps (spoken.Run object memory steps) = steps ≤ 100000000
+HasSteps _ = ⊤

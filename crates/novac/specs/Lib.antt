@@ -1,6 +1,13 @@
 pub mod FirstForm
 pub mod Source
+pub mod Status
+pub mod Lines
+pub mod Loading
 pub mod Command
 pub mod Headline
+pub mod Machine
+pub mod Assembly
+pub mod Checking
+pub mod Answers
 pub mod Sum
 pub mod Parsing

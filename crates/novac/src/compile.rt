@@ -1,14 +1,20 @@
 //! The command `compile`.
-ghost use Rattle.std.specs.Prelude.{◌≡◌, ◌≢◌, ◌⊎◌, ◌≤◌, length, IfOk, IsErrOf};
+ghost use Rattle.std.specs.Prelude.{◌≡◌, ◌⊎◌, ◌≤◌, length, Contains, IfOk, IfErr, OnErr};
 ghost use Rattle.nv_outside.specs.Causes.{Rose};
-ghost use Rattle.nv_outside.specs.Holding.{SameElsewhere};
-ghost use Rattle.novac.specs.Headline.{IsCompiledTo, IsCompiled, HasNoProgram, IsTooLong, IsUnbuilt, IsEarlier};
-ghost use Rattle.novac.specs.declared.build.FirstError.{FirstError};
+ghost use Rattle.novac.specs.Answers.{Makes, Refuses};
+ghost use Rattle.novac.specs.Command.{Compile, inputs_of, outputs_of, SomeFile};
+ghost use Rattle.novac.specs.Headline.{IsCompiledTo, CompileRefuses};
+ghost use Rattle.novac.specs.Lines.{IsUncaused, IfReadFault, cannot_write};
+ghost use Rattle.novac.specs.Loading.{IsSameBut};
+ghost use Rattle.novac.specs.Status.{IsEnd};
 ghost use Rattle.novac.specs.declared.status.Status.{Status};
 
 use crate::build::{FirstError, compile_first};
-use crate::status::Status;
-use nv_outside::{Files, Loaded, Saved};
+use crate::load::load;
+use crate::refusal::Refusal;
+use crate::reply::Reply;
+use crate::save::{Product, save};
+use nv_outside::Files;
 use std::alloc::Global;
 use uc_object::encode;
 
@@ -16,45 +22,41 @@ use uc_object::encode;
 const SOURCE_LIMIT: u64 = 262_144;
 
 /// Compiles the file of one name into that of another.
-pub fn compile_file<F: Files>(alloc: Global, source: &str, object: &str, files: &mut F) -> Status
-    ensures done { F.tells → result ≡ Status.Done → IsCompiled (F.held files.old) (F.held files.new) source.now object.now }
-    ensures usage { result ≢ Status.Usage }
-    ensures read_fault { result ≡ Status.ReadFault → Rose (F.load_faults files.old source.now) (F.load_faults files.new source.now) }
-    ensures write_fault { result ≡ Status.WriteFault → Rose (F.save_faults files.old object.now) (F.save_faults files.new object.now) }
-    ensures too_large { F.tells → result ≡ Status.TooLarge → IsTooLong (F.held files.old) source.now }
-    ensures only_too_large { F.tells → IsTooLong (F.held files.old) source.now → IsEarlier result ⊎ (result ≡ Status.TooLarge) }
-    ensures unbuilt { F.tells → result ≡ Status.Unbuilt → IsUnbuilt (F.held files.old) source.now }
-    ensures only_unbuilt { F.tells → IsUnbuilt (F.held files.old) source.now → IsEarlier result ⊎ (result ≡ Status.Unbuilt) }
-    ensures unchanged { F.tells → result ≢ Status.Done → result ≢ Status.WriteFault → F.held files.new ≡ F.held files.old }
-    ensures elsewhere { F.tells → result ≡ Status.WriteFault → SameElsewhere (F.held files.old) (F.held files.new) object.now }
+pub fn compile_file<'a, F: Files>(
+    alloc: Global,
+    source: &'a str,
+    object: &'a str,
+    files: &mut F,
+) -> Result<Reply, Refusal<'a>>
+    ensures ended { F.tells → IfOk result (λ r. Makes (Compile source.now object.now) (F.held files.old) (F.held files.new) r.status r.text.items) }
+    ensures refused { F.tells → IfErr result (λ e. IsUncaused e ⊎ Refuses (Compile source.now object.now) (F.held files.old) e) }
+    ensures end { IfOk result (λ r. (r.status ≡ Status.Done) ⊎ (r.status ≡ Status.WriteFault)) }
+    ensures read_fault { IfErr result (λ e. IfReadFault e (λ file. Contains (inputs_of (Compile source.now object.now)) file × Rose (F.load_faults files.old file) (F.load_faults files.new file))) }
+    ensures write_fault { IfOk result (λ r. r.status ≡ Status.WriteFault → SomeFile (outputs_of (Compile source.now object.now)) (λ file. Rose (F.save_faults files.old file) (F.save_faults files.new file) × (r.text.items ≡ cannot_write file))) }
+    ensures unchanged { OnErr result (F.held files.new ≡ F.held files.old) }
+    ensures elsewhere { F.tells → IsSameBut (outputs_of (Compile source.now object.now)) (F.held files.old) (F.held files.new) }
 {
-    let mut text = Vec::new(alloc);
-    match files.load(source, SOURCE_LIMIT, &mut text) {
-        Loaded::Failed => Status::ReadFault,
-        Loaded::TooLong => Status::TooLarge,
-        Loaded::NoMemory => Status::NoMemory,
-        Loaded::Done => match object_of(alloc, &text) {
-            Err(FirstError::NoMemory) => Status::NoMemory,
-            Err(FirstError::Unbuilt) => Status::Unbuilt,
-            Ok(bytes) => match files.save(object, &bytes) {
-                Saved::Done => Status::Done,
-                Saved::Failed => Status::WriteFault,
-            },
-        },
-    }
+    let text = load(alloc, source, SOURCE_LIMIT, files)?;
+    let product = object_of(alloc, &text)?;
+    Ok(save(alloc, object, b"compiled ", &product, files)?)
 }
 
 // The object of a text.
-fn object_of(alloc: Global, text: &[u8]) -> Result<Vec<u8>, FirstError>
+fn object_of<'a>(alloc: Global, text: &[u8]) -> Result<Product, Refusal<'a>>
     requires { length text.now ≤ 262144 }
-    ensures ok { IfOk result (λ object. IsCompiledTo text.now object.items) }
-    ensures unbuilt { IsErrOf result FirstError.Unbuilt → HasNoProgram text.now }
+    ensures compiled { IfOk result (λ p. IsCompiledTo text.now p.object.items p.instructions) }
+    ensures refused { IfErr result (λ e. IsUncaused e ⊎ CompileRefuses text.now e) }
+    ensures read_fault { IfErr result (λ e. IfReadFault e (λ _. ⊥)) }
 {
-    match compile_first(alloc, text) {
-        Err(e) => Err(e),
-        Ok(first) => match encode(alloc, &first.code) {
-            Err(_) => Err(FirstError::NoMemory),
-            Ok(bytes) => Ok(bytes),
-        },
-    }
+    let first = match compile_first(alloc, text) {
+        Ok(first) => first,
+        Err(FirstError::NoMemory) => return Err(Refusal::NoMemory),
+        Err(FirstError::Unbuilt) => return Err(Refusal::Unbuilt),
+    };
+    let object = encode(alloc, &first.code)?;
+    let instructions = first.code.list().len() as u64;
+    Ok(Product {
+        object,
+        instructions,
+    })
 }

@@ -1,16 +1,25 @@
 //! The compiler's program: `run` does what the words of a command line say, over any files and any sink.
 #![tactic(auto)]
 
+mod assemble;
 mod build;
+mod command;
 mod compile;
 mod emit;
+mod lint;
+mod list;
+mod load;
 mod parse;
+mod refusal;
+mod reply;
+mod report;
+mod save;
+mod simulate;
 mod status;
 mod sum;
 #[cfg(test)]
 mod tests;
 mod top;
-mod words;
 
 pub use build::{First, FirstError, compile_first};
 use nv_base::NoMemory;

@@ -1,22 +1,38 @@
 //! How a run of the program ended.
 ghost use Rattle.std.specs.Prelude.{◌≡◌};
-ghost use Rattle.novac.specs.Headline.{status_number};
+ghost use Rattle.novac.specs.Status.{status_number};
 
 /// How a run of the program ended.
 #[derive(Clone, Copy, Debug, PartialEq, Eq)]
 pub enum Status {
-    /// The command did what it is for.
+    /// The command did what it is for; the engine's run ended.
     Done,
     /// The words are no command.
     Usage,
     /// A file that the words name as an input could not be read.
     ReadFault,
-    /// A file that the words name as an output could not be written.
+    /// A file that the words name as an output, or the printed text, could not be written.
     WriteFault,
-    /// Memory ran out. No file was changed.
+    /// Memory ran out. No file was changed, and nothing was printed.
     NoMemory,
-    /// An input has more bytes than its limit.
+    /// A text isn't of its form.
+    Syntax,
+    /// An input has more bytes than its limit, or a memory a size above its limit.
     TooLarge,
+    /// The bytes aren't an object.
+    BadObject,
+    /// A memory text isn't of its form.
+    BadMemoryText,
+    /// The engine's run raised an exception.
+    Raised,
+    /// The engine's run reached past a memory.
+    Fault,
+    /// The engine was still going after all its steps.
+    StepsSpent,
+    /// A report isn't of its form, or isn't true.
+    CertificateRefused,
+    /// The code isn't lawful.
+    Unlawful,
     /// The source is no program of the form that is compiled so far.
     Unbuilt,
 }
@@ -32,7 +48,15 @@ impl Status {
             Status::ReadFault => 3,
             Status::WriteFault => 4,
             Status::NoMemory => 5,
+            Status::Syntax => 6,
             Status::TooLarge => 8,
+            Status::BadObject => 12,
+            Status::BadMemoryText => 13,
+            Status::Raised => 14,
+            Status::Fault => 15,
+            Status::StepsSpent => 16,
+            Status::CertificateRefused => 17,
+            Status::Unlawful => 18,
             Status::Unbuilt => 19,
         }
     }

@@ -25,7 +25,6 @@ fn ended(
         list.push(word.to_string(alloc)?)?;
     }
     let status = run(alloc, &list, &mut files, &mut out);
-    assert_eq!(rt; out.bytes().len(), 0, "nothing is printed");
     let object = match files.held("o") {
         Some(bytes) => Some(bytes.to_vec(alloc)?),
         None => None,
@@ -122,5 +121,230 @@ fn code_of_the_sum_adds(rt: HostRuntime) -> Result<(), Fail> {
         last = step(&first.code, &mut engine, &mut packet);
     }
     assert_eq!(rt; last, Stepped::Halted(0, Words::of(&[1])));
+    Ok(())
+}
+
+// What `run` answers to these words, and what it prints; the puts of these numbers fail.
+fn printed(
+    alloc: Global,
+    files: &mut MemFiles,
+    failing: &[u64],
+    words: &[&str],
+) -> Result<(Status, Vec<u8>), AllocError> {
+    let mut out = MemSink::new(alloc, failing.to_vec(alloc)?);
+    let mut list = Vec::new(alloc);
+    for word in words {
+        list.push(word.to_string(alloc)?)?;
+    }
+    let status = run(alloc, &list, files, &mut out);
+    Ok((status, out.bytes().to_vec(alloc)?))
+}
+
+// `params 0`, `halt 0 0`; then without its last byte, with byte 16 set, and with a byte more.
+const HALT: &[u8] = b"NVO1\0\0\0\0\x01\0\0\0\x06\0\0\0\0\0\0\0";
+
+const CUT: &[u8] = b"NVO1\0\0\0\0\x01\0\0\0\x06\0\0\0\0\0\0";
+
+const SET: &[u8] = b"NVO1\0\0\0\0\x01\0\0\0\x06\0\0\0\x01\0\0\0";
+
+const LONGER: &[u8] = b"NVO1\0\0\0\0\x01\0\0\0\x06\0\0\0\0\0\0\0\0";
+
+// `params 2`, `alu A0 ADD A0 B0`, `halt 0 1`; then with A1 for B0.
+const ADD: &[u8] = b"NVO1\x02\0\0\0\x02\0\0\0\0\0\0\0\x10\0\0\0\x06\x01\0\0\0\0\0\0";
+
+const ONE_BANK: &[u8] = b"NVO1\x02\0\0\0\x02\0\0\0\0\0\0\0\x01\0\0\0\x06\x01\0\0\0\0\0\0";
+
+#[test]
+fn each_status_prints_its_line(rt: HostRuntime) -> Result<(), Fail> {
+    let alloc = rt.alloc();
+    let mut files = MemFiles::new(alloc, Vec::new(alloc));
+    let held = [
+        ("s", SUM),
+        ("unbuilt", b"fun main[]: word { 70000 }"),
+        ("halt", HALT),
+        ("cut", CUT),
+        ("set", SET),
+        ("longer", LONGER),
+        ("add", ADD),
+        ("bank", ONE_BANK),
+        ("m", b"memory 0 0\nargs ffffffff 00000002\n"),
+        ("few", b"memory 0 0\nargs 00000001\n"),
+        ("large", b"memory 65537 0\nargs\n"),
+        (
+            "past",
+            b"memory 1 0\nargs 00000001 00000002\nsram 1 00000005\n",
+        ),
+    ];
+    for (name, bytes) in held {
+        assert_eq!(rt; files.give(name, bytes), Saved::Done);
+    }
+    let none = [].as_slice();
+    let cases = [
+        (
+            ["compile", "s", "o"].as_slice(),
+            0,
+            b"compiled 5\n".as_slice(),
+        ),
+        (
+            &["run", "o", "m", "steps=100"],
+            0,
+            b"ended 00000001\nwrites 0\nmemory 0 0\n",
+        ),
+        (
+            &["run", "o", "m", "steps=4"],
+            16,
+            b"going\nwrites 0\nmemory 0 0\n",
+        ),
+        (&["run", "o", "few", "steps=100"], 13, b"memory line 2\n"),
+        (&["run", "o", "large", "steps=100"], 8, b"too large 65537\n"),
+        (&["run", "o", "past", "steps=100"], 13, b"memory line 3\n"),
+        (
+            &["run", "bank", "large", "steps=100"],
+            18,
+            b"unlawful place 0 rule 1\n",
+        ),
+        (&["run", "cut", "large", "steps=100"], 12, b"object 19\n"),
+        (
+            &["run", "cut", "absent", "steps=100"],
+            3,
+            b"cannot read absent\n",
+        ),
+        (&["dis", "cut"], 12, b"object 19\n"),
+        (&["lint", "set"], 12, b"object 16\n"),
+        (&["lint", "longer"], 12, b"object 20\n"),
+        (&["lint", "add"], 0, b"lawful 2\n"),
+        (&["lint", "bank"], 18, b"unlawful place 0 rule 1\n"),
+        (&["compile", "unbuilt", "p"], 19, b"unbuilt\n"),
+        (none, 2, b"usage\n"),
+        (&["run", "o", "m"], 2, b"usage\n"),
+        (&["run", "o", "m", "steps=0"], 2, b"usage\n"),
+        (&["run", "o", "m", "steps=08"], 2, b"usage\n"),
+        (&["run", "o", "m", "steps=+8"], 2, b"usage\n"),
+        (&["run", "o", "m", "steps=100000001"], 2, b"usage\n"),
+        (&["run", "o", "o", "steps=1"], 2, b"usage\n"),
+        (&["lint", ""], 2, b"usage\n"),
+    ];
+    for (words, status, text) in cases {
+        let (answer, out) = printed(alloc, &mut files, &[], words)?;
+        assert_eq!(rt; answer.code(), status, "{words:?}");
+        assert_eq!(rt; out.as_slice(), text, "{words:?}");
+    }
+    Ok(())
+}
+
+// `params 2`, `alu A0 ADD A0 B0`, `halt 0 1` and the same with A1 for B0; texts with a fault, and three short codes.
+#[test]
+fn assembly_texts_are_assembled_listed_and_run(rt: HostRuntime) -> Result<(), Fail> {
+    let alloc = rt.alloc();
+    let mut files = MemFiles::new(alloc, Vec::new(alloc));
+    let held = [
+        ("sum", b"params 2\nalu A0 ADD A0 B0\nhalt 0 1\n".as_slice()),
+        ("bank", b"params 2\nalu A0 ADD A0 A1\nhalt 0 1\n"),
+        ("far", b"params 2\nbr Z far\nhalt 0 1\n"),
+        ("endless", b"params 0\nalu A0 ADD A0 B0\n"),
+        ("nine", b"params 9\nhalt 0 0\n"),
+        ("raises", b"params 0\nhalt 3 0\n"),
+        ("reads", b"params 0\nread sram 0 1 A0 5\nhalt 0 0\n"),
+        ("m", b"memory 0 0\nargs\n"),
+    ];
+    for (name, bytes) in held {
+        assert_eq!(rt; files.give(name, bytes), Saved::Done);
+    }
+    let cases = [
+        (
+            ["asm", "sum", "o"].as_slice(),
+            0,
+            b"assembled 2\n".as_slice(),
+        ),
+        (&["dis", "o"], 0, b"params 2\nalu A0 ADD A0 B0\nhalt 0 1\n"),
+        (&["lint", "o"], 0, b"lawful 2\n"),
+        (&["asm", "bank", "p"], 18, b"unlawful line 2 rule 1\n"),
+        (&["asm", "far", "p"], 6, b"syntax label line 2\n"),
+        (&["asm", "endless", "p"], 18, b"unlawful line 2 rule 7\n"),
+        (&["asm", "nine", "p"], 6, b"syntax text line 1\n"),
+        (&["asm", "raises", "r"], 0, b"assembled 1\n"),
+        (
+            &["run", "r", "m", "steps=1"],
+            14,
+            b"raised 3\nwrites 0\nmemory 0 0\n",
+        ),
+        (&["asm", "reads", "r"], 0, b"assembled 2\n"),
+        (
+            &["run", "r", "m", "steps=1"],
+            15,
+            b"fault sram 5\nwrites 0\nmemory 0 0\n",
+        ),
+        (&["asm", "m", "m"], 2, b"usage\n"),
+        (&["asm", "p", "r"], 3, b"cannot read p\n"),
+    ];
+    for (words, status, text) in cases {
+        let (answer, out) = printed(alloc, &mut files, &[], words)?;
+        assert_eq!(rt; answer.code(), status, "{words:?}");
+        assert_eq!(rt; out.as_slice(), text, "{words:?}");
+    }
+    assert_eq!(rt; files.held("o"), Some(ADD));
+    Ok(())
+}
+
+// Three columns of cost 1, of which each two rows want one: the least cost is 2. A bound from all three rows shows it, one
+// from two rows doesn't.
+const OPTIMAL: &[u8] = b"novareport 1\nslots 0\nbudget 1\ncolumns 3\nrows 3\nc 1\nc 1\nc 1\n\
+    r 1 0:1 1:1\nr 1 1:1 2:1\nr 1 0:1 2:1\nverdict optimal 2\nx 0 1\ntree 1\nd 2 0:1 1:1 2:1\n";
+
+const TWO_ROWS: &[u8] = b"novareport 1\nslots 0\nbudget 1\ncolumns 3\nrows 3\nc 1\nc 1\nc 1\n\
+    r 1 0:1 1:1\nr 1 1:1 2:1\nr 1 0:1 2:1\nverdict optimal 2\nx 0 1\ntree 1\nd 2 0:1 1:1\n";
+
+const MISSTATED: &[u8] = b"novareport 1\nslots 0\nbudget 1\ncolumns 3\nrows 3\nc 1\nc 1\nc 1\n\
+    r 1 0:1 1:1\nr 1 1:1 2:1\nr 1 0:1 2:1\nverdict optimal 3\nx 0 1\ntree 1\nd 2 0:1 1:1 2:1\n";
+
+// Two columns can't reach 3; nor is it known whether they reach 1 while all is left open.
+const INFEASIBLE: &[u8] = b"novareport 1\nslots 0\nbudget 1\ncolumns 2\nrows 1\nc 3\nc 2\n\
+    r 3 0:1 1:1\nverdict infeasible\ntree 1\nk 0:1\n";
+
+const SPENT: &[u8] = b"novareport 1\nslots 0\nbudget 1\ncolumns 2\nrows 1\nc 3\nc 2\n\
+    r 1 0:1 1:1\nverdict spent\ntree 3\nb 0\no\no\n";
+
+const FEASIBLE: &[u8] = b"novareport 1\nslots 0\nbudget 1\ncolumns 2\nrows 1\nc 3\nc 2\n\
+    r 1 0:1 1:1\nverdict feasible 3\nx 0\ntree 3\nb 0\no\no\n";
+
+#[test]
+fn reports_are_checked(rt: HostRuntime) -> Result<(), Fail> {
+    let alloc = rt.alloc();
+    let cases = [
+        (OPTIMAL, 0, b"optimal 2\n".as_slice()),
+        (TWO_ROWS, 17, b"report refused\n"),
+        (MISSTATED, 17, b"report line 12\n"),
+        (INFEASIBLE, 0, b"infeasible\n"),
+        (SPENT, 0, b"spent\n"),
+        (FEASIBLE, 0, b"feasible 3\n"),
+        (b"", 17, b"report line 1\n"),
+    ];
+    for (report, status, text) in cases {
+        let mut files = MemFiles::new(alloc, Vec::new(alloc));
+        assert_eq!(rt; files.give("r", report), Saved::Done);
+        let (answer, out) = printed(alloc, &mut files, &[], &["check", "r"])?;
+        assert_eq!(rt; answer.code(), status);
+        assert_eq!(rt; out.as_slice(), text);
+    }
+    Ok(())
+}
+
+#[test]
+fn a_failing_print_or_save_is_a_write_fault(rt: HostRuntime) -> Result<(), Fail> {
+    let alloc = rt.alloc();
+    let mut files = MemFiles::new(alloc, [3].to_vec(alloc)?);
+    assert_eq!(rt; files.give("s", SUM), Saved::Done);
+    assert_eq!(rt; files.give("add", ADD), Saved::Done);
+    let (answer, out) = printed(alloc, &mut files, &[0], &["lint", "add"])?;
+    assert_eq!(rt; answer, Status::WriteFault);
+    assert_eq!(rt; out.len(), 0);
+    let (answer, _) = printed(alloc, &mut files, &[0], &[])?;
+    assert_eq!(rt; answer, Status::WriteFault);
+    let (answer, out) = printed(alloc, &mut files, &[], &["compile", "s", "o"])?;
+    assert_eq!(rt; answer, Status::Done);
+    assert_eq!(rt; out.as_slice(), b"compiled 5\n".as_slice());
+    let (answer, out) = printed(alloc, &mut files, &[], &["compile", "s", "p"])?;
+    assert_eq!(rt; answer, Status::ReadFault);
+    assert_eq!(rt; out.as_slice(), b"cannot read s\n".as_slice());
     Ok(())
 }

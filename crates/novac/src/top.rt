@@ -1,21 +1,43 @@
 //! The top call.
-ghost use Rattle.std.specs.Prelude.{◌≡◌, ◌≢◌, ◌⊎◌, ◌↔◌, None};
+ghost use Rattle.std.specs.Prelude.{◌≡◌, ◌≢◌, ◌⊎◌, ◌++◌, ℕ, List, Contains, None, IfOk, IfErr, OnErr};
 ghost use Rattle.nv_outside.specs.Causes.{Rose};
-ghost use Rattle.nv_outside.specs.Holding.{SameElsewhere};
-ghost use Rattle.novac.specs.Command.{command_of, texts_of, inputs_of, outputs_of, SomeFile, IfCompile};
-ghost use Rattle.novac.specs.Headline.{IsCompiled, IsTooLong, IsUnbuilt, IsEarlier};
+ghost use Rattle.novac.specs.Answers.{Shows, Makes, Refuses, Answers, IsPrinted, IsBegun, IsOnly};
+ghost use Rattle.novac.specs.Command.{command_of, command_as, texts_of, inputs_of, outputs_of, SomeFile, IfCommand, IfCompile, ForCommand, HasSteps};
+ghost use Rattle.novac.specs.Headline.{IsCompiled};
+ghost use Rattle.novac.specs.Lines.{IsUncaused, IfReadFault, usage_text, cannot_read, cannot_write, refusal_status, refusal_text};
+ghost use Rattle.novac.specs.Loading.{IsSameBut};
+ghost use Rattle.novac.specs.Status.{IsEnd};
+ghost use Rattle.novac.specs.declared.refusal.Refusal.{Refusal};
 ghost use Rattle.novac.specs.declared.status.Status.{Status};
 
+use crate::assemble::assemble_file;
+use crate::command::Command;
 use crate::compile::compile_file;
+use crate::lint::lint_file;
+use crate::list::list_file;
+use crate::refusal::{Refusal, line};
+use crate::reply::Reply;
+use crate::report::check_file;
+use crate::simulate::run_files;
 use crate::status::Status;
-use crate::words::compile_words;
+use nv_base::NoMemory;
 use nv_outside::{Files, Sink};
 use std::alloc::Global;
 
-/// Does what the words of a command line say, which are those behind the program's name.
+/// Does what the words of a command line say, which are those behind the program's name, and prints the line or the
+/// text of its status. File names aren't empty and differ.
 ///
-/// `compile SRC OBJ` reads the source SRC, of at most 262,144 bytes, and saves the object of its code as OBJ.
-/// The names aren't empty and differ. Nothing is printed.
+/// | Words | |
+/// |---|---|
+/// | `compile SRC OBJ` | saves the object of the code of the source SRC, of at most 262,144 bytes |
+/// | `run OBJ MEM steps=N` | takes 1 to 100,000,000 steps of OBJ's code on the memory text MEM, and prints the outcome |
+/// | `asm TEXT OBJ` | saves the object of the code of the assembly text TEXT |
+/// | `dis OBJ` | prints the listing of OBJ's code |
+/// | `lint OBJ` | prints whether OBJ's code is lawful |
+/// | `check REPORT` | checks a report by itself, and prints its verdict |
+///
+/// Objects have at most 8,388,620 bytes, memory texts 4 MiB, assembly texts and
+/// reports 64 MiB.
 pub fn run<F: Files, K: Sink>(
     alloc: Global,
     words: &Vec<String>,
@@ -23,26 +45,105 @@ pub fn run<F: Files, K: Sink>(
     out: &mut K,
 ) -> Status
     // The headline: what `compile` saved is lawful code that does what the source says.
-    ensures done { F.tells → result ≡ Status.Done → IfCompile (command_of (texts_of words.now)) (IsCompiled (F.held files.old) (F.held files.new)) }
+    ensures compiled { F.tells → result ≡ Status.Done → IfCompile (command_of (texts_of words.now)) (λ source object. (line : List ℕ) × IsCompiled (F.held files.old) (F.held files.new) source object line × (K.tells → K.written out.new ≡ K.written out.old ++ line)) }
 
-    ensures usage { result ≡ Status.Usage ↔ (command_of (texts_of words.now) ≡ None) }
-    ensures read_fault { result ≡ Status.ReadFault → SomeFile (inputs_of (command_of (texts_of words.now))) (λ name. Rose (F.load_faults files.old name) (F.load_faults files.new name)) }
-    ensures write_fault { result ≡ Status.WriteFault → SomeFile (outputs_of (command_of (texts_of words.now))) (λ name. Rose (F.save_faults files.old name) (F.save_faults files.new name)) }
+    // What the command did, or why it is refused, and the text that was printed.
+    ensures answered { F.tells → result ≢ Status.WriteFault → IfCommand (command_of (texts_of words.now)) (λ c. IsPrinted c (F.held files.old) (F.held files.new) result K.tells (K.written out.old) (K.written out.new)) }
+    ensures begun { F.tells → result ≡ Status.WriteFault → IfCommand (command_of (texts_of words.now)) (λ c. IsBegun c (F.held files.old) (F.held files.new) K.tells (K.written out.old) (K.written out.new)) }
 
-    // These two come exactly where the source is so, but for a read fault and want of memory.
-    ensures too_large { F.tells → result ≡ Status.TooLarge → IfCompile (command_of (texts_of words.now)) (λ source _. IsTooLong (F.held files.old) source) }
-    ensures only_too_large { F.tells → IfCompile (command_of (texts_of words.now)) (λ source _. IsTooLong (F.held files.old) source → IsEarlier result ⊎ (result ≡ Status.TooLarge)) }
-    ensures unbuilt { F.tells → result ≡ Status.Unbuilt → IfCompile (command_of (texts_of words.now)) (λ source _. IsUnbuilt (F.held files.old) source) }
-    ensures only_unbuilt { F.tells → IfCompile (command_of (texts_of words.now)) (λ source _. IsUnbuilt (F.held files.old) source → IsEarlier result ⊎ (result ≡ Status.Unbuilt)) }
+    // The other way: what the files hold decides the status and the text.
+    ensures only_refused { F.tells → IfCommand (command_of (texts_of words.now)) (λ c. (e : Refusal) → Refuses c (F.held files.old) e → IsOnly result (refusal_status e) K.tells (K.written out.old) (K.written out.new) (refusal_text e)) }
+    ensures only_shown { F.tells → IfCommand (command_of (texts_of words.now)) (λ c. (status : Status) (text : List ℕ) → Shows c (F.held files.old) status text → IsOnly result status K.tells (K.written out.old) (K.written out.new) text) }
 
-    // What the other answers leave as it was.
+    ensures usage { result ≡ Status.Usage → command_of (texts_of words.now) ≡ None }
+    ensures only_usage { command_of (texts_of words.now) ≡ None → (result ≡ Status.Usage) ⊎ (result ≡ Status.WriteFault) ⊎ (result ≡ Status.NoMemory) }
+    ensures usage_line { K.tells → result ≡ Status.Usage → K.written out.new ≡ K.written out.old ++ usage_text }
+
+    // A fault has the file whose count of faults rose, and names it, or the sink's count rose.
+    ensures read_fault { result ≡ Status.ReadFault → ForCommand (command_of (texts_of words.now)) (λ c. SomeFile (inputs_of c) (λ file. Rose (F.load_faults files.old file) (F.load_faults files.new file) × (K.tells → K.written out.new ≡ K.written out.old ++ cannot_read file))) }
+    ensures write_fault { result ≡ Status.WriteFault → Rose (K.faults out.old) (K.faults out.new) ⊎ ForCommand (command_of (texts_of words.now)) (λ c. SomeFile (outputs_of c) (λ file. Rose (F.save_faults files.old file) (F.save_faults files.new file) × (K.tells → K.written out.new ≡ K.written out.old ++ cannot_write file))) }
+
+    // What stays as it was.
     ensures unchanged { F.tells → result ≢ Status.Done → result ≢ Status.WriteFault → F.held files.new ≡ F.held files.old }
-    ensures elsewhere { F.tells → result ≡ Status.WriteFault → IfCompile (command_of (texts_of words.now)) (λ _ object. SameElsewhere (F.held files.old) (F.held files.new) object) }
-    ensures untouched { result ≡ Status.Usage → files.new ≡ files.old }
-    ensures silent { out.new ≡ out.old }
+    ensures elsewhere { F.tells → IfCommand (command_of (texts_of words.now)) (λ c. IsSameBut (outputs_of c) (F.held files.old) (F.held files.new)) }
+    ensures untouched { command_of (texts_of words.now) ≡ None → files.new ≡ files.old }
+    ensures silent { result ≡ Status.NoMemory → out.new ≡ out.old }
 {
-    match compile_words(words) {
-        None => Status::Usage,
-        Some((source, object)) => compile_file(alloc, source, object, files),
+    match reply(alloc, words, files) {
+        Ok(reply) => reply.print(out),
+        Err(NoMemory) => Status::NoMemory,
+    }
+}
+
+// The status and the text of what the words say.
+fn reply<F: Files>(alloc: Global, words: &Vec<String>, files: &mut F) -> Result<Reply, NoMemory>
+    ensures answered { F.tells → IfOk result (λ r. IfCommand (command_of (texts_of words.now)) (λ c. Answers c (F.held files.old) (F.held files.new) r.status r.text.items)) }
+    ensures usage { IfOk result (λ r. r.status ≡ Status.Usage → (command_of (texts_of words.now) ≡ None) × (r.text.items ≡ usage_text)) }
+    ensures only_usage { command_of (texts_of words.now) ≡ None → IfOk result (λ r. r.status ≡ Status.Usage) }
+    ensures read_fault { IfOk result (λ r. r.status ≡ Status.ReadFault → ForCommand (command_of (texts_of words.now)) (λ c. SomeFile (inputs_of c) (λ file. Rose (F.load_faults files.old file) (F.load_faults files.new file) × (r.text.items ≡ cannot_read file)))) }
+    ensures write_fault { IfOk result (λ r. r.status ≡ Status.WriteFault → ForCommand (command_of (texts_of words.now)) (λ c. SomeFile (outputs_of c) (λ file. Rose (F.save_faults files.old file) (F.save_faults files.new file) × (r.text.items ≡ cannot_write file)))) }
+    ensures memory { IfOk result (λ r. r.status ≢ Status.NoMemory) }
+    ensures unchanged { IfOk result (λ r. r.status ≢ Status.Done → r.status ≢ Status.WriteFault → F.held files.new ≡ F.held files.old) }
+    ensures unchanged_too { OnErr result (F.held files.new ≡ F.held files.old) }
+    ensures elsewhere { F.tells → IfCommand (command_of (texts_of words.now)) (λ c. IsSameBut (outputs_of c) (F.held files.old) (F.held files.new)) }
+    ensures untouched { command_of (texts_of words.now) ≡ None → files.new ≡ files.old }
+{
+    let Some(command) = Command::of(words) else {
+        return usage(alloc);
+    };
+    match perform(alloc, command, files) {
+        Ok(reply) => Ok(reply),
+        Err(Refusal::NoMemory) => Err(NoMemory),
+        Err(refusal) => told(alloc, refusal),
+    }
+}
+
+// That the words are no command.
+fn usage(alloc: Global) -> Result<Reply, NoMemory>
+    ensures status { IfOk result (λ r. r.status ≡ Status.Usage) }
+    ensures text { IfOk result (λ r. r.text.items ≡ usage_text) }
+{
+    let text = line(alloc, b"usage")?;
+    Ok(Reply {
+        status: Status::Usage,
+        text,
+    })
+}
+
+// Why a command isn't done.
+fn told(alloc: Global, refusal: Refusal) -> Result<Reply, NoMemory>
+    ensures status { IfOk result (λ r. r.status ≡ refusal_status refusal.entry) }
+    ensures text { IfOk result (λ r. r.text.items ≡ refusal_text refusal.entry) }
+{
+    let text = refusal.text(alloc)?;
+    Ok(Reply {
+        status: refusal.status(),
+        text,
+    })
+}
+
+// Does what a command is for.
+fn perform<'a, F: Files>(
+    alloc: Global,
+    command: Command<'a>,
+    files: &mut F,
+) -> Result<Reply, Refusal<'a>>
+    requires { HasSteps command }
+    ensures ended { F.tells → IfOk result (λ r. Shows (command_as command.entry) (F.held files.old) r.status r.text.items ⊎ Makes (command_as command.entry) (F.held files.old) (F.held files.new) r.status r.text.items) }
+    ensures refused { F.tells → IfErr result (λ e. IsUncaused e ⊎ Refuses (command_as command.entry) (F.held files.old) e) }
+    ensures end { IfOk result (λ r. IsEnd r.status) }
+    ensures read_fault { IfErr result (λ e. IfReadFault e (λ file. Contains (inputs_of (command_as command.entry)) file × Rose (F.load_faults files.old file) (F.load_faults files.new file))) }
+    ensures write_fault { IfOk result (λ r. r.status ≡ Status.WriteFault → SomeFile (outputs_of (command_as command.entry)) (λ file. Rose (F.save_faults files.old file) (F.save_faults files.new file) × (r.text.items ≡ cannot_write file))) }
+    ensures unchanged { IfOk result (λ r. r.status ≢ Status.Done → r.status ≢ Status.WriteFault → F.held files.new ≡ F.held files.old) }
+    ensures unchanged_too { OnErr result (F.held files.new ≡ F.held files.old) }
+    ensures elsewhere { F.tells → IsSameBut (outputs_of (command_as command.entry)) (F.held files.old) (F.held files.new) }
+{
+    match command {
+        Command::Compile(source, object) => compile_file(alloc, source, object, files),
+        Command::Run(object, memory, steps) => run_files(alloc, object, memory, steps, files),
+        Command::Asm(text, object) => assemble_file(alloc, text, object, files),
+        Command::Dis(object) => list_file(alloc, object, files),
+        Command::Lint(object) => lint_file(alloc, object, files),
+        Command::Check(report) => check_file(alloc, report, files),
     }
 }

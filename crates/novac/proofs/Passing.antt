@@ -1,0 +1,41 @@
+-- Refusals and faults, passed on.
+use Rattle.std.proofs.Common.{◌≡◌, ℕ, ◌≤◌, ◌⊎◌, inl, inr, List, [], ◌∷◌, Result, Ok, Err, IfErr, subst, sym, arith}
+use Rattle.std.specs.Prelude.{Contains}
+use Rattle.nv_outside.specs.Causes.{Rose}
+use Rattle.nv_outside.specs.Holding.{Holding}
+use Rattle.novac.specs.Lines.{IsUncaused, IfReadFault}
+use Rattle.novac.specs.Loading.{IsLoaded, FileRefused}
+use Rattle.novac.specs.Machine.{RunRefuses, RunFilesRefused, object_limit, memory_limit}
+use Rattle.novac.specs.declared.refusal.Refusal.{Refusal}
+use Rattle.novac.specs.declared.refusal.Refusal.TheVariants.{ReadFault}
+
+pub pass-file : (held : Holding) (name : List ℕ) (limit : ℕ) (P : List ℕ → Refusal → Type 0) (b read : List ℕ) (e : Refusal)
+    → read ≡ b → IsLoaded held name limit b → IsUncaused e ⊎ P read e → IsUncaused e ⊎ FileRefused held name limit P e
+pass-file held name limit P b read e same l (inl u) = inl u
+pass-file held name limit P b read e same l (inr p) = inr (inr (b, l, subst (λ (x : List ℕ). P x e) same p))
+
+-- the same of a call's result
+pub pass-call : {T : Type 0} (held : Holding) (name : List ℕ) (limit : ℕ) (P : List ℕ → Refusal → Type 0) (b read : List ℕ) (r : Result T Refusal)
+    → read ≡ b → IsLoaded held name limit b → IfErr r (λ e. IsUncaused e ⊎ P read e) → IfErr r (λ e. IsUncaused e ⊎ FileRefused held name limit P e)
+pass-call held name limit P b read (Ok x) same l h = h
+pass-call held name limit P b read (Err e) same l h = pass-file held name limit P b read e same l h
+
+pub pass-run : {T : Type 0} (held : Holding) (object memory b t b' t' : List ℕ) (r : Result T Refusal) → b' ≡ b → t' ≡ t
+    → IsLoaded held object object_limit b → IsLoaded held memory memory_limit t
+    → IfErr r (λ e. IsUncaused e ⊎ RunRefuses b' t' e) → IfErr r (λ e. IsUncaused e ⊎ RunFilesRefused held object memory e)
+pass-run held object memory b t b' t' (Ok x) eb et lb lt h = h
+pass-run held object memory b t b' t' (Err e) eb et lb lt (inl u) = inl u
+pass-run held object memory b t b' t' (Err e) eb et lb lt (inr p) =
+    inr (inr (inr (b, lb, (t, lt, subst (λ (x : List ℕ). RunRefuses b x e) et (subst (λ (x : List ℕ). RunRefuses x t' e) eb p)))))
+
+-- a count that rose later rose from before on
+pub rose-later : (a b c : ℕ) → a ≤ b → Rose b c → Rose a c
+rose-later a b c h r = omega arith
+
+-- a fault of the second of two loads
+pub second-fault : (first second : List ℕ) (before mid after : List ℕ → ℕ) (e : Refusal) → ((q : List ℕ) → before q ≤ mid q)
+    → IfReadFault e (λ file. (file ≡ second) × Rose (mid file) (after file))
+    → IfReadFault e (λ file. Contains (first ∷ second ∷ []) file × Rose (before file) (after file))
+second-fault first second before mid after (ReadFault name) rises h =
+    ((1, omega arith, sym h.0), rose-later (before name.now) (mid name.now) (after name.now) (rises name.now) h.1)
+second-fault first second before mid after _ rises h = tt

@@ -1,0 +1,70 @@
+-- The lines that say how a run of the program ended. Each ends with a line feed (10).
+use Rattle.std.specs.Prelude.{ℕ, List, [], ◌∷◌, ◌++◌, codes, decimal}
+use Rattle.novac.specs.declared.status.Status.{Status}
+use Rattle.novac.specs.declared.status.Status.TheVariants as status
+use Rattle.novac.specs.declared.refusal.Refusal.{Refusal}
+use Rattle.novac.specs.declared.refusal.Refusal.TheVariants.{NoMemory, ReadFault, TooLarge, Syntax, Label, BadObject, BadMemoryText, BadReport, FalseReport, Unlawful, UnlawfulLine, Unbuilt}
+
+-- a text and a name
+abbrev pub named : List ℕ → List ℕ → List ℕ
+named text name = text ++ name ++ 10 ∷ []
+
+-- a text and a number
+abbrev pub counted : List ℕ → ℕ → List ℕ
+counted text n = text ++ decimal n ++ 10 ∷ []
+
+-- a text, a number and the number of a rule
+abbrev pub ruled : List ℕ → ℕ → ℕ → List ℕ
+ruled text n rule = text ++ decimal n ++ codes " rule " ++ decimal rule ++ 10 ∷ []
+
+-- where the words are no command
+abbrev pub usage_text : List ℕ
+usage_text = codes "usage" ++ 10 ∷ []
+
+-- where the file with this name couldn't be read, or written
+abbrev pub cannot_read : List ℕ → List ℕ
+cannot_read name = named (codes "cannot read ") name
+
+abbrev pub cannot_write : List ℕ → List ℕ
+cannot_write name = named (codes "cannot write ") name
+
+-- why a command isn't done; want of memory prints nothing
+abbrev pub refusal_text : Refusal → List ℕ
+refusal_text NoMemory = []
+refusal_text (ReadFault name) = cannot_read name.now
+refusal_text (TooLarge n) = counted (codes "too large ") n
+refusal_text (Syntax n) = counted (codes "syntax text line ") n
+refusal_text (Label n) = counted (codes "syntax label line ") n
+refusal_text (BadObject n) = counted (codes "object ") n
+refusal_text (BadMemoryText n) = counted (codes "memory line ") n
+refusal_text (BadReport n) = counted (codes "report line ") n
+refusal_text FalseReport = codes "report refused" ++ 10 ∷ []
+refusal_text (Unlawful place rule) = ruled (codes "unlawful place ") place rule
+refusal_text (UnlawfulLine n rule) = ruled (codes "unlawful line ") n rule
+refusal_text Unbuilt = codes "unbuilt" ++ 10 ∷ []
+
+-- the status of a command that isn't done
+abbrev pub refusal_status : Refusal → Status
+refusal_status NoMemory = status.NoMemory
+refusal_status (ReadFault name) = status.ReadFault
+refusal_status (TooLarge n) = status.TooLarge
+refusal_status (Syntax n) = status.Syntax
+refusal_status (Label n) = status.Syntax
+refusal_status (BadObject n) = status.BadObject
+refusal_status (BadMemoryText n) = status.BadMemoryText
+refusal_status (BadReport n) = status.CertificateRefused
+refusal_status FalseReport = status.CertificateRefused
+refusal_status (Unlawful place rule) = status.Unlawful
+refusal_status (UnlawfulLine n rule) = status.Unlawful
+refusal_status Unbuilt = status.Unbuilt
+
+-- a file couldn't be read, or memory ran out: no cause of these is in what the files hold
+abbrev pub IsUncaused : Refusal → Type 0
+IsUncaused NoMemory = Unit {0}
+IsUncaused (ReadFault name) = Unit {0}
+IsUncaused _ = ⊥
+
+-- a fact about the file that couldn't be read, where that is why
+abbrev pub IfReadFault : Refusal → (List ℕ → Type 0) → Type 0
+IfReadFault (ReadFault name) P = P name.now
+IfReadFault _ P = Unit {0}

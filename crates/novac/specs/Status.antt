@@ -1,0 +1,43 @@
+-- The statuses that a run of the program ends with.
+use Rattle.std.specs.Prelude.{◌≡◌, ◌⊎◌, ℕ}
+use Rattle.nv_base.specs.declared.outcome.Outcome.{Outcome}
+use Rattle.nv_base.specs.declared.outcome.Outcome.TheVariants as outcome
+use Rattle.novac.specs.declared.status.Status.{Status}
+use Rattle.novac.specs.declared.status.Status.TheVariants.{Done, Usage, ReadFault, WriteFault, NoMemory, Syntax, TooLarge, BadObject, BadMemoryText, Raised, Fault, StepsSpent, CertificateRefused, Unlawful, Unbuilt}
+
+-- the numbers of the statuses
+abbrev pub status_number : Status → ℕ
+status_number Done = 0
+status_number Usage = 2
+status_number ReadFault = 3
+status_number WriteFault = 4
+status_number NoMemory = 5
+status_number Syntax = 6
+status_number TooLarge = 8
+status_number BadObject = 12
+status_number BadMemoryText = 13
+status_number Raised = 14
+status_number Fault = 15
+status_number StepsSpent = 16
+status_number CertificateRefused = 17
+status_number Unlawful = 18
+status_number Unbuilt = 19
+
+-- the status of a run of the engine, by how it ended
+abbrev pub outcome_status : Outcome → Status
+outcome_status (outcome.Ended words) = Done
+outcome_status (outcome.Raised number words) = Raised
+outcome_status (outcome.Fault mem at) = Fault
+outcome_status outcome.Going = StepsSpent
+
+-- a run of the engine ends with one of these
+abbrev pub IsOutcome : Status → Type 0
+IsOutcome Done = Unit {0}
+IsOutcome Raised = Unit {0}
+IsOutcome Fault = Unit {0}
+IsOutcome StepsSpent = Unit {0}
+IsOutcome _ = ⊥
+
+-- a command that isn't refused ends with one of these
+abbrev pub IsEnd : Status → Type 0
+IsEnd status = IsOutcome status ⊎ (status ≡ WriteFault)

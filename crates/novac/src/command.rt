@@ -1,0 +1,113 @@
+//! The words of a command line.
+ghost use Rattle.std.specs.Prelude.{◌≡◌, ◌≤◌, None, Some, IfSome, IfNone, option_map};
+ghost use Rattle.novac.specs.Command.{command_of, command_of_two, command_of_three, command_of_four, steps_of, command_as, texts_of, HasSteps};
+
+use line_text::read_decimal;
+
+/// The most steps of a run.
+const MOST_STEPS: u64 = 100_000_000;
+
+/// A command with what its words name.
+#[derive(Clone, Copy, Debug, PartialEq, Eq)]
+pub enum Command<'a> {
+    /// Source, object.
+    Compile(&'a str, &'a str),
+    /// Object, memory text, number of steps.
+    Run(&'a str, &'a str, u64),
+    /// Assembly text, object.
+    Asm(&'a str, &'a str),
+    /// Object.
+    Dis(&'a str),
+    /// Object.
+    Lint(&'a str),
+    /// Report.
+    Check(&'a str),
+}
+
+impl<'a> Command<'a> {
+    /// The command that the words are.
+    pub fn of(words: &'a Vec<String>) -> Option<Command<'a>>
+        ensures some { IfSome result (λ c. command_of (texts_of words.now) ≡ Some (command_as c)) }
+        ensures none { IfNone result (command_of (texts_of words.now) ≡ None) }
+        ensures steps { IfSome result HasSteps }
+    {
+        match words.len() {
+            2 => of_two(words[0].as_str(), words[1].as_str()),
+            3 => of_three(words[0].as_str(), words[1].as_str(), words[2].as_str()),
+            4 => of_four(
+                words[0].as_str(),
+                words[1].as_str(),
+                words[2].as_str(),
+                words[3].as_str(),
+            ),
+            _ => None,
+        }
+    }
+}
+
+// `dis OBJ`, `lint OBJ` and `check REPORT`.
+fn of_two<'a>(verb: &'a str, name: &'a str) -> Option<Command<'a>>
+    ensures some { IfSome result (λ c. command_of_two verb.now name.now ≡ Some (command_as c)) }
+    ensures none { IfNone result (command_of_two verb.now name.now ≡ None) }
+    ensures steps { IfSome result HasSteps }
+{
+    if name.is_empty() {
+        None
+    } else if verb == "dis" {
+        Some(Command::Dis(name))
+    } else if verb == "lint" {
+        Some(Command::Lint(name))
+    } else if verb == "check" {
+        Some(Command::Check(name))
+    } else {
+        None
+    }
+}
+
+// `compile SRC OBJ` and `asm TEXT OBJ`.
+fn of_three<'a>(verb: &'a str, input: &'a str, object: &'a str) -> Option<Command<'a>>
+    ensures some { IfSome result (λ c. command_of_three verb.now input.now object.now ≡ Some (command_as c)) }
+    ensures none { IfNone result (command_of_three verb.now input.now object.now ≡ None) }
+    ensures steps { IfSome result HasSteps }
+{
+    if input.is_empty() || object.is_empty() || input == object {
+        None
+    } else if verb == "compile" {
+        Some(Command::Compile(input, object))
+    } else if verb == "asm" {
+        Some(Command::Asm(input, object))
+    } else {
+        None
+    }
+}
+
+// `run OBJ MEM steps=N`.
+fn of_four<'a>(
+    verb: &'a str,
+    object: &'a str,
+    memory: &'a str,
+    steps: &'a str,
+) -> Option<Command<'a>>
+    ensures some { IfSome result (λ c. command_of_four verb.now object.now memory.now steps.now ≡ Some (command_as c)) }
+    ensures none { IfNone result (command_of_four verb.now object.now memory.now steps.now ≡ None) }
+    ensures steps { IfSome result HasSteps }
+{
+    if verb != "run" || object.is_empty() || memory.is_empty() || object == memory {
+        return None;
+    }
+    match steps_in(steps) {
+        Some(n) => Some(Command::Run(object, memory, n)),
+        None => None,
+    }
+}
+
+// The number of `steps=N`.
+fn steps_in(word: &str) -> Option<u64>
+    ensures some { IfSome result (λ n. steps_of word.now ≡ Some n) }
+    ensures none { IfNone result (steps_of word.now ≡ None) }
+    ensures most { IfSome result (λ n. n ≤ 100000000) }
+{
+    let spelling = word.strip_prefix("steps=")?;
+    let n = read_decimal(spelling.as_bytes(), MOST_STEPS)?;
+    if n == 0 { None } else { Some(n) }
+}

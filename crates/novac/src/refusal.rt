@@ -1,0 +1,137 @@
+//! Why a command isn't done, and the line that says so.
+ghost use Rattle.std.specs.Prelude.{◌≡◌, ◌++◌, ◌∷◌, [], codes, decimal, IfOk, OnOk};
+ghost use Rattle.novac.specs.Lines.{refusal_text, refusal_status, counted, named, ruled};
+ghost use Rattle.novac.specs.declared.refusal.Refusal.TheVariants.{NoMemory as WantOfMemory};
+
+use crate::status::Status;
+use line_text::push_decimal;
+use nv_base::NoMemory;
+use std::alloc::{AllocError, Global};
+
+/// Why a command isn't done.
+#[derive(Clone, Copy, Debug, PartialEq, Eq)]
+pub enum Refusal<'a> {
+    NoMemory,
+    /// The file with this name couldn't be read.
+    ReadFault(&'a str),
+    /// A file has more bytes than this limit, or a memory is to have this size, which is above its limit.
+    TooLarge(u64),
+    /// The first line of an assembly text that isn't of its form, counted from 1.
+    Syntax(u32),
+    /// The first line of an assembly text with a label that is declared before, or nowhere.
+    Label(u32),
+    /// The place at which the bytes stop to begin an object.
+    BadObject(u32),
+    /// The first line of a memory text that isn't of its form, counted from 1.
+    BadMemoryText(u32),
+    /// The first line of a report that isn't of its form, counted from 1.
+    BadReport(u32),
+    /// The report isn't true.
+    FalseReport,
+    /// The first place of a code that isn't lawful, and the least rule that is broken there.
+    Unlawful(u32, u8),
+    /// The first line of an assembly text whose instruction isn't lawful, and the least rule that it breaks.
+    UnlawfulLine(u32, u8),
+    /// The source is no program of the form that is compiled so far.
+    Unbuilt,
+}
+
+impl<'a> From<NoMemory> for Refusal<'a> {
+    ghost from_gives = { λ _ e. e ≡ WantOfMemory };
+
+    fn from(_error: NoMemory) -> Refusal<'a> {
+        Refusal::NoMemory
+    }
+}
+
+impl<'a> From<AllocError> for Refusal<'a> {
+    ghost from_gives = { λ _ e. e ≡ WantOfMemory };
+
+    fn from(_error: AllocError) -> Refusal<'a> {
+        Refusal::NoMemory
+    }
+}
+
+impl<'a> Refusal<'a> {
+    /// The status that the program ends with.
+    pub fn status(&self) -> Status
+        ensures { result ≡ refusal_status self.now }
+    {
+        match self {
+            Refusal::NoMemory => Status::NoMemory,
+            Refusal::ReadFault(_) => Status::ReadFault,
+            Refusal::TooLarge(_) => Status::TooLarge,
+            Refusal::Syntax(_) | Refusal::Label(_) => Status::Syntax,
+            Refusal::BadObject(_) => Status::BadObject,
+            Refusal::BadMemoryText(_) => Status::BadMemoryText,
+            Refusal::BadReport(_) | Refusal::FalseReport => Status::CertificateRefused,
+            Refusal::Unlawful(_, _) | Refusal::UnlawfulLine(_, _) => Status::Unlawful,
+            Refusal::Unbuilt => Status::Unbuilt,
+        }
+    }
+
+    /// The line that says why.
+    pub fn text(&self, alloc: Global) -> Result<Vec<u8>, NoMemory>
+        ensures { IfOk result (λ text. text.items ≡ refusal_text self.now) }
+    {
+        match *self {
+            Refusal::NoMemory => Ok(Vec::new(alloc)),
+            Refusal::ReadFault(name) => named_line(alloc, b"cannot read ", name),
+            Refusal::TooLarge(n) => counted_line(alloc, b"too large ", n),
+            Refusal::Syntax(n) => counted_line(alloc, b"syntax text line ", u64::from(n)),
+            Refusal::Label(n) => counted_line(alloc, b"syntax label line ", u64::from(n)),
+            Refusal::BadObject(n) => counted_line(alloc, b"object ", u64::from(n)),
+            Refusal::BadMemoryText(n) => counted_line(alloc, b"memory line ", u64::from(n)),
+            Refusal::BadReport(n) => counted_line(alloc, b"report line ", u64::from(n)),
+            Refusal::FalseReport => line(alloc, b"report refused"),
+            Refusal::Unlawful(n, rule) => ruled_line(alloc, b"unlawful place ", n, rule),
+            Refusal::UnlawfulLine(n, rule) => ruled_line(alloc, b"unlawful line ", n, rule),
+            Refusal::Unbuilt => line(alloc, b"unbuilt"),
+        }
+    }
+}
+
+/// The line of this text.
+pub fn line(alloc: Global, text: &[u8]) -> Result<Vec<u8>, NoMemory>
+    ensures { IfOk result (λ out. out.items ≡ text.now ++ 10 ∷ []) }
+{
+    let mut out = Vec::new(alloc);
+    out.extend_from_slice(text)?;
+    out.push(b'\n')?;
+    Ok(out)
+}
+
+/// The line of this text and a name.
+pub fn named_line(alloc: Global, text: &[u8], name: &str) -> Result<Vec<u8>, NoMemory>
+    ensures { IfOk result (λ out. out.items ≡ named text.now name.now) }
+{
+    let mut out = Vec::new(alloc);
+    out.extend_from_slice(text)?;
+    out.extend_from_slice(name.as_bytes())?;
+    out.push(b'\n')?;
+    Ok(out)
+}
+
+/// The line of this text and a number.
+pub fn counted_line(alloc: Global, text: &[u8], n: u64) -> Result<Vec<u8>, NoMemory>
+    ensures { IfOk result (λ out. out.items ≡ counted text.now n) }
+{
+    let mut out = Vec::new(alloc);
+    out.extend_from_slice(text)?;
+    push_decimal(&mut out, n)?;
+    out.push(b'\n')?;
+    Ok(out)
+}
+
+// The line of this text, a number and a rule.
+fn ruled_line(alloc: Global, text: &[u8], n: u32, rule: u8) -> Result<Vec<u8>, NoMemory>
+    ensures { IfOk result (λ out. out.items ≡ ruled text.now n rule) }
+{
+    let mut out = Vec::new(alloc);
+    out.extend_from_slice(text)?;
+    push_decimal(&mut out, u64::from(n))?;
+    out.extend_from_slice(b" rule ")?;
+    push_decimal(&mut out, u64::from(rule))?;
+    out.push(b'\n')?;
+    Ok(out)
+}

@@ -1,0 +1,115 @@
+//! The command `run`.
+ghost use Rattle.std.specs.Prelude.{◌≡◌, ◌≤◌, ◌⊎◌, length, Contains, IfOk, IfErr};
+ghost use Rattle.nv_outside.specs.Causes.{Rose};
+ghost use Rattle.nv_memtext.specs.MemoryText.{Gives};
+ghost use Rattle.uc_isa.specs.Engine.{engine};
+ghost use Rattle.uc_isa.specs.Lawful.{IsLawful};
+ghost use Rattle.novac.specs.Answers.{Shows, Refuses};
+ghost use Rattle.novac.specs.Command.{Run, inputs_of};
+ghost use Rattle.novac.specs.Lines.{IsUncaused, IfReadFault};
+ghost use Rattle.novac.specs.Machine.{RunRefuses, IsMemoryRefusedFor, IsRun, object_limit, memory_limit, spill_base, full_text};
+ghost use Rattle.novac.specs.Status.{outcome_status, IsOutcome};
+
+use crate::load::{OBJECT_LIMIT, check_lawful, code_of, load};
+use crate::refusal::Refusal;
+use crate::reply::Reply;
+use crate::status::Status;
+use nv_base::{NoMemory, Outcome, WriteLog};
+use nv_memtext::{Job, MemError, print_outcome, read_memory};
+use nv_outside::Files;
+use std::alloc::Global;
+use uc_isa::{Code, Engine};
+use uc_sim::simulate;
+
+/// The most bytes of a memory text.
+const MEMORY_LIMIT: u64 = 4_194_304;
+
+/// The first scratch word that code may use for itself.
+const SPILL_BASE: u32 = 512;
+
+/// How many writes are kept and shown.
+const SHOWN_WRITES: u32 = 64;
+
+/// Runs the code of an object on the memories and arguments of a memory text.
+pub fn run_files<'a, F: Files>(
+    alloc: Global,
+    object: &'a str,
+    memory: &'a str,
+    steps: u64,
+    files: &mut F,
+) -> Result<Reply, Refusal<'a>>
+    requires { steps ≤ 100000000 }
+    ensures ended { F.tells → IfOk result (λ r. Shows (Run object.now memory.now steps) (F.held files.old) r.status r.text.items) }
+    ensures refused { F.tells → IfErr result (λ e. IsUncaused e ⊎ Refuses (Run object.now memory.now steps) (F.held files.old) e) }
+    ensures end { IfOk result (λ r. IsOutcome r.status) }
+    ensures read_fault { IfErr result (λ e. IfReadFault e (λ file. Contains (inputs_of (Run object.now memory.now steps)) file × Rose (F.load_faults files.old file) (F.load_faults files.new file))) }
+    ensures held { F.held files.new ≡ F.held files.old }
+{
+    let bytes = load(alloc, object, OBJECT_LIMIT, files)?;
+    let text = load(alloc, memory, MEMORY_LIMIT, files)?;
+    run_bytes(alloc, &bytes, &text, steps)
+}
+
+// Runs the code that the bytes are the object of.
+fn run_bytes<'a>(alloc: Global, bytes: &[u8], text: &[u8], steps: u64) -> Result<Reply, Refusal<'a>>
+    requires steps { steps ≤ 100000000 }
+    requires object { length bytes.now ≤ object_limit }
+    requires memory { length text.now ≤ memory_limit }
+    ensures ended { IfOk result (λ r. IsRun bytes.now text.now steps r.status r.text.items) }
+    ensures refused { IfErr result (λ e. IsUncaused e ⊎ RunRefuses bytes.now text.now e) }
+    ensures end { IfOk result (λ r. IsOutcome r.status) }
+    ensures read_fault { IfErr result (λ e. IfReadFault e (λ _. ⊥)) }
+{
+    let code = code_of(alloc, bytes)?;
+    check_lawful(&code)?;
+    let job = job_of(alloc, text, code.params())?;
+    Ok(run_job(alloc, &code, job, steps)?)
+}
+
+// The memories and arguments that a memory text gives.
+fn job_of<'a>(alloc: Global, text: &[u8], params: u8) -> Result<Job, Refusal<'a>>
+    requires { length text.now ≤ memory_limit }
+    ensures given { IfOk result (λ job. Gives params text.now job.packet job.args) }
+    ensures refused { IfErr result (λ e. IsUncaused e ⊎ IsMemoryRefusedFor params text.now e) }
+    ensures read_fault { IfErr result (λ e. IfReadFault e (λ _. ⊥)) }
+{
+    match read_memory(alloc, text, params) {
+        Ok(job) => Ok(job),
+        Err(MemError::NoMemory) => Err(Refusal::NoMemory),
+        Err(MemError::Bad(line)) => Err(Refusal::BadMemoryText(line)),
+        Err(MemError::TooLarge(size)) => Err(Refusal::TooLarge(size)),
+    }
+}
+
+// Takes so many steps of lawful code, from its start.
+fn run_job(alloc: Global, code: &Code, job: Job, steps: u64) -> Result<Reply, NoMemory>
+    requires steps { steps ≤ 100000000 }
+    requires lawful { IsLawful code.now.list }
+    ensures ends { IfOk result (λ r. r.status ≡ outcome_status (engine code.now job.args spill_base job.packet steps).outcome) }
+    ensures end { IfOk result (λ r. IsOutcome r.status) }
+    ensures prints { IfOk result (λ r. r.text.items ≡ full_text (engine code.now job.args spill_base job.packet steps)) }
+{
+    let _list = code.list();
+    let mut engine = Engine::start(job.args.list(), SPILL_BASE);
+    let mut packet = job.packet;
+    let mut log = WriteLog::new(alloc, SHOWN_WRITES)?;
+    let outcome = simulate(code, &mut engine, &mut packet, &mut log, steps);
+    let text = print_outcome(alloc, &outcome, &packet, &log)?;
+    Ok(Reply {
+        status: status_of(&outcome),
+        text,
+    })
+}
+
+// The status of a run, by how it ended.
+fn status_of(outcome: &Outcome) -> Status
+    ensures status { result ≡ outcome_status outcome.now }
+    ensures end { IsOutcome result }
+{
+    match outcome {
+        Outcome::Ended(_) => Status::Done,
+        Outcome::Raised(_, _) => Status::Raised,
+        Outcome::Fault(_, _) => Status::Fault,
+        Outcome::Going => Status::StepsSpent,
+    }
+}
