@@ -1,0 +1,33 @@
+//! Solves a 0-1 program and writes the report: `zo_bench PROGRAM REPORT`.
+//!
+//! Ends with 0 where the report was written, 2 where the words are no command, 3 where the program can't be read, 4 where the
+//! report can't be written, 5 for want of memory, 6 where the file isn't a program's text, 7 where the report isn't true, which
+//! the contract of the search excludes.
+#![tactic(auto)]
+
+mod solved;
+#[cfg(test)]
+mod tests;
+
+use nv_outside::DiskFiles;
+use solved::{Failure, solve_file};
+use std::env;
+use std::process::ExitCode;
+
+fn main(rt: HostRuntime) -> ExitCode {
+    let words = match env::args(&rt) {
+        Ok(words) => words.skip(1).collect(rt.alloc()),
+        Err(_) => Ok(Vec::new(rt.alloc())),
+    };
+    let Ok(words) = words else {
+        return ExitCode::from(Failure::Memory.code());
+    };
+    if words.len() != 2 {
+        return ExitCode::from(Failure::Words.code());
+    }
+    let mut files = DiskFiles::new(&rt);
+    match solve_file(rt.alloc(), &mut files, words[0].as_str(), words[1].as_str()) {
+        Ok(()) => ExitCode::SUCCESS,
+        Err(failure) => ExitCode::from(failure.code()),
+    }
+}
