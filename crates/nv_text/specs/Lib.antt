@@ -3,3 +3,12 @@ pub mod Spelling
 pub mod Tokens
 pub mod Classes
 pub mod Front
+pub mod Cursor
+pub mod Follow
+pub mod Lists
+pub mod Operators
+pub mod Program
+pub mod Failing
+pub mod Phrases
+pub mod ExprPhrases
+pub mod Starts

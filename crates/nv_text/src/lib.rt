@@ -1,15 +1,28 @@
 //! Nova's source text: its tokens and the one program that they spell.
 #![tactic(auto)]
 
+mod codes;
+mod cursor;
+mod declarations;
 mod error;
+mod expressions;
 mod laws;
+mod layouts;
+mod nodes;
+mod operands;
+mod operators;
+mod patterns;
+mod program;
 mod scan;
 mod spelling;
+mod starts;
 mod tables;
 #[cfg(test)]
 mod tests;
+mod types;
 
 pub use error::TextError;
-pub use laws::one_program;
+pub use laws::{one_fault, one_program};
 pub use nv_ast::{Sort, Token};
+pub use program::parse;
 pub use scan::tokens;

@@ -1,5 +1,5 @@
-// Tokens of short texts. What is expected was read off the language's lists of keywords and signs.
-use crate::{Sort, tokens};
+// Tokens and programs of short texts. What is expected was read off the language's lists of keywords and signs, and its grammar.
+use crate::{Sort, parse, tokens};
 use std::alloc::{AllocError, Global};
 use std::test::Fail;
 
@@ -171,5 +171,69 @@ fn a_name_has_its_bytes(rt: HostRuntime) -> Result<(), Fail> {
         return Err(Fail::new("a word"));
     };
     assert_eq!(rt; name.bytes(), b"x_1".as_slice());
+    Ok(())
+}
+
+/// The number of declarations and the length of a program, or the error.
+fn outcome(alloc: Global, text: &str) -> Result<String, AllocError> {
+    let bytes = text.as_bytes();
+    if bytes.len() > 262_144 {
+        return format!(in alloc; "too long");
+    }
+    match parse(alloc, bytes) {
+        Ok(program) => {
+            let count = program.decls.len();
+            let length = program.length;
+            format!(in alloc; "{count} to {length}")
+        }
+        Err(error) => format!(in alloc; "{error:?}"),
+    }
+}
+
+#[test]
+fn each_text_is_a_program_or_has_its_fault(rt: HostRuntime) -> Result<(), Fail> {
+    let cases = [
+        ("", "0 to 0"),
+        (
+            "layout p = {a: 3, b: {4} ## q, c: overlay {x: 1 | y: {z: 2}}};",
+            "1 to 62",
+        ),
+        (
+            "fun main[]: word { let (a, (_, ())) = f[1, x.y]; sram(0) <- ~a + 2 << 3; if (a == 1 || !b) {c = 2} else raise E[] }",
+            "1 to 115",
+        ),
+        (
+            "fun main[]: word { try { 1 } handle E[x, _] { sdram[2](x) & pack[p](y) ^ unpack[q]((z, true)) } }",
+            "1 to 97",
+        ),
+        ("fun g[x: word[1]]: word { x }", "1 to 29"),
+        ("fun main[]: word { 1 +", "Syntax(22)"),
+        ("fun main[]: word {", "Syntax(18)"),
+        ("fun f[]: word { 1 == 2 == 3 }", "Syntax(23)"),
+        ("fun main[]: word { 4294967296 }", "Number(19)"),
+        ("fun $ } 4294967296", "Char(4)"),
+    ];
+    for (text, line) in cases {
+        assert_eq!(rt; outcome(rt.alloc(), text)?.as_str(), line);
+    }
+    Ok(())
+}
+
+#[test]
+fn trees_are_at_most_a_hundred_high(rt: HostRuntime) -> Result<(), Fail> {
+    let alloc = rt.alloc();
+    for (pairs, line) in [(99, "1 to 220"), (100, "Deep(119)")] {
+        let mut text = String::new(alloc);
+        text.push_str("fun main[]: word { ")?;
+        for _ in 0..pairs {
+            text.push_str("(")?;
+        }
+        text.push_str("1")?;
+        for _ in 0..pairs {
+            text.push_str(")")?;
+        }
+        text.push_str(" }")?;
+        assert_eq!(rt; outcome(alloc, &text)?.as_str(), line);
+    }
     Ok(())
 }

@@ -1,5 +1,5 @@
 -- Of a text's answers one is true.
-use Rattle.std.proofs.Common.{◌≡◌, ℕ, ◌<◌, ◌≤◌, ◌^◌, inl, inr, List, length, refl, sym, ap, subst, arith, Result, Ok, Err, IfOk, IfErr}
+use Rattle.std.proofs.Common.{◌≡◌, ℕ, ◌<◌, ◌≤◌, ◌^◌, inl, inr, List, length, refl, sym, ap, subst, arith, Result, Ok, Err, IfOk, IfErr, ◌⊎◌}
 use Rattle.std.proofs.lemmas.Option.{slice_get_within}
 use Rattle.uc_isa.specs.Code.{CodeView}
 use Rattle.uc_isa.specs.Lawful.{IsLawful, IsFirstBroken}
@@ -91,6 +91,23 @@ module _ (bytes : List ℕ) where
   unlawful-answer (Err (Unlawful m other)) h e n rule k =
       let both = unlawful-one bytes m other n rule e k in
       inl (λ j. Err (Unlawful (both.0 j) (both.1 j)))
+
+-- a text of a code has no error, and another text has one
+pub no-error : (bytes : List ℕ) (c : CodeView) (e : AsmError) → IsCodeOf bytes c → IsTrueError bytes e → e ≡ NoMemory
+no-error bytes c NoMemory h t = refl
+no-error bytes c (Syntax n) h t = absurd (reads-no-syntax bytes c.params h.items n h.says.reads t)
+no-error bytes c (Label n) h t = absurd (says-no-label bytes c.params h.items c.list n h.says t)
+no-error bytes c (Unlawful n rule) h t = absurd (code-lawful bytes c n rule h t)
+
+either : (e f : AsmError) → Answers (Err e) (Err f) → (e ≡ f) ⊎ (e ≡ NoMemory) ⊎ (f ≡ NoMemory)
+either e f (inl p) = let same : e ≡ f = cc in inl same
+either e f (inr p) = let none : e ≡ NoMemory = cc in inr (inl none)
+
+pub error-one : (bytes : List ℕ) (e f : AsmError) → IsTrueError bytes e → IsTrueError bytes f → (e ≡ f) ⊎ (e ≡ NoMemory) ⊎ (f ≡ NoMemory)
+error-one bytes e NoMemory t k = inr (inr refl)
+error-one bytes e (Syntax n) t k = either e (Syntax n) (syntax-answer bytes (Err e) tt t n k)
+error-one bytes e (Label n) t k = either e (Label n) (label-answer bytes (Err e) tt t n k)
+error-one bytes e (Unlawful n rule) t k = either e (Unlawful n rule) (unlawful-answer bytes (Err e) tt t n rule k)
 
 -- what the assembler's parts find is true of the text
 pub name-error : (bytes : List ℕ) (params : ℕ) (items : List Item) (e : AsmError) → Reads bytes params items → IsNameError items e → IsTrueError bytes e

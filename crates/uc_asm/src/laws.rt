@@ -1,19 +1,22 @@
 //! What holds of all assembly texts.
-ghost use Rattle.std.specs.Prelude.{◌≡◌, ◌<◌, ◌^◌, ℕ, All, List, Ok, length};
+ghost use Rattle.std.specs.Prelude.{◌≡◌, ◌<◌, ◌^◌, ◌⊎◌, ℕ, All, List, Ok, length};
 ghost use Rattle.uc_isa.specs.Code.{CodeView, IsCode};
 ghost use Rattle.uc_isa.specs.Lawful.{IsLawful};
-ghost use Rattle.uc_asm.specs.Answer.{Answers};
+ghost use Rattle.uc_asm.specs.Answer.{Answers, IsTrueError};
 ghost use Rattle.uc_asm.specs.Labels.{IsCodeOf};
 ghost use Rattle.uc_asm.specs.Text.{listing};
 ghost use Rattle.uc_asm.specs.Words.{InRange};
+ghost use Rattle.uc_asm.specs.declared.error.AsmError.{AsmError};
 
 use crate::{AsmError, assemble, print};
 use std::alloc::Global;
 use uc_isa::Code;
 
-/// A text is that of one code.
-pub fn one_code()
-    ensures { (bytes : List ℕ) (c d : CodeView) → IsCodeOf bytes c → IsCodeOf bytes d → c ≡ d }
+/// A text has one answer, want of memory apart: one code, or one error.
+pub fn one_answer()
+    ensures code { (bytes : List ℕ) (c d : CodeView) → IsCodeOf bytes c → IsCodeOf bytes d → c ≡ d }
+    ensures no_error { (bytes : List ℕ) (c : CodeView) (e : AsmError) → IsCodeOf bytes c → IsTrueError bytes e → e ≡ AsmError.NoMemory }
+    ensures error { (bytes : List ℕ) (e f : AsmError) → IsTrueError bytes e → IsTrueError bytes f → (e ≡ f) ⊎ (e ≡ AsmError.NoMemory) ⊎ (f ≡ AsmError.NoMemory) }
 {}
 
 /// The listing of a lawful code is a text of it.

@@ -1,6 +1,6 @@
 //! The lines of an assembly text, each by itself.
-ghost use Rattle.std.specs.Prelude.{◌≡◌, ◌≢◌, ◌<◌, ◌≤◌, ◌^◌, ◌↔◌, ℕ, List, [], ◌∷◌, ◌++◌, codes, decimal, IsTrue, IfSome, IfNone, MatchOption};
-ghost use Rattle.uc_asm.specs.Words.{source_name, target_name, address_name, binary_name, unary_words, condition_name, memory_name, operands, words, IsSource, IsTarget, IsAddress, IsUnary, InRange};
+ghost use Rattle.std.specs.Prelude.{◌≡◌, ◌≢◌, ◌<◌, ◌≤◌, ◌^◌, ◌↔◌, ℕ, List, [], ◌∷◌, ◌++◌, codes, decimal, IsTrue, IfSome, IfNone};
+ghost use Rattle.uc_asm.specs.Words.{condition_name, operands, words, InRange};
 ghost use Rattle.uc_asm.specs.Text.{IsItem, IsLetter, IsName, IsNameByte, item_line, params_line, Item as TheItem};
 ghost use Rattle.uc_asm.specs.Labels.{IsInstruction};
 ghost use Rattle.uc_asm.specs.Seen.{seen};

@@ -3,7 +3,7 @@ ghost use Rattle.std.specs.Prelude.{◌≡◌, ◌++◌, ◌∷◌, [], IfOk, On
 ghost use Rattle.std.specs.List.{flat_map};
 ghost use Rattle.uc_isa.specs.Lawful.{IsLawful};
 ghost use Rattle.uc_asm.specs.Labels.{IsCodeOf};
-ghost use Rattle.uc_asm.specs.Words.{InRange, source_name, target_name, address_name, binary_name, unary_words, condition_name, memory_name, place_name};
+ghost use Rattle.uc_asm.specs.Words.{InRange, source_name, target_name, address_name, binary_name, unary_words, condition_name, memory_name};
 ghost use Rattle.uc_asm.specs.Text.{listing, instruction_line, params_line};
 
 use line_text::push_decimal;

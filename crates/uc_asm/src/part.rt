@@ -1,5 +1,5 @@
 //! The parts of a line that name something.
-ghost use Rattle.std.specs.Prelude.{◌≡◌, ◌≢◌, ◌<◌, ◌≤◌, ℕ, List, [], ◌∷◌, ◌++◌, decimal, IfSome, IfNone, MatchOption};
+ghost use Rattle.std.specs.Prelude.{◌≡◌, ◌≢◌, ◌<◌, ℕ, List, ◌∷◌, ◌++◌, decimal, IfSome, IfNone, MatchOption};
 ghost use Rattle.uc_asm.specs.Words.{source_name, target_name, address_name, binary_name, unary_words, condition_name, memory_name, IsSource, IsTarget, IsAddress, IsUnary};
 ghost use Rattle.nv_base.specs.declared.term.Bin.{Bin};
 ghost use Rattle.nv_base.specs.declared.term.Mem.{Mem};

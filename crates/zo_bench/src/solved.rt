@@ -5,6 +5,7 @@ ghost use Rattle.nv_outside.specs.Holding.{Replaced};
 ghost use Rattle.zo_cert.specs.Contents.{report_contents};
 ghost use Rattle.zo_cert.specs.Report.{IsTrueReport, IsValidReport};
 ghost use Rattle.zo_cert.specs.ReportText.{report_text};
+ghost use Rattle.zo_bench.specs.Exit.{exit_code};
 ghost use Rattle.zo_bench.specs.Written.{IsTrueText};
 
 use nv_outside::{Files, Loaded, Saved};
@@ -38,7 +39,9 @@ pub enum Failure {
 
 impl Failure {
     /// The program's exit code.
-    pub fn code(self) -> u8 {
+    pub fn code(self) -> u8
+        ensures { result ≡ exit_code self }
+    {
         match self {
             Failure::Words => 2,
             Failure::Read => 3,
