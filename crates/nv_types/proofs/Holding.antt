@@ -1,0 +1,118 @@
+-- What is declared stays so as the table grows, and what is looked up there.
+use Rattle.std.proofs.Common.{◌≡◌, ◌∙◌, refl, ap, sym, subst, ℕ, Bool, true, false, cond, ◌&&◌, ◌||◌, List, [], ◌∷◌, None, Some, is_none, is_some, bytes_eq, Result, Ok, Err}
+use Rattle.std.specs.Result.{OnOk}
+use Rattle.nv_ast.specs.Outline.{OutlineTree}
+use Rattle.nv_ast.specs.Tests.{is_among, names_of, look_up, value_at}
+use Rattle.nv_ast.specs.Scope.{Signature, Known, callable}
+use Rattle.nv_types.specs.declared.functions.Function.{Function}
+use Rattle.nv_types.specs.declared.functions.Checker.{Checker}
+use Rattle.nv_types.specs.declared.cost.Cost.{Cost}
+use Rattle.nv_types.specs.declared.layouts.Shape.{Shape}
+use Rattle.nv_types.specs.Store.{Store, Grows, IsParts}
+use Rattle.nv_types.specs.Layouts.{IsShape, IsDeclared}
+use Rattle.nv_types.specs.Standing.{Alike, IsFunction, Holds, KeepsDeclared, Keeps}
+use Rattle.nv_types.proofs.Growing.{Grows-refl, Grows-trans}
+use Rattle.nv_types.proofs.Staying.{type_stays, parts_stay, fields_stay, forms_stay}
+
+-- ---- a store that grows
+pub shape_stays : (a b : Store) → Grows a b → (m : Shape) (o : OutlineTree) → IsShape a m o → IsShape b m o
+shape_stays a b g m o h = record {
+  of_bits = h.of_bits;
+  of_fields = h.of_fields;
+  of_height = h.of_height;
+  a_record = h.a_record;
+  of_forms = forms_stay a b g m.forms _ h.of_forms;
+  of_types = fields_stay a b g m.types _ h.of_types;
+}
+
+pub declared_stays : (a b : Store) → Grows a b → (m : Shape) (o : OutlineTree) → IsDeclared a m o → IsDeclared b m o
+declared_stays a b g m o h = record { shaped = shape_stays a b g m o h.shaped; short = h.short }
+
+function_stays : (a b : Store) → Grows a b → (f : Function) (u : Signature) → IsFunction a f u → IsFunction b f u
+function_stays a b g f u h = record { of_params = parts_stay a b g f.params _ h.of_params; of_result = type_stays a b g f.result _ h.of_result }
+
+pub alike_stays : {A B : Type 0} (R S : A → B → Type 0) → ((a : A) (b : B) → R a b → S a b) → (as_ : List (List ℕ × A)) (bs : List (List ℕ × B)) → Alike R as_ bs → Alike S as_ bs
+alike_stays R S f [] [] h = tt
+alike_stays R S f (a ∷ as_) (b ∷ bs) h = (h.0, f a.1 b.1 h.1, alike_stays R S f as_ bs h.2)
+alike_stays R S f [] (b ∷ bs) h = h
+alike_stays R S f (a ∷ as_) [] h = h
+
+pub holds_stays : (c new : Checker) (k : Known) → KeepsDeclared c new → Holds c k → Holds new k
+holds_stays c new k keeps h = record {
+  of_layouts = subst (λ (l : List (List ℕ × Shape)). Alike (IsDeclared new.table) l k.layouts) (sym keeps.same_layouts) (alike_stays (IsDeclared c.table) (IsDeclared new.table) (declared_stays c.table new.table keeps.grows) c.layouts k.layouts h.of_layouts);
+  of_exceptions = subst (λ (l : List (List ℕ × ℕ)). Alike (IsParts new.table) l k.exceptions) (sym keeps.same_exceptions) (alike_stays (IsParts c.table) (IsParts new.table) (parts_stay c.table new.table keeps.grows) c.exceptions k.exceptions h.of_exceptions);
+  of_functions = subst (λ (l : List (List ℕ × Function)). Alike (IsFunction new.table) l (callable k)) (sym keeps.same_functions) (alike_stays (IsFunction c.table) (IsFunction new.table) (function_stays c.table new.table keeps.grows) c.functions (callable k) h.of_functions);
+  of_own = λ f. h.of_own f ∙ ap (λ (l : List (List ℕ × Function)). is_some (look_up f l) && is_none (look_up f c.costs)) (sym keeps.same_functions) ∙ ap (λ (l : List (List ℕ × Cost)). is_some (look_up f new.functions) && is_none (look_up f l)) (sym keeps.same_costs);
+}
+
+-- ---- what is kept
+pub Keeps-refl : (c : Checker) → Keeps c c
+Keeps-refl c = record {
+  declared = record { grows = Grows-refl c.table; same_layouts = refl; same_exceptions = refl; same_functions = refl; same_costs = refl };
+  same_scope = refl;
+}
+
+pub Keeps-trans : (a b c : Checker) → Keeps a b → Keeps b c → Keeps a c
+Keeps-trans a b c f g = record {
+  declared = record {
+    grows = Grows-trans a.table b.table c.table f.declared.grows g.declared.grows;
+    same_layouts = g.declared.same_layouts ∙ f.declared.same_layouts;
+    same_exceptions = g.declared.same_exceptions ∙ f.declared.same_exceptions;
+    same_functions = g.declared.same_functions ∙ f.declared.same_functions;
+    same_costs = g.declared.same_costs ∙ f.declared.same_costs;
+  };
+  same_scope = g.same_scope ∙ f.same_scope;
+}
+
+-- the table alone grows
+pub Keeps-table : (c : Checker) (table : Store) → Grows c.table table → Keeps c (record c { table = table })
+Keeps-table c table g = record {
+  declared = record { grows = g; same_layouts = refl; same_exceptions = refl; same_functions = refl; same_costs = refl };
+  same_scope = refl;
+}
+
+pub table_keeps : {T E : Type 0} (c : Checker) (table : Store) (r : Result T E) → OnOk r (Grows c.table table) → OnOk r (Keeps c (record c { table = table }))
+table_keeps c table (Ok x) g = Keeps-table c table g
+table_keeps c table (Err e) g = tt
+
+-- ---- what is looked up
+some_same : {A : Type 0} (a b : A) → Some a ≡ Some b → a ≡ b
+some_same a b e = cc
+
+none_some : {A : Type 0} (a : A) → None ≡ Some a → ⊥
+none_some a e = cc
+
+some_none : {A : Type 0} (a : A) → Some a ≡ None → ⊥
+some_none a e = cc
+
+pub found_alike : {A B : Type 0} (R : A → B → Type 0) (d : B) (x : List ℕ) (m : A) (as_ : List (List ℕ × A)) (bs : List (List ℕ × B)) → Alike R as_ bs → look_up x as_ ≡ Some m
+    → (is_among x (names_of bs) ≡ true) × (look_up x bs ≡ Some (value_at d x bs)) × R m (value_at d x bs)
+found_alike R d x m [] [] h e = absurd (none_some m e)
+found_alike R d x m [] (b ∷ bs) h e = absurd h
+found_alike R d x m (a ∷ as_) [] h e = absurd h
+found_alike R d x m ((y, a) ∷ as_) ((z, b) ∷ bs) h e = by (λ f. found_alike R d x m as_ bs h.2 f) (bytes_eq x y) refl
+  where
+    by : (look_up x as_ ≡ Some m → (is_among x (names_of bs) ≡ true) × (look_up x bs ≡ Some (value_at d x bs)) × R m (value_at d x bs)) → (t : Bool) → bytes_eq x y ≡ t
+        → (is_among x (names_of ((z, b) ∷ bs)) ≡ true) × (look_up x ((z, b) ∷ bs) ≡ Some (value_at d x ((z, b) ∷ bs))) × R m (value_at d x ((z, b) ∷ bs))
+    by more true q =
+        let p : bytes_eq x z ≡ true = ap (bytes_eq x) (sym h.0) ∙ q in
+        let here : value_at d x ((z, b) ∷ bs) ≡ b = ap (λ t. cond t b (value_at d x bs)) p in
+        let same : a ≡ m = some_same a m (sym (ap (λ t. cond t (Some a) (look_up x as_)) q) ∙ e) in
+        (ap (λ t. t || is_among x (names_of bs)) p, ap (λ t. cond t (Some b) (look_up x bs)) p ∙ ap Some (sym here), subst (R m) (sym here) (subst (λ n. R n b) same h.1))
+    by more false q =
+        let p : bytes_eq x z ≡ false = ap (bytes_eq x) (sym h.0) ∙ q in
+        let there : value_at d x ((z, b) ∷ bs) ≡ value_at d x bs = ap (λ t. cond t b (value_at d x bs)) p in
+        let rest = more (sym (ap (λ t. cond t (Some a) (look_up x as_)) q) ∙ e) in
+        (ap (λ t. t || is_among x (names_of bs)) p ∙ rest.0, ap (λ t. cond t (Some b) (look_up x bs)) p ∙ rest.1 ∙ ap Some (sym there), subst (R m) (sym there) rest.2)
+
+pub absent_alike : {A B : Type 0} (R : A → B → Type 0) (x : List ℕ) (as_ : List (List ℕ × A)) (bs : List (List ℕ × B)) → Alike R as_ bs → look_up x as_ ≡ None → is_among x (names_of bs) ≡ false
+absent_alike R x [] [] h e = refl
+absent_alike R x [] (b ∷ bs) h e = absurd h
+absent_alike R x (a ∷ as_) [] h e = absurd h
+absent_alike R x ((y, a) ∷ as_) ((z, b) ∷ bs) h e = by (λ f. absent_alike R x as_ bs h.2 f) (bytes_eq x y) refl
+  where
+    by : (look_up x as_ ≡ None → is_among x (names_of bs) ≡ false) → (t : Bool) → bytes_eq x y ≡ t → is_among x (names_of ((z, b) ∷ bs)) ≡ false
+    by more true q = absurd (some_none a (sym (ap (λ t. cond t (Some a) (look_up x as_)) q) ∙ e))
+    by more false q =
+        let p : bytes_eq x z ≡ false = ap (bytes_eq x) (sym h.0) ∙ q in
+        ap (λ t. t || is_among x (names_of bs)) p ∙ more (sym (ap (λ t. cond t (Some a) (look_up x as_)) q) ∙ e)

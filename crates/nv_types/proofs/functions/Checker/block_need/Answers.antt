@@ -1,0 +1,43 @@
+use Rattle.std.proofs.Common.{◌∙◌, ◌+◌, ap, sym, subst, max, List, take, drop, Vec, Global, []}
+use Rattle.nv_types.specs.declared.blocks.Held.{Held}
+use Rattle.nv_types.specs.Costs.{still}
+use Rattle.nv_types.specs.Named.{plain_names}
+use Rattle.nv_types.specs.Blocks.{held_for}
+use Rattle.nv_types.proofs.BlockNeeds.{lets_of, HoldsLets, need_start, no_lets, need_step, need_end, let_held, no_let_held}
+use Rattle.nv_types.proofs.functions.Checker.block_need.Goals as goal
+use Rattle.nv_types.proofs.functions.Checker.block_need.Goals.{in-Some+in_ok-until+in_ok-push, in_default}
+
+pub loop-step-init : goal.loop-step-init
+loop-step-init c =
+    let xs = drop c.args.first (plain_names c.args.self.now.written.items) in
+    record {
+      so = need_start c.args.first xs c.args.steps.now c.args.last c.args.tail_need;
+      holds = subst (λ (hs : List Held). HoldsLets c.args.first (drop c.args.first (plain_names c.args.self.now.written.items)) [] hs) (sym c.new-held.ensures.items) (no_lets c.args.first xs);
+    }
+
+pub loop-step-preserved : goal.loop-step-preserved
+loop-step-preserved c =
+    let xs = drop c.args.first (plain_names c.args.self.now.written.items) in
+    let steps = c.args.steps.now in
+    let i = c.loop-step.step-index in
+    let s = c.step-item.result in
+    let held = c.loop-step.held.items in
+    record {
+      so = need_step c.args.first xs steps i s c.args.last c.args.tail_need c.loop-step.most c.pending.result c.max-most.result held c.loop-step-test.true c.step-item.is c.loop-step.invariant.holds c.loop-step.invariant.so
+          (c.pending.ensures ∙ ap (λ (hs : List Held). still (held_for hs s.before)) c.deref.ensures.value) (c.max-most.ensures ∙ ap (max c.loop-step.most) c.saturating_add.ensures);
+      holds = elim c.match-step.branch [
+        | in-Some+in_ok-until+in_ok-push w ↦
+            let_held c.args.first xs steps i s held c.match-step.held.items w.in-Some.p w.in_ok-until.until c.loop-step-test.true c.step-item.is w.in-Some.is c.loop-step.invariant.holds
+            (w.in_ok-until.ensures xs c.args.first c.in_ok-ends.ensures) (ap (λ (v : Vec Held Global). v.items) w.held-is ∙ w.in_ok-push.ensures.items)
+        | in_default w ↦
+            subst (λ (v : Vec Held Global). HoldsLets c.args.first xs (lets_of (take (i + 1) steps)) v.items) (sym w.held-is)
+            (no_let_held c.args.first xs steps i s held c.loop-step-test.true c.step-item.is w.in_default.is c.loop-step.invariant.holds)
+      ];
+    }
+
+pub returns : goal.returns
+returns c =
+    let xs = drop c.args.first (plain_names c.args.self.now.written.items) in
+    c.max.ensures ∙ ap (max c.loop-step.most) c.saturating_add-2.ensures
+    ∙ need_end c.args.first xs c.args.steps.now c.loop-step.step-index c.args.last c.args.tail_need c.loop-step.most c.pending-2.result c.loop-step.held.items c.loop-step-test.false c.loop-step.invariant.holds c.loop-step.invariant.so
+    (c.pending-2.ensures ∙ ap (λ (hs : List Held). still (held_for hs c.args.last)) c.deref-2.ensures.value)

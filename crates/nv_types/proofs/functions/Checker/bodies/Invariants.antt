@@ -1,0 +1,12 @@
+use Rattle.std.proofs.Common.{◌≡◌, [], map, take, drop}
+use Rattle.nv_ast.specs.ProgramView.{fun_tree}
+use Rattle.nv_types.specs.Standing.{Keeps}
+use Rattle.nv_types.proofs.Groups.{BodiedSo, CountedSo}
+use Rattle.nv_types.proofs.functions.Checker.bodies.Given as goal
+
+abbrev pub invariant-loop-f : goal.invariant-loop-f
+invariant-loop-f l = record {
+  so : BodiedSo l.initial.self (map fun_tree l.fs) (map fun_tree (drop l.f-index l.fs));
+  counted : CountedSo l.initial.self l.whole (map fun_tree l.fs) (map fun_tree (take l.f-index l.fs));
+  keeps : l.initial.self.scope ≡ [] → Keeps l.initial.self l.self;
+}

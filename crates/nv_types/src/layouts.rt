@@ -1,0 +1,368 @@
+// Layouts: their faults, and what typing asks of them.
+
+ghost use Rattle.std.specs.Prelude.{◌≡◌, ◌+◌, ◌/◌, ◌≤◌, ◌||◌, not, nat_lt, min, IfOk, OnOk, length};
+ghost use Rattle.nv_ast.specs.Outline.{OutlineTrees, outline_and, NamedOutlines, BitsOutline, GapOutline, PartsOutline, OverlayOutline, JoinedOutline, OutlineTree, total_named_size, longest, highest_named_outline, part_fields, alternative_fields, sizes_of};
+ghost use Rattle.nv_ast.specs.LayoutFaults.{unfit};
+ghost use Rattle.nv_ast.specs.Types.{Forms, forms_of as forms_of_outlines, unpacked_all, RecordForm, form_of};
+ghost use Rattle.nv_ast.specs.LayoutView.{layout_tree, field_tree, list_fields, list_layouts};
+ghost use Rattle.nv_ast.specs.Tree.{PartsLayout, JoinedLayout};
+ghost use Rattle.nv_ast.specs.Tests.{all_same, where_true, has_twice, within};
+ghost use Rattle.nv_ast.specs.Faults.{at_span};
+ghost use Rattle.nv_types.specs.Faulty.{Judges};
+ghost use Rattle.nv_types.specs.Costs.{still};
+ghost use Rattle.nv_types.specs.Named.{named};
+ghost use Rattle.nv_types.specs.Store.{Store, IsFields, IsForms, form_names};
+ghost use Rattle.nv_types.specs.Layouts.{IsShape, IsDeclared, IsMember, AreShapes, AreMembers, IsJoined};
+
+use crate::error::{TypeError, fault_where};
+use crate::functions::Checker;
+use crate::table::{NO_FIELDS, WORD};
+use nv_ast::{FieldText, LayoutText, Name, Span};
+use nv_base::NoMemory;
+
+/// What is asked of a layout with the names of other layouts written out: its bits, the number of its bit
+/// fields, its height, the forms of its record's fields and the types of their unpacked values.
+#[derive(Clone, Copy)]
+pub(crate) struct Shape {
+    pub bits: u64,
+    pub fields: u64,
+    pub height: u64,
+    pub forms: usize,
+    pub types: usize,
+}
+
+impl Shape {
+    /// How many words a packed value has.
+    pub fn packed_words(self) -> u32
+        ensures { result ≡ (min self.bits 1024 + 31) / 32 }
+    {
+        (self.bits.min(1024) as u32).div_ceil(32)
+    }
+}
+
+// The same of a field.
+#[derive(Clone, Copy)]
+struct Member {
+    bits: u64,
+    fields: u64,
+    height: u64,
+    form: usize,
+    unpacked: usize,
+}
+
+// Whether a number isn't from 1 to the greatest.
+pub(crate) fn is_outside(n: u32, greatest: u32) -> bool
+    ensures { result ≡ not (within 1 greatest n) }
+{
+    n < 1 || n > greatest
+}
+
+// Whether a layout has no field, over 1,024 bits, or a height over 100.
+fn is_unfit(empty: bool, bits: u64, height: u64) -> bool
+    ensures { result ≡ (empty || (nat_lt 1024 bits || nat_lt 100 height)) }
+{
+    empty || bits > 1024 || height > 100
+}
+
+// Of one bit field.
+fn bit_field(n: u32) -> Member
+    ensures { (s : Store) → n ≤ 1024 → IsMember s result (BitsOutline n) }
+{
+    Member {
+        bits: n as u64,
+        fields: 1,
+        height: 1,
+        form: WORD,
+        unpacked: WORD,
+    }
+}
+
+// Of bits that are left out.
+fn gap(n: u32) -> Shape
+    ensures { (s : Store) → IsShape s result (GapOutline n) }
+{
+    Shape {
+        bits: n as u64,
+        fields: 0,
+        height: 1,
+        forms: NO_FIELDS,
+        types: NO_FIELDS,
+    }
+}
+
+impl<'a> Checker<'a> {
+    ghost use Rattle.nv_types.specs.Standing.{Keeps};
+    ghost use Rattle.nv_types.specs.Texts.{ShapesLayout, ShapesWhole, ShapesField, ShapesFields};
+
+    /// A declared or inner layout, whose faults lie at a span.
+    #[cycle(layout)]
+    pub fn whole_layout(&mut self, span: Span, l: &'a LayoutText) -> Result<Shape, TypeError>
+        ensures { ShapesWhole self.old self.new span (layout_tree l.now) result }
+    {
+        let shape = self.layout(span, l)?;
+        self.fitting(span, shape)
+    }
+
+    // A shape that a declared or inner layout may have: with a field, of at most 1,024 bits and at most
+    // 100 high.
+    fn fitting(&self, span: Span, shape: Shape) -> Result<Shape, TypeError>
+        ensures judged { (o : OutlineTree) → IsShape self.now.table shape o → Judges (at_span span (unfit o)) result }
+        ensures fits { (o : OutlineTree) → IsShape self.now.table shape o → IfOk result (λ r. IsDeclared self.now.table r o) }
+    {
+        let empty = self.table.is_empty(shape.forms);
+        fault_where(is_unfit(empty, shape.bits, shape.height), 7, span)?;
+        Ok(shape)
+    }
+
+    #[cycle(layout)]
+    fn layout(&mut self, span: Span, l: &'a LayoutText) -> Result<Shape, TypeError>
+        ensures { ShapesLayout self.old self.new span (layout_tree l.now) result }
+    {
+        match l {
+            LayoutText::Named(x) => match self.layouts.get(x) {
+                Some(shape) => Ok(shape),
+                None => Err(TypeError::Fault(3, span)),
+            },
+            LayoutText::Gap(n) => {
+                fault_where(is_outside(*n, 1024), 4, span)?;
+                Ok(gap(*n))
+            }
+            LayoutText::Parts(fs) => self.parts_layout(span, fs),
+            LayoutText::Joined(ls) => self.joined_layout(span, ls),
+        }
+    }
+
+    #[cycle(layout)]
+    fn parts_layout(&mut self, span: Span, fs: &'a [(Name, FieldText)]) -> Result<Shape, TypeError>
+        ensures { ShapesLayout self.old self.new span (PartsLayout (list_fields fs.now)) result }
+    {
+        let members = self.members(span, fs)?;
+        let shape = self.record_shape(&members)?;
+        self.without_repeats(span, shape.forms)?;
+        Ok(shape)
+    }
+
+    #[cycle(layout)]
+    fn joined_layout(&mut self, span: Span, ls: &'a [LayoutText]) -> Result<Shape, TypeError>
+        ensures { ShapesLayout self.old self.new span (JoinedLayout (list_layouts ls.now)) result }
+    {
+        let mut shapes = Vec::new(self.alloc);
+        for l in ls {
+            shapes.push(self.layout(span, l)?)?;
+        }
+        let shape = self.joined_shape(&shapes)?;
+        self.without_repeats(span, shape.forms)?;
+        Ok(shape)
+    }
+
+    // No two fields of a record have one name.
+    fn without_repeats(&self, span: Span, forms: usize) -> Result<(), TypeError>
+        ensures { (fs : Forms) → IsForms self.now.table forms fs → Judges (at_span span (where_true (has_twice (form_names fs)) 5)) result }
+    {
+        fault_where(self.table.repeats_a_name(self.alloc, forms)?, 5, span)
+    }
+
+    #[cycle(layout)]
+    fn members(
+        &mut self,
+        span: Span,
+        fs: &'a [(Name, FieldText)],
+    ) -> Result<Vec<(&'a Name, Member)>, TypeError>
+        ensures { ShapesFields self.old self.new span (list_fields fs.now) result }
+    {
+        let mut members = Vec::new(self.alloc);
+        for f in fs {
+            let member = self.member(span, &f.1)?;
+            members.push((&f.0, member))?;
+        }
+        Ok(members)
+    }
+
+    #[cycle(layout)]
+    fn member(&mut self, span: Span, f: &'a FieldText) -> Result<Member, TypeError>
+        ensures { ShapesField self.old self.new span (field_tree f.now) result }
+    {
+        match f {
+            FieldText::Bits(n) => {
+                fault_where(is_outside(*n, 32), 4, span)?;
+                Ok(bit_field(*n))
+            }
+            FieldText::Inner(l) => {
+                let shape = self.whole_layout(span, l)?;
+                Ok(self.inner_member(shape)?)
+            }
+            FieldText::Overlay(fs) => {
+                let members = self.members(span, fs)?;
+                let member = self.overlay_member(&members)?;
+                self.without_repeats(span, member.1)?;
+                fault_where(!have_one_size(&members), 6, span)?;
+                Ok(member.0)
+            }
+        }
+    }
+
+    // The shape of a record of some fields.
+    fn record_shape(&mut self, members: &[(&'a Name, Member)]) -> Result<Shape, NoMemory>
+        ensures shaped { (os : NamedOutlines) → AreMembers self.old.table (named members.now) os → IfOk result (λ shape. IsShape self.new.table shape (PartsOutline os)) }
+        ensures keeps { OnOk result (Keeps self.old self.new) }
+    {
+        Ok(Shape {
+            bits: total_bits(members),
+            fields: total_fields(members),
+            height: highest(members).saturating_add(1),
+            forms: self.forms_of(members)?,
+            types: self.types_of(members)?,
+        })
+    }
+
+    // The forms of some fields.
+    fn forms_of(&mut self, members: &[(&'a Name, Member)]) -> Result<usize, NoMemory>
+        ensures made { (os : NamedOutlines) → AreMembers self.old.table (named members.now) os → IfOk result (λ i. IsForms self.new.table i (forms_of_outlines os)) }
+        ensures keeps { OnOk result (Keeps self.old self.new) }
+    {
+        let mut forms = Vec::new(self.alloc);
+        for m in members {
+            forms.push((m.0, m.1.form))?;
+        }
+        self.table.fields_of(&forms)
+    }
+
+    // The types of some fields' unpacked values.
+    fn types_of(&mut self, members: &[(&'a Name, Member)]) -> Result<usize, NoMemory>
+        ensures made { (os : NamedOutlines) → AreMembers self.old.table (named members.now) os → IfOk result (λ i. IsFields self.new.table i (unpacked_all (forms_of_outlines os))) }
+        ensures keeps { OnOk result (Keeps self.old self.new) }
+    {
+        let mut types = Vec::new(self.alloc);
+        for m in members {
+            types.push((m.0, m.1.unpacked))?;
+        }
+        self.table.fields_of(&types)
+    }
+
+    // The field whose value is an inner layout's record.
+    fn inner_member(&mut self, shape: Shape) -> Result<Member, NoMemory>
+        ensures made { (o : OutlineTree) → IsDeclared self.old.table shape o → IfOk result (λ m. IsMember self.new.table m o) }
+        ensures keeps { OnOk result (Keeps self.old self.new) }
+    {
+        Ok(Member {
+            bits: shape.bits,
+            fields: shape.fields,
+            height: shape.height,
+            form: self.table.record_of(shape.forms)?,
+            unpacked: self.table.record_of(shape.types)?,
+        })
+    }
+
+    // The field whose value is one of some alternatives, and the forms of these.
+    fn overlay_member(
+        &mut self,
+        members: &[(&'a Name, Member)],
+    ) -> Result<(Member, usize), NoMemory>
+        ensures made { (os : NamedOutlines) → AreMembers self.old.table (named members.now) os → IfOk result (λ m. IsMember self.new.table m.0 (OverlayOutline os)) }
+        ensures forms { (os : NamedOutlines) → AreMembers self.old.table (named members.now) os → IfOk result (λ m. IsForms self.new.table m.1 (forms_of_outlines os)) }
+        ensures keeps { OnOk result (Keeps self.old self.new) }
+    {
+        let forms = self.forms_of(members)?;
+        let types = self.types_of(members)?;
+        let member = Member {
+            bits: most_bits(members),
+            fields: total_fields(members),
+            height: highest(members).saturating_add(1),
+            form: self.table.choice(forms)?,
+            unpacked: self.table.record_of(types)?,
+        };
+        Ok((member, forms))
+    }
+
+    // The shape of layouts one after another.
+    fn joined_shape(&mut self, shapes: &[Shape]) -> Result<Shape, NoMemory>
+        ensures shaped { (os : OutlineTrees) → AreShapes self.old.table shapes.now os → IfOk result (λ shape. IsShape self.new.table shape (JoinedOutline os)) }
+        ensures keeps { OnOk result (Keeps self.old self.new) }
+    {
+        let mut whole = Shape {
+            bits: 0,
+            fields: 0,
+            height: 0,
+            forms: NO_FIELDS,
+            types: NO_FIELDS,
+        };
+        let mut left = shapes.len();
+        while left > 0 {
+            left -= 1;
+            whole = self.in_front(shapes[left], whole)?;
+        }
+        whole.height = whole.height.saturating_add(1);
+        Ok(whole)
+    }
+
+    // What layouts one after another have together, with one more in front.
+    fn in_front(&mut self, first: Shape, rest: Shape) -> Result<Shape, NoMemory>
+        ensures joined { (o : OutlineTree) (os : OutlineTrees) → IsShape self.old.table first o → IsJoined self.old.table rest os → IfOk result (λ whole. IsJoined self.new.table whole (outline_and o os)) }
+        ensures keeps { OnOk result (Keeps self.old self.new) }
+    {
+        Ok(Shape {
+            bits: first.bits.saturating_add(rest.bits),
+            fields: first.fields.saturating_add(rest.fields),
+            height: first.height.max(rest.height),
+            forms: self.table.joined(self.alloc, first.forms, rest.forms)?,
+            types: self.table.joined(self.alloc, first.types, rest.types)?,
+        })
+    }
+}
+
+// The sums and greatest of some fields.
+fn total_bits(members: &[(&Name, Member)]) -> u64
+    ensures { (s : Store) (os : NamedOutlines) → AreMembers s (named members.now) os → result ≡ still (total_named_size os) }
+{
+    let mut total: u64 = 0;
+    for m in members {
+        total = total.saturating_add(m.1.bits);
+    }
+    total
+}
+
+fn most_bits(members: &[(&Name, Member)]) -> u64
+    ensures { (s : Store) (os : NamedOutlines) → AreMembers s (named members.now) os → result ≡ still (longest os) }
+{
+    let mut most: u64 = 0;
+    for m in members {
+        most = most.max(m.1.bits);
+    }
+    most
+}
+
+fn total_fields(members: &[(&Name, Member)]) -> u64
+    ensures parts { (s : Store) (os : NamedOutlines) → AreMembers s (named members.now) os → result ≡ still (length (part_fields 0 os)) }
+    ensures alternatives { (s : Store) (os : NamedOutlines) → AreMembers s (named members.now) os → result ≡ still (length (alternative_fields 0 os)) }
+{
+    let mut total: u64 = 0;
+    for m in members {
+        total = total.saturating_add(m.1.fields);
+    }
+    total
+}
+
+fn highest(members: &[(&Name, Member)]) -> u64
+    ensures { (s : Store) (os : NamedOutlines) → AreMembers s (named members.now) os → result ≡ still (highest_named_outline os) }
+{
+    let mut most: u64 = 0;
+    for m in members {
+        most = most.max(m.1.height);
+    }
+    most
+}
+
+// Whether alternatives have one size.
+fn have_one_size(members: &[(&Name, Member)]) -> bool
+    ensures { (s : Store) (os : NamedOutlines) → AreMembers s (named members.now) os → result ≡ all_same (sizes_of os) }
+{
+    let Some((first, others)) = members.split_first() else {
+        return true;
+    };
+    for m in others {
+        if m.1.bits != first.1.bits {
+            return false;
+        }
+    }
+    true
+}

@@ -1,0 +1,23 @@
+//! The typing of programs: the first fault of a program, or its sizes.
+#![tactic(auto)]
+
+mod blocks;
+mod cost;
+mod declarations;
+mod declared;
+mod error;
+mod expressions;
+mod functions;
+mod layouts;
+mod names;
+mod patterns;
+mod program;
+mod scope;
+mod table;
+#[cfg(test)]
+mod tests;
+mod texts;
+mod wanted;
+
+pub use error::TypeError;
+pub use program::check;

@@ -1,0 +1,90 @@
+// Programs.
+
+ghost use Rattle.std.specs.Prelude.{◌≡◌, IfOk, IfErr, OnOk};
+ghost use Rattle.nv_ast.specs.ProgramView.{program_of};
+ghost use Rattle.nv_ast.specs.TypedView.{typed_program};
+ghost use Rattle.nv_ast.specs.Faults.{main_name, program_faults};
+ghost use Rattle.nv_types.specs.Answers.{IsRefusal, IsAccepted, IsSized, FindsMain};
+ghost use Rattle.nv_types.specs.Faulty.{Judges};
+
+use crate::declarations::MAIN;
+use crate::error::TypeError;
+use crate::functions::Checker;
+use nv_ast::{Name, Program, Span, Typed};
+use std::alloc::Global;
+
+/// The greatest expanded size of a program that is accepted.
+const LARGEST: u32 = 4096;
+
+/// The program as a typed one, with its sizes.
+///
+/// `Fault` is the first fault of the walk: the declarations in order, and in an expression the parts from left
+/// to right and then the expression itself, of whose kinds the least counts. `TooLarge` has the expanded size.
+pub fn check(alloc: Global, p: Program) -> Result<Typed, TypeError>
+    ensures typed { IfOk result (λ t. typed_program t ≡ program_of p) }
+    ensures accepted { OnOk result (IsAccepted (program_of p)) }
+    ensures refused { IfErr result (IsRefusal (program_of p)) }
+{
+    let main = Name::new(alloc, &MAIN)?;
+    let sizes = measure(alloc, &p, &main)?;
+    if sizes.expanded > LARGEST {
+        return Err(TypeError::TooLarge(sizes.expanded));
+    }
+    let room = sizes.need as u32 + 8;
+    Ok(Typed::of(p, sizes.expanded, room, sizes.params))
+}
+
+// The sizes of a program.
+#[derive(Clone, Copy)]
+struct Sizes {
+    expanded: u32,
+    need: u64,
+    params: u8,
+}
+
+// The sizes of a program without a fault.
+fn measure<'a>(alloc: Global, p: &'a Program, main: &'a Name) -> Result<Sizes, TypeError>
+    requires { main.now ≡ main_name }
+    ensures judged { Judges (program_faults (program_of p.now)) result }
+    ensures sized { IfOk result (λ s. IsSized (program_of p.now) s) }
+{
+    let mut checker = Checker::new(alloc)?;
+    checker.sizes_of(p, main)
+}
+
+impl<'a> Checker<'a> {
+    ghost use Rattle.nv_types.specs.Answers.{Measures};
+
+    // From the start, the sizes of a program without a fault.
+    fn sizes_of(&mut self, p: &'a Program, main: &'a Name) -> Result<Sizes, TypeError>
+        requires { main.now ≡ main_name }
+        ensures { Measures self.old (program_of p.now) result }
+    {
+        self.declarations(&p.decls)?;
+        match sizes_of_main(self, main) {
+            Some(sizes) => Ok(sizes),
+            None => {
+                let end = Span {
+                    first: p.length,
+                    after: p.length,
+                };
+                Err(TypeError::Fault(1, end))
+            }
+        }
+    }
+}
+
+// The sizes of main, if there is one. The size of its group stands still at 4,294,967,295; a main without a
+// fault has parameters of at most 8 words.
+fn sizes_of_main<'a>(checker: &Checker<'a>, name: &'a Name) -> Option<Sizes>
+    requires { name.now ≡ main_name }
+    ensures { FindsMain checker.now result }
+{
+    let main = checker.functions.get(name)?;
+    let cost = checker.costs.get(name)?;
+    Some(Sizes {
+        expanded: cost.size.min(u32::MAX as u64) as u32,
+        need: cost.need,
+        params: checker.table.known(main.params).words.min(8) as u8,
+    })
+}
