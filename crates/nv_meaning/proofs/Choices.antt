@@ -1,0 +1,271 @@
+-- The ways out of the functions for operators, conditions, handlers, blocks and calls, over plain variables.
+use Rattle.std.proofs.Common.{◌≡◌, ℕ, zero, suc, ◌-◌, ◌<◌, ◌≤◌, Bool, true, false, List, [], ◌++◌, refl, sym, ap, ◌∙◌, subst, append_assoc, append-nil, take, length, if◌then◌else◌, Option, Some, None, Result as Answer, Ok, Err, Vec, Global, Bor, eq-eqb, ne_eqb, arith}
+use Rattle.std.proofs.Math.Seq.{take-append_seam}
+use Rattle.nv_base.specs.declared.outcome.Write.{Write}
+use Rattle.nv_base.specs.declared.outcome.Outcome.TheVariants as outcome
+use Rattle.nv_base.specs.declared.term.Mem.{Mem}
+use Rattle.nv_ast.specs.declared.tree.Op.{Op}
+use Rattle.nv_ast.specs.declared.tree.Op.TheVariants.{Add, Sub, And, Or, Xor, Eq, Ne, Lt, Le, Gt, Ge, Both, Either}
+use Rattle.nv_ast.specs.Tree.{Tree, NumberTree, TruthTree, VarTree, ParenTree, TupleTree, FieldsTree, DotTree, InvertTree, NegateTree, BinaryTree, ShiftTree, CallTree, UnpackTree, PackTree, RaiseTree, IfTree, TryTree, FetchTree, BlockTree, StatementTrees, PatternTrees, FunTree}
+use Rattle.nv_meaning.specs.Values.{Value, Truth, Values, Scope, variable_in, word_of, truth_of, all_matched}
+use Rattle.nv_meaning.specs.Running.{Running, Result, Gives, Raises, Stops, Stated, and_then, and_stated, handled, taken}
+use Rattle.nv_meaning.specs.Meaning.{Declared, Calls, binary, eval, run_all, enter, entered, function_in, calls_within}
+use Rattle.nv_meaning.specs.Operand.{decided_by, joined_by, made_of}
+use Rattle.nv_meaning.specs.declared.value.Value as code
+use Rattle.nv_meaning.specs.declared.stop.Step.{Step}
+use Rattle.nv_meaning.specs.declared.stop.Step.TheVariants.{Done, Again}
+use Rattle.nv_meaning.specs.declared.stop.Stop.{Stop}
+use Rattle.nv_meaning.specs.declared.stop.Stop.TheVariants.{NoMemory, Raised, Fault, Going}
+use Rattle.nv_meaning.specs.View.{Named, view, list_values, scope_of, Extends}
+use Rattle.nv_meaning.specs.Ran.{At, running, Wrote, Grown, IsStep, IsValue, IsScope, RanStep, RanValue, RanScope}
+use Rattle.nv_meaning.proofs.Grows.{grown-here, grown-fetch, grown-if, grown-then, grown-handled, eval-grows, enter-grows}
+use Rattle.nv_meaning.proofs.Moments.{ran-here, ran-as, ran-then, wrote-nothing, wrote-then}
+use Rattle.nv_meaning.proofs.Stops.{stop-stated}
+use Rattle.nv_meaning.proofs.Arms.{step-as, value-as, then-stop, then-step, then-here}
+
+-- ---- operators of two operands
+
+-- what follows the left operand's value
+abbrev pub after_left : Op → Value → (Running → Result) → Option Bool → Running → Result
+after_left op v right (Some b) now = Gives (Truth b) now
+after_left op v right None now = and_then (right now) (λ w last. Gives (joined_by op v w) last)
+
+and_then-gives : (q : Result) → and_then q (λ w last. Gives w last) ≡ q
+and_then-gives (Gives v now) = refl
+and_then-gives (Raises k vs now) = refl
+and_then-gives (Stops how now) = refl
+
+both-left : (v : Value) (right : Running → Result) (b : Bool) (now : Running) → (if b then right now else Gives (Truth false) now) ≡ after_left Both v right (if b then None else Some false) now
+both-left v right true now = sym (and_then-gives (right now))
+both-left v right false now = refl
+
+either-left : (v : Value) (right : Running → Result) (b : Bool) (now : Running) → (if b then Gives (Truth true) now else right now) ≡ after_left Either v right (if b then Some true else None) now
+either-left v right true now = refl
+either-left v right false now = sym (and_then-gives (right now))
+
+then-same : (q : Result) (f g : Value → Running → Result) → ((v : Value) (now : Running) → f v now ≡ g v now) → and_then q f ≡ and_then q g
+then-same (Gives v now) f g h = h v now
+then-same (Raises k vs now) f g h = refl
+then-same (Stops how now) f g h = refl
+
+binary-as : (op : Op) (q : Result) (right : Running → Result) → binary op q right ≡ and_then q (λ v now. after_left op v right (decided_by op (truth_of v)) now)
+binary-as Both q right = then-same q (λ v now. if truth_of v then right now else Gives (Truth false) now) (λ v now. after_left Both v right (decided_by Both (truth_of v)) now) (λ v now. both-left v right (truth_of v) now)
+binary-as Either q right = then-same q (λ v now. if truth_of v then Gives (Truth true) now else right now) (λ v now. after_left Either v right (decided_by Either (truth_of v)) now) (λ v now. either-left v right (truth_of v) now)
+binary-as Add q right = refl
+binary-as Sub q right = refl
+binary-as And q right = refl
+binary-as Or q right = refl
+binary-as Xor q right = refl
+binary-as Eq q right = refl
+binary-as Ne q right = refl
+binary-as Lt q right = refl
+binary-as Le q right = refl
+binary-as Gt q right = refl
+binary-as Ge q right = refl
+
+after_left-grows : (op : Op) (v : Value) (right : Running → Result) (known : Option Bool) (now : Running) → ((last : Running) → Grown last (right last)) → Grown now (after_left op v right known now)
+after_left-grows op v right (Some b) now h = grown-here now _ refl
+after_left-grows op v right None now h = grown-then now (right now) (λ w last. Gives (joined_by op v w) last) (h now) (λ w last. grown-here last _ refl)
+
+module _ (d : Declared) (a b : At) (op : Op) (t u : Tree) (s : Scope) where
+  abbrev left_of : Calls → Running → Result
+  left_of call now = eval d call t s now
+
+  abbrev right_of : Calls → Value → Running → Result
+  right_of call v now = after_left op v (λ next. eval d call u s next) (decided_by op (truth_of v)) now
+
+  binary-is : (e : At) (answer : Answer Step Stop) → RanStep d a e answer (λ call now. and_then (left_of call now) (right_of call)) → RanStep d a e answer (λ call now. binary op (eval d call t s now) (λ next. eval d call u s next))
+  binary-is e answer h = ran-as d a e (λ call now last. IsStep call answer last (and_then (left_of call now) (right_of call))) (λ call now last. IsStep call answer last (binary op (eval d call t s now) (λ next. eval d call u s next))) (λ call grows x y same p. step-as call answer y (and_then (left_of call x) (right_of call)) (binary op (eval d call t s x) (λ next. eval d call u s next)) (binary-as op (eval d call t s x) (λ next. eval d call u s next)) p) h
+
+  pub binary-stop : (stop : Stop) → RanValue d a b (Err stop) (λ call now. eval d call t s now) → RanStep d a b (Err stop) (λ call now. binary op (eval d call t s now) (λ next. eval d call u s next))
+  binary-stop stop h = binary-is b (Err stop) (then-stop d a b left_of right_of stop (λ call grows v now. after_left-grows op v (λ next. eval d call u s next) (decided_by op (truth_of v)) now (λ last. eval-grows d call grows u s last)) h)
+
+  pub binary-decided : (v : code.Value) (known : Bool) → decided_by op (truth_of (view v)) ≡ Some known → RanValue d a b (Ok v) (λ call now. eval d call t s now) → RanStep d a b (Ok (Done (code.Truth known))) (λ call now. binary op (eval d call t s now) (λ next. eval d call u s next))
+  binary-decided v known is h = binary-is b (Ok (Done (code.Truth known))) (then-here d a b left_of right_of v (Ok (Done (code.Truth known))) h (λ call grows now same. ap (λ o. after_left op (view v) (λ next. eval d call u s next) o now) is))
+
+  pub binary-stop_right : (e : At) (v : code.Value) (stop : Stop) → decided_by op (truth_of (view v)) ≡ None → RanValue d a b (Ok v) (λ call now. eval d call t s now) → RanValue d b e (Err stop) (λ call now. eval d call u s now) → RanStep d a e (Err stop) (λ call now. binary op (eval d call t s now) (λ next. eval d call u s next))
+  binary-stop_right e v stop is h n = binary-is e (Err stop) (then-step d a b left_of right_of e v (Err stop) h
+      (ran-as d b e (λ call now last. IsStep call (Err stop) last (and_then (eval d call u s now) (λ w last. Gives (joined_by op (view v) w) last))) (λ call now last. IsStep call (Err stop) last (right_of call (view v) now)) (λ call grows x y same p. step-as call (Err stop) y (and_then (eval d call u s x) (λ w last. Gives (joined_by op (view v) w) last)) (right_of call (view v) x) (ap (λ o. after_left op (view v) (λ next. eval d call u s next) o x) is) p)
+      (then-stop d b e (λ call now. eval d call u s now) (λ call w last. Gives (joined_by op (view v) w) last) stop (λ call grows w now. grown-here now _ refl) n)))
+
+  pub binary-done : (e : At) (v w r : code.Value) → decided_by op (truth_of (view v)) ≡ None → view r ≡ joined_by op (view v) (view w) → RanValue d a b (Ok v) (λ call now. eval d call t s now) → RanValue d b e (Ok w) (λ call now. eval d call u s now) → RanStep d a e (Ok (Done r)) (λ call now. binary op (eval d call t s now) (λ next. eval d call u s next))
+  binary-done e v w r is joined h n = binary-is e (Ok (Done r)) (then-step d a b left_of right_of e v (Ok (Done r)) h
+      (ran-as d b e (λ call now last. IsStep call (Ok (Done r)) last (and_then (eval d call u s now) (λ w last. Gives (joined_by op (view v) w) last))) (λ call now last. IsStep call (Ok (Done r)) last (right_of call (view v) now)) (λ call grows x y same p. step-as call (Ok (Done r)) y (and_then (eval d call u s x) (λ w last. Gives (joined_by op (view v) w) last)) (right_of call (view v) x) (ap (λ o. after_left op (view v) (λ next. eval d call u s next) o x) is) p)
+      (then-here d b e (λ call now. eval d call u s now) (λ call u' last. Gives (joined_by op (view v) u') last) w (Ok (Done r)) n (λ call grows now same. ap (λ z. Gives z now) (sym joined)))))
+
+-- ---- conditions
+module _ (d : Declared) (a b : At) (t yes' no' : Tree) (s : Scope) where
+  abbrev condition : Calls → Running → Result
+  condition call now = eval d call t s now
+
+  abbrev chosen : Calls → Value → Running → Result
+  chosen call v next = if truth_of v then eval d call yes' s next else eval d call no' s next
+
+  pub choose-stop : (stop : Stop) → RanValue d a b (Err stop) (λ call now. eval d call t s now) → RanStep d a b (Err stop) (λ call now. and_then (eval d call t s now) (λ v next. if truth_of v then eval d call yes' s next else eval d call no' s next))
+  choose-stop stop h = then-stop d a b condition chosen stop (λ call grows v now. grown-if (truth_of v) now (eval d call yes' s now) (eval d call no' s now) (eval-grows d call grows yes' s now) (eval-grows d call grows no' s now)) h
+
+  pub choose-yes : (e : At) (v : code.Value) (answer : Answer Step Stop) → truth_of (view v) ≡ true → RanValue d a b (Ok v) (λ call now. eval d call t s now) → RanStep d b e answer (λ call now. eval d call yes' s now) → RanStep d a e answer (λ call now. and_then (eval d call t s now) (λ v next. if truth_of v then eval d call yes' s next else eval d call no' s next))
+  choose-yes e v answer is h n = then-step d a b condition chosen e v answer h
+      (ran-as d b e (λ call now last. IsStep call answer last (eval d call yes' s now)) (λ call now last. IsStep call answer last (chosen call (view v) now)) (λ call grows x y same p. step-as call answer y (eval d call yes' s x) (chosen call (view v) x) (ap (λ c. if c then eval d call yes' s x else eval d call no' s x) is) p) n)
+
+  pub choose-no : (e : At) (v : code.Value) (answer : Answer Step Stop) → truth_of (view v) ≡ false → RanValue d a b (Ok v) (λ call now. eval d call t s now) → RanStep d b e answer (λ call now. eval d call no' s now) → RanStep d a e answer (λ call now. and_then (eval d call t s now) (λ v next. if truth_of v then eval d call yes' s next else eval d call no' s next))
+  choose-no e v answer is h n = then-step d a b condition chosen e v answer h
+      (ran-as d b e (λ call now last. IsStep call answer last (eval d call no' s now)) (λ call now last. IsStep call answer last (chosen call (view v) now)) (λ call grows x y same p. step-as call answer y (eval d call no' s x) (chosen call (view v) x) (ap (λ c. if c then eval d call yes' s x else eval d call no' s x) is) p) n)
+
+-- ---- handlers
+module _ (d : Declared) (a b : At) (t h : Tree) (k : ℕ) (ps : PatternTrees) (s : Scope) where
+  abbrev handler_of : Calls → Values → Running → Result
+  handler_of call vs next = eval d call h (all_matched ps vs s) next
+
+  pub try-done : (v : code.Value) → RanValue d a b (Ok v) (λ call now. eval d call t s now) → RanStep d a b (Ok (Done v)) (λ call now. handled k (λ vs next. eval d call h (all_matched ps vs s) next) (eval d call t s now))
+  try-done v r = ran-as d a b (λ call now last. IsValue (Ok v) last (eval d call t s now)) (λ call now last. IsStep call (Ok (Done v)) last (handled k (handler_of call) (eval d call t s now))) (λ call grows x y same p. ap (handled k (handler_of call)) p) r
+
+  pub try-short : RanValue d a b (Err NoMemory) (λ call now. eval d call t s now) → RanStep d a b (Err NoMemory) (λ call now. handled k (λ vs next. eval d call h (all_matched ps vs s) next) (eval d call t s now))
+  try-short r = ran-as d a b (λ call now last. IsValue (Err NoMemory) last (eval d call t s now)) (λ call now last. IsStep call (Err NoMemory) last (handled k (handler_of call) (eval d call t s now))) (λ call grows x y same p. grown-handled k y (handler_of call) (eval d call t s x) p (λ vs last. eval-grows d call grows h (all_matched ps vs s) last)) r
+
+  pub try-fault : (m : Mem) (place : ℕ) → RanValue d a b (Err (Fault m place)) (λ call now. eval d call t s now) → RanStep d a b (Err (Fault m place)) (λ call now. handled k (λ vs next. eval d call h (all_matched ps vs s) next) (eval d call t s now))
+  try-fault m place r = ran-as d a b (λ call now last. IsValue (Err (Fault m place)) last (eval d call t s now)) (λ call now last. IsStep call (Err (Fault m place)) last (handled k (handler_of call) (eval d call t s now))) (λ call grows x y same p. ap (handled k (handler_of call)) p) r
+
+  pub try-going : RanValue d a b (Err Going) (λ call now. eval d call t s now) → RanStep d a b (Err Going) (λ call now. handled k (λ vs next. eval d call h (all_matched ps vs s) next) (eval d call t s now))
+  try-going r = ran-as d a b (λ call now last. IsValue (Err Going) last (eval d call t s now)) (λ call now last. IsStep call (Err Going) last (handled k (handler_of call) (eval d call t s now))) (λ call grows x y same p. ap (handled k (handler_of call)) p) r
+
+  pub try-other : (j : ℕ) (vs : Vec code.Value Global) → (j ≡ k → ⊥) → RanValue d a b (Err (Raised j vs)) (λ call now. eval d call t s now) → RanStep d a b (Err (Raised j vs)) (λ call now. handled k (λ vs next. eval d call h (all_matched ps vs s) next) (eval d call t s now))
+  try-other j vs other r = ran-as d a b (λ call now last. IsValue (Err (Raised j vs)) last (eval d call t s now)) (λ call now last. IsStep call (Err (Raised j vs)) last (handled k (handler_of call) (eval d call t s now)))
+      (λ call grows x y same p. ap (handled k (handler_of call)) p ∙ ap (λ c. if c then handler_of call (list_values vs.items) y else Raises j (list_values vs.items) y) (ne_eqb j k other)) r
+
+  pub try-handled : (e : At) (j : ℕ) (vs : Vec code.Value Global) (answer : Answer Step Stop) → j ≡ k → RanValue d a b (Err (Raised j vs)) (λ call now. eval d call t s now) → RanStep d b e answer (λ call now. eval d call h (all_matched ps (list_values vs.items) s) now) → RanStep d a e answer (λ call now. handled k (λ vs next. eval d call h (all_matched ps vs s) next) (eval d call t s now))
+  try-handled e j vs answer is r n = ran-then d a b e (λ call now last. IsValue (Err (Raised j vs)) last (eval d call t s now)) (λ call now last. IsStep call answer last (eval d call h (all_matched ps (list_values vs.items) s) now)) (λ call now last. IsStep call answer last (handled k (handler_of call) (eval d call t s now)))
+      (λ call grows x y z p q. step-as call answer z (eval d call h (all_matched ps (list_values vs.items) s) y) (handled k (handler_of call) (eval d call t s x)) (ap (handled k (handler_of call)) p ∙ ap (λ c. if c then handler_of call (list_values vs.items) y else Raises j (list_values vs.items) y) (eq-eqb j k is)) q) r n
+
+-- want of memory before an expression
+pub short-before : (d : Declared) (a : At) (t : Tree) (s : Scope) → RanStep d a a (Err NoMemory) (λ call now. eval d call t s now)
+short-before d a t s = ran-here d a (λ call now last. IsStep call (Err NoMemory) last (eval d call t s now)) (λ call grows x same. eval-grows d call grows t s x)
+
+-- an expression in the scope that patterns made
+pub in-matched : (d : Declared) (a b : At) (answer : Answer Step Stop) (t : Tree) (s s' : Scope) → s' ≡ s → RanStep d a b answer (λ call now. eval d call t s' now) → RanStep d a b answer (λ call now. eval d call t s now)
+in-matched d a b answer t s s' e h = subst (λ z. RanStep d a b answer (λ call now. eval d call t z now)) e h
+
+-- ---- blocks
+module _ (d : Declared) (a b : At) (sts : StatementTrees) (t : Tree) (s : Scope) where
+  pub block-stop : (s' : Scope) (stop : Stop) → RanScope d a b (Err stop) s' (λ call now. run_all d call sts s now) → RanStep d a b (Err stop) (λ call now. and_stated (run_all d call sts s now) (λ inner next. eval d call t inner next))
+  block-stop s' stop h = ran-as d a b (λ call now last. IsScope (Err stop) s' last (run_all d call sts s now)) (λ call now last. IsStep call (Err stop) last (and_stated (run_all d call sts s now) (λ inner next. eval d call t inner next))) (λ call grows x y same p. stop-stated stop y (run_all d call sts s x) (λ inner next. eval d call t inner next) (λ inner last. eval-grows d call grows t inner last) p) h
+
+  pub block-tail : (e : At) (s' : Scope) (answer : Answer Step Stop) → RanScope d a b (Ok tt) s' (λ call now. run_all d call sts s now) → RanStep d b e answer (λ call now. eval d call t s' now) → RanStep d a e answer (λ call now. and_stated (run_all d call sts s now) (λ inner next. eval d call t inner next))
+  block-tail e s' answer h n = ran-then d a b e (λ call now last. IsScope (Ok tt) s' last (run_all d call sts s now)) (λ call now last. IsStep call answer last (eval d call t s' now)) (λ call now last. IsStep call answer last (and_stated (run_all d call sts s now) (λ inner next. eval d call t inner next))) (λ call grows x y z p q. step-as call answer z (eval d call t s' y) (and_stated (run_all d call sts s x) (λ inner next. eval d call t inner next)) (ap (λ r. and_stated r (λ inner next. eval d call t inner next)) p) q) h n
+
+-- ---- expressions of one operand
+pub made-grows : (d : Declared) (e : Tree) (v : Value) (now : Running) → Grown now (made_of d e v now)
+made-grows d (NumberTree s n) v now = grown-here now _ refl
+made-grows d (TruthTree s b) v now = grown-here now _ refl
+made-grows d (VarTree s x) v now = grown-here now _ refl
+made-grows d (ParenTree s e) v now = grown-here now _ refl
+made-grows d (TupleTree s es) v now = grown-here now _ refl
+made-grows d (FieldsTree s es) v now = grown-here now _ refl
+made-grows d (DotTree s e x) v now = grown-here now _ refl
+made-grows d (InvertTree s e) v now = grown-here now _ refl
+made-grows d (NegateTree s e) v now = grown-here now _ refl
+made-grows d (BinaryTree s op a b) v now = grown-here now _ refl
+made-grows d (ShiftTree s op e n) v now = grown-here now _ refl
+made-grows d (CallTree s f es) v now = grown-here now _ refl
+made-grows d (UnpackTree s l e) v now = grown-here now _ refl
+made-grows d (PackTree s l e) v now = grown-here now _ refl
+made-grows d (RaiseTree s x es) v now = grown-here now _ refl
+made-grows d (IfTree s c a b) v now = grown-here now _ refl
+made-grows d (TryTree s a x ps h) v now = grown-here now _ refl
+made-grows d (FetchTree s m n e) v now = grown-fetch m n (word_of v) now
+made-grows d (BlockTree s sts e) v now = grown-here now _ refl
+
+module _ (d : Declared) (a b : At) (t e : Tree) (s : Scope) where
+  pub operand-stop : (stop : Stop) → RanValue d a b (Err stop) (λ call now. eval d call t s now) → RanStep d a b (Err stop) (λ call now. and_then (eval d call t s now) (λ v last. made_of d e v last))
+  operand-stop stop h = then-stop d a b (λ call now. eval d call t s now) (λ call v last. made_of d e v last) stop (λ call grows v now. made-grows d e v now) h
+
+  pub operand-made : (v : code.Value) (answer : Answer Step Stop) → RanValue d a b (Ok v) (λ call now. eval d call t s now) → ((call : Calls) (now : Running) → now.packet ≡ b.packet → IsStep call answer now (made_of d e (view v) now)) → RanStep d a b answer (λ call now. and_then (eval d call t s now) (λ v last. made_of d e v last))
+  operand-made v answer h n = then-here d a b (λ call now. eval d call t s now) (λ call v last. made_of d e v last) v answer h (λ call grows now same. n call now same)
+
+-- ---- calls
+
+-- a call has led to another one, which lies no deeper
+pub record Jumped (d : Declared) (a b : At) (f : List ℕ) (vs : Values) (g : List ℕ) (ws : Values) : Type 0 where
+  pub wrote : List Write
+  pub change : Wrote a b wrote
+  pub run : (depth : ℕ) → a.calls ≤ depth → (before : List Write) → (deep : ℕ) × (b.calls ≤ deep) × (calls_within depth d f vs (running a before) ≡ calls_within deep d g ws (running b (before ++ wrote)))
+
+pub jump-none : (d : Declared) (a : At) (f : List ℕ) (vs : Values) → Jumped d a a f vs f vs
+jump-none d a f vs = record {
+  wrote = [];
+  change = wrote-nothing a;
+  run = λ depth le before. (depth, le, ap (λ ws. calls_within depth d f vs (running a ws)) (sym (append-nil before)));
+}
+
+-- the same moment with a call taken
+abbrev pub one_less : At → At
+one_less a = record { calls = a.calls - 1; packet = a.packet; log = a.log }
+
+taken-less : (n : ℕ) (now : Running) (next : Running → Result) → 0 < n → taken n now next ≡ next (record { calls = n - 1; packet = now.packet; writes = now.writes })
+taken-less zero now next some = absurd (omega arith)
+taken-less (suc n) now next some = let z : n ≡ suc n - 1 = omega arith in ap (λ k. next (record { calls = k; packet = now.packet; writes = now.writes })) z
+
+call-is : (d : Declared) (b : At) (deep : ℕ) (g : List ℕ) (ws : Values) (before : List Write) → 0 < b.calls → b.calls ≤ deep → (deep' : ℕ) × (b.calls - 1 ≤ deep') × (calls_within deep d g ws (running b before) ≡ enter d (calls_within deep' d) (function_in d.functions g) ws (running (one_less b) before))
+call-is d b zero g ws before some le = absurd (omega arith)
+call-is d b (suc deep) g ws before some le = (deep, omega arith, taken-less b.calls (running b before) (λ next. enter d (calls_within deep d) (function_in d.functions g) ws next) some)
+
+wrote-less : (b e : At) (ws : List Write) → Wrote (one_less b) e ws → Wrote b e ws
+wrote-less b e ws h = record { calls = (let k : e.calls ≤ b.calls - 1 = h.calls in omega arith); packet = h.packet; log = h.log }
+
+module _ (d : Declared) (a b : At) (f : List ℕ) (vs : Values) (g : List ℕ) (ws : Values) where
+  pub jump-more : (e : At) (h : Bor (List ℕ)) (us : Vec code.Value Global) → 0 < b.calls → Jumped d a b f vs g ws → RanStep d (one_less b) e (Ok (Again h us)) (λ call now. enter d call (function_in d.functions g) ws now) → Jumped d a e f vs h.now (list_values us.items)
+  jump-more e h us some r s = record {
+    wrote = r.wrote ++ s.wrote;
+    change = wrote-then a b e r.wrote s.wrote r.change (wrote-less b e s.wrote s.change);
+    run = λ depth le before.
+        let j = r.run depth le before in
+        let c = call-is d b j.0 g ws (before ++ r.wrote) some j.1 in
+        let fewer : e.calls ≤ b.calls - 1 = s.change.calls in
+        let enough : b.calls - 1 ≤ c.0 = c.1 in
+        (c.0, omega arith, j.2 ∙ c.2 ∙ s.run c.0 c.1 (before ++ r.wrote) ∙ ap (λ l. calls_within c.0 d h.now (list_values us.items) (running e l)) (append_assoc before r.wrote s.wrote));
+  }
+
+  pub jump-end : (e : At) (answer : Answer code.Value Stop) → 0 < b.calls → Jumped d a b f vs g ws → RanValue d (one_less b) e answer (λ call now. enter d call (function_in d.functions g) ws now) → RanValue d a e answer (λ call now. call f vs now)
+  jump-end e answer some r s = record {
+    wrote = r.wrote ++ s.wrote;
+    change = wrote-then a b e r.wrote s.wrote r.change (wrote-less b e s.wrote s.change);
+    run = λ depth le before.
+        let j = r.run depth le before in
+        let c = call-is d b j.0 g ws (before ++ r.wrote) some j.1 in
+        subst (λ l. IsValue answer (running e l) (calls_within depth d f vs (running a before))) (append_assoc before r.wrote s.wrote)
+        (value-as answer (running e ((before ++ r.wrote) ++ s.wrote)) (enter d (calls_within c.0 d) (function_in d.functions g) ws (running (one_less b) (before ++ r.wrote))) (calls_within depth d f vs (running a before)) (j.2 ∙ c.2) (s.run c.0 c.1 (before ++ r.wrote)));
+  }
+
+  none-is : (deep : ℕ) (now : Running) → now.calls ≡ 0 → calls_within deep d g ws now ≡ Stops outcome.Going now
+  none-is zero now e = refl
+  none-is (suc deep) now e = ap (λ n. taken n now (λ next. enter d (calls_within deep d) (function_in d.functions g) ws next)) e
+
+  pub jump-none_left : b.calls ≡ 0 → Jumped d a b f vs g ws → RanValue d a b (Err Going) (λ call now. call f vs now)
+  jump-none_left e r = record {
+    wrote = r.wrote;
+    change = r.change;
+    run = λ depth le before. let j = r.run depth le before in j.2 ∙ none-is j.0 (running b (before ++ r.wrote)) e;
+  }
+
+  pub jump-no_function : 0 < b.calls → function_in d.functions g ≡ None → Jumped d a b f vs g ws → RanValue d a (one_less b) (Err Going) (λ call now. call f vs now)
+  jump-no_function some is r = jump-end (one_less b) (Err Going) some r (ran-here d (one_less b) (λ call now last. IsValue (Err Going) last (enter d call (function_in d.functions g) ws now)) (λ call grows x same. ap (λ o. enter d call o ws x) is))
+
+  pub jump-short : 0 < b.calls → Jumped d a b f vs g ws → RanValue d a (one_less b) (Err NoMemory) (λ call now. call f vs now)
+  jump-short some r = jump-end (one_less b) (Err NoMemory) some r (ran-here d (one_less b) (λ call now last. IsValue (Err NoMemory) last (enter d call (function_in d.functions g) ws now)) (λ call grows x same. enter-grows d call grows (function_in d.functions g) ws x))
+
+-- the body of the function that is called
+pub entered-as : (d : Declared) (a b : At) (answer : Answer Step Stop) (g : List ℕ) (ws : Values) (fun : FunTree) (s : Scope) → function_in d.functions g ≡ Some fun → s ≡ entered fun.params ws [] → RanStep d a b answer (λ call now. eval d call fun.body s now) → RanStep d a b answer (λ call now. enter d call (function_in d.functions g) ws now)
+entered-as d a b answer g ws fun s is in_scope h = ran-as d a b (λ call now last. IsStep call answer last (eval d call fun.body s now)) (λ call now last. IsStep call answer last (enter d call (function_in d.functions g) ws now))
+    (λ call grows x y same p. step-as call answer y (eval d call fun.body s x) (enter d call (function_in d.functions g) ws x) (ap (λ o. enter d call o ws x) is ∙ ap (λ z. eval d call fun.body z x) (sym in_scope)) p) h
+
+-- a variable
+pub looked-up : (d : Declared) (a : At) (answer : Answer Step Stop) (x : List ℕ) (xs ys : List Named) → xs ≡ ys → ((call : Calls) (now : Running) → IsStep call answer now (Gives (variable_in (scope_of xs []) x) now)) → RanStep d a a answer (λ call now. Gives (variable_in (scope_of ys []) x) now)
+looked-up d a answer x xs ys e h = ran-here d a (λ call now last. IsStep call answer last (Gives (variable_in (scope_of ys []) x) now)) (λ call grows now same. step-as call answer now (Gives (variable_in (scope_of xs []) x) now) (Gives (variable_in (scope_of ys []) x) now) (ap (λ l. Gives (variable_in (scope_of l []) x) now) (sym e)) (h call now))
+
+-- a list is what it was once what was added is cut off
+pub restored : (xs ys zs : List Named) (n : ℕ) → zs ≡ take n ys → n ≡ length xs → Extends xs ys → zs ≡ xs
+restored xs ys zs n e l added = e ∙ ap (λ k. take k ys) l ∙ ap (take (length xs)) added.1 ∙ take-append_seam xs added.0
+
+-- the same of a store, in an equal scope
+pub store-scope : (d : Declared) (a b : At) (answer : Answer (Unit {0}) Stop) (r : Calls → Running → Stated) (xs ys : List Named) → xs ≡ ys → RanScope d a b answer (scope_of ys []) r → RanScope d a b answer (scope_of xs []) r
+store-scope d a b answer r xs ys e h = subst (λ l. RanScope d a b answer (scope_of l []) r) (sym e) h

@@ -1,0 +1,11 @@
+pub mod Values
+pub mod Packing
+pub mod Running
+pub mod Meaning
+pub mod View
+pub mod Tables
+pub mod TableView
+pub mod Ran
+pub mod Operand
+pub mod Weight
+pub mod Blanks

@@ -1,0 +1,18 @@
+//! The meaning of a program, and an interpreter that has it.
+#![tactic(auto)]
+
+mod arguments;
+mod memory;
+mod operators;
+mod pack;
+mod program;
+mod run;
+mod scope;
+mod stop;
+mod table;
+#[cfg(test)]
+mod tests;
+mod unpack;
+mod value;
+
+pub use program::exec;
