@@ -1,10 +1,11 @@
 -- Looking a name up among names.
-use Rattle.std.proofs.Common.{◌≡◌, ℕ, suc, ◌+◌, ◌<◌, List, [], ◌∷◌, inl, inr, Bool, true, false, length, drop, get_or, refl, ap, sym, ◌∙◌, arith, add-one}
+use Rattle.std.proofs.Common.{◌≡◌, ℕ, zero, suc, ◌+◌, ◌<◌, List, [], ◌∷◌, inl, inr, Bool, true, false, length, drop, get_or, refl, ap, sym, ◌∙◌, arith, add-one}
 use Rattle.std.specs.Prelude.{if◌then◌else◌}
 use Rattle.std.specs.Str.{bytes_eq}
-use Rattle.std.proofs.Math.Seq.{drop-cons}
 use Rattle.std.proofs.lemmas.Slice.Eq.{bytes_eq-Decides}
+use Rattle.nv_ast.specs.declared.tree.TyText.{TyText}
 use Rattle.novac.specs.FirstForm.{IsAmong}
+use Rattle.novac.specs.Forming.{names_of_params}
 use Rattle.novac.specs.Sum.{place_of}
 
 -- the first i names aren't x, and the others are `rest`
@@ -34,8 +35,10 @@ other-among x name rest ne (inl e) = absurd (ne e)
 other-among x name rest ne (inr h) = h
 
 -- the name in front of those that are left
-pub front : (names : List (List ℕ)) (i : ℕ) (name : List ℕ) → i < length names → name ≡ get_or names i name → drop i names ≡ name ∷ drop (i + 1) names
-front names i name lt e = drop-cons names i name lt ∙ ap (λ x. x ∷ drop (suc i) names) (sym e) ∙ ap (λ n. name ∷ drop n names) (sym (add-one i))
+pub front : (params : List (List ℕ × TyText)) (i : ℕ) (param : List ℕ × TyText) → i < length params → param ≡ get_or params i param → drop i (names_of_params params) ≡ param.0 ∷ drop (i + 1) (names_of_params params)
+front [] i param lt e = absurd (omega arith)
+front (p ∷ params) zero param lt e = ap (λ (q : List ℕ × TyText). q.0 ∷ names_of_params params) (sym e)
+front (p ∷ params) (suc i) param lt e = rw add-one (front params i param (omega arith) e ∙ ap (λ (n : ℕ). param.0 ∷ drop n (names_of_params params)) (add-one i))
 
 pub passed-more : (x : List ℕ) (names : List (List ℕ)) (i : ℕ) (name : List ℕ) (rest : List (List ℕ)) → Passed x names i (name ∷ rest) → (x ≡ name → ⊥) → Passed x names (i + 1) rest
 passed-more x names i name rest p ne = record {

@@ -1,5 +1,5 @@
 -- What the files hold decides the answer.
-use Rattle.std.proofs.Common.{◌≡◌, ℕ, ◌<◌, ◌≤◌, ◌⊎◌, inl, inr, List, Some, Result, Ok, Err, length, refl, ap, sym, ◌∙◌, subst, arith, codes}
+use Rattle.std.proofs.Common.{◌≡◌, ℕ, ◌<◌, ◌≤◌, ◌⊎◌, inl, inr, List, Some, Ok, Err, length, refl, ap, sym, ◌∙◌, subst, arith, codes}
 use Rattle.nv_outside.specs.Holding.{Holding, IsLonger}
 use Rattle.nv_memtext.specs.MemoryText.{Gives, IsBad}
 use Rattle.nv_memtext.proofs.ExactLemmas.{gives_one, gives_not_large, large_one, given_answer, bad_answer}
@@ -22,13 +22,19 @@ use Rattle.uc_asm.specs.declared.error.AsmError.{AsmError}
 use Rattle.uc_asm.specs.declared.error.AsmError.TheVariants as asm
 use Rattle.uc_asm.proofs.Exact.{given-answer, syntax-answer, label-answer, unlawful-answer}
 use Rattle.novac.specs.Assembly.{AsmRefuses, HasAssembly, IsListed, assembly_limit}
-use Rattle.novac.specs.Command.{Command, Compile, Run, Asm, Dis, Lint, Check}
+use Rattle.novac.specs.Command.{Command, Compile, Run, Exec, Asm, Dis, Lint, Check}
 use Rattle.novac.specs.Checking.{CheckRefuses, IsChecked, report_limit}
 use Rattle.novac.proofs.OneReport.{check-one, check-good, checked-one}
-use Rattle.novac.specs.Headline.{CompileRefuses, HasProgram, source_limit}
+use Rattle.novac.proofs.OneSource.{source-program, source-one, source-good, compile-one, compile-good}
+use Rattle.nv_ast.specs.Sizes.{main_words}
+use Rattle.nv_ast.specs.Tree.{ProgramTree}
+use Rattle.nv_meaning.specs.Meaning.{source as meaning}
+use Rattle.novac.specs.Executing.{ExecRefuses, IsExecuted}
+use Rattle.novac.specs.Headline.{CompileRefuses, HasProgram}
+use Rattle.novac.specs.Reading.{source_limit}
 use Rattle.novac.specs.Lines.{IsUncaused, refusal_status, refusal_text, counted}
 use Rattle.novac.specs.Loading.{IsLoaded, FileHas, FileRefused}
-use Rattle.novac.specs.Machine.{IsBadObjectFor, IsUnlawfulFor, IsMemoryRefusedFor, LintRefuses, RunRefuses, RunFilesRefused, IsLinted, IsRun, object_limit, memory_limit, spill_base, full_text}
+use Rattle.novac.specs.Machine.{IsBadObjectFor, IsUnlawfulFor, IsMemoryRefusedFor, LintRefuses, RunRefuses, BothHave, BothRefused, IsLinted, IsRun, object_limit, memory_limit, spill_base, full_text}
 use Rattle.novac.specs.Status.{outcome_status}
 use Rattle.novac.specs.declared.refusal.Refusal.{Refusal}
 use Rattle.novac.specs.declared.refusal.Refusal.TheVariants.{NoMemory, ReadFault, TooLarge, Syntax, Label, UnlawfulLine, BadObject, BadMemoryText, Unlawful}
@@ -202,25 +208,70 @@ run-one b t steps s s' text text' h k =
     let status : FullOutcome → Status = λ f. outcome_status f.outcome in
     (h.ends ∙ ap status run ∙ sym k.ends, h.prints ∙ ap full_text run ∙ sym k.prints)
 
--- the two files of `run`: the first that is too long, or what both have
-files-one : (held : Holding) (object memory : List ℕ) (e e' : Refusal) → RunFilesRefused held object memory e → RunFilesRefused held object memory e' → e ≡ e'
-files-one held object memory e e' (inl h) (inl k) = h.0 ∙ sym k.0
-files-one held object memory e e' (inl h) (inr (inl k)) = absurd (long-unloaded held object object_limit k.0 h.1 k.1)
-files-one held object memory e e' (inl h) (inr (inr k)) = absurd (long-unloaded held object object_limit k.0 h.1 k.1)
-files-one held object memory e e' (inr (inl h)) (inl k) = absurd (long-unloaded held object object_limit h.0 k.1 h.1)
-files-one held object memory e e' (inr (inr h)) (inl k) = absurd (long-unloaded held object object_limit h.0 k.1 h.1)
-files-one held object memory e e' (inr (inl h)) (inr (inl k)) = h.2.0 ∙ sym k.2.0
-files-one held object memory e e' (inr (inl h)) (inr (inr k)) = absurd (long-unloaded held memory memory_limit k.2.0 h.2.1 k.2.1)
-files-one held object memory e e' (inr (inr h)) (inr (inl k)) = absurd (long-unloaded held memory memory_limit h.2.0 k.2.1 h.2.1)
-files-one held object memory e e' (inr (inr h)) (inr (inr k)) =
-    let same = loaded-one held object object_limit h.0 k.0 h.1 k.1 in
+-- executions
+exec-one : (b t : List ℕ) (e e' : Refusal) → ExecRefuses b t e → ExecRefuses b t e' → e ≡ e'
+exec-one b t e e' (inl h) (inl k) = source-one b e e' h k
+exec-one b t e e' (inl h) (inr k) = absurd (source-good b e k.0 k.1 h)
+exec-one b t e e' (inr h) (inl k) = absurd (source-good b e' h.0 h.1 k)
+exec-one b t e e' (inr h) (inr k) =
+    let same = source-program b h.0 k.0 h.1.is_source k.1.is_source in
+    memory-one (main_words k.0) t e e' (subst (λ (p : ProgramTree). IsMemoryRefusedFor (main_words p) t e) same h.2) k.2
+
+exec-good : (b t : List ℕ) (e : Refusal) (calls : ℕ) (s : Status) (text : List ℕ) → IsExecuted b t calls s text → ExecRefuses b t e → ⊥
+exec-good b t e calls s text r (inl h) = source-good b e r.program r.is_source h
+exec-good b t e calls s text r (inr h) =
+    let same = source-program b h.0 r.program h.1.is_source r.is_source.is_source in
+    memory-good (main_words r.program) t e r.packet r.arguments r.given (subst (λ (p : ProgramTree). IsMemoryRefusedFor (main_words p) t e) same h.2)
+
+executed-one : (b t : List ℕ) (calls : ℕ) (s s' : Status) (text text' : List ℕ) → IsExecuted b t calls s text → IsExecuted b t calls s' text' → (s ≡ s') × (text ≡ text')
+executed-one b t calls s s' text text' h k =
+    let same = source-program b h.program k.program h.is_source.is_source k.is_source.is_source in
+    let given = subst (λ (p : ProgramTree). Gives (main_words p) t h.packet h.arguments) same h.given in
+    let gives = gives_one (main_words k.program) t h.packet k.packet h.arguments k.arguments given k.given in
+    let run_of : ProgramTree → List ℕ → Memories → FullOutcome = λ q a p. meaning q a p calls in
+    let run : run_of h.program h.arguments h.packet ≡ run_of k.program k.arguments k.packet =
+    ap (λ (q : ProgramTree). run_of q h.arguments h.packet) same ∙ ap (λ (p : Memories). run_of k.program h.arguments p) gives.0 ∙ ap (λ (a : List ℕ). run_of k.program a k.packet) gives.1 in
+    let status : FullOutcome → Status = λ f. outcome_status f.outcome in
+    (h.ends ∙ ap status run ∙ sym k.ends, h.prints ∙ ap full_text run ∙ sym k.prints)
+
+-- a file and a memory text: the first that is too long, or what both have
+both-one : (held : Holding) (name : List ℕ) (limit : ℕ) (memory : List ℕ) (P : List ℕ → List ℕ → Refusal → Type 0) (e e' : Refusal)
+    → ((b t : List ℕ) → P b t e → P b t e' → e ≡ e') → BothRefused held name limit memory P e → BothRefused held name limit memory P e' → e ≡ e'
+both-one held name limit memory P e e' one (inl h) (inl k) = h.0 ∙ sym k.0
+both-one held name limit memory P e e' one (inl h) (inr (inl k)) = absurd (long-unloaded held name limit k.0 h.1 k.1)
+both-one held name limit memory P e e' one (inl h) (inr (inr k)) = absurd (long-unloaded held name limit k.0 h.1 k.1)
+both-one held name limit memory P e e' one (inr (inl h)) (inl k) = absurd (long-unloaded held name limit h.0 k.1 h.1)
+both-one held name limit memory P e e' one (inr (inr h)) (inl k) = absurd (long-unloaded held name limit h.0 k.1 h.1)
+both-one held name limit memory P e e' one (inr (inl h)) (inr (inl k)) = h.2.0 ∙ sym k.2.0
+both-one held name limit memory P e e' one (inr (inl h)) (inr (inr k)) = absurd (long-unloaded held memory memory_limit k.2.0 h.2.1 k.2.1)
+both-one held name limit memory P e e' one (inr (inr h)) (inr (inl k)) = absurd (long-unloaded held memory memory_limit h.2.0 k.2.1 h.2.1)
+both-one held name limit memory P e e' one (inr (inr h)) (inr (inr k)) =
+    let same = loaded-one held name limit h.0 k.0 h.1 k.1 in
     let same' = loaded-one held memory memory_limit h.2.0 k.2.0 h.2.1 k.2.1 in
-    runs-one k.0 k.2.0 e e' (subst (λ (t : List ℕ). RunRefuses k.0 t e) same' (subst (λ (b : List ℕ). RunRefuses b h.2.0 e) same h.2.2)) k.2.2
+    one k.0 k.2.0 (subst (λ (t : List ℕ). P k.0 t e) same' (subst (λ (b : List ℕ). P b h.2.0 e) same h.2.2)) k.2.2
+
+both-good : (held : Holding) (name : List ℕ) (limit : ℕ) (memory : List ℕ) (P : List ℕ → List ℕ → Refusal → Type 0) (Q : List ℕ → List ℕ → Type 0) (e : Refusal)
+    → ((b t : List ℕ) → Q b t → P b t e → ⊥) → BothHave held name limit memory Q → BothRefused held name limit memory P e → ⊥
+both-good held name limit memory P Q e bad h (inl k) = long-unloaded held name limit h.0 k.1 h.1
+both-good held name limit memory P Q e bad h (inr (inl k)) = long-unloaded held memory memory_limit h.2.0 k.2.1 h.2.1
+both-good held name limit memory P Q e bad h (inr (inr k)) =
+    let same = loaded-one held name limit k.0 h.0 k.1 h.1 in
+    let same' = loaded-one held memory memory_limit k.2.0 h.2.0 k.2.1 h.2.1 in
+    bad h.0 h.2.0 h.2.2 (subst (λ (t : List ℕ). P h.0 t e) same' (subst (λ (b : List ℕ). P b k.2.0 e) same k.2.2))
+
+both-shown : (held : Holding) (name : List ℕ) (limit : ℕ) (memory : List ℕ) (Q : List ℕ → List ℕ → Status → List ℕ → Type 0) (s s' : Status) (t t' : List ℕ)
+    → ((b m : List ℕ) → Q b m s t → Q b m s' t' → (s ≡ s') × (t ≡ t'))
+    → BothHave held name limit memory (λ b m. Q b m s t) → BothHave held name limit memory (λ b m. Q b m s' t') → (s ≡ s') × (t ≡ t')
+both-shown held name limit memory Q s s' t t' one h k =
+    let same = loaded-one held name limit h.0 k.0 h.1 k.1 in
+    let same' = loaded-one held memory memory_limit h.2.0 k.2.0 h.2.1 k.2.1 in
+    one k.0 k.2.0 (subst (λ (m : List ℕ). Q k.0 m s t) same' (subst (λ (b : List ℕ). Q b h.2.0 s t) same h.2.2)) k.2.2
 
 -- of every command at most one refusal is true
 refusal-one : (c : Command) (held : Holding) (e e' : Refusal) → Refuses c held e → Refuses c held e' → e ≡ e'
-refusal-one (Compile source object) held e e' h k = file-one held source source_limit CompileRefuses e e' (λ b p q. p.0 ∙ sym q.0) h k
-refusal-one (Run object memory steps) held e e' h k = files-one held object memory e e' h k
+refusal-one (Compile source object) held e e' h k = file-one held source source_limit CompileRefuses e e' (λ b. compile-one b e e') h k
+refusal-one (Run object memory steps) held e e' h k = both-one held object object_limit memory RunRefuses e e' (λ b t. runs-one b t e e') h k
+refusal-one (Exec source memory calls) held e e' h k = both-one held source source_limit memory ExecRefuses e e' (λ b t. exec-one b t e e') h k
 refusal-one (Asm input object) held e e' h k = file-one held input assembly_limit AsmRefuses e e' (λ b. assembly-one b e e') h k
 refusal-one (Dis object) held e e' h k = file-one held object object_limit IsBadObjectFor e e' (λ b. bad-one b e e') h k
 refusal-one (Lint object) held e e' h k = file-one held object object_limit LintRefuses e e' (λ b. lint-one b e e') h k
@@ -229,12 +280,10 @@ refusal-one (Check report) held e e' h k = file-one held report report_limit Che
 -- and none where it ends
 shows-good : (c : Command) (held : Holding) (s : Status) (t : List ℕ) (e : Refusal) → Shows c held s t → Refuses c held e → ⊥
 shows-good (Compile source object) held s t e h k = h
-shows-good (Run object memory steps) held s t e h (inl k) = long-unloaded held object object_limit h.0 k.1 h.1
-shows-good (Run object memory steps) held s t e h (inr (inl k)) = long-unloaded held memory memory_limit h.2.0 k.2.1 h.2.1
-shows-good (Run object memory steps) held s t e h (inr (inr k)) =
-    let same = loaded-one held object object_limit k.0 h.0 k.1 h.1 in
-    let same' = loaded-one held memory memory_limit k.2.0 h.2.0 k.2.1 h.2.1 in
-    run-good h.0 h.2.0 e steps s t h.2.2 (subst (λ (x : List ℕ). RunRefuses h.0 x e) same' (subst (λ (b : List ℕ). RunRefuses b k.2.0 e) same k.2.2))
+shows-good (Run object memory steps) held s t e h k =
+    both-good held object object_limit memory RunRefuses (λ (b m : List ℕ). IsRun b m steps s t) e (λ b m r. run-good b m e steps s t r) h k
+shows-good (Exec source memory calls) held s t e h k =
+    both-good held source source_limit memory ExecRefuses (λ (b m : List ℕ). IsExecuted b m calls s t) e (λ b m r. exec-good b m e calls s t r) h k
 shows-good (Asm input object) held s t e h k = h
 shows-good (Dis object) held s t e h k =
     file-good held object object_limit IsBadObjectFor (λ (b : List ℕ). IsListed b s t) e (λ b l r. bad-good b e l.c l.object r) h k
@@ -246,11 +295,12 @@ shows-good (Check report) held s t e h k =
 makes-good : (c : Command) (old new : Holding) (s : Status) (t : List ℕ) (e : Refusal) → Makes c old new s t → Refuses c old e → ⊥
 makes-good (Compile source object) old new s t e (inl h) k =
     let done = h.1 in
-    let good : FileHas old source source_limit HasProgram = (done.text, done.loaded, record { program = done.compiled.program; reads = done.compiled.reads }) in
-    file-good old source source_limit CompileRefuses HasProgram e (λ b p r. r.1 p.program p.reads) good k
+    let good : FileHas old source source_limit HasProgram = (done.text, done.loaded, record { program = done.compiled.program; is_source = done.compiled.is_source; first_form = done.compiled.first_form }) in
+    file-good old source source_limit CompileRefuses HasProgram e (λ b p r. compile-good b e p r) good k
 makes-good (Compile source object) old new s t e (inr h) k =
-    file-good old source source_limit CompileRefuses HasProgram e (λ b p r. r.1 p.program p.reads) h.2 k
+    file-good old source source_limit CompileRefuses HasProgram e (λ b p r. compile-good b e p r) h.2 k
 makes-good (Run object memory steps) old new s t e h k = h
+makes-good (Exec source memory calls) old new s t e h k = h
 makes-good (Asm input object) old new s t e (inl h) k =
     let done = h.1 in
     let good : FileHas old input assembly_limit HasAssembly = (done.text, done.loaded, record { c = done.assembled.c; code = done.assembled.code }) in
@@ -265,9 +315,9 @@ makes-good (Check report) old new s t e h k = h
 shows-one : (c : Command) (held : Holding) (s s' : Status) (t t' : List ℕ) → Shows c held s t → Shows c held s' t' → (s ≡ s') × (t ≡ t')
 shows-one (Compile source object) held s s' t t' h k = absurd h
 shows-one (Run object memory steps) held s s' t t' h k =
-    let same = loaded-one held object object_limit h.0 k.0 h.1 k.1 in
-    let same' = loaded-one held memory memory_limit h.2.0 k.2.0 h.2.1 k.2.1 in
-    run-one k.0 k.2.0 steps s s' t t' (subst (λ (x : List ℕ). IsRun k.0 x steps s t) same' (subst (λ (b : List ℕ). IsRun b h.2.0 steps s t) same h.2.2)) k.2.2
+    both-shown held object object_limit memory (λ (b m : List ℕ) (x : Status) (y : List ℕ). IsRun b m steps x y) s s' t t' (λ b m. run-one b m steps s s' t t') h k
+shows-one (Exec source memory calls) held s s' t t' h k =
+    both-shown held source source_limit memory (λ (b m : List ℕ) (x : Status) (y : List ℕ). IsExecuted b m calls x y) s s' t t' (λ b m. executed-one b m calls s s' t t') h k
 shows-one (Asm input object) held s s' t t' h k = absurd h
 shows-one (Dis object) held s s' t t' h k =
     let same = loaded-one held object object_limit h.0 k.0 h.1 k.1 in
@@ -282,6 +332,7 @@ shows-one (Check report) held s s' t t' h k =
 makes-shows_none : (c : Command) (old new : Holding) (s s' : Status) (t t' : List ℕ) → Makes c old new s t → Shows c old s' t' → ⊥
 makes-shows_none (Compile source object) old new s s' t t' h k = k
 makes-shows_none (Run object memory steps) old new s s' t t' h k = h
+makes-shows_none (Exec source memory calls) old new s s' t t' h k = h
 makes-shows_none (Asm input object) old new s s' t t' h k = k
 makes-shows_none (Dis object) old new s s' t t' h k = h
 makes-shows_none (Lint object) old new s s' t t' h k = h

@@ -5,7 +5,7 @@ use Rattle.nv_outside.specs.Causes.{Rose}
 use Rattle.nv_outside.specs.Holding.{Holding}
 use Rattle.novac.specs.Lines.{IsUncaused, IfReadFault}
 use Rattle.novac.specs.Loading.{IsLoaded, FileRefused}
-use Rattle.novac.specs.Machine.{RunRefuses, RunFilesRefused, object_limit, memory_limit}
+use Rattle.novac.specs.Machine.{BothRefused, memory_limit}
 use Rattle.novac.specs.declared.refusal.Refusal.{Refusal}
 use Rattle.novac.specs.declared.refusal.Refusal.TheVariants.{ReadFault}
 
@@ -20,13 +20,14 @@ pub pass-call : {T : Type 0} (held : Holding) (name : List ℕ) (limit : ℕ) (P
 pass-call held name limit P b read (Ok x) same l h = h
 pass-call held name limit P b read (Err e) same l h = pass-file held name limit P b read e same l h
 
-pub pass-run : {T : Type 0} (held : Holding) (object memory b t b' t' : List ℕ) (r : Result T Refusal) → b' ≡ b → t' ≡ t
-    → IsLoaded held object object_limit b → IsLoaded held memory memory_limit t
-    → IfErr r (λ e. IsUncaused e ⊎ RunRefuses b' t' e) → IfErr r (λ e. IsUncaused e ⊎ RunFilesRefused held object memory e)
-pass-run held object memory b t b' t' (Ok x) eb et lb lt h = h
-pass-run held object memory b t b' t' (Err e) eb et lb lt (inl u) = inl u
-pass-run held object memory b t b' t' (Err e) eb et lb lt (inr p) =
-    inr (inr (inr (b, lb, (t, lt, subst (λ (x : List ℕ). RunRefuses b x e) et (subst (λ (x : List ℕ). RunRefuses x t' e) eb p)))))
+-- and of a call about a file and a memory text
+pub pass-both : {T : Type 0} (held : Holding) (name : List ℕ) (limit : ℕ) (memory : List ℕ) (P : List ℕ → List ℕ → Refusal → Type 0) (b t b' t' : List ℕ) (r : Result T Refusal) → b' ≡ b → t' ≡ t
+    → IsLoaded held name limit b → IsLoaded held memory memory_limit t
+    → IfErr r (λ e. IsUncaused e ⊎ P b' t' e) → IfErr r (λ e. IsUncaused e ⊎ BothRefused held name limit memory P e)
+pass-both held name limit memory P b t b' t' (Ok x) eb et lb lt h = h
+pass-both held name limit memory P b t b' t' (Err e) eb et lb lt (inl u) = inl u
+pass-both held name limit memory P b t b' t' (Err e) eb et lb lt (inr p) =
+    inr (inr (inr (b, lb, (t, lt, subst (λ (x : List ℕ). P b x e) et (subst (λ (x : List ℕ). P x t' e) eb p)))))
 
 -- a count that rose later rose from before on
 pub rose-later : (a b c : ℕ) → a ≤ b → Rose b c → Rose a c

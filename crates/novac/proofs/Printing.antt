@@ -3,11 +3,11 @@ use Rattle.std.proofs.Common.{◌≡◌, ◌≢◌, ℕ, ◌⊎◌, inl, inr, Li
 use Rattle.std.proofs.lemmas.List.{append-nil}
 use Rattle.nv_outside.specs.Holding.{Holding, AppendsFront}
 use Rattle.novac.specs.Answers.{Shows, Refuses, Answers, IsPrinted, IsBegun, IsFree, IsOnly}
-use Rattle.novac.specs.Command.{Command, Compile, Run, Asm, Dis, Lint, Check, IfCommand, IfCompile, ForCommand, SomeFile, outputs_of}
+use Rattle.novac.specs.Command.{Command, Compile, Run, Exec, Asm, Dis, Lint, Check, IfCommand, IfCompile, ForCommand, SomeFile, outputs_of}
 use Rattle.novac.specs.Headline.{IsCompiled}
 use Rattle.novac.specs.Lines.{refusal_status, refusal_text, cannot_write}
 use Rattle.novac.specs.declared.refusal.Refusal.{Refusal}
-use Rattle.novac.specs.declared.refusal.Refusal.TheVariants.{NoMemory, ReadFault, TooLarge, Syntax, Label, BadObject, BadMemoryText, BadReport, FalseReport, Unlawful, UnlawfulLine, Unbuilt}
+use Rattle.novac.specs.declared.refusal.Refusal.TheVariants.{NoMemory, ReadFault, TooLarge, SourceChar, SourceNumber, SourceName, SourceSyntax, SourceDeep, SourceType, SourceLarge, Syntax, Label, BadObject, BadMemoryText, BadReport, FalseReport, Unlawful, UnlawfulLine, Unbuilt}
 use Rattle.novac.specs.declared.status.Status.{Status}
 use Rattle.novac.specs.declared.status.Status.TheVariants as status
 use Rattle.novac.proofs.OneAnswer.{refused-only, shown-only}
@@ -16,6 +16,13 @@ pub not-done : (e : Refusal) → refusal_status e ≡ status.Done → ⊥
 not-done NoMemory h = cc
 not-done (ReadFault name) h = cc
 not-done (TooLarge n) h = cc
+not-done (SourceChar n) h = cc
+not-done (SourceNumber n) h = cc
+not-done (SourceName n) h = cc
+not-done (SourceSyntax n) h = cc
+not-done (SourceDeep n) h = cc
+not-done (SourceType k s) h = cc
+not-done (SourceLarge n) h = cc
 not-done (Syntax n) h = cc
 not-done (Label n) h = cc
 not-done (BadObject n) h = cc
@@ -45,6 +52,7 @@ pub compiled : (old new : Holding) (s r : Status) (text before after : List ℕ)
     → IfCompile o (λ source object. (line : List ℕ) × IsCompiled old new source object line × (T → after ≡ before ++ line))
 compiled old new s r text before after T Failed told None a d = tt
 compiled old new s r text before after T Failed told (Some (Run object memory steps)) a d = tt
+compiled old new s r text before after T Failed told (Some (Exec source memory calls)) a d = tt
 compiled old new s r text before after T Failed told (Some (Asm input object)) a d = tt
 compiled old new s r text before after T Failed told (Some (Dis object)) a d = tt
 compiled old new s r text before after T Failed told (Some (Lint object)) a d = tt

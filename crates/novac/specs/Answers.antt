@@ -2,12 +2,14 @@
 use Rattle.std.specs.Prelude.{◌≡◌, ◌⊎◌, ◌++◌, ℕ, List}
 use Rattle.nv_outside.specs.Holding.{Holding, AppendsFront}
 use Rattle.novac.specs.Assembly.{AsmRefuses, HasAssembly, IsAssembled, IsListed, assembly_limit}
-use Rattle.novac.specs.Command.{Command, Compile, Run, Asm, Dis, Lint, Check}
+use Rattle.novac.specs.Command.{Command, Compile, Run, Exec, Asm, Dis, Lint, Check}
 use Rattle.novac.specs.Checking.{CheckRefuses, IsChecked, report_limit}
-use Rattle.novac.specs.Headline.{CompileRefuses, HasProgram, IsCompiled, source_limit}
+use Rattle.novac.specs.Executing.{ExecRefuses, IsExecuted}
+use Rattle.novac.specs.Headline.{CompileRefuses, HasProgram, IsCompiled}
 use Rattle.novac.specs.Lines.{IsUncaused, refusal_status, refusal_text, cannot_write}
 use Rattle.novac.specs.Loading.{FileHas, FileRefused}
-use Rattle.novac.specs.Machine.{IsBadObjectFor, LintRefuses, IsLinted, RunFilesRefused, IsRun, InputsHave, object_limit}
+use Rattle.novac.specs.Machine.{IsBadObjectFor, LintRefuses, IsLinted, RunRefuses, IsRun, BothHave, BothRefused, object_limit}
+use Rattle.novac.specs.Reading.{source_limit}
 use Rattle.novac.specs.declared.refusal.Refusal.{Refusal}
 use Rattle.novac.specs.declared.status.Status.{Status}
 use Rattle.novac.specs.declared.status.Status.TheVariants.{Done, ReadFault, WriteFault, NoMemory}
@@ -15,7 +17,8 @@ use Rattle.novac.specs.declared.status.Status.TheVariants.{Done, ReadFault, Writ
 -- what a command that saves nothing ends with, where it isn't refused
 abbrev pub Shows : Command → Holding → Status → List ℕ → Type 0
 Shows (Compile source object) held status text = ⊥
-Shows (Run object memory steps) held status text = InputsHave held object memory (λ bytes given. IsRun bytes given steps status text)
+Shows (Run object memory steps) held status text = BothHave held object object_limit memory (λ bytes given. IsRun bytes given steps status text)
+Shows (Exec source memory calls) held status text = BothHave held source source_limit memory (λ bytes given. IsExecuted bytes given calls status text)
 Shows (Asm input object) held status text = ⊥
 Shows (Dis object) held status text = FileHas held object object_limit (λ bytes. IsListed bytes status text)
 Shows (Lint object) held status text = FileHas held object object_limit (λ bytes. IsLinted bytes status text)
@@ -34,7 +37,8 @@ Makes _ old new status text = ⊥
 -- what the files hold is why a command is refused
 abbrev pub Refuses : Command → Holding → Refusal → Type 0
 Refuses (Compile source object) held e = FileRefused held source source_limit CompileRefuses e
-Refuses (Run object memory steps) held e = RunFilesRefused held object memory e
+Refuses (Run object memory steps) held e = BothRefused held object object_limit memory RunRefuses e
+Refuses (Exec source memory calls) held e = BothRefused held source source_limit memory ExecRefuses e
 Refuses (Asm input object) held e = FileRefused held input assembly_limit AsmRefuses e
 Refuses (Dis object) held e = FileRefused held object object_limit IsBadObjectFor e
 Refuses (Lint object) held e = FileRefused held object object_limit LintRefuses e

@@ -10,6 +10,7 @@ use Rattle.novac.specs.declared.command.Command.TheVariants as spoken
 pub data Command : Type 0 where
   Compile : (source object : List ℕ) → Command
   Run : (object memory : List ℕ) (steps : ℕ) → Command
+  Exec : (source memory : List ℕ) (calls : ℕ) → Command
   Asm : (text object : List ℕ) → Command
   Dis : (object : List ℕ) → Command
   Lint : (object : List ℕ) → Command
@@ -31,7 +32,7 @@ are_names a b = is_name a && is_name b && not (bytes_eq a b)
 abbrev pub steps_word : ℕ → List ℕ
 steps_word n = codes "steps=" ++ decimal n
 
--- the number of steps, 1 to 100,000,000, that a word is for
+-- the number of steps, or of calls, 1 to 100,000,000, that a word is for
 abbrev pub steps_of : List ℕ → Option ℕ
 steps_of word =
     let n = digits_value 10 (drop 6 word) in
@@ -52,10 +53,12 @@ command_of_three verb input object =
     else if bytes_eq verb (codes "asm") && are_names input object then Some (Asm input object)
     else None
 
--- run OBJ MEM steps=N
+-- run OBJ MEM steps=N, exec SRC MEM steps=N
 abbrev pub command_of_four : List ℕ → List ℕ → List ℕ → List ℕ → Option Command
-command_of_four verb object memory steps =
-    if bytes_eq verb (codes "run") && are_names object memory then option_map (Run object memory) (steps_of steps) else None
+command_of_four verb input memory steps =
+    if bytes_eq verb (codes "run") && are_names input memory then option_map (Run input memory) (steps_of steps)
+    else if bytes_eq verb (codes "exec") && are_names input memory then option_map (Exec input memory) (steps_of steps)
+    else None
 
 -- the command of a list of words
 abbrev pub command_of : List (List ℕ) → Option Command
@@ -68,6 +71,7 @@ command_of _ = None
 abbrev pub command_as : Spoken → Command
 command_as (spoken.Compile source object) = Compile source.now object.now
 command_as (spoken.Run object memory steps) = Run object.now memory.now steps
+command_as (spoken.Exec source memory calls) = Exec source.now memory.now calls
 command_as (spoken.Asm text object) = Asm text.now object.now
 command_as (spoken.Dis object) = Dis object.now
 command_as (spoken.Lint object) = Lint object.now
@@ -77,6 +81,7 @@ command_as (spoken.Check report) = Check report.now
 abbrev pub inputs_of : Command → List (List ℕ)
 inputs_of (Compile source object) = source ∷ []
 inputs_of (Run object memory steps) = object ∷ memory ∷ []
+inputs_of (Exec source memory calls) = source ∷ memory ∷ []
 inputs_of (Asm text object) = text ∷ []
 inputs_of (Dis object) = object ∷ []
 inputs_of (Lint object) = object ∷ []
@@ -86,6 +91,7 @@ inputs_of (Check report) = report ∷ []
 abbrev pub outputs_of : Command → List (List ℕ)
 outputs_of (Compile source object) = object ∷ []
 outputs_of (Run object memory steps) = []
+outputs_of (Exec source memory calls) = []
 outputs_of (Asm text object) = object ∷ []
 outputs_of (Dis object) = []
 outputs_of (Lint object) = []

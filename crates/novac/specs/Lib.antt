@@ -1,13 +1,15 @@
 pub mod FirstForm
-pub mod Source
+pub mod Forming
 pub mod Status
 pub mod Lines
 pub mod Loading
 pub mod Command
+pub mod Reading
 pub mod Headline
+pub mod Building
 pub mod Machine
+pub mod Executing
 pub mod Assembly
 pub mod Checking
 pub mod Answers
 pub mod Sum
-pub mod Parsing

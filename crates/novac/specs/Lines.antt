@@ -1,9 +1,10 @@
 -- The lines that say how a run of the program ended. Each ends with a line feed (10).
 use Rattle.std.specs.Prelude.{ℕ, List, [], ◌∷◌, ◌++◌, codes, decimal}
+use Rattle.nv_ast.specs.declared.token.Span.{Span}
 use Rattle.novac.specs.declared.status.Status.{Status}
 use Rattle.novac.specs.declared.status.Status.TheVariants as status
 use Rattle.novac.specs.declared.refusal.Refusal.{Refusal}
-use Rattle.novac.specs.declared.refusal.Refusal.TheVariants.{NoMemory, ReadFault, TooLarge, Syntax, Label, BadObject, BadMemoryText, BadReport, FalseReport, Unlawful, UnlawfulLine, Unbuilt}
+use Rattle.novac.specs.declared.refusal.Refusal.TheVariants.{NoMemory, ReadFault, TooLarge, SourceChar, SourceNumber, SourceName, SourceSyntax, SourceDeep, SourceType, SourceLarge, Syntax, Label, BadObject, BadMemoryText, BadReport, FalseReport, Unlawful, UnlawfulLine, Unbuilt}
 
 -- a text and a name
 abbrev pub named : List ℕ → List ℕ → List ℕ
@@ -16,6 +17,10 @@ counted text n = text ++ decimal n ++ 10 ∷ []
 -- a text, a number and the number of a rule
 abbrev pub ruled : List ℕ → ℕ → ℕ → List ℕ
 ruled text n rule = text ++ decimal n ++ codes " rule " ++ decimal rule ++ 10 ∷ []
+
+-- the kind of a fault of types, its first byte and the byte after its last one
+abbrev pub type_text : ℕ → Span → List ℕ
+type_text kind place = codes "type " ++ decimal kind ++ codes " at " ++ decimal place.first ++ codes " " ++ decimal place.after ++ 10 ∷ []
 
 -- where the words are no command
 abbrev pub usage_text : List ℕ
@@ -33,6 +38,13 @@ abbrev pub refusal_text : Refusal → List ℕ
 refusal_text NoMemory = []
 refusal_text (ReadFault name) = cannot_read name.now
 refusal_text (TooLarge n) = counted (codes "too large ") n
+refusal_text (SourceChar at) = counted (codes "syntax char at ") at
+refusal_text (SourceNumber at) = counted (codes "syntax number at ") at
+refusal_text (SourceName at) = counted (codes "syntax name at ") at
+refusal_text (SourceSyntax at) = counted (codes "syntax syntax at ") at
+refusal_text (SourceDeep at) = counted (codes "syntax deep at ") at
+refusal_text (SourceType kind place) = type_text kind place
+refusal_text (SourceLarge size) = counted (codes "too large ") size
 refusal_text (Syntax n) = counted (codes "syntax text line ") n
 refusal_text (Label n) = counted (codes "syntax label line ") n
 refusal_text (BadObject n) = counted (codes "object ") n
@@ -48,6 +60,13 @@ abbrev pub refusal_status : Refusal → Status
 refusal_status NoMemory = status.NoMemory
 refusal_status (ReadFault name) = status.ReadFault
 refusal_status (TooLarge n) = status.TooLarge
+refusal_status (SourceChar at) = status.Syntax
+refusal_status (SourceNumber at) = status.Syntax
+refusal_status (SourceName at) = status.Syntax
+refusal_status (SourceSyntax at) = status.Syntax
+refusal_status (SourceDeep at) = status.Syntax
+refusal_status (SourceType kind place) = status.TypeFault
+refusal_status (SourceLarge size) = status.TooLarge
 refusal_status (Syntax n) = status.Syntax
 refusal_status (Label n) = status.Syntax
 refusal_status (BadObject n) = status.BadObject

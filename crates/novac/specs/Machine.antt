@@ -59,7 +59,7 @@ spill_base = 512
 abbrev pub shown_writes : ℕ
 shown_writes = 64
 
--- what `run` prints of a run of the engine
+-- what `run` and `exec` print of a full outcome
 abbrev pub full_text : FullOutcome → List ℕ
 full_text f = outcome_text f.outcome f.packet (noted_all (empty_log shown_writes) (source_writes f.writes))
 
@@ -85,14 +85,14 @@ pub record IsRun (bytes memory : List ℕ) (steps : ℕ) (status : Status) (text
   pub ends : status ≡ outcome_status (engine c arguments spill_base packet steps).outcome
   pub prints : text ≡ full_text (engine c arguments spill_base packet steps)
 
--- both files of `run` are held, and have bytes of which this holds
-abbrev pub InputsHave : Holding → List ℕ → List ℕ → (List ℕ → List ℕ → Type 0) → Type 0
-InputsHave held object memory P =
-    FileHas held object object_limit (λ bytes. FileHas held memory memory_limit (λ text. P bytes text))
+-- a file of at most so many bytes and a memory text are held, and have bytes of which this holds
+abbrev pub BothHave : Holding → List ℕ → ℕ → List ℕ → (List ℕ → List ℕ → Type 0) → Type 0
+BothHave held name limit memory P =
+    FileHas held name limit (λ bytes. FileHas held memory memory_limit (λ text. P bytes text))
 
--- the object's file is too long, or else that of the memory text, or what they have is refused
-abbrev pub RunFilesRefused : Holding → List ℕ → List ℕ → Refusal → Type 0
-RunFilesRefused held object memory e =
-    IsTooLongFor held object object_limit e
-    ⊎ FileHas held object object_limit (λ _. IsTooLongFor held memory memory_limit e)
-    ⊎ InputsHave held object memory (λ bytes text. RunRefuses bytes text e)
+-- the file is too long, or else the memory text, or what they have is refused
+abbrev pub BothRefused : Holding → List ℕ → ℕ → List ℕ → (List ℕ → List ℕ → Refusal → Type 0) → Refusal → Type 0
+BothRefused held name limit memory AreRefused e =
+    IsTooLongFor held name limit e
+    ⊎ FileHas held name limit (λ _. IsTooLongFor held memory memory_limit e)
+    ⊎ BothHave held name limit memory (λ bytes text. AreRefused bytes text e)

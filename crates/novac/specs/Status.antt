@@ -3,7 +3,7 @@ use Rattle.std.specs.Prelude.{◌≡◌, ◌⊎◌, ℕ}
 use Rattle.nv_base.specs.declared.outcome.Outcome.{Outcome}
 use Rattle.nv_base.specs.declared.outcome.Outcome.TheVariants as outcome
 use Rattle.novac.specs.declared.status.Status.{Status}
-use Rattle.novac.specs.declared.status.Status.TheVariants.{Done, Usage, ReadFault, WriteFault, NoMemory, Syntax, TooLarge, BadObject, BadMemoryText, Raised, Fault, StepsSpent, CertificateRefused, Unlawful, Unbuilt}
+use Rattle.novac.specs.declared.status.Status.TheVariants.{Done, Usage, ReadFault, WriteFault, NoMemory, Syntax, TypeFault, TooLarge, BadObject, BadMemoryText, Raised, Fault, StepsSpent, CertificateRefused, Unlawful, Unbuilt}
 
 -- the numbers of the statuses
 abbrev pub status_number : Status → ℕ
@@ -13,6 +13,7 @@ status_number ReadFault = 3
 status_number WriteFault = 4
 status_number NoMemory = 5
 status_number Syntax = 6
+status_number TypeFault = 7
 status_number TooLarge = 8
 status_number BadObject = 12
 status_number BadMemoryText = 13
@@ -23,14 +24,14 @@ status_number CertificateRefused = 17
 status_number Unlawful = 18
 status_number Unbuilt = 19
 
--- the status of a run of the engine, by how it ended
+-- the status of a run of the engine, or of a program, by how it ended
 abbrev pub outcome_status : Outcome → Status
 outcome_status (outcome.Ended words) = Done
 outcome_status (outcome.Raised number words) = Raised
 outcome_status (outcome.Fault mem at) = Fault
 outcome_status outcome.Going = StepsSpent
 
--- a run of the engine ends with one of these
+-- such a run ends with one of these
 abbrev pub IsOutcome : Status → Type 0
 IsOutcome Done = Unit {0}
 IsOutcome Raised = Unit {0}

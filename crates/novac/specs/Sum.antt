@@ -12,7 +12,6 @@ use Rattle.uc_isa.specs.declared.instruction.Dst.TheVariants as dst
 use Rattle.uc_isa.specs.declared.instruction.UnOp.TheVariants.{Copy}
 use Rattle.uc_isa.specs.declared.instruction.Instr.{Instr}
 use Rattle.uc_isa.specs.declared.instruction.Instr.TheVariants.{Alu, Un, Immed, Halt}
-use Rattle.novac.specs.FirstForm.{TermText, NameTerm, NumberTerm}
 use Rattle.novac.specs.declared.sum.Term.{Term}
 use Rattle.novac.specs.declared.sum.Term.TheVariants.{Param, Number}
 
@@ -20,11 +19,6 @@ use Rattle.novac.specs.declared.sum.Term.TheVariants.{Param, Number}
 abbrev pub place_of : List ℕ → List (List ℕ) → ℕ
 place_of x [] = 0
 place_of x (name ∷ names) = if bytes_eq x name then 0 else place_of x names + 1
-
--- a term with its parameter's place in place of the name
-abbrev pub term_of : List (List ℕ) → TermText → Term
-term_of names (NameTerm s x) = Param (place_of x names)
-term_of names (NumberTerm s n) = Number n
 
 -- a term is one of so many parameters, or a number of 16 bits
 abbrev pub IsTermOf : ℕ → Term → Type 0

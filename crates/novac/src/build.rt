@@ -1,25 +1,27 @@
 //! From the text of a program to its code.
-ghost use Rattle.std.specs.Prelude.{◌≡◌, ◌≤◌, length, IfOk, IsErrOf};
-ghost use Rattle.nv_ast.specs.ProgramView.{program_of};
+ghost use Rattle.std.specs.Prelude.{◌≡◌, ◌≤◌, length, IfOk, IfErr};
+ghost use Rattle.nv_ast.specs.Sizes.{main_words};
+ghost use Rattle.nv_ast.specs.TypedView.{typed_program};
+ghost use Rattle.nv_meaning.specs.Meaning.{source};
 ghost use Rattle.uc_isa.specs.Agrees.{Agrees};
 ghost use Rattle.uc_isa.specs.Lawful.{IsLawful};
-ghost use Rattle.novac.specs.FirstForm.{IsFirstText};
-ghost use Rattle.novac.specs.Headline.{HasNoProgram};
-ghost use Rattle.novac.specs.Source.{source, params_of};
-ghost use Rattle.novac.specs.declared.build.FirstError.{FirstError};
+ghost use Rattle.novac.specs.Building.{IsCaused, IsFaulty};
+ghost use Rattle.novac.specs.FirstForm.{HasFirstForm};
+ghost use Rattle.novac.specs.Reading.{IsTypedSource};
 
 use crate::emit::emit;
-use crate::parse::parse;
-use nv_ast::Program;
+use crate::form::form_of;
+use nv_ast::{Span, Typed};
 use nv_base::NoMemory;
-use nv_text::{TextError, tokens};
+use nv_text::{TextError, parse};
+use nv_types::{TypeError, check};
 use std::alloc::{AllocError, AllocFailed, Global};
 use uc_isa::Code;
 
 /// A program of the first form, and code that does what it says.
 #[derive(Drop)]
 pub struct First {
-    pub program: Program,
+    pub program: Typed,
     pub code: Code,
 }
 
@@ -27,7 +29,13 @@ pub struct First {
 #[derive(Clone, Copy, Debug, PartialEq, Eq)]
 pub enum FirstError {
     NoMemory,
-    /// The text is no program of the first form.
+    /// The text has no program.
+    Text(TextError),
+    /// The kind of the first fault of the program's types, from 1 to 24, and where it lies.
+    Fault(u8, Span),
+    /// The expanded size of the program, which is over 4,096.
+    TooLarge(u32),
+    /// The program isn't of the first form.
     Unbuilt,
 }
 
@@ -61,24 +69,40 @@ impl<T: Drop> From<AllocFailed<T>> for FirstError {
     }
 }
 
-/// Compiles a text of the first form: one function `main` of up to 8 words that gives a word, a sum of 1 to 8
-/// terms, each of them a parameter's name or a number up to 65,535.
+/// The typed program of a text.
+pub fn typed_of(alloc: Global, bytes: &[u8]) -> Result<Typed, FirstError>
+    requires { length bytes.now ≤ 262144 }
+    ensures program { IfOk result (λ t. IsTypedSource bytes.now (typed_program t)) }
+    ensures refused { IfErr result (IsFaulty bytes.now) }
+{
+    let program = match parse(alloc, bytes) {
+        Ok(program) => program,
+        Err(TextError::NoMemory) => return Err(FirstError::NoMemory),
+        Err(error) => return Err(FirstError::Text(error)),
+    };
+    match check(alloc, program) {
+        Ok(typed) => Ok(typed),
+        Err(TypeError::NoMemory) => Err(FirstError::NoMemory),
+        Err(TypeError::Fault(kind, span)) => Err(FirstError::Fault(kind, span)),
+        Err(TypeError::TooLarge(size)) => Err(FirstError::TooLarge(size)),
+    }
+}
+
+/// Compiles a text whose program is typed, with an expanded size of at most 4,096, and of the first form: one function
+/// `main` of up to 8 words that gives a word, a sum of 1 to 8 terms, each of them a parameter's name or a number up to
+/// 65,535.
 pub fn compile_first(alloc: Global, bytes: &[u8]) -> Result<First, FirstError>
     requires { length bytes.now ≤ 262144 }
-    ensures program { IfOk result (λ first. IsFirstText bytes.now (program_of first.program)) }
+    ensures program { IfOk result (λ first. IsTypedSource bytes.now (typed_program first.program)) }
+    ensures first_form { IfOk result (λ first. HasFirstForm (typed_program first.program)) }
     ensures lawful { IfOk result (λ first. IsLawful first.code.list) }
-    ensures agrees { IfOk result (λ first. Agrees (params_of (program_of first.program)) (source (program_of first.program)) first.code) }
-    ensures unbuilt { IsErrOf result FirstError.Unbuilt → HasNoProgram bytes.now }
+    ensures agrees { IfOk result (λ first. Agrees (main_words (typed_program first.program)) (source (typed_program first.program)) first.code) }
+    ensures refused { IfErr result (IsCaused bytes.now) }
 {
-    let tokens = match tokens(alloc, bytes) {
-        Ok(tokens) => tokens,
-        Err(TextError::NoMemory) => return Err(FirstError::NoMemory),
-        Err(_) => return Err(FirstError::Unbuilt),
+    let program = typed_of(alloc, bytes)?;
+    let Some(form) = form_of(alloc, program.program())? else {
+        return Err(FirstError::Unbuilt);
     };
-    let form = parse(alloc, &tokens, bytes.len() as u32)?;
     let code = emit(alloc, form.params, &form.terms)?;
-    Ok(First {
-        program: form.program,
-        code,
-    })
+    Ok(First { program, code })
 }

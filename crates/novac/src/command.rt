@@ -1,10 +1,10 @@
 //! The words of a command line.
-ghost use Rattle.std.specs.Prelude.{◌≡◌, ◌≤◌, None, Some, IfSome, IfNone, option_map};
+ghost use Rattle.std.specs.Prelude.{◌≡◌, ◌≤◌, None, Some, IfSome, IfNone};
 ghost use Rattle.novac.specs.Command.{command_of, command_of_two, command_of_three, command_of_four, steps_of, command_as, texts_of, HasSteps};
 
 use line_text::read_decimal;
 
-/// The most steps of a run.
+/// The most steps, or calls, of a run.
 const MOST_STEPS: u64 = 100_000_000;
 
 /// A command with what its words name.
@@ -14,6 +14,8 @@ pub enum Command<'a> {
     Compile(&'a str, &'a str),
     /// Object, memory text, number of steps.
     Run(&'a str, &'a str, u64),
+    /// Source, memory text, number of calls.
+    Exec(&'a str, &'a str, u64),
     /// Assembly text, object.
     Asm(&'a str, &'a str),
     /// Object.
@@ -81,23 +83,31 @@ fn of_three<'a>(verb: &'a str, input: &'a str, object: &'a str) -> Option<Comman
     }
 }
 
-// `run OBJ MEM steps=N`.
+// `run OBJ MEM steps=N` and `exec SRC MEM steps=N`.
 fn of_four<'a>(
     verb: &'a str,
-    object: &'a str,
+    input: &'a str,
     memory: &'a str,
     steps: &'a str,
 ) -> Option<Command<'a>>
-    ensures some { IfSome result (λ c. command_of_four verb.now object.now memory.now steps.now ≡ Some (command_as c)) }
-    ensures none { IfNone result (command_of_four verb.now object.now memory.now steps.now ≡ None) }
+    ensures some { IfSome result (λ c. command_of_four verb.now input.now memory.now steps.now ≡ Some (command_as c)) }
+    ensures none { IfNone result (command_of_four verb.now input.now memory.now steps.now ≡ None) }
     ensures steps { IfSome result HasSteps }
 {
-    if verb != "run" || object.is_empty() || memory.is_empty() || object == memory {
-        return None;
-    }
-    match steps_in(steps) {
-        Some(n) => Some(Command::Run(object, memory, n)),
-        None => None,
+    if input.is_empty() || memory.is_empty() || input == memory {
+        None
+    } else if verb == "run" {
+        match steps_in(steps) {
+            Some(n) => Some(Command::Run(input, memory, n)),
+            None => None,
+        }
+    } else if verb == "exec" {
+        match steps_in(steps) {
+            Some(n) => Some(Command::Exec(input, memory, n)),
+            None => None,
+        }
+    } else {
+        None
     }
 }
 

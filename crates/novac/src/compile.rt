@@ -4,9 +4,9 @@ ghost use Rattle.nv_outside.specs.Causes.{Rose};
 ghost use Rattle.novac.specs.Answers.{Makes, Refuses};
 ghost use Rattle.novac.specs.Command.{Compile, inputs_of, outputs_of, SomeFile};
 ghost use Rattle.novac.specs.Headline.{IsCompiledTo, CompileRefuses};
+ghost use Rattle.novac.specs.Building.{IsToldAs};
 ghost use Rattle.novac.specs.Lines.{IsUncaused, IfReadFault, cannot_write};
 ghost use Rattle.novac.specs.Loading.{IsSameBut};
-ghost use Rattle.novac.specs.Status.{IsEnd};
 ghost use Rattle.novac.specs.declared.status.Status.{Status};
 
 use crate::build::{FirstError, compile_first};
@@ -15,11 +15,12 @@ use crate::refusal::Refusal;
 use crate::reply::Reply;
 use crate::save::{Product, save};
 use nv_outside::Files;
+use nv_text::TextError;
 use std::alloc::Global;
 use uc_object::encode;
 
 /// How many bytes a source may have.
-const SOURCE_LIMIT: u64 = 262_144;
+pub const SOURCE_LIMIT: u64 = 262_144;
 
 /// Compiles the file of one name into that of another.
 pub fn compile_file<'a, F: Files>(
@@ -50,8 +51,7 @@ fn object_of<'a>(alloc: Global, text: &[u8]) -> Result<Product, Refusal<'a>>
 {
     let first = match compile_first(alloc, text) {
         Ok(first) => first,
-        Err(FirstError::NoMemory) => return Err(Refusal::NoMemory),
-        Err(FirstError::Unbuilt) => return Err(Refusal::Unbuilt),
+        Err(error) => return Err(refusal_of(error)),
     };
     let object = encode(alloc, &first.code)?;
     let instructions = first.code.list().len() as u64;
@@ -59,4 +59,21 @@ fn object_of<'a>(alloc: Global, text: &[u8]) -> Result<Product, Refusal<'a>>
         object,
         instructions,
     })
+}
+
+/// Why a source has no typed program or no code, as it is told.
+pub fn refusal_of<'a>(error: FirstError) -> Refusal<'a>
+    ensures { IsToldAs error result }
+{
+    match error {
+        FirstError::NoMemory | FirstError::Text(TextError::NoMemory) => Refusal::NoMemory,
+        FirstError::Text(TextError::Char(at)) => Refusal::SourceChar(at),
+        FirstError::Text(TextError::Number(at)) => Refusal::SourceNumber(at),
+        FirstError::Text(TextError::Name(at)) => Refusal::SourceName(at),
+        FirstError::Text(TextError::Syntax(at)) => Refusal::SourceSyntax(at),
+        FirstError::Text(TextError::Deep(at)) => Refusal::SourceDeep(at),
+        FirstError::Fault(kind, span) => Refusal::SourceType(kind, span),
+        FirstError::TooLarge(size) => Refusal::SourceLarge(size),
+        FirstError::Unbuilt => Refusal::Unbuilt,
+    }
 }

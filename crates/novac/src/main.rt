@@ -6,10 +6,13 @@ mod build;
 mod command;
 mod compile;
 mod emit;
+#[cfg(test)]
+mod example_tests;
+mod execute;
+mod form;
 mod lint;
 mod list;
 mod load;
-mod parse;
 mod refusal;
 mod reply;
 mod report;

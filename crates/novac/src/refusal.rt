@@ -1,10 +1,11 @@
 //! Why a command isn't done, and the line that says so.
-ghost use Rattle.std.specs.Prelude.{◌≡◌, ◌++◌, ◌∷◌, [], codes, decimal, IfOk, OnOk};
-ghost use Rattle.novac.specs.Lines.{refusal_text, refusal_status, counted, named, ruled};
+ghost use Rattle.std.specs.Prelude.{◌≡◌, ◌++◌, ◌∷◌, [], IfOk};
+ghost use Rattle.novac.specs.Lines.{refusal_text, refusal_status, counted, named, ruled, type_text};
 ghost use Rattle.novac.specs.declared.refusal.Refusal.TheVariants.{NoMemory as WantOfMemory};
 
 use crate::status::Status;
 use line_text::push_decimal;
+use nv_ast::Span;
 use nv_base::NoMemory;
 use std::alloc::{AllocError, Global};
 
@@ -16,6 +17,20 @@ pub enum Refusal<'a> {
     ReadFault(&'a str),
     /// A file has more bytes than this limit, or a memory is to have this size, which is above its limit.
     TooLarge(u64),
+    /// A byte of a source that begins no token; places are counted from 0.
+    SourceChar(u32),
+    /// The first byte of a number of a source above 4,294,967,295.
+    SourceNumber(u32),
+    /// The first byte of a word of a source longer than 64 bytes.
+    SourceName(u32),
+    /// The first token of a source with which it begins no program, or its length.
+    SourceSyntax(u32),
+    /// The first token of a source with which every program is nested too deep.
+    SourceDeep(u32),
+    /// The kind of the first fault of a source's types, and where it lies.
+    SourceType(u8, Span),
+    /// The expanded size of a source's program, which is over 4,096.
+    SourceLarge(u32),
     /// The first line of an assembly text that isn't of its form, counted from 1.
     Syntax(u32),
     /// The first line of an assembly text with a label that is declared before, or nowhere.
@@ -32,7 +47,7 @@ pub enum Refusal<'a> {
     Unlawful(u32, u8),
     /// The first line of an assembly text whose instruction isn't lawful, and the least rule that it breaks.
     UnlawfulLine(u32, u8),
-    /// The source is no program of the form that is compiled so far.
+    /// The source's program isn't of the form that is compiled so far.
     Unbuilt,
 }
 
@@ -60,8 +75,15 @@ impl<'a> Refusal<'a> {
         match self {
             Refusal::NoMemory => Status::NoMemory,
             Refusal::ReadFault(_) => Status::ReadFault,
-            Refusal::TooLarge(_) => Status::TooLarge,
-            Refusal::Syntax(_) | Refusal::Label(_) => Status::Syntax,
+            Refusal::TooLarge(_) | Refusal::SourceLarge(_) => Status::TooLarge,
+            Refusal::SourceChar(_)
+            | Refusal::SourceNumber(_)
+            | Refusal::SourceName(_)
+            | Refusal::SourceSyntax(_)
+            | Refusal::SourceDeep(_)
+            | Refusal::Syntax(_)
+            | Refusal::Label(_) => Status::Syntax,
+            Refusal::SourceType(_, _) => Status::TypeFault,
             Refusal::BadObject(_) => Status::BadObject,
             Refusal::BadMemoryText(_) => Status::BadMemoryText,
             Refusal::BadReport(_) | Refusal::FalseReport => Status::CertificateRefused,
@@ -78,6 +100,13 @@ impl<'a> Refusal<'a> {
             Refusal::NoMemory => Ok(Vec::new(alloc)),
             Refusal::ReadFault(name) => named_line(alloc, b"cannot read ", name),
             Refusal::TooLarge(n) => counted_line(alloc, b"too large ", n),
+            Refusal::SourceChar(at) => counted_line(alloc, b"syntax char at ", u64::from(at)),
+            Refusal::SourceNumber(at) => counted_line(alloc, b"syntax number at ", u64::from(at)),
+            Refusal::SourceName(at) => counted_line(alloc, b"syntax name at ", u64::from(at)),
+            Refusal::SourceSyntax(at) => counted_line(alloc, b"syntax syntax at ", u64::from(at)),
+            Refusal::SourceDeep(at) => counted_line(alloc, b"syntax deep at ", u64::from(at)),
+            Refusal::SourceType(kind, span) => type_line(alloc, kind, span),
+            Refusal::SourceLarge(n) => counted_line(alloc, b"too large ", u64::from(n)),
             Refusal::Syntax(n) => counted_line(alloc, b"syntax text line ", u64::from(n)),
             Refusal::Label(n) => counted_line(alloc, b"syntax label line ", u64::from(n)),
             Refusal::BadObject(n) => counted_line(alloc, b"object ", u64::from(n)),
@@ -132,6 +161,21 @@ fn ruled_line(alloc: Global, text: &[u8], n: u32, rule: u8) -> Result<Vec<u8>, N
     push_decimal(&mut out, u64::from(n))?;
     out.extend_from_slice(b" rule ")?;
     push_decimal(&mut out, u64::from(rule))?;
+    out.push(b'\n')?;
+    Ok(out)
+}
+
+// The line of a fault of types.
+fn type_line(alloc: Global, kind: u8, span: Span) -> Result<Vec<u8>, NoMemory>
+    ensures { IfOk result (λ out. out.items ≡ type_text kind span) }
+{
+    let mut out = Vec::new(alloc);
+    out.extend_from_slice(b"type ")?;
+    push_decimal(&mut out, u64::from(kind))?;
+    out.extend_from_slice(b" at ")?;
+    push_decimal(&mut out, u64::from(span.first))?;
+    out.extend_from_slice(b" ")?;
+    push_decimal(&mut out, u64::from(span.after))?;
     out.push(b'\n')?;
     Ok(out)
 }

@@ -22,13 +22,13 @@ use uc_isa::{Code, Engine};
 use uc_sim::simulate;
 
 /// The most bytes of a memory text.
-const MEMORY_LIMIT: u64 = 4_194_304;
+pub const MEMORY_LIMIT: u64 = 4_194_304;
 
 /// The first scratch word that code may use for itself.
 const SPILL_BASE: u32 = 512;
 
 /// How many writes are kept and shown.
-const SHOWN_WRITES: u32 = 64;
+pub const SHOWN_WRITES: u32 = 64;
 
 /// Runs the code of an object on the memories and arguments of a memory text.
 pub fn run_files<'a, F: Files>(
@@ -66,8 +66,8 @@ fn run_bytes<'a>(alloc: Global, bytes: &[u8], text: &[u8], steps: u64) -> Result
     Ok(run_job(alloc, &code, job, steps)?)
 }
 
-// The memories and arguments that a memory text gives.
-fn job_of<'a>(alloc: Global, text: &[u8], params: u8) -> Result<Job, Refusal<'a>>
+/// The memories and arguments that a memory text gives.
+pub fn job_of<'a>(alloc: Global, text: &[u8], params: u8) -> Result<Job, Refusal<'a>>
     requires { length text.now ≤ memory_limit }
     ensures given { IfOk result (λ job. Gives params text.now job.packet job.args) }
     ensures refused { IfErr result (λ e. IsUncaused e ⊎ IsMemoryRefusedFor params text.now e) }
@@ -101,8 +101,8 @@ fn run_job(alloc: Global, code: &Code, job: Job, steps: u64) -> Result<Reply, No
     })
 }
 
-// The status of a run, by how it ended.
-fn status_of(outcome: &Outcome) -> Status
+/// The status of a run, by how it ended.
+pub fn status_of(outcome: &Outcome) -> Status
     ensures status { result ≡ outcome_status outcome.now }
     ensures end { IsOutcome result }
 {

@@ -5,7 +5,7 @@ ghost use Rattle.novac.specs.Status.{status_number};
 /// How a run of the program ended.
 #[derive(Clone, Copy, Debug, PartialEq, Eq)]
 pub enum Status {
-    /// The command did what it is for; the engine's run ended.
+    /// The command did what it is for; the run ended.
     Done,
     /// The words are no command.
     Usage,
@@ -17,23 +17,25 @@ pub enum Status {
     NoMemory,
     /// A text isn't of its form.
     Syntax,
-    /// An input has more bytes than its limit, or a memory a size above its limit.
+    /// A source's program has a fault of its types.
+    TypeFault,
+    /// An input has more bytes than its limit, or a source's program or a memory a size above its limit.
     TooLarge,
     /// The bytes aren't an object.
     BadObject,
     /// A memory text isn't of its form.
     BadMemoryText,
-    /// The engine's run raised an exception.
+    /// The run raised an exception.
     Raised,
-    /// The engine's run reached past a memory.
+    /// The run reached past a memory.
     Fault,
-    /// The engine was still going after all its steps.
+    /// The run was still going after all its steps or calls.
     StepsSpent,
     /// A report isn't of its form, or isn't true.
     CertificateRefused,
     /// The code isn't lawful.
     Unlawful,
-    /// The source is no program of the form that is compiled so far.
+    /// The source's program isn't of the form that is compiled so far.
     Unbuilt,
 }
 
@@ -49,6 +51,7 @@ impl Status {
             Status::WriteFault => 4,
             Status::NoMemory => 5,
             Status::Syntax => 6,
+            Status::TypeFault => 7,
             Status::TooLarge => 8,
             Status::BadObject => 12,
             Status::BadMemoryText => 13,

@@ -51,9 +51,9 @@ fn each_answer_has_its_cause(rt: HostRuntime) -> Result<(), Fail> {
         (19, b"fun main[]: word { 70000 }", &[], compile),
         (19, b"fun main[]: word { 65536 }", &[], compile),
         (0, b"fun main[]: word { 65535 }", &[], compile),
-        (19, b"fun main[a: word]: word { b }", &[], compile),
-        (19, b"fun main[a: word, a: word]: word { a }", &[], compile),
-        (19, b"fun main[a: word[1]]: word { a }", &[], compile),
+        (7, b"fun main[a: word]: word { b }", &[], compile),
+        (7, b"fun main[a: word, a: word]: word { a }", &[], compile),
+        (0, b"fun main[a: word[1]]: word { a }", &[], compile),
         (19, b"fun main[a: word]: word { (a) }", &[], compile),
         (
             19,
@@ -61,12 +61,12 @@ fn each_answer_has_its_cause(rt: HostRuntime) -> Result<(), Fail> {
             &[],
             compile,
         ),
-        (19, b"fun f[a: word]: word { a }", &[], compile),
-        (19, b"fun main[a: word]: word { a + }", &[], compile),
-        (19, b"fun main[a: word]: word { a @ }", &[], compile),
+        (7, b"fun f[a: word]: word { a }", &[], compile),
+        (6, b"fun main[a: word]: word { a + }", &[], compile),
+        (6, b"fun main[a: word]: word { a @ }", &[], compile),
         (0, b"fun main[]: word { 1+1+1+1+1+1+1+1 }", &[], compile),
         (19, b"fun main[]: word { 1+1+1+1+1+1+1+1+1 }", &[], compile),
-        (19, none, &[], compile),
+        (7, none, &[], compile),
     ];
     for (at, (status, source, failing, words)) in cases.iter().enumerate() {
         let (answer, object) = ended(&rt, rt.alloc(), source, failing, words)?;
@@ -125,7 +125,7 @@ fn code_of_the_sum_adds(rt: HostRuntime) -> Result<(), Fail> {
 }
 
 // What `run` answers to these words, and what it prints; the puts of these numbers fail.
-fn printed(
+pub(crate) fn printed(
     alloc: Global,
     files: &mut MemFiles,
     failing: &[u64],
@@ -139,6 +139,13 @@ fn printed(
     let status = run(alloc, &list, files, &mut out);
     Ok((status, out.bytes().to_vec(alloc)?))
 }
+
+// A group of expanded size 4, and eight more of each twice the size of the one before and 12; main's is 8,180.
+const GROWN: &[u8] = b"fun f0[x: word]: word { x } fun f1[x: word]: word { f0[x] + f0[x] }\n\
+    fun f2[x: word]: word { f1[x] + f1[x] } fun f3[x: word]: word { f2[x] + f2[x] }\n\
+    fun f4[x: word]: word { f3[x] + f3[x] } fun f5[x: word]: word { f4[x] + f4[x] }\n\
+    fun f6[x: word]: word { f5[x] + f5[x] } fun f7[x: word]: word { f6[x] + f6[x] }\n\
+    fun f8[x: word]: word { f7[x] + f7[x] } fun main[x: word]: word { f8[x] + f8[x] }\n";
 
 // `params 0`, `halt 0 0`; then without its last byte, with byte 16 set, and with a byte more.
 const HALT: &[u8] = b"NVO1\0\0\0\0\x01\0\0\0\x06\0\0\0\0\0\0\0";
@@ -161,6 +168,16 @@ fn each_status_prints_its_line(rt: HostRuntime) -> Result<(), Fail> {
     let held = [
         ("s", SUM),
         ("unbuilt", b"fun main[]: word { 70000 }"),
+        ("untyped", b"fun main[]: word { x }"),
+        ("grown", GROWN),
+        (
+            "raises",
+            b"exception A[]; exception E[word]; fun main[a: word, b: word]: word { raise E[b] }",
+        ),
+        (
+            "endless",
+            b"fun main[a: word, b: word]: word { main[b, a] }",
+        ),
         ("halt", HALT),
         ("cut", CUT),
         ("set", SET),
@@ -215,6 +232,28 @@ fn each_status_prints_its_line(rt: HostRuntime) -> Result<(), Fail> {
         (&["lint", "add"], 0, b"lawful 2\n"),
         (&["lint", "bank"], 18, b"unlawful place 0 rule 1\n"),
         (&["compile", "unbuilt", "p"], 19, b"unbuilt\n"),
+        (&["compile", "untyped", "p"], 7, b"type 10 at 19 20\n"),
+        (&["compile", "grown", "p"], 8, b"too large 8180\n"),
+        (
+            &["exec", "s", "m", "steps=1"],
+            0,
+            b"ended 00000001\nwrites 0\nmemory 0 0\n",
+        ),
+        (
+            &["exec", "raises", "m", "steps=1"],
+            14,
+            b"raised 2 00000002\nwrites 0\nmemory 0 0\n",
+        ),
+        (
+            &["exec", "endless", "m", "steps=8"],
+            16,
+            b"going\nwrites 0\nmemory 0 0\n",
+        ),
+        (
+            &["exec", "untyped", "large", "steps=8"],
+            7,
+            b"type 10 at 19 20\n",
+        ),
         (none, 2, b"usage\n"),
         (&["run", "o", "m"], 2, b"usage\n"),
         (&["run", "o", "m", "steps=0"], 2, b"usage\n"),
@@ -228,6 +267,91 @@ fn each_status_prints_its_line(rt: HostRuntime) -> Result<(), Fail> {
         let (answer, out) = printed(alloc, &mut files, &[], words)?;
         assert_eq!(rt; answer.code(), status, "{words:?}");
         assert_eq!(rt; out.as_slice(), text, "{words:?}");
+    }
+    Ok(())
+}
+
+#[test]
+fn faults_of_a_source_have_their_places(rt: HostRuntime) -> Result<(), Fail> {
+    let alloc = rt.alloc();
+    let cases = [
+        (
+            b"fun main[]: word { @ }".as_slice(),
+            b"syntax char at 19\n".as_slice(),
+        ),
+        (b"fun main[]: word { 4294967296 }", b"syntax number at 19\n"),
+        (
+            b"aaaaaaaaaaaaaaaaaaaaaaaaaaaaaaaaaaaaaaaaaaaaaaaaaaaaaaaaaaaaaaaaa",
+            b"syntax name at 0\n",
+        ),
+        (b"fun main[]: word { 1 +", b"syntax syntax at 22\n"),
+        (
+            b"fun main[]: word { ((((((((((((((((((((((((((((((((((((((((((((((((((\
+            ((((((((((((((((((((((((((((((((((((((((((((((((((1",
+            b"syntax deep at 119\n",
+        ),
+    ];
+    for (source, text) in cases {
+        let mut files = MemFiles::new(alloc, Vec::new(alloc));
+        assert_eq!(rt; files.give("s", source), Saved::Done);
+        let (answer, out) = printed(alloc, &mut files, &[], &["compile", "s", "o"])?;
+        assert_eq!(rt; answer, Status::Syntax);
+        assert_eq!(rt; out.as_slice(), text);
+    }
+    Ok(())
+}
+
+// The shortest source of each kind of fault.
+#[test]
+fn each_kind_of_type_fault_prints_its_line(rt: HostRuntime) -> Result<(), Fail> {
+    let alloc = rt.alloc();
+    let cases = [
+        (b"".as_slice(), b"type 1 at 0 0\n".as_slice()),
+        (b"exception E[]; exception E[];", b"type 2 at 15 29\n"),
+        (b"layout p = q;", b"type 3 at 0 13\n"),
+        (b"layout p = {a: 33};", b"type 4 at 0 19\n"),
+        (b"layout p = {a: 1, a: 1};", b"type 5 at 0 24\n"),
+        (
+            b"layout p = {v: overlay {a: 1 | b: 2}};",
+            b"type 6 at 0 38\n",
+        ),
+        (b"layout p = {8};", b"type 7 at 0 15\n"),
+        (b"exception E[word[0]];", b"type 8 at 0 21\n"),
+        (
+            b"fun main[a: word, a: word]: word { a }",
+            b"type 9 at 4 38\n",
+        ),
+        (b"fun main[]: word { x }", b"type 10 at 19 20\n"),
+        (b"fun main[]: word { f[] }", b"type 11 at 19 22\n"),
+        (b"fun main[]: word { ~main[] }", b"type 12 at 20 26\n"),
+        (b"fun main[]: word { main[1] }", b"type 13 at 19 26\n"),
+        (b"fun main[]: word { true }", b"type 14 at 19 23\n"),
+        (b"fun main[]: word { 1.a }", b"type 15 at 19 22\n"),
+        (b"fun main[]: word { let () = 1; 1 }", b"type 16 at 19 30\n"),
+        (b"fun main[]: word { raise E[] }", b"type 17 at 19 28\n"),
+        (
+            b"fun main[]: word { {a = 1, a = 2}.a }",
+            b"type 18 at 19 33\n",
+        ),
+        (b"fun main[]: () { sram[0](0) }", b"type 19 at 17 27\n"),
+        (
+            b"fun main[]: word { scratch[1](512) }",
+            b"type 20 at 19 34\n",
+        ),
+        (b"fun main[]: word { 1 << 32 }", b"type 21 at 19 26\n"),
+        (
+            b"exception E[]; fun main[]: word { (raise E[]) }",
+            b"type 22 at 35 44\n",
+        ),
+        (b"exception E[word[9]];", b"type 23 at 0 21\n"),
+        (b"exception E[(word[1024], word)];", b"type 24 at 0 32\n"),
+    ];
+    for (source, text) in cases {
+        let mut files = MemFiles::new(alloc, Vec::new(alloc));
+        assert_eq!(rt; files.give("s", source), Saved::Done);
+        let (answer, out) = printed(alloc, &mut files, &[], &["compile", "s", "o"])?;
+        assert_eq!(rt; answer, Status::TypeFault);
+        assert_eq!(rt; out.as_slice(), text);
     }
     Ok(())
 }

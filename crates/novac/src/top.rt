@@ -13,6 +13,7 @@ ghost use Rattle.novac.specs.declared.status.Status.{Status};
 use crate::assemble::assemble_file;
 use crate::command::Command;
 use crate::compile::compile_file;
+use crate::execute::exec_files;
 use crate::lint::lint_file;
 use crate::list::list_file;
 use crate::refusal::{Refusal, line};
@@ -29,15 +30,15 @@ use std::alloc::Global;
 ///
 /// | Words | |
 /// |---|---|
-/// | `compile SRC OBJ` | saves the object of the code of the source SRC, of at most 262,144 bytes |
+/// | `compile SRC OBJ` | saves the object of the code of the source SRC |
 /// | `run OBJ MEM steps=N` | takes 1 to 100,000,000 steps of OBJ's code on the memory text MEM, and prints the outcome |
+/// | `exec SRC MEM steps=N` | runs the program of SRC with 1 to 100,000,000 calls on the memory text MEM, and prints the outcome |
 /// | `asm TEXT OBJ` | saves the object of the code of the assembly text TEXT |
 /// | `dis OBJ` | prints the listing of OBJ's code |
 /// | `lint OBJ` | prints whether OBJ's code is lawful |
 /// | `check REPORT` | checks a report by itself, and prints its verdict |
 ///
-/// Objects have at most 8,388,620 bytes, memory texts 4 MiB, assembly texts and
-/// reports 64 MiB.
+/// Sources have at most 262,144 bytes, objects 8,388,620, memory texts 4 MiB, assembly texts and reports 64 MiB.
 pub fn run<F: Files, K: Sink>(
     alloc: Global,
     words: &Vec<String>,
@@ -141,6 +142,7 @@ fn perform<'a, F: Files>(
     match command {
         Command::Compile(source, object) => compile_file(alloc, source, object, files),
         Command::Run(object, memory, steps) => run_files(alloc, object, memory, steps, files),
+        Command::Exec(source, memory, calls) => exec_files(alloc, source, memory, calls, files),
         Command::Asm(text, object) => assemble_file(alloc, text, object, files),
         Command::Dis(object) => list_file(alloc, object, files),
         Command::Lint(object) => lint_file(alloc, object, files),

@@ -1,6 +1,7 @@
 use Rattle.std.proofs.Common.{refl, arith}
 use Rattle.std.proofs.lemmas.Result.{err_from_is_err_and}
-use Rattle.novac.specs.Headline.{CompileRefuses, source_limit}
+use Rattle.novac.specs.Headline.{CompileRefuses}
+use Rattle.novac.specs.Reading.{source_limit}
 use Rattle.novac.proofs.Passing.{pass-file, rose-later}
 use Rattle.novac.proofs.compile.compile_file.Goals as goal
 

@@ -2,14 +2,14 @@ use Rattle.std.proofs.Common.{subst}
 use Rattle.std.proofs.lemmas.Result.{err_from_is_err_and}
 use Rattle.nv_outside.specs.Holding.{Holding}
 use Rattle.novac.specs.Loading.{IsLoaded}
-use Rattle.novac.specs.Machine.{memory_limit}
-use Rattle.novac.proofs.Passing.{pass-run, second-fault}
+use Rattle.novac.specs.Machine.{RunRefuses, memory_limit, object_limit}
+use Rattle.novac.proofs.Passing.{pass-both, second-fault}
 use Rattle.novac.proofs.simulate.run_files.Goals as goal
 
 pub returns-clause-refused : goal.returns-clause-refused
 returns-clause-refused g c = λ t.
     let text = subst (λ (h : Holding). IsLoaded h c.args.memory.now memory_limit c.in_ok-text.text.items) c.load.ensures.held (c.in_ok-text.ensures.loaded t) in
-    pass-run (g.F.Files.held c.args.files.now) c.args.object.now c.args.memory.now c.in_ok-bytes.bytes.items c.in_ok-text.text.items c.deref.result.now c.deref-2.result.now c.run_bytes.result
+    pass-both (g.F.Files.held c.args.files.now) c.args.object.now object_limit c.args.memory.now RunRefuses c.in_ok-bytes.bytes.items c.in_ok-text.text.items c.deref.result.now c.deref-2.result.now c.run_bytes.result
     c.deref.ensures.value c.deref-2.ensures.value (c.in_ok-bytes.ensures.loaded t) text c.run_bytes.ensures.refused
 
 pub returns-in_err-text-clause-read_fault : goal.returns-in_err-text-clause-read_fault

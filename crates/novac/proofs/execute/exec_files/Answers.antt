@@ -1,0 +1,20 @@
+use Rattle.std.proofs.Common.{subst}
+use Rattle.std.proofs.lemmas.Result.{err_from_is_err_and}
+use Rattle.nv_outside.specs.Holding.{Holding}
+use Rattle.novac.specs.Loading.{IsLoaded}
+use Rattle.novac.specs.Executing.{ExecRefuses}
+use Rattle.novac.specs.Machine.{memory_limit}
+use Rattle.novac.specs.Reading.{source_limit}
+use Rattle.novac.proofs.Passing.{pass-both, second-fault}
+use Rattle.novac.proofs.execute.exec_files.Goals as goal
+
+pub returns-clause-refused : goal.returns-clause-refused
+returns-clause-refused g c = λ t.
+    let text = subst (λ (h : Holding). IsLoaded h c.args.memory.now memory_limit c.in_ok-text.text.items) c.load.ensures.held (c.in_ok-text.ensures.loaded t) in
+    pass-both (g.F.Files.held c.args.files.now) c.args.source.now source_limit c.args.memory.now ExecRefuses c.in_ok-bytes.bytes.items c.in_ok-text.text.items c.deref.result.now c.deref-2.result.now c.exec_bytes.result
+    c.deref.ensures.value c.deref-2.ensures.value (c.in_ok-bytes.ensures.loaded t) text c.exec_bytes.ensures.refused
+
+pub returns-in_err-text-clause-read_fault : goal.returns-in_err-text-clause-read_fault
+returns-in_err-text-clause-read_fault g c =
+    let p = err_from_is_err_and c.from_residual-in_err-text.result c.from_residual-in_err-text.ensures.1 in
+    rw (p.1, p.2) (second-fault c.args.source.now c.args.memory.now (g.F.Files.load_faults c.args.files.now) (g.F.Files.load_faults c.load.new.files) (g.F.Files.load_faults c.load-2.new.files) _ c.load.ensures.load_faults c.in_err-text.ensures.read_fault)
