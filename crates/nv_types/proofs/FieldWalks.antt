@@ -12,7 +12,7 @@ use Rattle.nv_ast.specs.Types.{Ty, WordTy, BoolTy, TupleTy, RecordTy, NamedTys, 
 use Rattle.nv_ast.specs.Typing.{fields_of, field_ty}
 use Rattle.nv_types.specs.declared.table.Cell.{Cell}
 use Rattle.nv_types.specs.declared.table.Cell.TheVariants.{Word, Bool as BoolCell, NoParts, NoFields, Tuple, Record, Choice, Part, Field}
-use Rattle.nv_types.specs.Store.{Store, IsStore, IsType, IsFields, IsForms, IsValue, record_in, field_of, field_names, form_names, AreCells}
+use Rattle.nv_types.specs.Store.{Store, IsStore, IsType, IsFields, IsForms, IsValue, record_in, field_of, field_names, form_names, AreCells, AreNamed, AreSeen}
 use Rattle.nv_types.specs.Named.{plain_names}
 use Rattle.nv_types.proofs.Found.{name_at, any_name, absent_name}
 use Rattle.nv_types.proofs.FieldLists.{fields_none, fields_some}
@@ -124,10 +124,6 @@ no_such_field s x none t (TupleTy ts) h = tt
 no_such_field s x none t (RecordTy ts) h = subst (IsValue s None) (sym (absent_field s x none h.0 ts h.2)) tt
 
 -- ---- a list of fields or forms by its names
-abbrev pub AreNamed : Store → ℕ → List (List ℕ) → Type 0
-AreNamed s i [] = i ≡ 3
-AreNamed s i (x ∷ xs) = (n : ℕ) × (j : ℕ) × (rest : ℕ) × (slice_get s.cells i ≡ Some (Field n j rest)) × (slice_get s.names n ≡ Some x) × AreNamed s rest xs
-
 pub fields_named : (s : Store) (i : ℕ) (ts : NamedTys) → IsFields s i ts → AreNamed s i (field_names ts)
 fields_named s i no_named_tys h = h
 fields_named s i (named_ty_and x t ts) h = (h.0, h.1, h.2, h.3, h.4, fields_named s h.2 ts h.6)
@@ -147,50 +143,53 @@ named_some s is i n j rest (x ∷ xs) h e =
     let same = same_triple (h.0, h.1, h.2) (n, j, rest) (sym (ap field_of h.3) ∙ e) in
     (x, xs, refl, subst (λ m. slice_get s.names m ≡ Some x) (ap (λ (p : ℕ × ℕ × ℕ). p.0) same) h.4, subst (λ m. AreNamed s m xs) (ap (λ (p : ℕ × ℕ × ℕ). p.2) same) h.5)
 
--- of the names those that were seen are all different
-abbrev pub SeenSo : Store → ℕ → ℕ → List ℕ → Type 0
-SeenSo s fields list seen = (names : List (List ℕ)) → AreNamed s fields names
-    → (xs : List (List ℕ)) × (ys : List (List ℕ)) × (names ≡ xs ++ ys) × AreNamed s list ys × (has_twice xs ≡ false)
-    × ((n : ℕ) (x : List ℕ) → slice_get s.names n ≡ Some x → list_any (eqb n) seen ≡ is_among x xs)
+-- behind some names and a list of fields: those that were seen are all different, the others are left
+abbrev pub SeenSo : Store → List ℕ → ℕ → ℕ → List ℕ → Type 0
+SeenSo s old fields list seen = (xs names : List (List ℕ)) → AreSeen s old xs → AreNamed s fields names
+    → (ys : List (List ℕ)) × (zs : List (List ℕ)) × (xs ++ names ≡ ys ++ zs) × AreNamed s list zs × AreSeen s seen ys
 
-pub seen_start : (s : Store) (fields : ℕ) → SeenSo s fields fields []
-seen_start s fields names h = ([], names, refl, h, refl, λ n x at. refl)
+pub seen_none : (s : Store) → AreSeen s [] []
+seen_none s = record { once = refl; each = λ n x at. refl }
 
-pub seen_twice : (s : Store) → IsStore s → (fields list : ℕ) (seen : List ℕ) → SeenSo s fields list seen → (n j rest : ℕ) → field_of (slice_get s.cells list) ≡ Some (n, j, rest) → list_any (eqb n) seen ≡ true
-    → (names : List (List ℕ)) → AreNamed s fields names → true ≡ has_twice names
-seen_twice s is fields list seen so n j rest at there names h =
-    let v = so names h in
+pub seen_start : (s : Store) (old : List ℕ) (fields : ℕ) → SeenSo s old fields fields old
+seen_start s old fields xs names seen h = (xs, names, refl, h, seen)
+
+pub seen_twice : (s : Store) → IsStore s → (old : List ℕ) (fields list : ℕ) (seen : List ℕ) → SeenSo s old fields list seen → (n j rest : ℕ) → field_of (slice_get s.cells list) ≡ Some (n, j, rest) → list_any (eqb n) seen ≡ true
+    → (xs names : List (List ℕ)) → AreSeen s old xs → AreNamed s fields names → true ≡ has_twice (xs ++ names)
+seen_twice s is old fields list seen so n j rest at there xs names before h =
+    let v = so xs names before h in
     let p = named_some s is list n j rest v.1 v.3 at in
-    sym (ap has_twice (v.2 ∙ ap (λ l. v.0 ++ l) p.2) ∙ twice_here v.0 p.1 p.0 (sym (v.5 n p.0 p.3) ∙ there))
+    sym (ap has_twice (v.2 ∙ ap (λ l. v.0 ++ l) p.2) ∙ twice_here v.0 p.1 p.0 (sym (v.4.each n p.0 p.3) ∙ there))
 
-pub seen_more : (s : Store) → IsStore s → (fields list : ℕ) (seen : List ℕ) → SeenSo s fields list seen → (n j rest : ℕ) → field_of (slice_get s.cells list) ≡ Some (n, j, rest) → list_any (eqb n) seen ≡ false
-    → SeenSo s fields rest (seen ++ n ∷ [])
-seen_more s is fields list seen so n j rest at absent names h =
-    let v = so names h in
+pub seen_more : (s : Store) → IsStore s → (old : List ℕ) (fields list : ℕ) (seen : List ℕ) → SeenSo s old fields list seen → (n j rest : ℕ) → field_of (slice_get s.cells list) ≡ Some (n, j, rest) → list_any (eqb n) seen ≡ false
+    → SeenSo s old fields rest (seen ++ n ∷ [])
+seen_more s is old fields list seen so n j rest at absent xs names before h =
+    let v = so xs names before h in
     let p = named_some s is list n j rest v.1 v.3 at in (
       v.0 ++ p.0 ∷ [],
       p.1,
       v.2 ∙ ap (λ l. v.0 ++ l) p.2 ∙ sym (append_assoc v.0 (p.0 ∷ []) p.1),
       p.4,
-      twice_more v.0 p.0 ∙ ap (λ b. b || has_twice v.0) (sym (v.5 n p.0 p.3) ∙ absent) ∙ v.4,
-      λ m x name.
-          list_any-append (eqb m) seen (n ∷ [])
-          ∙ ap (λ b. b || (eqb m n || false)) (v.5 m x name)
-          ∙ ap (λ b. is_among x v.0 || (b || false)) (number_name s is m n x p.0 name p.3)
-          ∙ sym (list_any-append (bytes_eq x) v.0 (p.0 ∷ [])),
+      record {
+        once = twice_more v.0 p.0 ∙ ap (λ b. b || has_twice v.0) (sym (v.4.each n p.0 p.3) ∙ absent) ∙ v.4.once;
+        each = λ m x name.
+            list_any-append (eqb m) seen (n ∷ [])
+            ∙ ap (λ b. b || (eqb m n || false)) (v.4.each m x name)
+            ∙ ap (λ b. is_among x v.0 || (b || false)) (number_name s is m n x p.0 name p.3)
+            ∙ sym (list_any-append (bytes_eq x) v.0 (p.0 ∷ []));
+      },
     )
 
-pub seen_end : (s : Store) (fields list : ℕ) (seen : List ℕ) → SeenSo s fields list seen → field_of (slice_get s.cells list) ≡ None → (names : List (List ℕ)) → AreNamed s fields names → false ≡ has_twice names
-seen_end s fields list seen so none names h =
-    let v = so names h in
-    sym (ap has_twice (v.2 ∙ ap (λ l. v.0 ++ l) (named_none s list v.1 v.3 none) ∙ append-nil v.0) ∙ v.4)
+-- where no field is left, all names were seen
+pub seen_end : (s : Store) (old : List ℕ) (fields list : ℕ) (seen : List ℕ) → SeenSo s old fields list seen → field_of (slice_get s.cells list) ≡ None
+    → (xs names : List (List ℕ)) → AreSeen s old xs → AreNamed s fields names → AreSeen s seen (xs ++ names)
+seen_end s old fields list seen so none xs names before h =
+    let v = so xs names before h in
+    subst (AreSeen s seen) (sym (v.2 ∙ ap (λ l. v.0 ++ l) (named_none s list v.1 v.3 none) ∙ append-nil v.0)) v.4
 
 -- ---- the fields in order: whatever is left, the whole follows
 abbrev pub CellsSo : Store → ℕ → ℕ → List (ℕ × ℕ) → Type 0
 CellsSo s fields list found = (left : List (ℕ × ℕ)) → AreCells s list left → AreCells s fields (found ++ left)
-
-pub cells_start : (s : Store) (fields : ℕ) → CellsSo s fields fields []
-cells_start s fields left h = h
 
 pub cells_more : (s : Store) (fields list : ℕ) (found : List (ℕ × ℕ)) → CellsSo s fields list found → (n j rest : ℕ) → field_of (slice_get s.cells list) ≡ Some (n, j, rest) → CellsSo s fields rest (found ++ (n, j) ∷ [])
 cells_more s fields list found so n j rest at left h =

@@ -107,23 +107,22 @@ parts_done c mid new s fs ms shape q keeps made repeats = record {
 }
 
 -- ---- joined layouts
-pub joined_judged : {T : Type 0} (c mid new : Checker) (s : Span) (ls : LayoutTrees) (ms : List Shape) (shape : Shape) (r : Result T TypeError)
+pub joined_judged : {T : Type 0} (c mid : Checker) (s : Span) (ls : LayoutTrees) (ms : List Shape) (r : Result T TypeError)
     → ((k : Known) → Holds c k → layouts_faults k.layouts ls ≡ []) → ((k : Known) → Holds c k → AreShapes mid.table ms (outlines k.layouts ls))
-    → ((os : OutlineTrees) → AreShapes mid.table ms os → IsShape new.table shape (JoinedOutline os))
-    → ((gs : Forms) → IsForms new.table shape.forms gs → Judges (at_span s (where_true (has_twice (form_names gs)) 5)) r)
+    → ((os : OutlineTrees) → AreShapes mid.table ms os → Judges (at_span s (where_true (has_twice (form_names (joined_forms os))) 5)) r)
     → (k : Known) → Holds c k → Judges (at_span s (layout_faults k.layouts (JoinedLayout ls))) r
-joined_judged c mid new s ls ms shape r none shaped made repeats k h =
+joined_judged c mid s ls ms r none shaped repeats k h =
     let os = outlines k.layouts ls in
     then_kinds s (layouts_faults k.layouts ls) _ r (at_none s (layouts_faults k.layouts ls) (none k h))
-    (subst (λ names. Judges (at_span s (where_true (has_twice names) 5)) r) (names_joined os) (repeats (joined_forms os) (made os (shaped k h)).of_forms))
+    (subst (λ names. Judges (at_span s (where_true (has_twice names) 5)) r) (names_joined os) (repeats os (shaped k h)))
 
 pub joined_done : (c mid new : Checker) (s : Span) (ls : LayoutTrees) (ms : List Shape) (shape : Shape) → Keeps c mid → Keeps mid new
     → ((k : Known) → Holds c k → layouts_faults k.layouts ls ≡ []) → ((k : Known) → Holds c k → AreShapes mid.table ms (outlines k.layouts ls))
+    → ((os : OutlineTrees) → AreShapes mid.table ms os → at_span s (where_true (has_twice (form_names (joined_forms os))) 5) ≡ [])
     → ((os : OutlineTrees) → AreShapes mid.table ms os → IsShape new.table shape (JoinedOutline os))
-    → ((gs : Forms) → IsForms new.table shape.forms gs → at_span s (where_true (has_twice (form_names gs)) 5) ≡ [])
     → ShapesLayout c new s (JoinedLayout ls) (Ok shape)
-joined_done c mid new s ls ms shape before keeps none shaped made repeats = record {
-  judged = λ k h. joined_judged {T = ℕ} c mid new s ls ms shape (Ok 0) none shaped made repeats k h;
+joined_done c mid new s ls ms shape before keeps none shaped repeats made = record {
+  judged = λ k h. joined_judged {T = ℕ} c mid s ls ms (Ok 0) none shaped repeats k h;
   shaped = λ k h. made (outlines k.layouts ls) (shaped k h);
   keeps = Keeps-trans c mid new before keeps;
 }

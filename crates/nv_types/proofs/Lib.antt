@@ -42,6 +42,7 @@ pub mod OneNumber
 pub mod Packing
 pub mod Params
 pub mod Shaping
+pub mod SharedNames
 pub mod Signing
 pub mod Stacks
 pub mod Standings

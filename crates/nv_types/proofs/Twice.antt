@@ -36,6 +36,18 @@ twice_here (x ∷ xs) ys y h =
     ∙ ap (λ b. (is_among x xs || (b || list_any (bytes_eq x) ys)) || has_twice (xs ++ y ∷ ys)) (turned x y)
     ∙ here_step (is_among x xs) (bytes_eq y x) (is_among y xs) (list_any (bytes_eq x) ys) (has_twice (xs ++ y ∷ ys)) h (twice_here xs ys y)
 
+before_step : (a b c d : Bool) → (a || c) ≡ true → (c ≡ true → d ≡ true) → ((a || b) || d) ≡ true
+before_step true b c d h k = refl
+before_step false true c d h k = refl
+before_step false false c d h k = k h
+
+-- what is there twice still is with more behind
+pub twice_before : (xs ys : List (List ℕ)) → has_twice xs ≡ true → has_twice (xs ++ ys) ≡ true
+twice_before [] ys h = cc
+twice_before (x ∷ xs) ys h =
+    ap (λ b. b || has_twice (xs ++ ys)) (list_any-append (bytes_eq x) xs ys)
+    ∙ before_step (is_among x xs) (is_among x ys) (has_twice xs) (has_twice (xs ++ ys)) h (twice_before xs ys)
+
 last_one : (b c : Bool) → cond b true c ≡ (c || (b || false))
 last_one true true = refl
 last_one true false = refl

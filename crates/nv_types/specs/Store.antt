@@ -1,5 +1,7 @@
 -- Types by number. A store has names and cells; a type's number is that of its cell.
-use Rattle.std.specs.Prelude.{◌≡◌, ℕ, ◌+◌, List, [], ◌∷◌, Option, None, Some, slice_get}
+use Rattle.std.specs.Prelude.{◌≡◌, ℕ, ◌+◌, ◌==◌, false, List, [], ◌∷◌, Option, None, Some, slice_get}
+use Rattle.std.specs.List.{list_any}
+use Rattle.nv_ast.specs.Tests.{is_among, has_twice}
 use Rattle.nv_types.specs.declared.table.Cell.{Cell}
 use Rattle.nv_types.specs.declared.table.Cell.TheVariants.{Word, Bool as BoolCell, NoParts, NoFields, Tuple, Record, Choice, Part, Field}
 use Rattle.nv_types.specs.Cells.{AreBelow}
@@ -85,6 +87,16 @@ fields_then (named_ty_and x t ts) us = named_ty_and x t (fields_then ts us)
 abbrev pub AreCells : Store → ℕ → List (ℕ × ℕ) → Type 0
 AreCells s i [] = (n j rest : ℕ) → slice_get s.cells i ≡ Some (Field n j rest) → ⊥
 AreCells s i (p ∷ ps) = (rest : ℕ) × (slice_get s.cells i ≡ Some (Field p.0 p.1 rest)) × AreCells s rest ps
+
+-- a list of fields by its names
+abbrev pub AreNamed : Store → ℕ → List (List ℕ) → Type 0
+AreNamed s i [] = i ≡ 3
+AreNamed s i (x ∷ xs) = (n : ℕ) × (j : ℕ) × (rest : ℕ) × (slice_get s.cells i ≡ Some (Field n j rest)) × (slice_get s.names n ≡ Some x) × AreNamed s rest xs
+
+-- names that were seen by their numbers, each once
+pub record AreSeen (s : Store) (seen : List ℕ) (xs : List (List ℕ)) : Type 0 where
+  pub once : has_twice xs ≡ false
+  pub each : (n : ℕ) (x : List ℕ) → slice_get s.names n ≡ Some x → list_any (λ m. n == m) seen ≡ is_among x xs
 
 -- ---- what a cell is
 abbrev pub tuple_of : Option Cell → Option ℕ

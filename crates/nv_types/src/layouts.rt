@@ -3,7 +3,7 @@
 ghost use Rattle.std.specs.Prelude.{◌≡◌, ◌+◌, ◌/◌, ◌≤◌, ◌||◌, not, nat_lt, min, IfOk, OnOk, length};
 ghost use Rattle.nv_ast.specs.Outline.{OutlineTrees, outline_and, NamedOutlines, BitsOutline, GapOutline, PartsOutline, OverlayOutline, JoinedOutline, OutlineTree, total_named_size, longest, highest_named_outline, part_fields, alternative_fields, sizes_of};
 ghost use Rattle.nv_ast.specs.LayoutFaults.{unfit};
-ghost use Rattle.nv_ast.specs.Types.{Forms, forms_of as forms_of_outlines, unpacked_all, RecordForm, form_of};
+ghost use Rattle.nv_ast.specs.Types.{Forms, forms_of as forms_of_outlines, joined_forms, unpacked_all};
 ghost use Rattle.nv_ast.specs.LayoutView.{layout_tree, field_tree, list_fields, list_layouts};
 ghost use Rattle.nv_ast.specs.Tree.{PartsLayout, JoinedLayout};
 ghost use Rattle.nv_ast.specs.Tests.{all_same, where_true, has_twice, within};
@@ -17,6 +17,7 @@ ghost use Rattle.nv_types.specs.Layouts.{IsShape, IsDeclared, IsMember, AreShape
 use crate::error::{TypeError, fault_where};
 use crate::functions::Checker;
 use crate::table::{NO_FIELDS, WORD};
+use indexmap::IndexSet;
 use nv_ast::{FieldText, LayoutText, Name, Span};
 use nv_base::NoMemory;
 
@@ -150,9 +151,19 @@ impl<'a> Checker<'a> {
         for l in ls {
             shapes.push(self.layout(span, l)?)?;
         }
-        let shape = self.joined_shape(&shapes)?;
-        self.without_repeats(span, shape.forms)?;
-        Ok(shape)
+        self.without_shared_names(span, &shapes)?;
+        Ok(self.joined_shape(&shapes)?)
+    }
+
+    // No two fields of layouts one after another have one name. It is known before their fields are joined.
+    fn without_shared_names(&self, span: Span, shapes: &[Shape]) -> Result<(), TypeError>
+        ensures { (os : OutlineTrees) → AreShapes self.now.table shapes.now os → Judges (at_span span (where_true (has_twice (form_names (joined_forms os))) 5)) result }
+    {
+        let mut seen = IndexSet::new(self.alloc);
+        for s in shapes {
+            fault_where(self.table.meets_a_name(&mut seen, s.forms)?, 5, span)?;
+        }
+        Ok(())
     }
 
     // No two fields of a record have one name.

@@ -1,11 +1,11 @@
 // Types by number, each kept once.
 
-ghost use Rattle.std.specs.Prelude.{◌≡◌, ◌↔◌, ◌<◌, ◌==◌, ℕ, length, IsTrue, List, Some, None, IfOk, OnOk, slice_get};
+ghost use Rattle.std.specs.Prelude.{◌≡◌, ◌↔◌, ◌<◌, ◌==◌, ◌++◌, ℕ, false, length, IsTrue, List, Some, None, IfOk, OnOk, slice_get};
 ghost use Rattle.nv_ast.specs.Tests.{has_twice};
 ghost use Rattle.nv_ast.specs.Types.{Ty, TupleTy, RecordTy, Tys, ty_and, NamedTys, Form, RecordForm, ChoiceForm, Forms, ◌+++◌, words_ty, word_parts, same_type, is_too_large, can_pack, can_pack_all, can_pack_one};
 ghost use Rattle.nv_ast.specs.Faults.{can_store};
 ghost use Rattle.nv_ast.specs.Typing.{field_ty};
-ghost use Rattle.nv_types.specs.Store.{Grows, IsType, IsParts, IsFields, IsForm, IsForms, IsValue, IsStore, tuple_of, record_in, part_of, field_of, AreTypes, AreFields, AreForms, AreCells, form_names, field_names, fields_then};
+ghost use Rattle.nv_types.specs.Store.{Grows, IsType, IsParts, IsFields, IsForm, IsForms, IsValue, IsStore, tuple_of, record_in, part_of, field_of, AreTypes, AreFields, AreForms, AreCells, AreNamed, AreSeen, form_names, field_names, fields_then};
 ghost use Rattle.nv_types.specs.Knowing.{IsKnown, AreKnown, ArePacked};
 ghost use Rattle.nv_types.specs.Named.{named};
 ghost use Rattle.nv_types.specs.Cells.{AreBelow, over, with_front, fact_at as fact_in, cell_facts as facts_of_cell};
@@ -368,15 +368,7 @@ impl<'a> Table<'a> {
         ensures of_fields { (ts : NamedTys) → IsFields self.now fields ts → IfOk result (λ b. b ≡ has_twice (field_names ts)) }
         ensures of_forms { (fs : Forms) → IsForms self.now fields fs → IfOk result (λ b. b ≡ has_twice (form_names fs)) }
     {
-        let mut seen = IndexSet::new(alloc);
-        let mut list = fields;
-        while let Some((name, _, rest)) = self.first_field(list) {
-            if !seen.insert(name)? {
-                return Ok(true);
-            }
-            list = rest;
-        }
-        Ok(false)
+        self.meets_a_name(&mut IndexSet::new(alloc), fields)
     }
 
     /// The fields of one list and then those of another.
@@ -408,6 +400,21 @@ impl<'a> Table<'a> {
             list = rest;
         }
         Ok(found)
+    }
+
+    /// Adds the names of a list of fields to those that were seen, up to the first that was among them.
+    pub fn meets_a_name(&self, seen: &mut IndexSet<usize>, fields: usize) -> Result<bool, NoMemory>
+        ensures meets { (xs names : List (List ℕ)) → AreSeen self.now seen.old.keys xs → AreNamed self.now fields names → IfOk result (λ b. b ≡ has_twice (xs ++ names)) }
+        ensures seen { (xs names : List (List ℕ)) → AreSeen self.now seen.old.keys xs → AreNamed self.now fields names → IfOk result (λ b. b ≡ false → AreSeen self.now seen.new.keys (xs ++ names)) }
+    {
+        let mut list = fields;
+        while let Some((name, _, rest)) = self.first_field(list) {
+            if !seen.insert(name)? {
+                return Ok(true);
+            }
+            list = rest;
+        }
+        Ok(false)
     }
 
     /// Whether a value of a type can be packed by the record of some forms.

@@ -119,20 +119,19 @@ joined_layout-returns-in_err-layout t c =
     (layouts_first c.args.span k.layouts c.args.ls.now c.loop-l.l-index c.l-item.result c.in_err-layout.field-0.0 c.loop-l-test.true c.l-item.is (inv.none k h)
     (c.in_err-layout.ensures.judged k (holds_stays c.args.self.now c.loop-l.self k inv.keeps.declared h)))))
 
-pub joined_layout-returns-in_err-without_repeats : goal.joined_layout-returns-in_err-without_repeats
-joined_layout-returns-in_err-without_repeats t c =
-    let p = err_from_is_err_and c.from_residual-in_err-without_repeats.result c.from_residual-in_err-without_repeats.ensures.1 in
-    let e = c.in_err-without_repeats.field-0.0 in
+pub joined_layout-returns-in_err-without_shared_names : goal.joined_layout-returns-in_err-without_shared_names
+joined_layout-returns-in_err-without_shared_names t c =
+    let p = err_from_is_err_and c.from_residual-in_err-without_shared_names.result c.from_residual-in_err-without_shared_names.ensures.1 in
+    let e = c.in_err-without_shared_names.field-0.0 in
     let ls = c.args.ls.now in
     let inv = c.loop-l.invariant in
     let past : length c.args.ls.now ≤ c.loop-l.l-index = omega arith in
     let all = take_all c.loop-l.l-index c.args.ls.now past in
     rw (p.1, p.2) (layout_refused _ _ c.args.span (JoinedLayout (list_layouts ls)) e
-    (joined_judged {T = ℕ} c.args.self.now c.loop-l.self c.joined_shape.new.self c.args.span (list_layouts ls) c.loop-l.shapes.items c.in_ok-shape.shape (Err e)
+    (joined_judged {T = ℕ} c.args.self.now c.loop-l.self c.args.span (list_layouts ls) c.loop-l.shapes.items (Err e)
     (λ k h. ap (λ l. layouts_faults k.layouts (list_layouts l)) (sym all) ∙ inv.none k h)
     (λ k h. subst (λ (l : List LayoutText). AreShapes c.loop-l.self.table c.loop-l.shapes.items (outlines k.layouts (list_layouts l))) all (inv.shaped k h))
-    (λ os h. c.in_ok-shape.ensures.shaped os (subst (λ (l : List Shape). AreShapes c.loop-l.self.table l os) (sym c.deref.ensures.value) h))
-    c.in_err-without_repeats.ensures))
+    (λ os h. c.in_err-without_shared_names.ensures os (subst (λ (l : List Shape). AreShapes c.loop-l.self.table l os) (sym c.deref.ensures.value) h))))
 
 pub joined_layout-returns : goal.joined_layout-returns
 joined_layout-returns t c =
@@ -140,11 +139,11 @@ joined_layout-returns t c =
     let inv = c.loop-l.invariant in
     let past : length c.args.ls.now ≤ c.loop-l.l-index = omega arith in
     let all = take_all c.loop-l.l-index c.args.ls.now past in
-    joined_done c.args.self.now c.loop-l.self c.joined_shape.new.self c.args.span (list_layouts ls) c.loop-l.shapes.items c.in_ok-shape.shape inv.keeps c.in_ok-shape.ensures.keeps
+    joined_done c.args.self.now c.loop-l.self c.joined_shape.new.self c.args.span (list_layouts ls) c.loop-l.shapes.items c.in_ok-joined_shape.field-0 inv.keeps c.in_ok-joined_shape.ensures.keeps
     (λ k h. ap (λ l. layouts_faults k.layouts (list_layouts l)) (sym all) ∙ inv.none k h)
     (λ k h. subst (λ (l : List LayoutText). AreShapes c.loop-l.self.table c.loop-l.shapes.items (outlines k.layouts (list_layouts l))) all (inv.shaped k h))
-    (λ os h. c.in_ok-shape.ensures.shaped os (subst (λ (l : List Shape). AreShapes c.loop-l.self.table l os) (sym c.deref.ensures.value) h))
-    c.in_ok-without_repeats.ensures
+    (λ os h. c.in_ok-without_shared_names.ensures os (subst (λ (l : List Shape). AreShapes c.loop-l.self.table l os) (sym c.deref.ensures.value) h))
+    (λ os h. c.in_ok-joined_shape.ensures.shaped os (subst (λ (l : List Shape). AreShapes c.loop-l.self.table l os) (sym c.deref-2.ensures.value) h))
 
 -- ---- fields
 pub members-loop-f-init : goal.members-loop-f-init

@@ -1,46 +1,12 @@
-use Rattle.std.proofs.Common.{◌≡◌, ◌∙◌, ◌++◌, ◌∷◌, [], sym, ap, subst, Bool, true, false, not, cond, eqb, rules}
-use Rattle.std.specs.List.{list_any}
-use Rattle.nv_types.specs.Store.{field_names, form_names}
-use Rattle.nv_types.proofs.FieldLists.{field_below}
-use Rattle.nv_types.proofs.FieldWalks.{SeenSo, seen_start, seen_twice, seen_more, seen_end, fields_named, forms_named}
+use Rattle.std.proofs.Common.{[], sym, subst}
+use Rattle.nv_types.specs.Store.{AreSeen, field_names, form_names}
+use Rattle.nv_types.proofs.FieldWalks.{seen_none, fields_named, forms_named}
 use Rattle.nv_types.proofs.table.Table.repeats_a_name.Goals as goal
-
-turned_back : (b r : Bool) → r ≡ not b → b ≡ not r
-turned_back true r e = ap not (sym e)
-turned_back false r e = ap not (sym e)
-
-pub loop-name-init : goal.loop-name-init
-loop-name-init c = subst (SeenSo c.args.self.now c.args.fields c.args.fields) (sym c.new-seen.ensures.empty) (seen_start c.args.self.now c.args.fields)
-
-pub loop-name-smaller : goal.loop-name-smaller
-loop-name-smaller c = (field_below c.args.self.now c.in-Some.ensures.store c.loop-name.list _ _ _ (sym c.in-Some.ensures.value)).1
-
-pub loop-name-preserved : goal.loop-name-preserved
-loop-name-preserved c =
-    let new : c.in_ok-insert.field-0 ≡ true = search rules in
-    let absent : list_any (eqb c.in-Some.name) c.loop-name.seen.keys ≡ false = turned_back _ _ c.in_ok-insert.ensures.added ∙ ap not new in
-    let keys = c.in_ok-insert.ensures.keys ∙ ap (λ b. cond b c.loop-name.seen.keys (c.loop-name.seen.keys ++ c.in-Some.name ∷ [])) absent in
-    subst (SeenSo c.args.self.now c.args.fields c.in-Some.rest) (sym keys)
-    (seen_more c.args.self.now c.in-Some.ensures.store c.args.fields c.loop-name.list c.loop-name.seen.keys c.loop-name.invariant _ _ _ (sym c.in-Some.ensures.value) absent)
-
-pub returns-then-not-branch-clause-of_fields : goal.returns-then-not-branch-clause-of_fields
-returns-then-not-branch-clause-of_fields c = λ ts h.
-    let old : c.in_ok-insert.field-0 ≡ false = search rules in
-    let there : list_any (eqb c.in-Some.name) c.loop-name.seen.keys ≡ true = turned_back _ _ c.in_ok-insert.ensures.added ∙ ap not old in
-    seen_twice c.args.self.now c.in-Some.ensures.store c.args.fields c.loop-name.list c.loop-name.seen.keys c.loop-name.invariant _ _ _ (sym c.in-Some.ensures.value) there
-    (field_names ts) (fields_named c.args.self.now c.args.fields ts h)
-
-pub returns-then-not-branch-clause-of_forms : goal.returns-then-not-branch-clause-of_forms
-returns-then-not-branch-clause-of_forms c = λ fs h.
-    let old : c.in_ok-insert.field-0 ≡ false = search rules in
-    let there : list_any (eqb c.in-Some.name) c.loop-name.seen.keys ≡ true = turned_back _ _ c.in_ok-insert.ensures.added ∙ ap not old in
-    seen_twice c.args.self.now c.in-Some.ensures.store c.args.fields c.loop-name.list c.loop-name.seen.keys c.loop-name.invariant _ _ _ (sym c.in-Some.ensures.value) there
-    (form_names fs) (forms_named c.args.self.now c.args.fields fs h)
 
 pub returns-clause-of_fields : goal.returns-clause-of_fields
 returns-clause-of_fields c = λ ts h.
-    seen_end c.args.self.now c.args.fields c.loop-name.list c.loop-name.seen.keys c.loop-name.invariant (sym c.in_default.ensures.value) (field_names ts) (fields_named c.args.self.now c.args.fields ts h)
+    c.meets_a_name.ensures.meets [] (field_names ts) (subst (λ l. AreSeen c.args.self.now l []) (sym c.new.ensures.empty) (seen_none c.args.self.now)) (fields_named c.args.self.now c.args.fields ts h)
 
 pub returns-clause-of_forms : goal.returns-clause-of_forms
 returns-clause-of_forms c = λ fs h.
-    seen_end c.args.self.now c.args.fields c.loop-name.list c.loop-name.seen.keys c.loop-name.invariant (sym c.in_default.ensures.value) (form_names fs) (forms_named c.args.self.now c.args.fields fs h)
+    c.meets_a_name.ensures.meets [] (form_names fs) (subst (λ l. AreSeen c.args.self.now l []) (sym c.new.ensures.empty) (seen_none c.args.self.now)) (forms_named c.args.self.now c.args.fields fs h)
