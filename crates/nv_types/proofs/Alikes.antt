@@ -54,6 +54,18 @@ both_none R (Some a) None h e = absurd h
 pub both_some : {A B : Type 0} (R : A → B → Type 0) (a : Option A) (b : Option B) (x : A) (y : B) → Both R a b → a ≡ Some x → b ≡ Some y → R x y
 both_some {A = A} {B = B} R a b x y h e f = subst (λ (o : Option B). Both R (Some x) o) f (subst (λ (o : Option A). Both R o b) e h)
 
+pub both_found : {A B : Type 0} (R : A → B → Type 0) (a : Option A) (b : Option B) (x : A) → Both R a b → a ≡ Some x → (y : B) × (b ≡ Some y) × R x y
+both_found R (Some z) (Some y) x h e = (y, refl, subst (λ w. R w y) (same z x e) h)
+  where
+    same : {A : Type 0} (v w : A) → Some v ≡ Some w → v ≡ w
+    same v w q = cc
+both_found R None None x h e = absurd (none_some x e)
+  where
+    none_some : {A : Type 0} (w : A) → None ≡ Some w → ⊥
+    none_some w q = cc
+both_found R None (Some y) x h e = absurd h
+both_found R (Some z) None x h e = absurd h
+
 -- ---- names
 pub among_look_up : {A : Type 0} (x : List ℕ) (es : List (List ℕ × A)) → is_some (look_up x es) ≡ is_among x (names_of es)
 among_look_up x [] = refl

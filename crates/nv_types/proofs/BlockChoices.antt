@@ -23,7 +23,8 @@ use Rattle.nv_types.specs.Standing.{Holds, Sees, Keeps, written_in}
 use Rattle.nv_types.specs.Walk.{Checks}
 use Rattle.nv_types.proofs.Firsts.{first_append, judges_behind}
 use Rattle.nv_types.proofs.Staying.{value_stays}
-use Rattle.nv_types.proofs.BlockStanding.{holds_stay, sees_stay, counts_stay, wanted_stays, keeps_trans, writes_trans}
+use Rattle.nv_types.proofs.Holding.{holds_stays, sees_stay, counts_stay, wanted_stays, Keeps-trans}
+use Rattle.nv_types.proofs.BlockStanding.{writes_trans}
 use Rattle.nv_types.proofs.BlockCosts.{two_are, cost_moved}
 use Rattle.nv_types.proofs.BlockNodes.{fails, node_checks}
 
@@ -41,16 +42,16 @@ pub choice_fails_at_first : (c c1 new : Checker) (tail : Bool) (wanted : Wanted)
     → Checks c c1 false (Typed 1) x (Ok f) → Checks c1 new tail Anything a (Err why) → Checks c new tail wanted (IfTree s x a b) (Err why)
 choice_fails_at_first c c1 new tail wanted s x a b f why h g = fails c new tail wanted (IfTree s x a b) why (λ k vars w holds sees is.
     let done = h.judged k vars (of_type BoolTy) holds sees (BoolTy, refl, refl) in
-    let here = g.judged k vars anything (holds_stay c c1 k h.keeps.declared holds) (sees_stay c c1 vars h.keeps sees) refl in
+    let here = g.judged k vars anything (holds_stays c c1 k h.keeps.declared holds) (sees_stay c c1 vars h.keeps sees) refl in
     judges_behind {T = Found} _ _ (Err why) done (first_append _ _ why here))
 
 pub choice_fails_at_second : (c c1 c2 new : Checker) (tail : Bool) (wanted other : Wanted) (s : Span) (x a b : Tree) (f g : Found) (why : TypeError)
     → Checks c c1 false (Typed 1) x (Ok f) → Checks c1 c2 tail Anything a (Ok g) → ((st : Store) (t : Option Ty) → IsValue st g.value t → IsWanted st other (same_as t)) → Checks c2 new tail other b (Err why)
     → Checks c new tail wanted (IfTree s x a b) (Err why)
 choice_fails_at_second c c1 c2 new tail wanted other s x a b f g why h1 h2 is_other h3 = fails c new tail wanted (IfTree s x a b) why (λ k vars w holds sees is.
-    let holds1 = holds_stay c c1 k h1.keeps.declared holds in
+    let holds1 = holds_stays c c1 k h1.keeps.declared holds in
     let sees1 = sees_stay c c1 vars h1.keeps sees in
-    let holds2 = holds_stay c1 c2 k h2.keeps.declared holds1 in
+    let holds2 = holds_stays c1 c2 k h2.keeps.declared holds1 in
     let sees2 = sees_stay c1 c2 vars h2.keeps sees1 in
     let done1 = h1.judged k vars (of_type BoolTy) holds sees (BoolTy, refl, refl) in
     let done2 = h2.judged k vars anything holds1 sees1 refl in
@@ -69,9 +70,9 @@ choice_checks c c1 c2 c3 tail wanted other s x a b f g h value parts r h1 h2 is_
     keeps
     (writes_trans (written_in c) (written_in c1) (written_in c3) (variables x) (variables a ++ variables b) h1.writes (writes_trans (written_in c1) (written_in c2) (written_in c3) (variables a) (variables b) h2.writes h3.writes))
     (λ k vars w holds sees is.
-    let holds1 = holds_stay c c1 k h1.keeps.declared holds in
+    let holds1 = holds_stays c c1 k h1.keeps.declared holds in
     let sees1 = sees_stay c c1 vars h1.keeps sees in
-    let holds2 = holds_stay c1 c2 k h2.keeps.declared holds1 in
+    let holds2 = holds_stays c1 c2 k h2.keeps.declared holds1 in
     let sees2 = sees_stay c1 c2 vars h2.keeps sees1 in
     let done1 = h1.judged k vars (of_type BoolTy) holds sees (BoolTy, refl, refl) in
     let done2 = h2.judged k vars anything holds1 sees1 refl in
@@ -80,10 +81,10 @@ choice_checks c c1 c2 c3 tail wanted other s x a b f g h value parts r h1 h2 is_
     (judged w (or_ty (type_at k vars a) (type_at k vars b)) (wanted_stays c.table c3.table keeps.declared.grows wanted w is) (typed k vars holds sees)))))
     typed
     (λ k vars sizes needs holds sees counts.
-    let holds1 = holds_stay c c1 k h1.keeps.declared holds in
+    let holds1 = holds_stays c c1 k h1.keeps.declared holds in
     let sees1 = sees_stay c c1 vars h1.keeps sees in
     let counts1 = counts_stay c c1 sizes needs h1.keeps.declared counts in
-    let holds2 = holds_stay c1 c2 k h2.keeps.declared holds1 in
+    let holds2 = holds_stays c1 c2 k h2.keeps.declared holds1 in
     let sees2 = sees_stay c1 c2 vars h2.keeps sees1 in
     let counts2 = counts_stay c1 c2 sizes needs h2.keeps.declared counts1 in
     let cost1 = h1.counted k vars sizes needs holds sees counts in
@@ -100,13 +101,13 @@ choice_checks c c1 c2 c3 tail wanted other s x a b f g h value parts r h1 h2 is_
     same cost
   where
     keeps : Keeps c c3
-    keeps = keeps_trans c c1 c3 h1.keeps (keeps_trans c1 c2 c3 h2.keeps h3.keeps)
+    keeps = Keeps-trans c c1 c3 h1.keeps (Keeps-trans c1 c2 c3 h2.keeps h3.keeps)
 
     typed : (k : Known) (vars : Vars) → Holds c k → Sees c vars → IsValue c3.table value (or_ty (type_at k vars a) (type_at k vars b))
     typed k vars holds sees =
-        let holds1 = holds_stay c c1 k h1.keeps.declared holds in
+        let holds1 = holds_stays c c1 k h1.keeps.declared holds in
         let sees1 = sees_stay c c1 vars h1.keeps sees in
-        let holds2 = holds_stay c1 c2 k h2.keeps.declared holds1 in
+        let holds2 = holds_stays c1 c2 k h2.keeps.declared holds1 in
         let sees2 = sees_stay c1 c2 vars h2.keeps sees1 in
         first_value c3.table g.value h.value value (type_at k vars a) (type_at k vars b)
         (value_stays c2.table c3.table h3.keeps.declared.grows g.value (type_at k vars a) (h2.typed k vars holds1 sees1)) (h3.typed k vars holds2 sees2) of_value

@@ -20,7 +20,7 @@ use Rattle.nv_types.specs.Costs.{still, node_cost}
 use Rattle.nv_types.specs.Judging.{IsWanted, judged_faults}
 use Rattle.nv_types.specs.Walk.{Checks}
 use Rattle.nv_types.proofs.Firsts.{first_append, judges_behind, first_kind, then_kinds}
-use Rattle.nv_types.proofs.BlockStanding.{wanted_stays, keeps_trans, keeps_table}
+use Rattle.nv_types.proofs.Holding.{wanted_stays, Keeps-trans, Keeps-table}
 use Rattle.nv_types.proofs.BlockNodes.{fails, node_checks}
 
 pub fetch_fails_at_address : (c new : Checker) (wanted : Wanted) (s : Span) (m : Mem) (n : ℕ) (a : Tree) (why : TypeError) → Checks c new false (Typed 0) a (Err why) → Checks c new false wanted (FetchTree s m n a) (Err why)
@@ -71,7 +71,7 @@ pub fetch_checks : (c c1 : Checker) (table : Store) (wanted : Wanted) (s : Span)
     → Checks c (record c1 { table = table }) false wanted (FetchTree s m n a) (Ok found)
 fetch_checks c c1 table wanted s m n a f t moves middle found h1 grows is_type of_moves all scratch judged same cost =
     node_checks c (record c1 { table = table }) false wanted (FetchTree s m n a) (Some t) f.cost (Ok found)
-    (keeps_trans c c1 (record c1 { table = table }) h1.keeps (keeps_table c1 table grows))
+    (Keeps-trans c c1 (record c1 { table = table }) h1.keeps (Keeps-table c1 table grows))
     h1.writes
     (λ k vars w holds sees is.
     let done = h1.judged k vars (of_type WordTy) holds sees (WordTy, refl, refl) in

@@ -27,7 +27,8 @@ use Rattle.nv_types.specs.Standing.{Holds, Sees, KeepsDeclared, Keeps, place, wr
 use Rattle.nv_types.specs.Walk.{Checks}
 use Rattle.nv_types.proofs.Firsts.{first_append, judges_behind}
 use Rattle.nv_types.proofs.Staying.{value_stays, parts_stay}
-use Rattle.nv_types.proofs.BlockStanding.{holds_stay, sees_stay, counts_stay, wanted_stays, declared_trans, scope_left, writes_trans, written_same}
+use Rattle.nv_types.proofs.Holding.{holds_stays, sees_stay, counts_stay, wanted_stays, declared_trans}
+use Rattle.nv_types.proofs.BlockStanding.{scope_left, writes_trans, written_same}
 use Rattle.nv_types.proofs.BlockCosts.{two_are, cost_same, cost_moved}
 use Rattle.nv_types.proofs.BlockNodes.{fails, node_checks}
 use Rattle.nv_types.proofs.BlockChoices.{first_value}
@@ -39,7 +40,7 @@ pub try_fails_at_patterns : (c c1 bound new : Checker) (tail : Bool) (wanted : W
     → Checks c c1 false Anything a (Ok f) → BindsHandler c1 bound s x ps (Err why) → Checks c new tail wanted (TryTree s a x ps h) (Err why)
 try_fails_at_patterns c c1 bound new tail wanted s a x ps h f why h1 hp = fails c new tail wanted (TryTree s a x ps h) why (λ k vars w holds sees is.
     let done1 = h1.judged k vars anything holds sees refl in
-    let here = hp.judged k (holds_stay c c1 k h1.keeps.declared holds) in
+    let here = hp.judged k (holds_stays c c1 k h1.keeps.declared holds) in
     judges_behind {T = Found} _ _ (Err why) done1 (first_append _ _ why here))
 
 -- the walk up to the handler
@@ -55,11 +56,11 @@ reached : (c c1 c2 : Checker) (other : Wanted) (s : Span) (a : Tree) (x : List �
     → Checks c c1 false Anything a (Ok f) → BindsHandler c1 c2 s x ps (Ok types) → ((st : Store) (t : Option Ty) → IsValue st f.value t → IsWanted st other (same_as t))
     → (k : Known) (vars : Vars) → Holds c k → Sees c vars → Reached c c2 other a x ps f k vars s
 reached c c1 c2 other s a x ps f types h1 hp is_other k vars holds sees =
-    let holds1 = holds_stay c c1 k h1.keeps.declared holds in
+    let holds1 = holds_stays c c1 k h1.keeps.declared holds in
     let sees1 = sees_stay c c1 vars h1.keeps sees in
     let valued : IsValue c2.table f.value (type_at k vars a) = value_stays c1.table c2.table hp.adds.declared.grows f.value (type_at k vars a) (h1.typed k vars holds sees) in
     record {
-      holds = holds_stay c1 c2 k hp.adds.declared holds1;
+      holds = holds_stays c1 c2 k hp.adds.declared holds1;
       sees = hp.sees k vars holds1 sees1;
       done = h1.judged k vars anything holds sees refl;
       bound = hp.judged k holds1;
@@ -96,7 +97,7 @@ try_checks c c1 c2 c3 tail wanted other s a x ps h f g types mark left facts val
     typed
     (λ k vars sizes needs holds sees counts.
     let q = reached c c1 c2 other s a x ps f types h1 hp is_other k vars holds sees in
-    let holds1 = holds_stay c c1 k h1.keeps.declared holds in
+    let holds1 = holds_stays c c1 k h1.keeps.declared holds in
     let counts2 = counts_stay c1 c2 sizes needs hp.adds.declared (counts_stay c c1 sizes needs h1.keeps.declared counts) in
     let cost1 = h1.counted k vars sizes needs holds sees counts in
     let cost3 = h3.counted k (handler_vars k vars x ps) sizes needs q.holds q.sees counts2 in

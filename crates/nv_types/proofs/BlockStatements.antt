@@ -32,7 +32,8 @@ use Rattle.nv_types.specs.Blocks.{ChecksStatement}
 use Rattle.nv_types.specs.Standing.{Holds, Sees, Keeps, place, written_in}
 use Rattle.nv_types.specs.Walk.{Checks}
 use Rattle.nv_types.proofs.Firsts.{first_append, judges_behind, first_kind, then_kinds}
-use Rattle.nv_types.proofs.BlockStanding.{holds_stay, sees_stay, counts_stay, declared_trans, keeps_trans, writes_trans, written_same}
+use Rattle.nv_types.proofs.Holding.{holds_stays, sees_stay, counts_stay, declared_trans, Keeps-trans}
+use Rattle.nv_types.proofs.BlockStanding.{writes_trans, written_same}
 use Rattle.nv_types.proofs.BlockCosts.{still_sum, two_are, node_is, cost_moved}
 
 pub statement_fails : (c new : Checker) (st : StatementTree) (why : TypeError) → ((k : Known) (vars : Vars) → Holds c k → Sees c vars → IsFirstOf (statement_faults (place k vars false) st) why) → ChecksStatement c new st (Err why)
@@ -161,7 +162,7 @@ pub store_fails_at_value : (c c1 c2 new : Checker) (s : Span) (m : Mem) (a e : T
     → Checks c c1 false (Typed 0) a (Ok f) → Checks c1 c2 false Stored e (Err why) → ChecksStatement c new (StoreStatement s m a e) (Err why)
 store_fails_at_value c c1 c2 new s m a e f why h1 h2 = statement_fails c new (StoreStatement s m a e) why (λ k vars holds sees.
     let done1 = h1.judged k vars (of_type WordTy) holds sees (WordTy, refl, refl) in
-    let here = h2.judged k vars wanted_stored (holds_stay c c1 k h1.keeps.declared holds) (sees_stay c c1 vars h1.keeps sees) refl in
+    let here = h2.judged k vars wanted_stored (holds_stays c c1 k h1.keeps.declared holds) (sees_stay c c1 vars h1.keeps sees) refl in
     judges_behind {T = Found} _ _ (Err why) done1 (first_append _ _ why here))
 
 -- both parts have no fault
@@ -174,7 +175,7 @@ record Parts (c : Checker) (m : Mem) (a e : Tree) (n : ℕ) (k : Known) (vars : 
 parts_done : (c c1 c2 : Checker) (m : Mem) (a e : Tree) (f g : Found) (n : ℕ) → Checks c c1 false (Typed 0) a (Ok f) → Checks c1 c2 false Stored e (Ok g) → ((t : Option Ty) → IsValue c2.table g.value t → n ≡ still (words_of_value t))
     → (k : Known) (vars : Vars) → Holds c k → Sees c vars → Parts c m a e n k vars
 parts_done c c1 c2 m a e f g n h1 h2 of_n k vars holds sees =
-    let holds1 = holds_stay c c1 k h1.keeps.declared holds in
+    let holds1 = holds_stays c c1 k h1.keeps.declared holds in
     let sees1 = sees_stay c c1 vars h1.keeps sees in
     let is_n = of_n (type_at k vars e) (h2.typed k vars holds1 sees1) in
     record {
@@ -215,7 +216,7 @@ store_checks c c1 c2 s m a e f g n moves near parts step before size h1 h2 of_n 
   sees = λ k vars holds sees. sees_stay c c2 vars keeps sees;
   counted = λ k vars sizes needs holds sees counts.
       let cost1 = h1.counted k vars sizes needs holds sees counts in
-      let cost2 = h2.counted k vars sizes needs (holds_stay c c1 k h1.keeps.declared holds) (sees_stay c c1 vars h1.keeps sees) (counts_stay c c1 sizes needs h1.keeps.declared counts) in
+      let cost2 = h2.counted k vars sizes needs (holds_stays c c1 k h1.keeps.declared holds) (sees_stay c c1 vars h1.keeps sees) (counts_stay c c1 sizes needs h1.keeps.declared counts) in
       let all = node_is 0 (two_costs f.cost g.cost) _ _ _ (two_are f.cost g.cost _ _ _ _ _ _ cost1 cost2) in
       let whole = cost_moved parts (node_cost 0 (two_costs f.cost g.cost)) _ _ _ of_parts all in
       (record { of_place = at ∙ as_many_names c.written.items; of_need = whole.of_need; of_let = refl }, of_size ∙ whole.of_size);
@@ -225,4 +226,4 @@ store_checks c c1 c2 s m a e f g n moves near parts step before size h1 h2 of_n 
 })
   where
     keeps : Keeps c c2
-    keeps = keeps_trans c c1 c2 h1.keeps h2.keeps
+    keeps = Keeps-trans c c1 c2 h1.keeps h2.keeps

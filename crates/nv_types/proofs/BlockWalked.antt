@@ -15,7 +15,8 @@ use Rattle.nv_types.specs.Costs.{still}
 use Rattle.nv_types.specs.Blocks.{ChecksStatement}
 use Rattle.nv_types.specs.Standing.{Holds, Sees, Counts, KeepsDeclared, place, written_in}
 use Rattle.nv_types.proofs.Items.{take_item}
-use Rattle.nv_types.proofs.BlockStanding.{holds_stay, counts_stay, declared_refl, declared_trans, writes_trans}
+use Rattle.nv_types.proofs.Holding.{holds_stays, counts_stay, declared_refl, declared_trans}
+use Rattle.nv_types.proofs.BlockStanding.{writes_trans}
 use Rattle.nv_types.proofs.BlockRoom.{StepAt, AreSteps}
 
 variables-append : (xs : List Stmt) (st : Stmt) → variables_statements (list_statements (xs ++ st ∷ [])) ≡ variables_statements (list_statements xs) ++ variables_statement (statement_tree st)
@@ -101,18 +102,18 @@ behind_more c now next xs steps size st step cost new was one fresh = record {
       writes_trans (written_in c) (written_in now) (written_in next) (variables_statements (list_statements xs)) (variables_statement (statement_tree st)) was.writes one.writes
       ∙ ap (λ (l : List (List ℕ)). written_in c ++ l) (sym (variables-append xs st));
   judged = λ k vars holds sees.
-      let here = one.judged k (vars_behind k vars (list_statements xs)) (holds_stay c now k was.declared holds) (was.sees k vars holds sees) in
+      let here = one.judged k (vars_behind k vars (list_statements xs)) (holds_stays c now k was.declared holds) (was.sees k vars holds sees) in
       faults-append k vars xs (st ∷ [])
       ∙ ap (λ l. l ++ statements_faults (place k (vars_behind k vars (list_statements xs)) false) (list_statements (st ∷ []))) (was.judged k vars holds sees)
       ∙ ap (λ l. l ++ []) here;
   sees = λ k vars holds sees.
       subst (Sees next) (sym (vars-append k vars xs st))
-      (one.sees k (vars_behind k vars (list_statements xs)) (holds_stay c now k was.declared holds) (was.sees k vars holds sees));
+      (one.sees k (vars_behind k vars (list_statements xs)) (holds_stays c now k was.declared holds) (was.sees k vars holds sees));
   counted = λ k vars sizes needs holds sees counts.
-      let here = one.counted k (vars_behind k vars (list_statements xs)) sizes needs (holds_stay c now k was.declared holds) (was.sees k vars holds sees) (counts_stay c now sizes needs was.declared counts) in
+      let here = one.counted k (vars_behind k vars (list_statements xs)) sizes needs (holds_stays c now k was.declared holds) (was.sees k vars holds sees) (counts_stay c now sizes needs was.declared counts) in
       fresh ∙ sum_is size cost _ _ (was.counted k vars sizes needs holds sees counts) here.1 ∙ ap still (sym (expanded-append sizes k vars xs st));
   stepped = λ k vars sizes needs holds sees counts.
-      let here = one.counted k (vars_behind k vars (list_statements xs)) sizes needs (holds_stay c now k was.declared holds) (was.sees k vars holds sees) (counts_stay c now sizes needs was.declared counts) in
+      let here = one.counted k (vars_behind k vars (list_statements xs)) sizes needs (holds_stays c now k was.declared holds) (was.sees k vars holds sees) (counts_stay c now sizes needs was.declared counts) in
       steps-push k needs (length (written_in c)) vars steps xs step st (was.stepped k vars sizes needs holds sees counts) (record {
         of_place = here.0.of_place ∙ ap length was.writes ∙ length-append (written_in c) (variables_statements (list_statements xs));
         of_need = here.0.of_need;

@@ -24,7 +24,8 @@ use Rattle.nv_types.specs.Blocks.{ChecksStatement, block_needs}
 use Rattle.nv_types.specs.Standing.{KeepsDeclared, place, written_in}
 use Rattle.nv_types.specs.Walk.{Checks}
 use Rattle.nv_types.proofs.Firsts.{first_append, judges_behind}
-use Rattle.nv_types.proofs.BlockStanding.{holds_stay, counts_stay, wanted_stays, declared_trans, scope_left, writes_trans}
+use Rattle.nv_types.proofs.Holding.{holds_stays, counts_stay, wanted_stays, declared_trans}
+use Rattle.nv_types.proofs.BlockStanding.{scope_left, writes_trans}
 use Rattle.nv_types.proofs.BlockNodes.{fails}
 use Rattle.nv_types.proofs.BlockStatements.{as_many_names}
 use Rattle.nv_types.proofs.BlockRoom.{AreSteps, needs_are}
@@ -35,7 +36,7 @@ pub block_fails_at_statement : (c now next last : Checker) (tail : Bool) (wanted
     → Behind c now xs steps size → ChecksStatement now next (statement_tree st) (Err why) → all ≡ xs ++ st ∷ ys → Checks c last tail wanted (BlockTree s (list_statements all) e) (Err why)
 block_fails_at_statement c now next last tail wanted s all xs ys st e steps size why was one split = fails c last tail wanted (BlockTree s (list_statements all) e) why (λ k vars w holds sees is.
     let vars1 = vars_behind k vars (list_statements xs) in
-    let here = one.judged k vars1 (holds_stay c now k was.declared holds) (was.sees k vars holds sees) in
+    let here = one.judged k vars1 (holds_stays c now k was.declared holds) (was.sees k vars holds sees) in
     let first : IsFirstOf (statements_faults (place k vars1 false) (list_statements (st ∷ ys))) why = first_append (statement_faults (place k vars1 false) (statement_tree st)) _ why here in
     let mine : IsFirstOf (statements_faults (place k vars false) (list_statements (xs ++ st ∷ ys))) why =
     subst (λ l. IsFirstOf l why) (sym (faults-append k vars xs (st ∷ ys))) (judges_behind {T = Step} _ _ (Err why) (was.judged k vars holds sees) first)
@@ -46,7 +47,7 @@ pub block_fails_at_tail : (c now next last : Checker) (tail : Bool) (wanted : Wa
     → Behind c now all steps size → Checks now next tail Anything e (Err why) → Checks c last tail wanted (BlockTree s (list_statements all) e) (Err why)
 block_fails_at_tail c now next last tail wanted s all e steps size why was one = fails c last tail wanted (BlockTree s (list_statements all) e) why (λ k vars w holds sees is.
     let vars1 = vars_behind k vars (list_statements all) in
-    let here = one.judged k vars1 anything (holds_stay c now k was.declared holds) (was.sees k vars holds sees) refl in
+    let here = one.judged k vars1 anything (holds_stays c now k was.declared holds) (was.sees k vars holds sees) refl in
     judges_behind {T = Found} _ _ (Err why) (was.judged k vars holds sees) (first_append _ _ why here))
 
 pub block_fails_at_node : (c now next last : Checker) (tail : Bool) (wanted : Wanted) (s : Span) (all : List Stmt) (e : Tree) (steps : List Step) (size : ℕ) (f : Found) (why : TypeError)
@@ -55,7 +56,7 @@ pub block_fails_at_node : (c now next last : Checker) (tail : Bool) (wanted : Wa
     → Checks c last tail wanted (BlockTree s (list_statements all) e) (Err why)
 block_fails_at_node c now next last tail wanted s all e steps size f why was one judged = fails c last tail wanted (BlockTree s (list_statements all) e) why (λ k vars w holds sees is.
     let vars1 = vars_behind k vars (list_statements all) in
-    let holds1 = holds_stay c now k was.declared holds in
+    let holds1 = holds_stays c now k was.declared holds in
     let sees1 = was.sees k vars holds sees in
     let done = one.judged k vars1 anything holds1 sees1 refl in
     let here = judged w (type_at k vars1 e) (wanted_stays c.table next.table (declared_trans c now next was.declared one.keeps.declared).grows wanted w is) (one.typed k vars1 holds1 sees1) in
@@ -78,16 +79,16 @@ pub block_checks : (c now next : Checker) (tail : Bool) (wanted : Wanted) (s : S
 block_checks c now next tail wanted s all e steps f found left mark first before size greatest was one marked forgot from till judged of_need of_found = subst (λ (x : Found). Checks c (record next { scope = left }) tail wanted (BlockTree s (list_statements all) e) (Ok x)) (sym of_found) (record {
   judged = λ k vars w holds sees is.
       let vars1 = vars_behind k vars (list_statements all) in
-      let holds1 = holds_stay c now k was.declared holds in
+      let holds1 = holds_stays c now k was.declared holds in
       let sees1 = was.sees k vars holds sees in
       let done = one.judged k vars1 anything holds1 sees1 refl in
       let here = judged w (type_at k vars1 e) (wanted_stays c.table next.table declared.grows wanted w is) (one.typed k vars1 holds1 sees1) in
       judges_behind {T = Found} _ _ (Ok f) (was.judged k vars holds sees) (judges_behind {T = Found} _ _ (Ok f) done here);
-  typed = λ k vars holds sees. one.typed k (vars_behind k vars (list_statements all)) (holds_stay c now k was.declared holds) (was.sees k vars holds sees);
+  typed = λ k vars holds sees. one.typed k (vars_behind k vars (list_statements all)) (holds_stays c now k was.declared holds) (was.sees k vars holds sees);
   counted = λ k vars sizes needs holds sees counts.
       let vars1 = vars_behind k vars (list_statements all) in
       let sts = list_statements all in
-      let cost = one.counted k vars1 sizes needs (holds_stay c now k was.declared holds) (was.sees k vars holds sees) (counts_stay c now sizes needs was.declared counts) in
+      let cost = one.counted k vars1 sizes needs (holds_stays c now k was.declared holds) (was.sees k vars holds sees) (counts_stay c now sizes needs was.declared counts) in
       let room = needs_are k needs (drop first (written_in next)) first first vars steps sts [] [] (variables e) before f.cost.need (need needs k vars1 e) (omega arith) start
       (subst (λ n. AreSteps k needs n vars steps sts) (sym start_at) (was.stepped k vars sizes needs holds sees counts)) tt before_is cost.of_need
       in

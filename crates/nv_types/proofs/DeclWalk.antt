@@ -33,7 +33,8 @@ use Rattle.nv_types.proofs.Growing.{Grows-refl, Grows-trans}
 use Rattle.nv_types.proofs.Staying.{type_stays, parts_stay}
 use Rattle.nv_types.proofs.Firsts.{first_append}
 use Rattle.nv_types.proofs.Alikes.{alike_at, both_none, both_some}
-use Rattle.nv_types.proofs.Standings.{holds_stays, counts_stay, sees_nothing, between_layout, between_exception}
+use Rattle.nv_types.proofs.Holding.{holds_stays, counts_same}
+use Rattle.nv_types.proofs.Standings.{sees_nothing, between_layout, between_exception}
 use Rattle.nv_types.proofs.Groups.{are_new, known_names, all_signed, SignedSo, unknown, uncounted, signed_more, between_group, counts_group, BodiedSo, CountedSo, bodied_more, cost_more}
 use Rattle.nv_types.proofs.Declaring.{found_nothing, layout_first, layout_then, exception_first, exception_types, exception_wide, group_first, group_texts, group_bodies}
 
@@ -56,7 +57,7 @@ layout_ok {T = T} c mid x l s shape ls r none h add =
     record {
       judged = λ k is. layout_then {T = T} c k x l s (Ok r) is none (h.judged k is.holds);
       known = λ k is. between_layout c mid k x l s shape ls is h.keeps (h.shaped k is.holds) e;
-      counted = λ k sizes needs is counts. counts_stay c (record mid { layouts = ls }) h.keeps.declared.same_costs sizes needs counts;
+      counted = λ k sizes needs is counts. counts_same c (record mid { layouts = ls }) h.keeps.declared.same_costs sizes needs counts;
     }
 
 -- ---- exceptions
@@ -81,7 +82,7 @@ exception_ok {T = T} c mid x ts s types f es r none h facts narrow add =
     record {
       judged = λ k is. exception_wide {T = T} c k x ts s f.words (Ok r) is none (h.judged k is.holds) (facts (types_of k.layouts ts) (h.typed k is.holds)).of_words narrow;
       known = λ k is. between_exception c mid k x ts s types es is h.keeps (h.typed k is.holds) e;
-      counted = λ k sizes needs is counts. counts_stay c (record mid { exceptions = es }) h.keeps.declared.same_costs sizes needs counts;
+      counted = λ k sizes needs is counts. counts_same c (record mid { exceptions = es }) h.keeps.declared.same_costs sizes needs counts;
     }
 
 -- ---- groups
@@ -111,11 +112,11 @@ group_ok {T = T} c mid mid2 new fs x whole y r none signs bodies adds =
       judged = λ k is. group_bodies {T = T} k fs (Ok r) (known_none c k is fs none) (signs.judged k is fresh) (bodies.judged (in_group k fs) (signs.signed k is fresh) (signs.same_scope ∙ is.no_variables) (all_signed c k is fs fresh));
       known = λ k is.
           let keeps = bodies.keeps (signs.same_scope ∙ is.no_variables) in
-          between_group c mid2 new k fs whole is (holds_stays mid mid2 keeps.declared (in_group k fs) (signs.signed k is fresh)) adds.same_table adds.same_layouts adds.same_exceptions adds.same_functions
+          between_group c mid2 new k fs whole is (holds_stays mid mid2 (in_group k fs) keeps.declared (signs.signed k is fresh)) adds.same_table adds.same_layouts adds.same_exceptions adds.same_functions
           (costs_so k is) (adds.same_scope ∙ keeps.same_scope ∙ signs.same_scope ∙ is.no_variables);
       counted = λ k sizes needs is counts.
           counts_group c new sizes needs whole (group_size sizes (in_group k fs) fs) (group_need needs (in_group k fs) fs) fs counts
-          (bodies.counted (in_group k fs) sizes needs (signs.signed k is fresh) (signs.same_scope ∙ is.no_variables) (all_signed c k is fs fresh) (counts_stay c mid signs.same_costs sizes needs counts))
+          (bodies.counted (in_group k fs) sizes needs (signs.signed k is fresh) (signs.same_scope ∙ is.no_variables) (all_signed c k is fs fresh) (counts_same c mid signs.same_costs sizes needs counts))
           (costs_so k is);
     }
   where
@@ -173,7 +174,7 @@ bodies_err c now new all rest f e so kept h = record {
   judged = λ k holds scope signed.
       let b = so k holds scope signed in
       let keeps = kept scope in
-      subst (λ l. IsFirstOf l e) (sym b.left) (first_append (body_faults k f) (bodies_faults k rest) e (h.judged k (holds_stays c now keeps.declared k holds) (keeps.same_scope ∙ scope) b.signed.0));
+      subst (λ l. IsFirstOf l e) (sym b.left) (first_append (body_faults k f) (bodies_faults k rest) e (h.judged k (holds_stays c now k keeps.declared holds) (keeps.same_scope ∙ scope) b.signed.0));
   counted = λ k sizes needs holds scope signed counts. tt;
   keeps = λ scope. tt;
 }
@@ -182,7 +183,7 @@ pub bodies_so : (c now new : Checker) (all rest : List FunTree) (f : FunTree) (c
 bodies_so c now new all rest f cost so kept h = λ k holds scope signed.
     let b = so k holds scope signed in
     let keeps = kept scope in
-    bodied_more k all rest f b (h.judged k (holds_stays c now keeps.declared k holds) (keeps.same_scope ∙ scope) b.signed.0)
+    bodied_more k all rest f b (h.judged k (holds_stays c now k keeps.declared holds) (keeps.same_scope ∙ scope) b.signed.0)
 
 pub bodies_counted : (c now new : Checker) (all done rest : List FunTree) (f : FunTree) (whole cost : Cost) → BodiedSo c all (f ∷ rest) → (c.scope ≡ [] → Keeps c now) → ChecksBody now new f (Ok cost) → CountedSo c whole all done
     → CountedSo c (two_costs whole cost) all (done ++ f ∷ [])
@@ -190,7 +191,7 @@ bodies_counted c now new all done rest f whole cost so kept h counted = λ k siz
     let b = so k holds scope signed in
     let keeps = kept scope in
     cost_more sizes needs k done f whole cost (counted k sizes needs holds scope signed counts)
-    (h.counted k sizes needs (holds_stays c now keeps.declared k holds) (keeps.same_scope ∙ scope) b.signed.0 (counts_stay c now keeps.declared.same_costs sizes needs counts))
+    (h.counted k sizes needs (holds_stays c now k keeps.declared holds) (keeps.same_scope ∙ scope) b.signed.0 (counts_same c now keeps.declared.same_costs sizes needs counts))
 
 pub bodies_keeps : (c now new : Checker) (f : FunTree) (cost : Cost) → (c.scope ≡ [] → Keeps c now) → ChecksBody now new f (Ok cost) → c.scope ≡ [] → Keeps c new
 bodies_keeps c now new f cost kept h scope = let keeps = kept scope in Keeps-trans c now new keeps (h.keeps (keeps.same_scope ∙ scope))
@@ -241,7 +242,7 @@ body_inside : (c now : Checker) (k : Known) (f : FunTree) (g : Function) → (wr
 body_inside c now k f g written names named bound e holds scope signed =
     let is = known_function c k f g holds signed e in
     record {
-      holds = holds_stays c now (uncleared c now written bound.keeps) k holds;
+      holds = holds_stays c now k (uncleared c now written bound.keeps) holds;
       sees = bound.sees (named_types_of k.layouts f.params) is.of_params (named k.layouts) (sees_nothing c scope);
       wanted = (type_of k.layouts f.result, type_stays c.table now.table bound.keeps.grows g.result (type_of k.layouts f.result) is.of_result, refl);
       params = parts_stay c.table now.table bound.keeps.grows g.params (plain_tys (named_types_of k.layouts f.params)) is.of_params;
@@ -281,7 +282,7 @@ body_ok c now last f g found facts scope mark size most_need written names named
       h.judged k (body_vars k f) (same_as (Some (type_of k.layouts f.result))) is.holds is.sees is.wanted;
   counted = λ k sizes needs holds none signed counts.
       let is = body_inside c now k f g written names named bound known holds none signed in
-      let cost = h.counted k (body_vars k f) sizes needs is.holds is.sees (counts_stay c now bound.keeps.same_costs sizes needs counts) in
+      let cost = h.counted k (body_vars k f) sizes needs is.holds is.sees (counts_same c now bound.keeps.same_costs sizes needs counts) in
       let ts = named_types_of k.layouts f.params in
       let params = (knows (plain_tys ts) (parts_stay now.table last.table h.keeps.declared.grows g.params (plain_tys ts) is.params)).of_words ∙ ap still (total_plain ts) in
       record {

@@ -1,11 +1,10 @@
 -- The fields of one list put before those of another.
 use Rattle.std.proofs.Common.{◌≡◌, ap, sym, subst, ℕ, ◌≤◌, List, [], ◌∷◌, drop, length, Some, slice_get}
 use Rattle.std.proofs.Math.ListN.{drop_of_length-le}
-use Rattle.nv_ast.specs.Types.{NamedTys, no_named_tys, named_ty_and, Forms, no_forms, form_and, ◌+++◌}
-use Rattle.nv_types.specs.declared.table.Cell.TheVariants.{Field}
+use Rattle.nv_ast.specs.Types.{Ty, NamedTys, no_named_tys, named_ty_and, Form, Forms, no_forms, form_and, ◌+++◌}
 use Rattle.nv_types.specs.Store.{Store, IsStore, Grows, IsType, IsFields, IsForm, IsForms, field_of, AreCells, fields_then}
 use Rattle.nv_types.proofs.FieldLists.{fields_some, forms_some}
-use Rattle.nv_types.proofs.Staying.{type_stays, fields_stay, form_stays, forms_stay}
+use Rattle.nv_types.proofs.Staying.{type_stays, form_stays}
 
 -- the fields of some cells, and their forms
 abbrev pub AreFieldCells : Store → List (ℕ × ℕ) → NamedTys → Type 0
@@ -53,20 +52,20 @@ joins_forms-start a second ps n le fs gs c h = by fs (subst (λ (l : List (ℕ �
     by no_forms k = h
     by (form_and x f vs) k = absurd k
 
-pub joins_fields-more : (a s b : Store) (second list j : ℕ) (p : ℕ × ℕ) (ps front : List (ℕ × ℕ)) → front ≡ p ∷ ps → Grows a s → Grows s b → slice_get b.cells j ≡ Some (Field p.0 p.1 list)
+pub joins_fields-more : (a s b : Store) (second list j : ℕ) (p : ℕ × ℕ) (ps front : List (ℕ × ℕ)) → front ≡ p ∷ ps → Grows a s
+    → ((x : List ℕ) (t : Ty) (ts : NamedTys) → slice_get s.names p.0 ≡ Some x → IsType s p.1 t → IsFields s list ts → IsFields b j (named_ty_and x t ts))
     → JoinsFields a s second ps list → JoinsFields a b second front j
-joins_fields-more a s b second list j p ps front e grows next at so ts us c h = by ts (subst (λ (l : List (ℕ × ℕ)). AreFieldCells a l ts) e c)
+joins_fields-more a s b second list j p ps front e grows new so ts us c h = by ts (subst (λ (l : List (ℕ × ℕ)). AreFieldCells a l ts) e c)
   where
     by : (vs : NamedTys) → AreFieldCells a (p ∷ ps) vs → IsFields b j (fields_then vs us)
     by no_named_tys k = absurd k
-    by (named_ty_and x t vs) k =
-        (p.0, p.1, list, at, next.names_stay p.0 x (grows.names_stay p.0 x k.0), type_stays s b next p.1 t (type_stays a s grows p.1 t k.1), fields_stay s b next list (fields_then vs us) (so vs us k.2 h))
+    by (named_ty_and x t vs) k = new x t (fields_then vs us) (grows.names_stay p.0 x k.0) (type_stays a s grows p.1 t k.1) (so vs us k.2 h)
 
-pub joins_forms-more : (a s b : Store) (second list j : ℕ) (p : ℕ × ℕ) (ps front : List (ℕ × ℕ)) → front ≡ p ∷ ps → Grows a s → Grows s b → slice_get b.cells j ≡ Some (Field p.0 p.1 list)
+pub joins_forms-more : (a s b : Store) (second list j : ℕ) (p : ℕ × ℕ) (ps front : List (ℕ × ℕ)) → front ≡ p ∷ ps → Grows a s
+    → ((x : List ℕ) (f : Form) (fs : Forms) → slice_get s.names p.0 ≡ Some x → IsForm s p.1 f → IsForms s list fs → IsForms b j (form_and x f fs))
     → JoinsForms a s second ps list → JoinsForms a b second front j
-joins_forms-more a s b second list j p ps front e grows next at so fs gs c h = by fs (subst (λ (l : List (ℕ × ℕ)). AreFormCells a l fs) e c)
+joins_forms-more a s b second list j p ps front e grows new so fs gs c h = by fs (subst (λ (l : List (ℕ × ℕ)). AreFormCells a l fs) e c)
   where
     by : (vs : Forms) → AreFormCells a (p ∷ ps) vs → IsForms b j (vs +++ gs)
     by no_forms k = absurd k
-    by (form_and x f vs) k =
-        (p.0, p.1, list, at, next.names_stay p.0 x (grows.names_stay p.0 x k.0), form_stays s b next p.1 f (form_stays a s grows p.1 f k.1), forms_stay s b next list (vs +++ gs) (so vs gs k.2 h))
+    by (form_and x f vs) k = new x f (vs +++ gs) (grows.names_stay p.0 x k.0) (form_stays a s grows p.1 f k.1) (so vs gs k.2 h)

@@ -49,6 +49,7 @@ pub mod Standings
 pub mod Staying
 pub mod Sums
 pub mod TextWalk
+pub mod There
 pub mod Twice
 pub mod TypeCells
 pub mod WalkArms
@@ -56,7 +57,6 @@ pub mod WalkCalls
 pub mod WalkCosts
 pub mod WalkErrors
 pub mod WalkHeights
-pub mod WalkKeeps
 pub mod WalkKinds
 pub mod WalkLists
 pub mod WalkMade

@@ -6,7 +6,7 @@ use Rattle.std.proofs.Math.ListN.{drop_of_length-le}
 use Rattle.std.proofs.Math.Seq.{drop-cons}
 use Rattle.std.specs.Result.{IfOk, OnOk}
 use Rattle.nv_base.specs.declared.error.NoMemory.{NoMemory}
-use Rattle.nv_ast.specs.Types.{Ty, TupleTy, RecordTy, Tys, no_tys, ty_and, NamedTys, no_named_tys, named_ty_and, RecordForm, ChoiceForm, Forms, no_forms, form_and}
+use Rattle.nv_ast.specs.Types.{Ty, TupleTy, RecordTy, Tys, no_tys, ty_and, NamedTys, no_named_tys, named_ty_and, Form, RecordForm, ChoiceForm, Forms, no_forms, form_and}
 use Rattle.nv_types.specs.declared.table.Cell.TheVariants.{Tuple, Record, Choice, Part, Field}
 use Rattle.nv_types.specs.Store.{Store, Grows, IsType, IsParts, IsFields, IsForm, IsForms, AreTypes, AreFields, AreForms}
 use Rattle.nv_types.proofs.Staying.{type_stays, parts_stay, fields_stay, form_stays, forms_stay}
@@ -31,6 +31,16 @@ pub made_part : (a b : Store) (r : Result ℕ NoMemory) (j rest : ℕ) → IfOk 
 made_part a b (Ok i) j rest at grows t ts h k = (j, rest, at, type_stays a b grows j t h, parts_stay a b grows rest ts k)
 made_part a b (Err e) j rest at grows t ts h k = tt
 
+pub made_field : (a b : Store) (r : Result ℕ NoMemory) (n j rest : ℕ) → IfOk r (λ i. slice_get b.cells i ≡ Some (Field n j rest)) → OnOk r (Grows a b)
+    → (x : List ℕ) (t : Ty) (ts : NamedTys) → slice_get a.names n ≡ Some x → IsType a j t → IsFields a rest ts → IfOk r (λ i. IsFields b i (named_ty_and x t ts))
+made_field a b (Ok i) n j rest at grows x t ts name h k = (n, j, rest, at, grows.names_stay n x name, type_stays a b grows j t h, fields_stay a b grows rest ts k)
+made_field a b (Err e) n j rest at grows x t ts name h k = tt
+
+pub made_field_form : (a b : Store) (r : Result ℕ NoMemory) (n j rest : ℕ) → IfOk r (λ i. slice_get b.cells i ≡ Some (Field n j rest)) → OnOk r (Grows a b)
+    → (x : List ℕ) (f : Form) (fs : Forms) → slice_get a.names n ≡ Some x → IsForm a j f → IsForms a rest fs → IfOk r (λ i. IsForms b i (form_and x f fs))
+made_field_form a b (Ok i) n j rest at grows x f fs name h k = (n, j, rest, at, grows.names_stay n x name, form_stays a b grows j f h, forms_stay a b grows rest fs k)
+made_field_form a b (Err e) n j rest at grows x f fs name h k = tt
+
 -- ---- lists, from their ends
 pub parts_step : (a s b : Store) (xs front : List ℕ) (x list j : ℕ) → front ≡ x ∷ xs → Grows a s → ((ts : Tys) → AreTypes a xs ts → IsParts s list ts)
     → ((t : Ty) (ts : Tys) → IsType s x t → IsParts s list ts → IsParts b j (ty_and t ts)) → (ts : Tys) → AreTypes a front ts → IsParts b j ts
@@ -47,13 +57,14 @@ parts_start a xs n le ts h = by ts (subst (λ (l : List ℕ). AreTypes a l ts) (
     by no_tys k = refl
     by (ty_and t us) k = absurd k
 
-pub fields_step : (a s b : Store) (xs front : List (List ℕ × ℕ)) (x : List ℕ × ℕ) (n list j : ℕ) → front ≡ x ∷ xs → Grows a s → Grows s b → slice_get b.names n ≡ Some x.0 → slice_get b.cells j ≡ Some (Field n x.1 list)
+pub fields_step : (a s m b : Store) (xs front : List (List ℕ × ℕ)) (x : List ℕ × ℕ) (n list j : ℕ) → front ≡ x ∷ xs → Grows a s → Grows s m → slice_get m.names n ≡ Some x.0
+    → ((y : List ℕ) (t : Ty) (ts : NamedTys) → slice_get m.names n ≡ Some y → IsType m x.1 t → IsFields m list ts → IsFields b j (named_ty_and y t ts))
     → ((ts : NamedTys) → AreFields a xs ts → IsFields s list ts) → (ts : NamedTys) → AreFields a front ts → IsFields b j ts
-fields_step a s b xs front x n list j e grows more name at old ts h = by ts (subst (λ (l : List (List ℕ × ℕ)). AreFields a l ts) e h)
+fields_step a s m b xs front x n list j e grows more name new old ts h = by ts (subst (λ (l : List (List ℕ × ℕ)). AreFields a l ts) e h)
   where
     by : (us : NamedTys) → AreFields a (x ∷ xs) us → IsFields b j us
     by no_named_tys k = absurd k
-    by (named_ty_and y t us) k = (n, x.1, list, at, name ∙ ap Some k.0, type_stays s b more x.1 t (type_stays a s grows x.1 t k.1), fields_stay s b more list us (old us k.2))
+    by (named_ty_and y t us) k = new y t us (name ∙ ap Some k.0) (type_stays s m more x.1 t (type_stays a s grows x.1 t k.1)) (fields_stay s m more list us (old us k.2))
 
 pub fields_start : (a : Store) (xs : List (List ℕ × ℕ)) (n : ℕ) → length xs ≤ n → (ts : NamedTys) → AreFields a (drop n xs) ts → IsFields a 3 ts
 fields_start a xs n le ts h = by ts (subst (λ (l : List (List ℕ × ℕ)). AreFields a l ts) (drop_of_length-le xs le) h)
@@ -62,13 +73,14 @@ fields_start a xs n le ts h = by ts (subst (λ (l : List (List ℕ × ℕ)). Are
     by no_named_tys k = refl
     by (named_ty_and x t us) k = absurd k
 
-pub forms_step : (a s b : Store) (xs front : List (List ℕ × ℕ)) (x : List ℕ × ℕ) (n list j : ℕ) → front ≡ x ∷ xs → Grows a s → Grows s b → slice_get b.names n ≡ Some x.0 → slice_get b.cells j ≡ Some (Field n x.1 list)
+pub forms_step : (a s m b : Store) (xs front : List (List ℕ × ℕ)) (x : List ℕ × ℕ) (n list j : ℕ) → front ≡ x ∷ xs → Grows a s → Grows s m → slice_get m.names n ≡ Some x.0
+    → ((y : List ℕ) (f : Form) (fs : Forms) → slice_get m.names n ≡ Some y → IsForm m x.1 f → IsForms m list fs → IsForms b j (form_and y f fs))
     → ((fs : Forms) → AreForms a xs fs → IsForms s list fs) → (fs : Forms) → AreForms a front fs → IsForms b j fs
-forms_step a s b xs front x n list j e grows more name at old fs h = by fs (subst (λ (l : List (List ℕ × ℕ)). AreForms a l fs) e h)
+forms_step a s m b xs front x n list j e grows more name new old fs h = by fs (subst (λ (l : List (List ℕ × ℕ)). AreForms a l fs) e h)
   where
     by : (us : Forms) → AreForms a (x ∷ xs) us → IsForms b j us
     by no_forms k = absurd k
-    by (form_and y f us) k = (n, x.1, list, at, name ∙ ap Some k.0, form_stays s b more x.1 f (form_stays a s grows x.1 f k.1), forms_stay s b more list us (old us k.2))
+    by (form_and y f us) k = new y f us (name ∙ ap Some k.0) (form_stays s m more x.1 f (form_stays a s grows x.1 f k.1)) (forms_stay s m more list us (old us k.2))
 
 pub forms_start : (a : Store) (xs : List (List ℕ × ℕ)) (n : ℕ) → length xs ≤ n → (fs : Forms) → AreForms a (drop n xs) fs → IsForms a 3 fs
 forms_start a xs n le fs h = by fs (subst (λ (l : List (List ℕ × ℕ)). AreForms a l fs) (drop_of_length-le xs le) h)

@@ -24,7 +24,7 @@ use Rattle.nv_types.specs.Texts.{TypesText, TypesNamed}
 use Rattle.nv_types.specs.Declarations.{is_wide, SignsFunction}
 use Rattle.nv_types.proofs.Staying.{type_stays, named_stay}
 use Rattle.nv_types.proofs.Alikes.{alike_append, among_look_up, names_of-append}
-use Rattle.nv_types.proofs.Standings.{holds_stays}
+use Rattle.nv_types.proofs.Holding.{holds_stays}
 use Rattle.nv_types.proofs.Params.{fields_names, fields_types, names_in_text}
 use Rattle.nv_types.proofs.Declaring.{text_params, text_result, text_twice, text_main, over_eight}
 use Rattle.nv_types.proofs.DeclWalk.{Keeps-trans}
@@ -62,7 +62,7 @@ sign_params_err {T = T} c mid new f e h = sign_err {T = T} c new f e (λ k holds
 
 pub sign_result_err : {T : Type 0} (c mid mid2 new : Checker) (f : FunTree) (v : Vec (Bor (List ℕ) × ℕ) Global) (e : TypeError) → TypesNamed c mid f.span f.params (Ok v) → TypesText mid mid2 f.span f.result (Err e) → SignsFunction {T = T} c new f (Err e)
 sign_result_err {T = T} c mid mid2 new f v e params h =
-    sign_err {T = T} c new f e (λ k holds. text_result k.layouts f e (params.judged k holds) (h.judged k (holds_stays c mid params.keeps.declared k holds)))
+    sign_err {T = T} c new f e (λ k holds. text_result k.layouts f e (params.judged k holds) (h.judged k (holds_stays c mid k params.keeps.declared holds)))
 
 -- what the texts of a function are
 pub record Read (c now : Checker) (f : FunTree) (params : List (List ℕ × ℕ)) (result : ℕ) : Type 0 where
@@ -75,9 +75,9 @@ pub record Read (c now : Checker) (f : FunTree) (params : List (List ℕ × ℕ)
 pub texts_read : (c mid now : Checker) (f : FunTree) (v : Vec (Bor (List ℕ) × ℕ) Global) (result : ℕ) → TypesNamed c mid f.span f.params (Ok v) → TypesText mid now f.span f.result (Ok result) → Read c now f (named v.items) result
 texts_read c mid now f v result params h = record {
   of_params = params.judged;
-  of_result = λ k holds. h.judged k (holds_stays c mid params.keeps.declared k holds);
+  of_result = λ k holds. h.judged k (holds_stays c mid k params.keeps.declared holds);
   fields = λ k holds. named_stay mid.table now.table h.keeps.declared.grows (named v.items) (named_types_of k.layouts f.params) (params.typed k holds);
-  typed = λ k holds. h.typed k (holds_stays c mid params.keeps.declared k holds);
+  typed = λ k holds. h.typed k (holds_stays c mid k params.keeps.declared holds);
   keeps = Keeps-trans c mid now params.keeps h.keeps;
 }
 
@@ -138,7 +138,7 @@ sign_ok {T = T} U c now f params result table list fs u r read twice listed main
   judged = λ k holds. sign_judged {T = U} c now f params result table list (Ok u) read twice listed main k holds;
   signed = λ k holds absent uncounted.
       let wider : KeepsDeclared now (record now { table = table }) = record { grows = listed.grows; same_layouts = refl; same_exceptions = refl; same_functions = refl; same_costs = refl } in
-      let held = holds_stays now (record now { table = table }) wider k (holds_stays c now read.keeps.declared k holds) in
+      let held = holds_stays now (record now { table = table }) k wider (holds_stays c now k read.keeps.declared holds) in
       let e = add (ap (look_up f.name) read.keeps.declared.same_functions ∙ absent) in
       let g = signature k.layouts f in
       let is = list_known c now f params result table list read listed k holds in

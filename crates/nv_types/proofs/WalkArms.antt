@@ -25,7 +25,7 @@ use Rattle.nv_types.specs.Costs.{still, IsCost, two_costs, node_cost}
 use Rattle.nv_types.specs.Judging.{IsWanted, judged_faults}
 use Rattle.nv_types.specs.Standing.{Holds, Sees, place, written_in}
 use Rattle.nv_types.specs.Walk.{Checks}
-use Rattle.nv_types.proofs.WalkKeeps.{Keeps-refl}
+use Rattle.nv_types.proofs.Holding.{Keeps-refl}
 use Rattle.nv_types.proofs.WalkCosts.{leaf_costs, node_costs}
 use Rattle.nv_types.proofs.WalkNodes.{Parts, WantsPart, one_part, and_part, failed, part_failed, later_failed, Stands, parts_stand, node_checks}
 

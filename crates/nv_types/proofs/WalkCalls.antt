@@ -27,7 +27,7 @@ use Rattle.nv_types.specs.Standing.{IsFunction, Holds, Sees, Keeps, place}
 use Rattle.nv_types.specs.Walk.{Checks, ChecksAll}
 use Rattle.nv_types.proofs.Firsts.{first_append, at_span-append}
 use Rattle.nv_types.proofs.Staying.{type_stays}
-use Rattle.nv_types.proofs.WalkKeeps.{looked_up, both_none, both_some}
+use Rattle.nv_types.proofs.Alikes.{alike_at, both_none, both_found}
 use Rattle.nv_types.proofs.WalkCosts.{parts_and_call, size_called, need_called, no_words_called}
 use Rattle.nv_types.proofs.WalkNodes.{Parts, failed, parts_stand, node_checks}
 use Rattle.nv_types.proofs.WalkValues.{no_kinds}
@@ -108,7 +108,7 @@ arguments_low c d tail wanted e es types ws cost kinds later error wants h shape
 
 -- ---- an unknown function
 function_not_there : (c : Checker) (f : List ℕ) (k : Known) → Holds c k → look_up f c.functions ≡ None → look_up f (callable k) ≡ None
-function_not_there c f k holds e = both_none (IsFunction c.table) (look_up f c.functions) (look_up f (callable k)) (looked_up (IsFunction c.table) f c.functions (callable k) holds.of_functions) e
+function_not_there c f k holds e = both_none (IsFunction c.table) (look_up f c.functions) (look_up f (callable k)) (alike_at (IsFunction c.table) c.functions (callable k) holds.of_functions f) e
 
 abbrev params_in : Option Signature → Option Tys
 params_in o = option_map (λ g. plain_tys g.params) o
@@ -131,7 +131,7 @@ abbrev IsSignature : Checker → List ℕ → Function → Known → Type 0
 IsSignature c f fn k = (g : Signature) × (look_up f (callable k) ≡ Some g) × IsFunction c.table fn g
 
 function_there : (c : Checker) (f : List ℕ) (fn : Function) (k : Known) → Holds c k → look_up f c.functions ≡ Some fn → IsSignature c f fn k
-function_there c f fn k holds e = both_some (IsFunction c.table) (look_up f c.functions) (look_up f (callable k)) fn (looked_up (IsFunction c.table) f c.functions (callable k) holds.of_functions) e
+function_there c f fn k holds e = both_found (IsFunction c.table) (look_up f c.functions) (look_up f (callable k)) fn (alike_at (IsFunction c.table) c.functions (callable k) holds.of_functions f) e
 
 types_called : (c : Checker) (f : List ℕ) (es : List Expr) (fn : Function) (types : Option ℕ) → look_up f c.functions ≡ Some fn → IsMany c.table fn.params (length es) types
     → (k : Known) (vars : Vars) → Holds c k → Sees c vars → AreWanted c.table types (wanted_arguments (params_of k f) (list_trees es))
@@ -205,13 +205,13 @@ call_checks c new tail wanted s f es fn types behind cost parts r known many h a
 
 -- ---- exceptions
 exception_not_there : (c : Checker) (x : List ℕ) (k : Known) → Holds c k → look_up x c.exceptions ≡ None → look_up x k.exceptions ≡ None
-exception_not_there c x k holds e = both_none (IsParts c.table) (look_up x c.exceptions) (look_up x k.exceptions) (looked_up (IsParts c.table) x c.exceptions k.exceptions holds.of_exceptions) e
+exception_not_there c x k holds e = both_none (IsParts c.table) (look_up x c.exceptions) (look_up x k.exceptions) (alike_at (IsParts c.table) c.exceptions k.exceptions holds.of_exceptions x) e
 
 abbrev IsRaised : Checker → List ℕ → ℕ → Known → Type 0
 IsRaised c x list k = (ts : Tys) × (look_up x k.exceptions ≡ Some ts) × IsParts c.table list ts
 
 exception_there : (c : Checker) (x : List ℕ) (list : ℕ) (k : Known) → Holds c k → look_up x c.exceptions ≡ Some list → IsRaised c x list k
-exception_there c x list k holds e = both_some (IsParts c.table) (look_up x c.exceptions) (look_up x k.exceptions) list (looked_up (IsParts c.table) x c.exceptions k.exceptions holds.of_exceptions) e
+exception_there c x list k holds e = both_found (IsParts c.table) (look_up x c.exceptions) (look_up x k.exceptions) list (alike_at (IsParts c.table) c.exceptions k.exceptions holds.of_exceptions x) e
 
 abbrev raise_wants : List ℕ → Trees → Known → Vars → List WantedTree
 raise_wants x es k vars = wanted_arguments (look_up x k.exceptions) es

@@ -22,7 +22,7 @@ use Rattle.nv_types.specs.Standing.{Holds, Sees, Counts, Keeps, place, written_i
 use Rattle.nv_types.specs.Walk.{Checks, ChecksAll, WantsNext}
 use Rattle.nv_types.proofs.Firsts.{first_append}
 use Rattle.nv_types.proofs.Walked.{part_none, part_some}
-use Rattle.nv_types.proofs.WalkKeeps.{Keeps-refl, Keeps-trans, holds_stay, sees_stay, counts_stay, all_wanted_stay}
+use Rattle.nv_types.proofs.Holding.{Keeps-refl, Keeps-trans, holds_stays, sees_stay, counts_stay, all_wanted_stay}
 use Rattle.nv_types.proofs.WalkCosts.{no_cost, two_parts}
 use Rattle.nv_types.proofs.WalkNodes.{Parts}
 
@@ -78,11 +78,11 @@ all_more c b new types left more wanted all rest e cost sum found so next checks
         n.1,
         all_wanted_stay b.table new.table checks.keeps.declared.grows more n.1 n.3,
         q.2 ∙ n.4 (place k vars false) e rest
-            ∙ ap (λ l. l ++ list_faults (place k vars false) n.1 rest) (checks.judged k vars n.0 (holds_stay c b k so.keeps.declared holds) (sees_stay c b vars so.keeps sees) n.2),
+            ∙ ap (λ l. l ++ list_faults (place k vars false) n.1 rest) (checks.judged k vars n.0 (holds_stays c b k so.keeps.declared holds) (sees_stay c b vars so.keeps sees) n.2),
       );
   counted = λ k vars sizes needs holds sees counts.
       let q = so.counted k vars sizes needs holds sees counts in
-      let here = checks.counted k vars sizes needs (holds_stay c b k so.keeps.declared holds) (sees_stay c b vars so.keeps sees) (counts_stay c b sizes needs so.keeps.declared counts) in
+      let here = checks.counted k vars sizes needs (holds_stays c b k so.keeps.declared holds) (sees_stay c b vars so.keeps sees) (counts_stay c b sizes needs so.keeps.declared counts) in
       let m = counted_more cost found.cost q.0 q.1 q.2 (words_at k vars e) (expanded sizes k vars e) (need needs k vars e) _ _ _ (words_all k vars rest) (expanded_all sizes k vars rest) (need_all needs k vars rest) q.3 here q.4 q.5 q.6 in (
         q.0 + words_at k vars e,
         q.1 + expanded sizes k vars e,
@@ -102,7 +102,7 @@ all_first c b d types left more wanted all rest e cost error so next checks k va
     let q = so.clean k vars ws holds sees are in
     let n = next q.0 q.1 in
     subst (λ l. IsFirstOf l error) (sym (q.2 ∙ n.4 (place k vars false) e rest))
-    (first_append (faults (place k vars false) n.0 e) (list_faults (place k vars false) n.1 rest) error (checks.judged k vars n.0 (holds_stay c b k so.keeps.declared holds) (sees_stay c b vars so.keeps sees) n.2))
+    (first_append (faults (place k vars false) n.0 e) (list_faults (place k vars false) n.1 rest) error (checks.judged k vars n.0 (holds_stays c b k so.keeps.declared holds) (sees_stay c b vars so.keeps sees) n.2))
 
 pub all_failed : (c b d new : Checker) (types left more : Option ℕ) (wanted : Wanted) (all rest : Trees) (e : Tree) (cost : Cost) (error : TypeError)
     → AllSo c b types left all (tree_and e rest) cost → WantsNext b.table left wanted more → Checks b d false wanted e (Err error) → ChecksAll c new types all (Err error)

@@ -8,7 +8,7 @@ use Rattle.nv_types.specs.declared.wanted.Wanted.{Wanted}
 use Rattle.nv_types.specs.Faulty.{Judges, first}
 use Rattle.nv_types.specs.Store.{Store, Grows, IsType, IsValue, AreFields, field_names}
 use Rattle.nv_types.specs.Judging.{IsWanted, judged_faults}
-use Rattle.nv_types.proofs.WalkKeeps.{wanted_stays}
+use Rattle.nv_types.proofs.Holding.{wanted_stays}
 
 pub made_judged : {T : Type 0} (old new : Store) (s : Span) (wanted : Wanted) (is : List (List ℕ × ℕ)) (t : ℕ) (twice : Option ℕ) (r : Result T TypeError) → Grows old new
     → ((ts : NamedTys) → AreFields old is ts → IsType new t (RecordTy ts)) → ((ts : NamedTys) → AreFields old is ts → twice ≡ first (field_twice (field_names ts)))

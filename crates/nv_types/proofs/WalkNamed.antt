@@ -26,7 +26,8 @@ use Rattle.nv_types.specs.Layouts.{IsDeclared}
 use Rattle.nv_types.specs.Costs.{still, IsCost, two_costs, node_cost}
 use Rattle.nv_types.specs.Standing.{Holds, Sees, Keeps, place, written_in}
 use Rattle.nv_types.specs.Walk.{Checks}
-use Rattle.nv_types.proofs.WalkKeeps.{Keeps-refl, Keeps-trans, holds_stay, sees_stay, looked_up, both_none, both_some, Both}
+use Rattle.nv_types.proofs.Holding.{Keeps-refl, Keeps-trans, holds_stays, sees_stay}
+use Rattle.nv_types.proofs.Alikes.{alike_at, both_none, both_found, Both}
 use Rattle.nv_types.proofs.WalkCosts.{no_cost, leaf_costs, node_costs, part_and_moving}
 use Rattle.nv_types.proofs.WalkNodes.{Parts, WantsPart, one_part, part_within, failed, part_failed, later_failed, own_faults, node_checks}
 use Rattle.nv_types.proofs.WalkValues.{has_value}
@@ -57,12 +58,12 @@ own_failed c new tail wanted e kind own first = failed c new tail wanted e (Faul
 
 -- ---- variables
 seen : (c : Checker) (x : List ℕ) (vars : Vars) → Sees c vars → Both (IsType c.table) (look_up x c.scope) (look_up x vars)
-seen c x vars sees = looked_up (IsType c.table) x c.scope vars sees
+seen c x vars sees = alike_at (IsType c.table) c.scope vars sees x
 
 pub variable_checks : (c new : Checker) (wanted : Wanted) (s : Span) (x : List ℕ) (t : ℕ) (parts : Cost) (r : Result Found TypeError) → Keeps c new → written_in new ≡ written_in c ++ x ∷ [] → look_up x new.scope ≡ Some t → parts ≡ record { words = 0; size = 0; need = 0 }
     → IsJudged new s wanted (Some t) None None r → IfOk r (λ f. f.value ≡ Some t) → IsCounted new (Some t) parts r → Checks c new false wanted (VarTree s x) r
 variable_checks c new wanted s x t parts r keeps writes found none judged same counted =
-    let typed : (vars : Vars) → Sees c vars → (u : Ty) × (look_up x vars ≡ Some u) × IsType new.table t u = λ vars sees. both_some (IsType new.table) (look_up x new.scope) (look_up x vars) t (seen new x vars (sees_stay c new vars keeps sees)) found in
+    let typed : (vars : Vars) → Sees c vars → (u : Ty) × (look_up x vars ≡ Some u) × IsType new.table t u = λ vars sees. both_found (IsType new.table) (look_up x new.scope) (look_up x vars) t (seen new x vars (sees_stay c new vars keeps sees)) found in
     node_checks c new false wanted (VarTree s x) (Some t) parts None None r
     (record {
       own = λ k vars v holds sees. refl;
@@ -158,10 +159,10 @@ abbrev IsOutline : Checker → List ℕ → Shape → Known → Type 0
 IsOutline c x shape k = (o : OutlineTree) × (look_up x k.layouts ≡ Some o) × IsDeclared c.table shape o
 
 outline_there : (c : Checker) (x : List ℕ) (shape : Shape) (k : Known) → Holds c k → look_up x c.layouts ≡ Some shape → IsOutline c x shape k
-outline_there c x shape k holds e = both_some (IsDeclared c.table) (look_up x c.layouts) (look_up x k.layouts) shape (looked_up (IsDeclared c.table) x c.layouts k.layouts holds.of_layouts) e
+outline_there c x shape k holds e = both_found (IsDeclared c.table) (look_up x c.layouts) (look_up x k.layouts) shape (alike_at (IsDeclared c.table) c.layouts k.layouts holds.of_layouts x) e
 
 outline_not_there : (c : Checker) (x : List ℕ) (k : Known) → Holds c k → look_up x c.layouts ≡ None → look_up x k.layouts ≡ None
-outline_not_there c x k holds e = both_none (IsDeclared c.table) (look_up x c.layouts) (look_up x k.layouts) (looked_up (IsDeclared c.table) x c.layouts k.layouts holds.of_layouts) e
+outline_not_there c x k holds e = both_none (IsDeclared c.table) (look_up x c.layouts) (look_up x k.layouts) (alike_at (IsDeclared c.table) c.layouts k.layouts holds.of_layouts x) e
 
 packed_so : (s : Store) (shape : Shape) (o : OutlineTree) (i n : ℕ) → IsDeclared s shape o → n ≡ (min shape.bits 1024 + 31) / 32 → (t : Store) → IsType t i (words_ty n) → IsType t i (packed_ty o)
 packed_so s shape o i n h e t is =
@@ -219,7 +220,7 @@ unpack_checks c d b new wanted s x e shape i n t part parts r keeps same known c
     keeps same behind also (one_part d b false (Typed i) e part (unpack_wants x) (unpack_wanted c d x shape i n keeps known count is) h) in
     let there : (k : Known) → Holds c k → IsOutline b x shape k = λ k holds.
     let up = Keeps-trans c d b keeps h.keeps in
-    outline_there b x shape k (holds_stay c b k up.declared holds) (ap (look_up x) up.declared.same_layouts ∙ known) in
+    outline_there b x shape k (holds_stays c b k up.declared holds) (ap (look_up x) up.declared.same_layouts ∙ known) in
     node_checks c new false wanted (UnpackTree s x e) (Some t) parts None None r
     (record {
       own = own_faults c new false (UnpackTree s x e) part.cost (λ k vars. faults (place k vars false) (unpack_wants x k vars) e) (λ k vars. words_at k vars e) (λ sizes k vars. expanded sizes k vars e) (λ needs k vars. need needs k vars e) (variables e) one (λ k vars v. refl);

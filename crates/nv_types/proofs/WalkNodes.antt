@@ -20,7 +20,7 @@ use Rattle.nv_types.specs.Judging.{IsWanted, judged_faults}
 use Rattle.nv_types.specs.Standing.{Holds, Sees, Counts, Keeps, place, written_in}
 use Rattle.nv_types.specs.Walk.{Checks}
 use Rattle.nv_types.proofs.Firsts.{first_append}
-use Rattle.nv_types.proofs.WalkKeeps.{Keeps-trans, holds_stay, sees_stay, counts_stay, wanted_stays}
+use Rattle.nv_types.proofs.Holding.{Keeps-trans, holds_stays, sees_stay, counts_stay, wanted_stays}
 use Rattle.nv_types.proofs.WalkCosts.{two_parts, node_costs}
 
 -- parts that were walked without a fault: what they cost, and what was written in them
@@ -48,11 +48,11 @@ pub and_part : (a b c : Checker) (cost more : Cost) (bad worse : Known → Vars 
     → Parts a c (two_costs cost more) (λ k vars. bad k vars ++ worse k vars) (λ k vars. words k vars + others k vars) (λ sizes k vars. sizes_of sizes k vars + sizes_more sizes k vars) (λ needs k vars. max (needs_of needs k vars) (needs_more needs k vars)) (xs ++ ys)
 and_part a b c cost more bad worse words others sizes_of needs_of sizes_more needs_more xs ys first then_ = record {
   clean = λ k vars holds sees.
-      ap (λ l. l ++ worse k vars) (first.clean k vars holds sees) ∙ then_.clean k vars (holds_stay a b k first.keeps.declared holds) (sees_stay a b vars first.keeps sees);
+      ap (λ l. l ++ worse k vars) (first.clean k vars holds sees) ∙ then_.clean k vars (holds_stays a b k first.keeps.declared holds) (sees_stay a b vars first.keeps sees);
   counted = λ k vars sizes needs holds sees counts.
       two_parts cost more (words k vars) (others k vars) (sizes_of sizes k vars) (sizes_more sizes k vars) (needs_of needs k vars) (needs_more needs k vars)
       (first.counted k vars sizes needs holds sees counts)
-      (then_.counted k vars sizes needs (holds_stay a b k first.keeps.declared holds) (sees_stay a b vars first.keeps sees) (counts_stay a b sizes needs first.keeps.declared counts));
+      (then_.counted k vars sizes needs (holds_stays a b k first.keeps.declared holds) (sees_stay a b vars first.keeps sees) (counts_stay a b sizes needs first.keeps.declared counts));
   keeps = Keeps-trans a b c first.keeps then_.keeps;
   writes = then_.writes ∙ ap (λ l. l ++ ys) first.writes ∙ append_assoc (written_in a) xs ys;
 }
@@ -61,8 +61,8 @@ and_part a b c cost more bad worse words others sizes_of needs_of sizes_more nee
 pub part_within : (a b c d : Checker) (cost : Cost) (bad : Known → Vars → List FaultAt) (words : Known → Vars → ℕ) (sizes_of needs_of : GroupNumbers → Known → Vars → ℕ) (xs : List (List ℕ))
     → Keeps a b → written_in b ≡ written_in a → Keeps c d → written_in d ≡ written_in c → Parts b c cost bad words sizes_of needs_of xs → Parts a d cost bad words sizes_of needs_of xs
 part_within a b c d cost bad words sizes_of needs_of xs before same behind also parts = record {
-  clean = λ k vars holds sees. parts.clean k vars (holds_stay a b k before.declared holds) (sees_stay a b vars before sees);
-  counted = λ k vars sizes needs holds sees counts. parts.counted k vars sizes needs (holds_stay a b k before.declared holds) (sees_stay a b vars before sees) (counts_stay a b sizes needs before.declared counts);
+  clean = λ k vars holds sees. parts.clean k vars (holds_stays a b k before.declared holds) (sees_stay a b vars before sees);
+  counted = λ k vars sizes needs holds sees counts. parts.counted k vars sizes needs (holds_stays a b k before.declared holds) (sees_stay a b vars before sees) (counts_stay a b sizes needs before.declared counts);
   keeps = Keeps-trans a b d before (Keeps-trans b c d parts.keeps behind);
   writes = also ∙ parts.writes ∙ ap (λ l. l ++ xs) same;
 }
@@ -91,7 +91,7 @@ pub later_failed : (c d b new : Checker) (tail inner : Bool) (wanted part_wanted
     → ((k : Known) (vars : Vars) (v : WantedTree) → faults (place k vars tail) v e ≡ bad k vars ++ (faults (place k vars inner) (w k vars) part ++ rest k vars v)) → Checks c new tail wanted e (Err error)
 later_failed c d b new tail inner wanted part_wanted e part error w rest cost bad words sizes_of needs_of xs parts checks wants shape =
     failed c new tail wanted e error (λ k vars v holds sees is.
-    let holds_then = holds_stay c d k parts.keeps.declared holds in
+    let holds_then = holds_stays c d k parts.keeps.declared holds in
     let sees_then = sees_stay c d vars parts.keeps sees in
     first_of_part (faults (place k vars inner) (w k vars) part) (rest k vars v) (faults (place k vars tail) v e) error
     (shape k vars v ∙ ap (λ l. l ++ (faults (place k vars inner) (w k vars) part ++ rest k vars v)) (parts.clean k vars holds sees))

@@ -24,7 +24,7 @@ use Rattle.nv_types.specs.Standing.{Holds, Sees, Keeps, place, written_in}
 use Rattle.nv_types.specs.Walk.{Checks}
 use Rattle.nv_types.proofs.Firsts.{first_append}
 use Rattle.nv_types.proofs.Staying.{types_stay, named_stay}
-use Rattle.nv_types.proofs.WalkKeeps.{Keeps-refl, Keeps-trans, holds_stay, sees_stay, wanted_stays}
+use Rattle.nv_types.proofs.Holding.{Keeps-refl, Keeps-trans, holds_stays, sees_stay, wanted_stays}
 use Rattle.nv_types.proofs.WalkCosts.{node_costs}
 use Rattle.nv_types.proofs.WalkNodes.{part_within, failed, parts_stand, judged_by, node_checks}
 use Rattle.nv_types.proofs.WalkValues.{has_value}
@@ -82,7 +82,7 @@ part_type b new e found checks k vars holds sees =
 pub types_more : (c b new : Checker) (is more : List ℕ) (i : ℕ) (all rest : Trees) (e : Tree) (found : Found) → TypesSo c b is all (tree_and e rest) → Keeps c b → Checks b new false Value e (Ok found) → i ≡ unwrap_or found.value 0 → more ≡ is ++ i ∷ [] → TypesSo c new more all rest
 types_more c b new is more i all rest e found so keeps checks number adds k vars holds sees =
     let q = so k vars holds sees in
-    let u = part_type b new e found checks k vars (holds_stay c b k keeps.declared holds) (sees_stay c b vars keeps sees) in (
+    let u = part_type b new e found checks k vars (holds_stays c b k keeps.declared holds) (sees_stay c b vars keeps sees) in (
       with_last q.0 u.0,
       subst (λ (l : List ℕ). AreTypes new.table l (with_last q.0 u.0)) (sym adds) (one_more_type new.table is i q.0 u.0 (types_stay b.table new.table checks.keeps.declared.grows is q.0 q.1) (subst (λ j. IsType new.table j u.0) (sym number) u.2)),
       q.2 ∙ ap (λ (o : Option Ty). types_behind q.0 (and_ty o (types_at k vars rest))) u.1 ∙ last_behind q.0 u.0 (types_at k vars rest),
@@ -144,7 +144,7 @@ fields_begin c all k vars holds sees = (no_named_tys, tt, refl, refl)
 pub fields_more : (c b new : Checker) (is more : List (List ℕ × ℕ)) (y : List ℕ) (i : ℕ) (all rest : NamedTrees) (e : Tree) (found : Found) → FieldsSo c b is all (named_tree_and y e rest) → Keeps c b → Checks b new false Value e (Ok found) → i ≡ unwrap_or found.value 0 → more ≡ is ++ (y, i) ∷ [] → FieldsSo c new more all rest
 fields_more c b new is more y i all rest e found so keeps checks number adds k vars holds sees =
     let q = so k vars holds sees in
-    let u = part_type b new e found checks k vars (holds_stay c b k keeps.declared holds) (sees_stay c b vars keeps sees) in (
+    let u = part_type b new e found checks k vars (holds_stays c b k keeps.declared holds) (sees_stay c b vars keeps sees) in (
       with_last_field q.0 y u.0,
       subst (λ (l : List (List ℕ × ℕ)). AreFields new.table l (with_last_field q.0 y u.0)) (sym adds) (one_more_field new.table is y i q.0 u.0 (named_stay b.table new.table checks.keeps.declared.grows is q.0 q.1) (subst (λ j. IsType new.table j u.0) (sym number) u.2)),
       q.2 ∙ ap (λ (o : Option Ty). fields_behind q.0 (and_named_ty y o (named_types_at k vars rest))) u.1 ∙ last_field_behind q.0 y u.0 (named_types_at k vars rest),

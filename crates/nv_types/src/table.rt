@@ -1,8 +1,8 @@
 // Types by number, each kept once.
 
-ghost use Rattle.std.specs.Prelude.{◌≡◌, ◌↔◌, ◌<◌, ◌==◌, ◌++◌, ℕ, false, length, IsTrue, List, Some, None, IfOk, OnOk, slice_get};
+ghost use Rattle.std.specs.Prelude.{◌≡◌, ◌<◌, ◌==◌, ◌++◌, ℕ, false, length, List, Some, None, IfOk, OnOk, slice_get};
 ghost use Rattle.nv_ast.specs.Tests.{has_twice};
-ghost use Rattle.nv_ast.specs.Types.{Ty, TupleTy, RecordTy, Tys, ty_and, NamedTys, Form, RecordForm, ChoiceForm, Forms, ◌+++◌, words_ty, word_parts, same_type, is_too_large, can_pack, can_pack_all, can_pack_one};
+ghost use Rattle.nv_ast.specs.Types.{Ty, TupleTy, RecordTy, Tys, ty_and, NamedTys, named_ty_and, Form, RecordForm, ChoiceForm, Forms, form_and, ◌+++◌, words_ty, word_parts, same_type, is_too_large, can_pack, can_pack_all, can_pack_one};
 ghost use Rattle.nv_ast.specs.Faults.{can_store};
 ghost use Rattle.nv_ast.specs.Typing.{field_ty};
 ghost use Rattle.nv_types.specs.Store.{Grows, IsType, IsParts, IsFields, IsForm, IsForms, IsValue, IsStore, tuple_of, record_in, part_of, field_of, AreTypes, AreFields, AreForms, AreCells, AreNamed, AreSeen, form_names, field_names, fields_then};
@@ -115,6 +115,7 @@ impl<'a> Table<'a> {
 
     // The number of a cell, whose parts are there.
     fn number(&mut self, cell: Cell) -> Result<usize, NoMemory>
+        requires below { AreBelow (length self.old.cells) cell }
         ensures there { IfOk result (λ i. slice_get self.new.cells i ≡ Some cell) }
         ensures grows { OnOk result (Grows self.old self.new) }
     {
@@ -122,15 +123,21 @@ impl<'a> Table<'a> {
             return Ok(i);
         }
         let i = self.cells.len();
-        if !are_below(i, cell) {
-            return Err(NoMemory);
-        }
         self.facts.push(cell_facts(&self.facts, cell))?;
         if self.cells.insert(cell).is_err() {
             self.facts.pop();
             return Err(NoMemory);
         }
         Ok(i)
+    }
+
+    // The number of a part, if it is one of a cell. Another number stands for words.
+    fn part_number(&self, i: usize) -> usize
+        ensures below { result < length self.now.cells }
+        ensures same { (c : Cell) → slice_get self.now.cells i ≡ Some c → result ≡ i }
+        ensures store { IsStore self.now }
+    {
+        if i < self.cells.len() { i } else { WORD }
     }
 
     // The cell of a number.
@@ -154,6 +161,7 @@ impl<'a> Table<'a> {
         ensures made { (ts : Tys) → IsParts self.old parts ts → IfOk result (λ i. IsType self.new i (TupleTy ts)) }
         ensures grows { OnOk result (Grows self.old self.new) }
     {
+        let parts = self.part_number(parts);
         self.number(Cell::Tuple(parts))
     }
 
@@ -163,6 +171,7 @@ impl<'a> Table<'a> {
         ensures form { (fs : Forms) → IsForms self.old fields fs → IfOk result (λ i. IsForm self.new i (RecordForm fs)) }
         ensures grows { OnOk result (Grows self.old self.new) }
     {
+        let fields = self.part_number(fields);
         self.number(Cell::Record(fields))
     }
 
@@ -171,6 +180,7 @@ impl<'a> Table<'a> {
         ensures form { (fs : Forms) → IsForms self.old alternatives fs → IfOk result (λ i. IsForm self.new i (ChoiceForm fs)) }
         ensures grows { OnOk result (Grows self.old self.new) }
     {
+        let alternatives = self.part_number(alternatives);
         self.number(Cell::Choice(alternatives))
     }
 
@@ -179,14 +189,19 @@ impl<'a> Table<'a> {
         ensures made { (u : Ty) (us : Tys) → IsType self.old t u → IsParts self.old rest us → IfOk result (λ i. IsParts self.new i (ty_and u us)) }
         ensures grows { OnOk result (Grows self.old self.new) }
     {
+        let t = self.part_number(t);
+        let rest = self.part_number(rest);
         self.number(Cell::Part(t, rest))
     }
 
-    /// The list of named types with one more in front.
-    pub fn field(&mut self, name: usize, t: usize, rest: usize) -> Result<usize, NoMemory>
-        ensures there { IfOk result (λ i. slice_get self.new.cells i ≡ Some (Cell.Field name t rest)) }
+    // The list of named types, or of named forms, with one more in front.
+    fn field(&mut self, name: usize, t: usize, rest: usize) -> Result<usize, NoMemory>
+        ensures made { (x : List ℕ) (u : Ty) (us : NamedTys) → slice_get self.old.names name ≡ Some x → IsType self.old t u → IsFields self.old rest us → IfOk result (λ i. IsFields self.new i (named_ty_and x u us)) }
+        ensures forms { (x : List ℕ) (f : Form) (fs : Forms) → slice_get self.old.names name ≡ Some x → IsForm self.old t f → IsForms self.old rest fs → IfOk result (λ i. IsForms self.new i (form_and x f fs)) }
         ensures grows { OnOk result (Grows self.old self.new) }
     {
+        let t = self.part_number(t);
+        let rest = self.part_number(rest);
         self.number(Cell::Field(name, t, rest))
     }
 
@@ -546,17 +561,6 @@ impl<'a> Table<'a> {
             list = more;
         }
         Ok(false)
-    }
-}
-
-// Whether the parts of a cell have numbers below this one.
-fn are_below(i: usize, cell: Cell) -> bool
-    ensures { IsTrue result ↔ AreBelow i cell }
-{
-    match cell {
-        Cell::Word | Cell::Bool | Cell::NoParts | Cell::NoFields => true,
-        Cell::Tuple(parts) | Cell::Record(parts) | Cell::Choice(parts) => parts < i,
-        Cell::Part(t, rest) | Cell::Field(_, t, rest) => t < i && rest < i,
     }
 }
 

@@ -15,7 +15,7 @@ use Rattle.nv_types.specs.Store.{AreTypes}
 use Rattle.nv_types.proofs.Entries.{named-append}
 use Rattle.nv_types.proofs.Growing.{Grows-trans}
 use Rattle.nv_types.proofs.Walked.{none_test}
-use Rattle.nv_types.proofs.WalkKeeps.{Keeps-table}
+use Rattle.nv_types.proofs.Holding.{Keeps-table}
 use Rattle.nv_types.proofs.WalkNodes.{node_failed, node_checks}
 use Rattle.nv_types.proofs.WalkArms.{number_checks, truth_checks, paren_failed, paren_checks, invert_failed, invert_checks, negate_failed, negate_checks, shift_failed, shift_stands, left_failed, right_failed, binary_checks}
 use Rattle.nv_types.proofs.WalkNamed.{dot_failed, dot_checks, dot_unknown, unpack_other, unpack_unknown, unpack_failed, unpack_checks, pack_other, pack_unknown, pack_failed, pack_checks}

@@ -6,7 +6,7 @@ use Rattle.nv_types.specs.Named.{named}
 use Rattle.nv_types.specs.Store.{IsValue, AreFields, field_names}
 use Rattle.nv_types.proofs.Growing.{Grows-trans}
 use Rattle.nv_types.proofs.Staying.{fields_stay}
-use Rattle.nv_types.proofs.WalkKeeps.{Keeps-table}
+use Rattle.nv_types.proofs.Holding.{Keeps-table}
 use Rattle.nv_types.proofs.WalkTests.{kind_twice}
 use Rattle.nv_types.proofs.WalkMade.{made_judged}
 use Rattle.nv_types.proofs.functions.Checker.made_record.Goals as goal

@@ -1,7 +1,7 @@
 use Rattle.std.proofs.Common.{◌∷◌, [], ◌∙◌, ap, sym, refl, false}
 use Rattle.nv_types.specs.Named.{plain_names}
 use Rattle.nv_types.proofs.Found.{plain-append}
-use Rattle.nv_types.proofs.WalkKeeps.{Keeps-written}
+use Rattle.nv_types.proofs.Holding.{Keeps-written}
 use Rattle.nv_types.proofs.WalkNamed.{variable_checks, variable_unknown}
 use Rattle.nv_types.proofs.WalkErrors.{memory_wanted}
 use Rattle.nv_types.proofs.functions.Checker.variable.Goals as goal

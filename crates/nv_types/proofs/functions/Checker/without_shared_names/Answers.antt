@@ -1,4 +1,4 @@
-use Rattle.std.proofs.Common.{◌≡◌, ◌∙◌, ◌+◌, ◌∷◌, ◌≤◌, ap, sym, ℕ, true, drop, get_or, length, arith}
+use Rattle.std.proofs.Common.{◌≡◌, ◌∙◌, ◌+◌, ◌∷◌, ◌≤◌, ap, sym, true, drop, get_or, length, arith}
 use Rattle.std.proofs.lemmas.Result.{err_from_is_err_and}
 use Rattle.nv_ast.specs.Faults.{at_span}
 use Rattle.nv_ast.specs.Tests.{where_true, has_twice}

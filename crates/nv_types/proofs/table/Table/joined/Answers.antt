@@ -14,9 +14,9 @@ loop-left-preserved c =
       within = omega (arith, c.loop-left.invariant.within);
       grows = Grows-trans c.args.self.now c.loop-left.self c.field.new.self c.loop-left.invariant.grows c.in_ok-list.ensures.grows;
       fields = joins_fields-more c.args.self.now c.loop-left.self c.field.new.self c.args.second c.loop-left.list c.in_ok-list.list p (drop i xs) _
-          front c.loop-left.invariant.grows c.in_ok-list.ensures.grows c.in_ok-list.ensures.there c.loop-left.invariant.fields;
+          front c.loop-left.invariant.grows c.in_ok-list.ensures.made c.loop-left.invariant.fields;
       forms = joins_forms-more c.args.self.now c.loop-left.self c.field.new.self c.args.second c.loop-left.list c.in_ok-list.list p (drop i xs) _
-          front c.loop-left.invariant.grows c.in_ok-list.ensures.grows c.in_ok-list.ensures.there c.loop-left.invariant.forms;
+          front c.loop-left.invariant.grows c.in_ok-list.ensures.forms c.loop-left.invariant.forms;
     }
 
 pub returns-clause-of_fields : goal.returns-clause-of_fields

@@ -22,7 +22,7 @@ invariant_of-self-else-is_err c =
     let pushed = inserted_cell cells c.insert.new.self.keys c.args.cell none (was_ok c.insert.result _ (sym c.if-is_err.ensures.value) c.insert.ensures.keys) in
     let known : c.push.new.self.items ≡ c.self.inside.facts.items ++ cell_facts c.self.inside.facts.items c.args.cell ∷ [] =
     c.in_ok-push.ensures.items ∙ ap (λ f. facts ++ f ∷ []) (c.cell_facts.ensures ∙ ap (λ fs. cell_facts fs c.args.cell) c.deref.ensures.value) in
-    let below : AreBelow (length c.self.inside.cells.keys) c.args.cell = subst (λ n. AreBelow n c.args.cell) c.len-i.ensures.len (c.are_below.ensures.0 c.if-not-are_below.false) in
+    let below : AreBelow (length c.self.inside.cells.keys) c.args.cell = subst (λ (s : Store). AreBelow (length s.cells) c.args.cell) (sym c.self.view_is) c.requires.below in
     subst (λ (l : List Cell). IsTable (plain_names c.self.inside.names.keys) l c.push.new.self.items) (sym pushed)
     (subst (λ (l : List Facts). IsTable (plain_names c.self.inside.names.keys) (cells ++ c.args.cell ∷ []) l) (sym known)
     (IsTable-push (plain_names c.self.inside.names.keys) cells facts c.args.cell c.self.invariant below (absent_cell cells c.args.cell none)))
