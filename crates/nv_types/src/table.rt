@@ -131,7 +131,7 @@ impl<'a> Table<'a> {
         Ok(i)
     }
 
-    // The number of a part, if it is one of a cell. Another number stands for words.
+    // The number of a part: itself where it has a cell, as each number that this table gave has, else that of words.
     fn part_number(&self, i: usize) -> usize
         ensures below { result < length self.now.cells }
         ensures same { (c : Cell) → slice_get self.now.cells i ≡ Some c → result ≡ i }
