@@ -1,0 +1,70 @@
+-- Assignments that agree on some variables, and what follows equal results.
+use Rattle.std.proofs.Common.{◌≡◌, ℕ, ◌==◌, Bool, true, false, nat_eq, ◌||◌, List, [], ◌∷◌, ◌++◌, refl, sym, ap, subst, ◌∙◌, ⊎_elim, if◌then◌else◌, Option, Some, None}
+use Rattle.std.proofs.lemmas.Bool.{or_cases, or_left, or_right}
+use Rattle.nv_base.specs.declared.term.Mem.{Mem}
+use Rattle.nv_base.specs.declared.term.Cmp.{Cmp}
+use Rattle.nv_base.specs.Memories.{Memories, fetched, stored}
+use Rattle.nv_base.specs.Words.{Env, assigned, assigned_all, compares}
+use Rattle.flat_ir.specs.Running.{Running, Result, Gives, Raises, Stops, and_then, handled, fetch, after_fetch, store, after_store}
+use Rattle.flat_ir.specs.Formed.{is_in}
+use Rattle.flat_ir.specs.Counts.{AgreeOn}
+
+-- ---- assignments
+
+assigned-at : (b : Bool) (y : ℕ) (known : List ℕ) (w u v : ℕ) → (is_in y known ≡ true → u ≡ v) → (b || is_in y known) ≡ true → (if b then w else u) ≡ (if b then w else v)
+assigned-at true y known w u v h e = refl
+assigned-at false y known w u v h e = h e
+
+pub agree-assigned : (known : List ℕ) (env env' : Env) (x w : ℕ) → AgreeOn known env env' → AgreeOn (x ∷ known) (assigned env x w) (assigned env' x w)
+agree-assigned known env env' x w h = λ y e. assigned-at (nat_eq y x) y known w (env y) (env' y) (h y) e
+
+in-later : (b : Bool) (y : ℕ) (xs : List ℕ) (x : ℕ) (known : List ℕ) → nat_eq y x ≡ b → (b || is_in y (xs ++ known)) ≡ true → is_in y (xs ++ x ∷ known) ≡ true
+in-later b y [] x known same e = subst (λ c. (c || is_in y known) ≡ true) (sym same) e
+in-later true y (z ∷ xs) x known same e = or_right (nat_eq y z) (is_in y (xs ++ x ∷ known)) (in-later true y xs x known same refl)
+in-later false y (z ∷ xs) x known same e =
+    ⊎_elim (λ (p : nat_eq y z ≡ true). or_left (nat_eq y z) (is_in y (xs ++ x ∷ known)) p)
+    (λ (p : is_in y (xs ++ known) ≡ true). or_right (nat_eq y z) (is_in y (xs ++ x ∷ known)) (in-later false y xs x known same p)) (or_cases (nat_eq y z) (is_in y (xs ++ known)) e)
+
+pub agree-all : (xs : List ℕ) (ws : List ℕ) (known : List ℕ) (env env' : Env) → AgreeOn known env env' → AgreeOn (xs ++ known) (assigned_all env xs ws) (assigned_all env' xs ws)
+agree-all [] ws known env env' h = h
+agree-all (x ∷ xs) [] known env env' h = λ y e. agree-all xs [] (x ∷ known) (assigned env x 0) (assigned env' x 0) (agree-assigned known env env' x 0 h) y (in-later (nat_eq y x) y xs x known refl e)
+agree-all (x ∷ xs) (w ∷ ws) known env env' h = λ y e. agree-all xs ws (x ∷ known) (assigned env x w) (assigned env' x w) (agree-assigned known env env' x w h) y (in-later (nat_eq y x) y xs x known refl e)
+
+-- ---- what follows is the same
+
+pub then-same : (q r : Result) (next next' : List ℕ → Running → Result) → q ≡ r → ((ws : List ℕ) (last : Running) → next ws last ≡ next' ws last) → and_then q next ≡ and_then r next'
+then-same q r next next' e h = at q ∙ ap (λ x. and_then x next') e
+  where
+    at : (q : Result) → and_then q next ≡ and_then q next'
+    at (Gives ws last) = h ws last
+    at (Raises k ws last) = refl
+    at (Stops how last) = refl
+
+pub if-same : (b : Bool) (q q' r r' : Result) → q ≡ r → q' ≡ r' → (if b then q else q') ≡ (if b then r else r')
+if-same true q q' r r' g h = g
+if-same false q q' r r' g h = h
+
+pub handled-same : (k : ℕ) (next next' : List ℕ → Running → Result) (q r : Result) → q ≡ r → ((ws : List ℕ) (last : Running) → next ws last ≡ next' ws last) → handled k next q ≡ handled k next' r
+handled-same k next next' q r e h = at q ∙ ap (handled k next') e
+  where
+    at : (q : Result) → handled k next q ≡ handled k next' q
+    at (Gives ws last) = refl
+    at (Raises j ws last) = if-same (j == k) (next ws last) (Raises j ws last) (next' ws last) (Raises j ws last) (h ws last) refl
+    at (Stops how last) = refl
+
+pub fetch-same : (m : Mem) (n at at' : ℕ) (now : Running) (next next' : List ℕ → Result) → at ≡ at' → ((ws : List ℕ) → next ws ≡ next' ws) → fetch m n at now next ≡ fetch m n at' now next'
+fetch-same m n at at' now next next' e h = after (fetched m at n now.packet) ∙ ap (λ x. fetch m n x now next') e
+  where
+    after : (found : Option (List ℕ)) → after_fetch m at found now next ≡ after_fetch m at found now next'
+    after (Some ws) = h ws
+    after None = refl
+
+pub store-same : (m : Mem) (at at' : ℕ) (ws ws' : List ℕ) (now : Running) (next next' : Running → Result) → at ≡ at' → ws ≡ ws' → ((last : Running) → next last ≡ next' last) → store m at ws now next ≡ store m at' ws' now next'
+store-same m at at' ws ws' now next next' e f h = after (stored m at ws now.packet) ∙ ap (λ x. store m x ws now next') e ∙ ap (λ x. store m at' x now next') f
+  where
+    after : (found : Option Memories) → after_store m at ws found now next ≡ after_store m at ws found now next'
+    after (Some p) = h (record { calls = now.calls; packet = p; writes = now.writes ++ record { mem = m; at = at; words = ws } ∷ [] })
+    after None = refl
+
+pub compared : (c : Cmp) (x x' y y' : ℕ) (q q' r r' : Result) → x ≡ x' → y ≡ y' → q ≡ r → q' ≡ r' → (if compares c x y then q else q') ≡ (if compares c x' y' then r else r')
+compared c x x' y y' q q' r r' d e g h = if-same (compares c x y) q q' r r' g h ∙ ap (λ z. if compares c z y then r else r') d ∙ ap (λ z. if compares c x' z then r else r') e

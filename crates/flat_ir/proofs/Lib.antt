@@ -1,0 +1,12 @@
+pub mod Steps
+pub mod Growth
+pub mod Depth
+pub mod Counted
+pub mod Agreement
+pub mod Sets
+pub mod Live
+pub mod Parts
+pub mod Widths
+pub mod Bulks
+pub mod Appended
+pub mod Weaker

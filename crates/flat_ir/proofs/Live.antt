@@ -1,0 +1,165 @@
+-- Live variables: what code does depends on their words alone, and in formed code they are known.
+use Rattle.std.proofs.Common.{◌≡◌, ℕ, Bool, true, false, not, nat_eq, nat_le, ◌&&◌, List, [], ◌∷◌, ◌++◌, refl, sym, ap, subst, ◌∙◌, ⊎_elim, length}
+use Rattle.std.proofs.lemmas.Bool.{and_parts, and_from, or_cases, or_left, or_right, not_from_false, not-true, false≢true, eq-eqb}
+use Rattle.nv_base.specs.declared.term.Atom.{Atom}
+use Rattle.nv_base.specs.declared.term.Atom.TheVariants.{Var, Lit}
+use Rattle.nv_base.specs.declared.term.Primitive.{Primitive}
+use Rattle.nv_base.specs.declared.term.Primitive.TheVariants.{Same, Una as UnaOf, Bin as BinOf}
+use Rattle.nv_base.specs.Words.{Env, una_word, bin_word, assigned, assigned_all, atom_word, atom_words, prim_word, atom_vars, prim_vars}
+use Rattle.flat_ir.specs.declared.flat.Flat.{Flat}
+use Rattle.flat_ir.specs.declared.flat.Flat.TheVariants.{Let', Fetch', Store', If', Bind', Call, Raise, Try', Give}
+use Rattle.flat_ir.specs.declared.flat.FlatFun.{FlatFun}
+use Rattle.flat_ir.specs.Running.{Running, Gives, Raises}
+use Rattle.flat_ir.specs.Meaning.{Calls, does}
+use Rattle.flat_ir.specs.Formed.{is_in, is_known, all_known, has_count, is_primitive, can_move, is_address, is_formed}
+use Rattle.flat_ir.specs.Counts.{AgreeOn}
+use Rattle.flat_ir.specs.Wide.{without, all_vars, live}
+use Rattle.flat_ir.proofs.Sets.{Within, same-number, in-append, in-without}
+use Rattle.flat_ir.proofs.Agreement.{agree-all, then-same, handled-same, fetch-same, store-same, compared}
+
+-- ---- sets
+
+pub within-left : (a b : List ℕ) → Within a (a ++ b)
+within-left a b = λ x e. in-append x a b ∙ or_left (is_in x a) (is_in x b) e
+
+pub within-right : (a b : List ℕ) → Within b (a ++ b)
+within-right a b = λ x e. in-append x a b ∙ or_right (is_in x a) (is_in x b) e
+
+pub within-both : (a b c : List ℕ) → Within a c → Within b c → Within (a ++ b) c
+within-both a b c p q = λ x e. ⊎_elim (p x) (q x) (or_cases (is_in x a) (is_in x b) (sym (in-append x a b) ∙ e))
+
+-- what is left without some is known before, if all of it is known behind them
+pub within-without : (a gone known : List ℕ) → Within a (gone ++ known) → Within (without a gone) known
+within-without a gone known h =
+    λ x e.
+    let parts = and_parts (is_in x a) (not (is_in x gone)) (sym (in-without x a gone) ∙ e) in
+    ⊎_elim (λ (p : is_in x gone ≡ true). absurd (false≢true (sym (not-true (is_in x gone) parts.1) ∙ p))) (λ (p : is_in x known ≡ true). p) (or_cases (is_in x gone) (is_in x known) (sym (in-append x gone known) ∙ h x parts.0))
+
+-- and the other way round: all of it is among these or what is left without them
+behind-at : (b : Bool) (x : ℕ) (a gone : List ℕ) → is_in x gone ≡ b → is_in x a ≡ true → is_in x (gone ++ without a gone) ≡ true
+behind-at true x a gone g e = in-append x gone (without a gone) ∙ or_left (is_in x gone) (is_in x (without a gone)) g
+behind-at false x a gone g e =
+    in-append x gone (without a gone) ∙ or_right (is_in x gone) (is_in x (without a gone)) (in-without x a gone ∙ and_from (is_in x a) (not (is_in x gone)) e (not_from_false (is_in x gone) g))
+
+pub within-behind : (a gone : List ℕ) → Within a (gone ++ without a gone)
+within-behind a gone = λ x e. behind-at (is_in x gone) x a gone refl e
+
+agree-within : (a b : List ℕ) (env env' : Env) → Within a b → AgreeOn b env env' → AgreeOn a env env'
+agree-within a b env env' p h = λ x e. h x (p x e)
+
+-- ---- operands
+
+atom-known : (known : List ℕ) (a : Atom) → is_known known a ≡ true → Within (atom_vars a) known
+atom-known known (Var x) e = λ y i. ⊎_elim (λ (p : nat_eq y x ≡ true). subst (λ z. is_in z known ≡ true) (sym (same-number y x p)) e) (λ (p : false ≡ true). absurd (false≢true p)) (or_cases (nat_eq y x) false i)
+atom-known known (Lit v) e = λ y i. absurd (false≢true i)
+
+atoms-known : (known : List ℕ) (as' : List Atom) → all_known known as' ≡ true → Within (all_vars as') known
+atoms-known known [] e = λ y i. absurd (false≢true i)
+atoms-known known (a ∷ as') e =
+    let parts = and_parts (is_known known a) (all_known known as') e in within-both (atom_vars a) (all_vars as') known (atom-known known a parts.0) (atoms-known known as' parts.1)
+
+prim-known : (known : List ℕ) (p : Primitive) → is_primitive known p ≡ true → Within (prim_vars p) known
+prim-known known (Same a) e = atom-known known a e
+prim-known known (UnaOf op a) e = atom-known known a (and_parts (has_count op) (is_known known a) e).1
+prim-known known (BinOf op a b) e = let parts = and_parts (is_known known a) (is_known known b) e in within-both (atom_vars a) (atom_vars b) known (atom-known known a parts.0) (atom-known known b parts.1)
+
+atom-same : (env env' : Env) (a : Atom) → AgreeOn (atom_vars a) env env' → atom_word env a ≡ atom_word env' a
+atom-same env env' (Var x) h = h x (or_left (nat_eq x x) false (eq-eqb x x refl))
+atom-same env env' (Lit v) h = refl
+
+atoms-same : (env env' : Env) (as' : List Atom) → AgreeOn (all_vars as') env env' → atom_words env as' ≡ atom_words env' as'
+atoms-same env env' [] h = refl
+atoms-same env env' (a ∷ as') h =
+    ap (λ w. w ∷ atom_words env as') (atom-same env env' a (agree-within (atom_vars a) (atom_vars a ++ all_vars as') env env' (within-left (atom_vars a) (all_vars as')) h))
+    ∙ ap (λ ws. atom_word env' a ∷ ws) (atoms-same env env' as' (agree-within (all_vars as') (atom_vars a ++ all_vars as') env env' (within-right (atom_vars a) (all_vars as')) h))
+
+prim-same : (env env' : Env) (p : Primitive) → AgreeOn (prim_vars p) env env' → prim_word env p ≡ prim_word env' p
+prim-same env env' (Same a) h = atom-same env env' a h
+prim-same env env' (UnaOf op a) h = ap (una_word op) (atom-same env env' a h)
+prim-same env env' (BinOf op a b) h =
+    ap (λ w. bin_word op w (atom_word env b)) (atom-same env env' a (agree-within (atom_vars a) (atom_vars a ++ atom_vars b) env env' (within-left (atom_vars a) (atom_vars b)) h))
+    ∙ ap (bin_word op (atom_word env' a)) (atom-same env env' b (agree-within (atom_vars b) (atom_vars a ++ atom_vars b) env env' (within-right (atom_vars a) (atom_vars b)) h))
+
+-- ---- what code does
+
+-- the parts of a set
+left : (a b : List ℕ) (env env' : Env) → AgreeOn (a ++ b) env env' → AgreeOn a env env'
+left a b env env' h = agree-within a (a ++ b) env env' (within-left a b) h
+
+right : (a b : List ℕ) (env env' : Env) → AgreeOn (a ++ b) env env' → AgreeOn b env env'
+right a b env env' h = agree-within b (a ++ b) env env' (within-right a b) h
+
+-- behind new variables
+agree-behind : (a xs ws : List ℕ) (env env' : Env) → AgreeOn (without a xs) env env' → AgreeOn a (assigned_all env xs ws) (assigned_all env' xs ws)
+agree-behind a xs ws env env' h = agree-within a (xs ++ without a xs) (assigned_all env xs ws) (assigned_all env' xs ws) (within-behind a xs) (agree-all xs ws (without a xs) env env' h)
+
+pub does-live : (call : Calls) (t : Flat) (env env' : Env) (now : Running) → AgreeOn (live t) env env' → does call t env now ≡ does call t env' now
+does-live call (Let' x a q t) env env' now h =
+    let same : prim_word env a ≡ prim_word env' a = prim-same env env' a (left (prim_vars a) (without (live t) (x ∷ [])) env env' h) in
+    does-live call t (assigned env x (prim_word env a)) (assigned env' x (prim_word env a)) now (agree-behind (live t) (x ∷ []) (prim_word env a ∷ []) env env' (right (prim_vars a) (without (live t) (x ∷ [])) env env' h))
+    ∙ ap (λ w. does call t (assigned env' x w) now) same
+does-live call (Fetch' m xs a q t) env env' now h =
+    fetch-same m (length xs.items) (atom_word env a) (atom_word env' a) now (λ ws. does call t (assigned_all env xs.items ws) now) (λ ws. does call t (assigned_all env' xs.items ws) now)
+    (atom-same env env' a (left (atom_vars a) (without (live t) xs.items) env env' h))
+    (λ ws. does-live call t (assigned_all env xs.items ws) (assigned_all env' xs.items ws) now (agree-behind (live t) xs.items ws env env' (right (atom_vars a) (without (live t) xs.items) env env' h)))
+does-live call (Store' m a bs q t) env env' now h =
+    let front = left (all_vars (a ∷ bs.items)) (live t) env env' h in
+    store-same m (atom_word env a) (atom_word env' a) (atom_words env bs.items) (atom_words env' bs.items) now (λ next. does call t env next) (λ next. does call t env' next)
+    (atom-same env env' a (left (atom_vars a) (all_vars bs.items) env env' front)) (atoms-same env env' bs.items (right (atom_vars a) (all_vars bs.items) env env' front))
+    (λ next. does-live call t env env' next (right (all_vars (a ∷ bs.items)) (live t) env env' h))
+does-live call (If' c a b q t r u) env env' now h =
+    let front = left (all_vars (a ∷ b ∷ [])) (live t ++ live u) env env' h in
+    let arms = right (all_vars (a ∷ b ∷ [])) (live t ++ live u) env env' h in
+    compared c (atom_word env a) (atom_word env' a) (atom_word env b) (atom_word env' b) (does call t env now) (does call u env now) (does call t env' now) (does call u env' now)
+    (atom-same env env' a (left (atom_vars a) (all_vars (b ∷ [])) env env' front)) (atom-same env env' b (left (atom_vars b) [] env env' (right (atom_vars a) (all_vars (b ∷ [])) env env' front)))
+    (does-live call t env env' now (left (live t) (live u) env env' arms)) (does-live call u env env' now (right (live t) (live u) env env' arms))
+does-live call (Bind' xs q t r u) env env' now h =
+    then-same (does call t env now) (does call t env' now) (λ ws next. does call u (assigned_all env xs.items ws) next) (λ ws next. does call u (assigned_all env' xs.items ws) next)
+    (does-live call t env env' now (left (live t) (without (live u) xs.items) env env' h))
+    (λ ws next. does-live call u (assigned_all env xs.items ws) (assigned_all env' xs.items ws) next (agree-behind (live u) xs.items ws env env' (right (live t) (without (live u) xs.items) env env' h)))
+does-live call (Call f bs) env env' now h = ap (λ ws. call f ws now) (atoms-same env env' bs.items h)
+does-live call (Raise k bs) env env' now h = ap (λ ws. Raises k ws now) (atoms-same env env' bs.items h)
+does-live call (Try' q t k xs r u) env env' now h =
+    handled-same k (λ ws next. does call u (assigned_all env xs.items ws) next) (λ ws next. does call u (assigned_all env' xs.items ws) next) (does call t env now) (does call t env' now)
+    (does-live call t env env' now (left (live t) (without (live u) xs.items) env env' h))
+    (λ ws next. does-live call u (assigned_all env xs.items ws) (assigned_all env' xs.items ws) next (agree-behind (live u) xs.items ws env env' (right (live t) (without (live u) xs.items) env env' h)))
+does-live call (Give bs) env env' now h = ap (λ ws. Gives ws now) (atoms-same env env' bs.items h)
+
+-- ---- formed code
+
+pub formed-live : (funs : List FlatFun) (own : ℕ) (tail : Bool) (n : ℕ) (known : List ℕ) (t : Flat) → is_formed funs own tail n known t ≡ true → Within (live t) known
+formed-live funs own tail n known (Let' x a q t) e =
+    let parts = and_parts (is_primitive known a) (is_formed funs own tail n (x ∷ known) t) e in
+    within-both (prim_vars a) (without (live t) (x ∷ [])) known (prim-known known a parts.0) (within-without (live t) (x ∷ []) known (formed-live funs own tail n (x ∷ known) t parts.1))
+formed-live funs own tail n known (Fetch' m xs a q t) e =
+    let p1 = and_parts (is_known known a) _ e in
+    let p2 = and_parts (can_move m (length xs.items)) _ p1.1 in
+    let p3 = and_parts (is_address m a (length xs.items)) _ p2.1 in
+    within-both (atom_vars a) (without (live t) xs.items) known (atom-known known a p1.0) (within-without (live t) xs.items known (formed-live funs own tail n (xs.items ++ known) t p3.1))
+formed-live funs own tail n known (Store' m a bs q t) e =
+    let p1 = and_parts (is_known known a) _ e in
+    let p2 = and_parts (all_known known bs.items) _ p1.1 in
+    let p3 = and_parts (can_move m (length bs.items)) _ p2.1 in
+    let p4 = and_parts (is_address m a (length bs.items)) _ p3.1 in
+    within-both (all_vars (a ∷ bs.items)) (live t) known (within-both (atom_vars a) (all_vars bs.items) known (atom-known known a p1.0) (atoms-known known bs.items p2.0)) (formed-live funs own tail n known t p4.1)
+formed-live funs own tail n known (If' c a b q t r u) e =
+    let p1 = and_parts (is_known known a) (is_known known b && (is_formed funs own tail n known t && is_formed funs own tail n known u)) e in
+    let p2 = and_parts (is_known known b) (is_formed funs own tail n known t && is_formed funs own tail n known u) p1.1 in
+    let p3 = and_parts (is_formed funs own tail n known t) (is_formed funs own tail n known u) p2.1 in
+    within-both (all_vars (a ∷ b ∷ [])) (live t ++ live u) known (atoms-known known (a ∷ b ∷ []) (and_from (is_known known a) (is_known known b && true) p1.0 (and_from (is_known known b) true p2.0 refl)))
+    (within-both (live t) (live u) known (formed-live funs own tail n known t p3.0) (formed-live funs own tail n known u p3.1))
+formed-live funs own tail n known (Bind' xs q t r u) e =
+    let parts = and_parts (is_formed funs own false (length xs.items) known t) (is_formed funs own tail n (xs.items ++ known) u) e in
+    within-both (live t) (without (live u) xs.items) known (formed-live funs own false (length xs.items) known t parts.0) (within-without (live u) xs.items known (formed-live funs own tail n (xs.items ++ known) u parts.1))
+formed-live funs own tail n known (Call f bs) e = atoms-known known bs.items (and_parts (all_known known bs.items) _ e).0
+formed-live funs own tail n known (Raise k bs) e = atoms-known known bs.items (and_parts (all_known known bs.items) _ e).0
+formed-live funs own tail n known (Try' q t k xs r u) e =
+    let p1 = and_parts (is_formed funs own false n known t) _ e in
+    let p2 = and_parts (nat_le 1 k) (is_formed funs own tail n (xs.items ++ known) u) p1.1 in
+    within-both (live t) (without (live u) xs.items) known (formed-live funs own false n known t p1.0) (within-without (live u) xs.items known (formed-live funs own tail n (xs.items ++ known) u p2.1))
+formed-live funs own tail n known (Give bs) e = atoms-known known bs.items (and_parts (all_known known bs.items) _ e).0
+
+-- so what it does depends on the words of known variables alone
+pub does-known : (call : Calls) (funs : List FlatFun) (own : ℕ) (tail : Bool) (n : ℕ) (known : List ℕ) (t : Flat) (env env' : Env) (now : Running) → is_formed funs own tail n known t ≡ true → AgreeOn known env env'
+    → does call t env now ≡ does call t env' now
+does-known call funs own tail n known t env env' now e h = does-live call t env env' now (agree-within (live t) known env env' (formed-live funs own tail n known t e) h)

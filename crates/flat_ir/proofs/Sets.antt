@@ -1,0 +1,117 @@
+-- Lists of variables as sets.
+use Rattle.std.proofs.Common.{◌≡◌, ℕ, suc, ◌+◌, ◌≤◌, Bool, true, false, not, nat_eq, ◌&&◌, ◌||◌, List, [], ◌∷◌, ◌++◌, refl, sym, ap, subst, ◌∙◌, ⊎_elim, if◌then◌else◌, length, arith}
+use Rattle.std.proofs.lemmas.Bool.{and_parts, and_from, or_cases, or_parts, or_left, or_right, or_from, not-true, not_from_false, false≢true, eqb-true, eq-eqb, false_from_ne_true}
+use Rattle.std.proofs.lemmas.List.Folds.{list_any-append}
+use Rattle.flat_ir.specs.Formed.{is_in, all_different}
+use Rattle.flat_ir.specs.Wide.{different, without}
+
+pub same-number : (x y : ℕ) → nat_eq x y ≡ true → x ≡ y
+same-number x y e = eqb-true x y e
+
+pub other-number : (x y : ℕ) → nat_eq x y ≡ false → nat_eq y x ≡ false
+other-number x y e = false_from_ne_true (nat_eq y x) (λ f. false≢true (sym e ∙ eq-eqb x y (sym (same-number y x f))))
+
+-- ---- what is in a list
+
+pub in-append : (x : ℕ) (a b : List ℕ) → is_in x (a ++ b) ≡ (is_in x a || is_in x b)
+in-append x a b = list_any-append (λ y. nat_eq x y) a b
+
+in-if : (g : Bool) (x y : ℕ) (w : List ℕ) → is_in x (if g then w else y ∷ w) ≡ (if g then is_in x w else (nat_eq x y || is_in x w))
+in-if true x y w = refl
+in-if false x y w = refl
+
+without-at : (g e i k r : Bool) → (e ≡ true → k ≡ g) → r ≡ (i && not k) → (if g then r else (e || r)) ≡ ((e || i) && not k)
+without-at true true true true r same h = h
+without-at true true false true r same h = h
+without-at true true i false r same h = let same' : false ≡ true = same refl in cc
+without-at true false i k r same h = h
+without-at false true i true r same h = let same' : true ≡ false = same refl in cc
+without-at false true i false r same h = refl
+without-at false false i k r same h = h
+
+pub in-without : (x : ℕ) (a gone : List ℕ) → is_in x (without a gone) ≡ (is_in x a && not (is_in x gone))
+in-without x [] gone = refl
+in-without x (y ∷ a) gone =
+    in-if (is_in y gone) x y (without a gone)
+    ∙ without-at (is_in y gone) (nat_eq x y) (is_in x a) (is_in x gone) (is_in x (without a gone)) (λ e. ap (λ z. is_in z gone) (same-number x y e)) (in-without x a gone)
+
+-- what isn't there can't be taken out
+pub without-absent : (x : ℕ) (a : List ℕ) → is_in x a ≡ false → without a (x ∷ []) ≡ a
+without-absent x [] e = refl
+without-absent x (y ∷ a) e =
+    let parts = or_parts (nat_eq x y) (is_in x a) e in
+    let other : (nat_eq y x || false) ≡ false = or_from (nat_eq y x) false (other-number x y parts.0) refl in
+    ap (λ b. if b then without a (x ∷ []) else y ∷ without a (x ∷ [])) other ∙ ap (λ l. y ∷ l) (without-absent x a parts.1)
+
+-- ---- how many different ones there are
+
+different-if : (b : Bool) (y : ℕ) (w : List ℕ) → is_in y w ≡ b → different (y ∷ w) ≡ (if b then different w else 1 + different w)
+different-if b y w e = ap (λ c. if c then different w else 1 + different w) e
+
+drop-at : (same inner : Bool) (x y : ℕ) (b : List ℕ) → nat_eq y x ≡ same → is_in y b ≡ inner → (is_in x b ≡ true → different b ≡ 1 + different (without b (x ∷ []))) → is_in x (y ∷ b) ≡ true
+    → (if inner then different b else 1 + different b) ≡ 1 + different (if (same || false) then without b (x ∷ []) else y ∷ without b (x ∷ []))
+drop-at true true x y b s i h e = h (subst (λ z. is_in z b ≡ true) (same-number y x s) i)
+drop-at true false x y b s i h e = ap (λ l. 1 + different l) (sym (without-absent x b (subst (λ z. is_in z b ≡ false) (same-number y x s) i)))
+drop-at false true x y b s i h e =
+    let inside : is_in x b ≡ true = ⊎_elim (λ (p : nat_eq x y ≡ true). absurd (false≢true (sym (other-number y x s) ∙ p))) (λ (p : is_in x b ≡ true). p) (or_cases (nat_eq x y) (is_in x b) e) in
+    let still : is_in y (without b (x ∷ [])) ≡ true = in-without y b (x ∷ []) ∙ and_from (is_in y b) (not (nat_eq y x || false)) i (not_from_false (nat_eq y x || false) (or_from (nat_eq y x) false s refl)) in
+    h inside ∙ ap (λ n. 1 + n) (sym (different-if true y (without b (x ∷ [])) still))
+drop-at false false x y b s i h e =
+    let inside : is_in x b ≡ true = ⊎_elim (λ (p : nat_eq x y ≡ true). absurd (false≢true (sym (other-number y x s) ∙ p))) (λ (p : is_in x b ≡ true). p) (or_cases (nat_eq x y) (is_in x b) e) in
+    let gone : is_in y (without b (x ∷ [])) ≡ false = in-without y b (x ∷ []) ∙ ap (λ c. c && not (nat_eq y x || false)) i in
+    ap (λ n. 1 + n) (h inside ∙ sym (different-if false y (without b (x ∷ [])) gone))
+
+-- without one that is there, there is one fewer
+pub different-drop : (x : ℕ) (b : List ℕ) → is_in x b ≡ true → different b ≡ 1 + different (without b (x ∷ []))
+different-drop x [] e = cc
+different-drop x (y ∷ b) e = drop-at (nat_eq y x) (is_in y b) x y b refl refl (different-drop x b) e
+
+-- what is in the first is in the second
+abbrev pub Within : List ℕ → List ℕ → Type 0
+Within a b = (x : ℕ) → is_in x a ≡ true → is_in x b ≡ true
+
+below-at : (inner : Bool) (x : ℕ) (a b : List ℕ) → is_in x a ≡ inner → Within (x ∷ a) b → ((c : List ℕ) → Within a c → different a ≤ different c) → (if inner then different a else 1 + different a) ≤ different b
+below-at true x a b i h rest = rest b (λ y e. h y (or_right (nat_eq y x) (is_in y a) e))
+below-at false x a b i h rest =
+    let there : is_in x b ≡ true = h x (or_left (nat_eq x x) (is_in x a) (eq-eqb x x refl)) in
+    let fewer : different b ≡ 1 + different (without b (x ∷ [])) = different-drop x b there in
+    let less : different a ≤ different (without b (x ∷ [])) =
+    rest (without b (x ∷ []))
+    (λ y e.
+    let other : nat_eq y x ≡ false = false_from_ne_true (nat_eq y x) (λ f. false≢true (sym i ∙ subst (λ z. is_in z a ≡ true) (same-number y x f) e)) in
+    in-without y b (x ∷ []) ∙ and_from (is_in y b) (not (nat_eq y x || false)) (h y (or_right (nat_eq y x) (is_in y a) e)) (not_from_false (nat_eq y x || false) (or_from (nat_eq y x) false other refl)))
+    in
+    omega arith
+
+-- a set in another has at most as many
+pub different-below : (a b : List ℕ) → Within a b → different a ≤ different b
+different-below [] b h = omega arith
+different-below (x ∷ a) b h = below-at (is_in x a) x a b refl h (λ c. different-below a c)
+
+append-at : (inner all : Bool) (m n k : ℕ) → (inner ≡ true → all ≡ true) → m ≤ n + k → (if all then m else 1 + m) ≤ (if inner then n else 1 + n) + k
+append-at true true m n k h le = le
+append-at true false m n k h le = let same : false ≡ true = h refl in cc
+append-at false true m n k h le = omega arith
+append-at false false m n k h le = omega arith
+
+-- two sets together have at most as many as both
+pub different-append : (a b : List ℕ) → different (a ++ b) ≤ different a + different b
+different-append [] b = omega arith
+different-append (x ∷ a) b =
+    append-at (is_in x a) (is_in x (a ++ b)) (different (a ++ b)) (different a) (different b) (λ e. in-append x a b ∙ or_left (is_in x a) (is_in x b) e) (different-append a b)
+
+length-at : (inner : Bool) (m n : ℕ) → m ≤ n → (if inner then m else 1 + m) ≤ suc n
+length-at true m n le = omega arith
+length-at false m n le = omega arith
+
+pub different-length : (a : List ℕ) → different a ≤ length a
+different-length [] = omega arith
+different-length (x ∷ a) = length-at (is_in x a) (different a) (length a) (different-length a)
+
+-- where all are different, they are as many as the list is long
+pub different-all : (a : List ℕ) → all_different a ≡ true → different a ≡ length a
+different-all [] e = refl
+different-all (x ∷ a) e =
+    let parts = and_parts (not (is_in x a)) (all_different a) e in
+    let rest : different a ≡ length a = different-all a parts.1 in
+    different-if false x a (not-true (is_in x a) parts.0) ∙ (let next : 1 + different a ≡ suc (length a) = omega arith in next)
