@@ -11,6 +11,7 @@ pub mod TreeKinds
 pub mod Operands
 pub mod Access
 pub mod Places
+pub mod Sizing
 pub mod Unpacking
 pub mod Whole
 pub mod Shifts

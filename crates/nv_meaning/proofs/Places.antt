@@ -181,16 +181,16 @@ declared-layouts d (GroupDecl fs ∷ ds) = declared-layouts (with_decl d (GroupD
 
 -- ---- layouts
 -- those that are known stay in front
-laid-front : (known : Layouts) (ls : List (List ℕ × LayoutTree)) → (more' : Layouts) × (laid known ls ≡ known ++ more')
+pub laid-front : (known : Layouts) (ls : List (List ℕ × LayoutTree)) → (more' : Layouts) × (laid known ls ≡ known ++ more')
 laid-front known [] = ([], sym (append-nil known))
 laid-front known (l ∷ ls) = let r = laid-front (known ++ (l.0, outline known l.1) ∷ []) ls in ((l.0, outline known l.1) ∷ r.0, r.1 ∙ append_assoc known ((l.0, outline known l.1) ∷ []) r.0)
 
-laid-append : (known : Layouts) (ls ms : List (List ℕ × LayoutTree)) → laid known (ls ++ ms) ≡ laid (laid known ls) ms
+pub laid-append : (known : Layouts) (ls ms : List (List ℕ × LayoutTree)) → laid known (ls ++ ms) ≡ laid (laid known ls) ms
 laid-append known [] ms = refl
 laid-append known (l ∷ ls) ms = laid-append (known ++ (l.0, outline known l.1) ∷ []) ls ms
 
 -- ---- declarations one after another
-mapped : {A B : Type 0} (f : A → B) (xs ys : List A) → map f (xs ++ ys) ≡ map f xs ++ map f ys
+pub mapped : {A B : Type 0} (f : A → B) (xs ys : List A) → map f (xs ++ ys) ≡ map f xs ++ map f ys
 mapped f [] ys = refl
 mapped f (x ∷ xs) ys = ap (λ l. f x ∷ l) (mapped f xs ys)
 
@@ -270,10 +270,10 @@ declared-is t ls xs fs l x f =
     ∙ ap (λ k. record { layouts = laid [] (layouts_in t.decls); exceptions = exceptions_in t.decls; functions = k }) (declared-functions (record { layouts = []; exceptions = []; functions = [] }) t.decls))
 
 -- ---- looking a layout up
-abbrev firsts : {A : Type 0} → List (List ℕ × A) → List (List ℕ)
+abbrev pub firsts : {A : Type 0} → List (List ℕ × A) → List (List ℕ)
 firsts xs = map (λ l. l.0) xs
 
-value-found : (i j n : ℕ) (y : List ℕ) (none : OutlineTree) (known : Layouts) (d : List ℕ × OutlineTree) → place_from i y (firsts known) ≡ Some (i + j) → j < n → value_at none y (take n known) ≡ (get_or known j d).1
+pub value-found : (i j n : ℕ) (y : List ℕ) (none : OutlineTree) (known : Layouts) (d : List ℕ × OutlineTree) → place_from i y (firsts known) ≡ Some (i + j) → j < n → value_at none y (take n known) ≡ (get_or known j d).1
 value-found i j n y none [] d h inside = cc
 value-found i j zero y none ((x, a) ∷ known) d h inside = absurd (omega arith)
 value-found i j (suc n) y none ((x, a) ∷ known) d h inside = by (bytes_eq y x) refl (λ k g l. value-found (suc i) k n y none known d g l) j h inside
@@ -288,7 +288,7 @@ value-found i j (suc n) y none ((x, a) ∷ known) d h inside = by (bytes_eq y x)
         ap (λ b. if b then a else value_at none y (take n known)) e
         ∙ next k (sym (ap (λ b. if b then Some i else place_from (suc i) y (firsts known)) e) ∙ h ∙ ap (λ m. Some m) s) (omega arith)
 
-value-beyond : (i j n : ℕ) (y : List ℕ) (none : OutlineTree) (known : Layouts) → place_from i y (firsts known) ≡ Some (i + j) → n ≤ j → value_at none y (take n known) ≡ none
+pub value-beyond : (i j n : ℕ) (y : List ℕ) (none : OutlineTree) (known : Layouts) → place_from i y (firsts known) ≡ Some (i + j) → n ≤ j → value_at none y (take n known) ≡ none
 value-beyond i j n y none [] h past = cc
 value-beyond i j zero y none ((x, a) ∷ known) h past = refl
 value-beyond i zero (suc n) y none ((x, a) ∷ known) h past = absurd (omega arith)
@@ -300,7 +300,7 @@ value-beyond i (suc j) (suc n) y none ((x, a) ∷ known) h past = by (bytes_eq y
         let s : i + suc j ≡ suc i + j = omega arith in
         ap (λ b. if b then a else value_at none y (take n known)) e ∙ next (sym (ap (λ b. if b then Some i else place_from (suc i) y (firsts known)) e) ∙ h ∙ ap (λ m. Some m) s)
 
-value-none : (i n : ℕ) (y : List ℕ) (none : OutlineTree) (known : Layouts) → place_from i y (firsts known) ≡ None → value_at none y (take n known) ≡ none
+pub value-none : (i n : ℕ) (y : List ℕ) (none : OutlineTree) (known : Layouts) → place_from i y (firsts known) ≡ None → value_at none y (take n known) ≡ none
 value-none i zero y none known h = refl
 value-none i (suc n) y none [] h = refl
 value-none i (suc n) y none ((x, a) ∷ known) h = by (bytes_eq y x) refl (λ g. value-none (suc i) n y none known g)
@@ -361,7 +361,7 @@ module _ (xs : List Item) (y : List ℕ) where
   abbrev nothing : OutlineTree
   nothing = PartsOutline no_named_outlines
 
-  all-firsts : firsts laid_all ≡ map (λ l. l.0.now) xs
+  pub all-firsts : firsts laid_all ≡ map (λ l. l.0.now) xs
   all-firsts = laid-firsts [] (layout_pairs xs) ∙ pairs-firsts xs
 
   pub layout-none : (n : ℕ) → place_from 0 y (map (λ l. l.0.now) xs) ≡ None → value_at nothing y (take n laid_all) ≡ nothing

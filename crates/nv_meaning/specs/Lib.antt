@@ -4,6 +4,7 @@ pub mod Running
 pub mod Meaning
 pub mod View
 pub mod Tables
+pub mod Sizes
 pub mod TableView
 pub mod Ran
 pub mod Operand

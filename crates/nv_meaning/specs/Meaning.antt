@@ -13,7 +13,7 @@ use Rattle.nv_ast.specs.declared.tree.ShiftOp.TheVariants.{Left, Right, Rotate}
 use Rattle.nv_ast.specs.Tree.{Tree, NumberTree, TruthTree, VarTree, ParenTree, TupleTree, FieldsTree, DotTree, InvertTree, NegateTree, BinaryTree, ShiftTree, CallTree, UnpackTree, PackTree, RaiseTree, IfTree, TryTree, FetchTree, BlockTree, Trees, no_trees, tree_and, NamedTrees, no_named_trees, named_tree_and, StatementTree, LetStatement, StoreStatement, StatementTrees, no_statements, statement_and}
 use Rattle.nv_ast.specs.Tree.{NamedLayout, NamedTypes, named_type_and, FunTree, DeclTree, LayoutDecl, ExceptionDecl, GroupDecl, ProgramTree}
 use Rattle.nv_ast.specs.Outline.{Layouts, outline}
-use Rattle.nv_ast.specs.Types.{named_types_of, total_named_words}
+use Rattle.nv_ast.specs.Types.{named_types_of}
 use Rattle.nv_meaning.specs.Values.{Value, Word, Truth, Tuple, Record, Values, no_values, value_and, NamedValues, no_named_values, named_value_and, named_values_from, Scope, variable_in, word_of, truth_of, fields_of, field_named, words_of, all_matched, matched}
 use Rattle.nv_meaning.specs.Packing.{unpacked_value, packed_value}
 use Rattle.nv_meaning.specs.Running.{Running, Result, Gives, Raises, Stops, Results, GiveAll, NamedResults, GiveNamed, Stated, GoesOn, and_then, and_all, and_named, and_stated, and_further, then_more, then_named, then_stated, before_rest, before_named, handled, exception_number, fetch, store, taken, closed}
@@ -137,14 +137,6 @@ calls_within zero d f vs now = Stops outcome.Going now
 calls_within (suc depth) d f vs now = taken now.calls now (λ next. enter d (calls_within depth d) (function_in d.functions f) vs next)
 
 -- ---- programs
-
--- how many words main's parameters have
-abbrev pub param_words : Declared → Option FunTree → ℕ
-param_words d (Some f) = total_named_words (named_types_of d.layouts f.params)
-param_words d None = 0
-
-abbrev pub params_of : ProgramTree → ℕ
-params_of t = param_words (declared t) (function_in (declared t).functions (codes "main"))
 
 -- main's parameters, with their values out of the argument words
 abbrev pub named_scope : NamedValues → Scope → Scope

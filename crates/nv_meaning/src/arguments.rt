@@ -10,7 +10,6 @@ ghost use Rattle.nv_meaning.specs.Blanks.{blank, blanks, named_blanks, filled as
 ghost use Rattle.nv_meaning.specs.TableView.{declared_in};
 ghost use Rattle.nv_meaning.specs.View.{view, list_values, list_named_values, scope_of};
 
-use crate::pack::size;
 use crate::scope::Scope;
 use crate::table::Table;
 use crate::unpack::record;
@@ -88,16 +87,11 @@ fn blank_fields<'a>(
 fn blank_packed<'a>(alloc: Global, t: &Table<'a>, x: &Name) -> Result<Value<'a>, NoMemory>
     ensures { IfOk result (λ v. view v ≡ blank (packed_ty (outline (declared_in t.now).layouts (NamedLayout x.now)))) }
 {
-    match t.layout(x, t.layouts.len()) {
-        Some((l, limit)) => {
-            let bits = size(t, l, limit);
-            if bits > u64::MAX - 31 {
-                return Err(NoMemory);
-            }
-            blank_words(alloc, (bits + 31) / 32)
-        }
-        None => blank_words(alloc, 0),
+    let bits = t.size_of(x);
+    if bits > u64::MAX - 31 {
+        return Err(NoMemory);
     }
+    blank_words(alloc, (bits + 31) / 32)
 }
 
 fn blank_record<'a>(alloc: Global, t: &Table<'a>, x: &Name) -> Result<Value<'a>, NoMemory>

@@ -8,6 +8,7 @@ mod pack;
 mod program;
 mod run;
 mod scope;
+mod sizes;
 mod stop;
 mod table;
 #[cfg(test)]
@@ -16,3 +17,4 @@ mod unpack;
 mod value;
 
 pub use program::exec;
+pub use table::Table;

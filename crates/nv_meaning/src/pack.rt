@@ -31,7 +31,7 @@ pub fn packed<'a>(
 {
     match t.layout(x, t.layouts.len()) {
         Some((l, limit)) => {
-            let bits = size(t, l, limit);
+            let bits = t.size_of(x);
             let words = packed_words(alloc, t, l, limit, bits, v)?;
             value_of_words(alloc, &words)
         }
@@ -83,68 +83,6 @@ fn fields_in<'b, 'a>(v: &'b Value<'a>) -> &'b [Field<'a>]
     match v {
         Value::Record(fields) => fields,
         _ => &[],
-    }
-}
-
-// ---- sizes
-
-/// The number of bits of a layout, or the greatest number where it is more.
-#[cycle(size)]
-pub fn size<'a>(t: &Table<'a>, l: &'a LayoutText, limit: usize) -> u64
-    ensures { result ≡ min (bit_size (outline (take limit (declared_in t.now).layouts) (layout_tree l.now))) u64.MAX }
-{
-    match l {
-        LayoutText::Named(x) => match t.layout(x, limit) {
-            Some((named, before)) => size(t, named, before),
-            None => 0,
-        },
-        LayoutText::Gap(n) => *n as u64,
-        LayoutText::Parts(fs) => parts_size(t, fs, limit),
-        LayoutText::Joined(ls) => joined_size(t, ls, limit),
-    }
-}
-
-#[cycle(size)]
-fn joined_size<'a>(t: &Table<'a>, ls: &'a [LayoutText], limit: usize) -> u64
-    ensures { result ≡ min (total_size (outlines (take limit (declared_in t.now).layouts) (list_layouts ls.now))) u64.MAX }
-{
-    let mut total: u64 = 0;
-    for l in ls {
-        total = total.saturating_add(size(t, l, limit));
-    }
-    total
-}
-
-#[cycle(size)]
-fn parts_size<'a>(t: &Table<'a>, fs: &'a [(Name, FieldText)], limit: usize) -> u64
-    ensures { result ≡ min (total_named_size (field_outlines (take limit (declared_in t.now).layouts) (list_fields fs.now))) u64.MAX }
-{
-    let mut total: u64 = 0;
-    for f in fs {
-        total = total.saturating_add(field_size(t, &f.1, limit));
-    }
-    total
-}
-
-#[cycle(size)]
-fn longest<'a>(t: &Table<'a>, fs: &'a [(Name, FieldText)], limit: usize) -> u64
-    ensures { result ≡ min (greatest_size (field_outlines (take limit (declared_in t.now).layouts) (list_fields fs.now))) u64.MAX }
-{
-    let mut most: u64 = 0;
-    for f in fs {
-        most = most.max(field_size(t, &f.1, limit));
-    }
-    most
-}
-
-#[cycle(size)]
-fn field_size<'a>(t: &Table<'a>, f: &'a FieldText, limit: usize) -> u64
-    ensures { result ≡ min (bit_size (field_outline (take limit (declared_in t.now).layouts) (field_tree f.now))) u64.MAX }
-{
-    match f {
-        FieldText::Bits(n) => *n as u64,
-        FieldText::Inner(l) => size(t, l, limit),
-        FieldText::Overlay(fs) => longest(t, fs, limit),
     }
 }
 

@@ -5,8 +5,10 @@ ghost use Rattle.nv_ast.specs.LayoutView.{layout_tree};
 ghost use Rattle.nv_ast.specs.Tree.{NamedLayout};
 ghost use Rattle.nv_ast.specs.Exceptions.{exceptions as exception_count};
 ghost use Rattle.nv_ast.specs.ProgramView.{fun_tree, decl_tree};
-ghost use Rattle.nv_meaning.specs.Tables.{place_from, or_else, layout_pairs, functions_in, layouts_in, exceptions_in, is_alias};
+ghost use Rattle.nv_meaning.specs.Tables.{place_from, or_else, laid, layout_pairs, functions_in, layouts_in, exceptions_in, is_alias};
+ghost use Rattle.nv_meaning.specs.Sizes.{sizes_of};
 
+use crate::sizes::{name_size, sizes};
 use nv_ast::{Decl, Fun, LayoutText, Name, Program};
 use nv_base::NoMemory;
 use std::alloc::Global;
@@ -15,8 +17,8 @@ use std::collections::HashMap;
 /// The place of the first of each name.
 pub type Places<'a> = HashMap<&'a Name, usize>;
 
-/// The functions, layouts and exceptions of a program in order, and where the first of each name
-/// stands.
+/// The functions, layouts and exceptions of a program in order, where the first of each name stands,
+/// and the size of each layout in bits.
 #[derive(Drop)]
 pub struct Table<'a> {
     pub functions: Vec<&'a Fun>,
@@ -25,9 +27,11 @@ pub struct Table<'a> {
     pub function_places: Places<'a>,
     pub layout_places: Places<'a>,
     pub exception_places: Places<'a>,
+    pub sizes: Vec<u64>,
     ghost few_exceptions: { length exceptions.items ≤ 65535 },
     ghost functions_found: { (x : List ℕ) → get_by (λ key. bytes_eq x key.now) function_places ≡ place_from 0 x (map (λ f. f.now.name) functions.items) },
     ghost layouts_found: { (x : List ℕ) → get_by (λ key. bytes_eq x key.now) layout_places ≡ place_from 0 x (map (λ l. l.0.now) layouts.items) },
+    ghost sizes_known: { sizes.items ≡ sizes_of (laid [] (layout_pairs layouts.items)) },
     ghost exceptions_found: { (x : List ℕ) → get_by (λ key. bytes_eq x key.now) exception_places ≡ place_from 0 x (map (λ x. x.now) exceptions.items) },
 }
 
@@ -173,9 +177,9 @@ fn alias(l: &LayoutText) -> Option<&Name>
 }
 
 impl<'a> Table<'a> {
-    ghost use Rattle.std.specs.Prelude.{◌≡◌, ◌<◌, ◌≤◌, false, take, length, IfOk, MatchOption, None, Some};
+    ghost use Rattle.std.specs.Prelude.{◌≡◌, ◌<◌, ◌≤◌, false, min, take, length, IfOk, MatchOption, None, Some};
     ghost use Rattle.nv_ast.specs.LayoutView.{layout_tree};
-    ghost use Rattle.nv_ast.specs.Outline.{outline, PartsOutline, no_named_outlines};
+    ghost use Rattle.nv_ast.specs.Outline.{outline, size as bit_size, PartsOutline, no_named_outlines};
     ghost use Rattle.nv_ast.specs.ProgramView.{program_of, fun_tree};
     ghost use Rattle.nv_ast.specs.Tree.{NamedLayout};
     ghost use Rattle.nv_meaning.specs.Meaning.{declared, function_in};
@@ -193,6 +197,7 @@ impl<'a> Table<'a> {
         let function_places = function_places(alloc, &functions)?;
         let layout_places = layout_places(alloc, &layouts)?;
         let exception_places = exception_places(alloc, &exceptions)?;
+        let sizes = sizes(alloc, &layouts, &layout_places)?;
         Ok(Table {
             functions,
             layouts,
@@ -200,6 +205,7 @@ impl<'a> Table<'a> {
             function_places,
             layout_places,
             exception_places,
+            sizes,
         })
     }
 
@@ -219,6 +225,14 @@ impl<'a> Table<'a> {
             Some(place) => *place as u16 + 1,
             None => 0,
         }
+    }
+
+    /// How many bits the layout of a name has: 0 where there is none, and the greatest number where
+    /// they are more.
+    pub fn size_of(&self, x: &Name) -> u64
+        ensures { result ≡ min (bit_size (outline (declared_in self.now).layouts (NamedLayout x.now))) u64.MAX }
+    {
+        name_size(&self.layout_places, &self.sizes, x)
     }
 
     /// The first layout of a name among the first `limit`, and how many stand before it. Where it is

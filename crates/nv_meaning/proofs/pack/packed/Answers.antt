@@ -1,6 +1,7 @@
-use Rattle.std.proofs.Common.{◌≡◌, ◌∙◌, ap, sym, subst, length, arith, IfOk}
+use Rattle.std.proofs.Common.{◌≡◌, ◌∙◌, ap, sym, subst, length, min, arith, IfOk}
+use Rattle.std.below.core.specs.declared.int.u64.TheConstants.{MAX}
 use Rattle.nv_ast.specs.Tree.{NamedLayout}
-use Rattle.nv_ast.specs.Outline.{outline}
+use Rattle.nv_ast.specs.Outline.{outline, size}
 use Rattle.nv_meaning.specs.Values.{words_value}
 use Rattle.nv_meaning.specs.Packing.{packed_value}
 use Rattle.nv_meaning.specs.View.{view}
@@ -8,7 +9,11 @@ use Rattle.nv_meaning.proofs.Places.{all-laid}
 use Rattle.nv_meaning.proofs.pack.packed.Goals as goal
 
 pub packed_words-requires : goal.packed_words-requires
-packed_words-requires c = c.size-bits.ensures
+packed_words-requires c =
+    let n : c.len.result ≡ length c.args.t.now.layouts.items = omega (arith, c.len.ensures, c.args.t.now.layouts.ok.0) in
+    let all = all-laid c.args.t.now.layouts.items c.len.result n in
+    let e = ap (λ k. outline k (NamedLayout c.args.x.now)) (sym all) ∙ c.in-Some.ensures.outline in
+    c.size_of-bits.ensures ∙ ap (λ o. min (size o) MAX) e
 
 pub returns-in_ok-words-in-Some : goal.returns-in_ok-words-in-Some
 returns-in_ok-words-in-Some c =
