@@ -2,8 +2,10 @@
 use Rattle.std.specs.Prelude.{◌≡◌, ◌⊎◌, ℕ, List}
 use Rattle.nv_text.specs.Program.{FaultOf}
 use Rattle.nv_text.specs.declared.error.TextError.TheVariants as text
+use Rattle.nova_front.specs.Sources.{IsUntyped, IsLarge}
 use Rattle.novac.specs.Headline.{IsUnbuilt}
-use Rattle.novac.specs.Reading.{IsUntyped, IsLarge}
+use Rattle.nova_front.specs.declared.error.FrontError.{FrontError}
+use Rattle.nova_front.specs.declared.error.FrontError.TheVariants as front
 use Rattle.novac.specs.declared.build.FirstError.{FirstError}
 use Rattle.novac.specs.declared.build.FirstError.TheVariants as first
 use Rattle.novac.specs.declared.refusal.Refusal.{Refusal}
@@ -20,6 +22,13 @@ IsFaulty bytes first.Unbuilt = ⊥
 -- the same, or the program isn't of the first form
 abbrev pub IsCaused : List ℕ → FirstError → Type 0
 IsCaused bytes e = IsFaulty bytes e ⊎ ((e ≡ first.Unbuilt) × IsUnbuilt bytes)
+
+-- how a refusal of the front end is passed on
+abbrev pub IsPassedAs : FrontError → FirstError → Type 0
+IsPassedAs front.NoMemory e = e ≡ first.NoMemory
+IsPassedAs (front.Text f) e = e ≡ first.Text f
+IsPassedAs (front.Fault kind place) e = e ≡ first.Fault kind place
+IsPassedAs (front.TooLarge size) e = e ≡ first.TooLarge size
 
 -- how each is told
 abbrev pub IsToldAs : FirstError → Refusal → Type 0

@@ -6,7 +6,8 @@ use Rattle.nv_ast.specs.Tree.{ProgramTree}
 use Rattle.nv_memtext.specs.MemoryText.{Gives}
 use Rattle.nv_meaning.specs.Meaning.{source}
 use Rattle.novac.specs.Machine.{IsMemoryRefusedFor, full_text}
-use Rattle.novac.specs.Reading.{IsTypedSource, SourceRefuses}
+use Rattle.nova_front.specs.Sources.{IsTypedSource}
+use Rattle.novac.specs.Reading.{SourceRefuses}
 use Rattle.novac.specs.Status.{outcome_status}
 use Rattle.novac.specs.declared.refusal.Refusal.{Refusal}
 use Rattle.novac.specs.declared.status.Status.{Status}

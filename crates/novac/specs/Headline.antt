@@ -11,7 +11,8 @@ use Rattle.uc_object.specs.Object.{IsObject}
 use Rattle.novac.specs.FirstForm.{HasFirstForm}
 use Rattle.novac.specs.Lines.{counted}
 use Rattle.novac.specs.Loading.{IsLoaded}
-use Rattle.novac.specs.Reading.{IsTypedSource, SourceRefuses, source_limit}
+use Rattle.nova_front.specs.Sources.{IsTypedSource}
+use Rattle.novac.specs.Reading.{SourceRefuses, source_limit}
 use Rattle.novac.specs.declared.refusal.Refusal.{Refusal}
 use Rattle.novac.specs.declared.refusal.Refusal.TheVariants.{Unbuilt}
 

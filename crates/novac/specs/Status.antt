@@ -22,7 +22,7 @@ status_number Fault = 15
 status_number StepsSpent = 16
 status_number CertificateRefused = 17
 status_number Unlawful = 18
-status_number Unbuilt = 19
+status_number Unbuilt = 20
 
 -- the status of a run of the engine, or of a program, by how it ended
 abbrev pub outcome_status : Outcome → Status

@@ -7,15 +7,15 @@ ghost use Rattle.uc_isa.specs.Agrees.{Agrees};
 ghost use Rattle.uc_isa.specs.Lawful.{IsLawful};
 ghost use Rattle.novac.specs.Building.{IsCaused, IsFaulty};
 ghost use Rattle.novac.specs.FirstForm.{HasFirstForm};
-ghost use Rattle.novac.specs.Reading.{IsTypedSource};
+ghost use Rattle.nova_front.specs.Sources.{IsTypedSource};
 
 use crate::emit::emit;
 use crate::form::form_of;
 use nv_ast::{Span, Typed};
 use nv_base::NoMemory;
-use nv_text::{TextError, parse};
-use nv_types::{TypeError, check};
-use std::alloc::{AllocError, AllocFailed, Global};
+use nv_text::TextError;
+use nova_front::{FrontError, front, typed};
+use std::alloc::Global;
 use uc_isa::Code;
 
 /// A program of the first form, and code that does what it says.
@@ -49,23 +49,18 @@ impl From<NoMemory> for FirstError {
     }
 }
 
-impl From<AllocError> for FirstError {
-    ghost use Rattle.novac.specs.declared.build.FirstError.TheVariants.{NoMemory as WantOfMemory};
+impl From<FrontError> for FirstError {
+    ghost use Rattle.novac.specs.Building.{IsPassedAs};
 
-    ghost from_gives = { λ _ e. e ≡ WantOfMemory };
+    ghost from_gives = { IsPassedAs };
 
-    fn from(_error: AllocError) -> FirstError {
-        FirstError::NoMemory
-    }
-}
-
-impl<T: Drop> From<AllocFailed<T>> for FirstError {
-    ghost use Rattle.novac.specs.declared.build.FirstError.TheVariants.{NoMemory as WantOfMemory};
-
-    ghost from_gives = { λ _ e. e ≡ WantOfMemory };
-
-    fn from(_error: AllocFailed<T>) -> FirstError {
-        FirstError::NoMemory
+    fn from(error: FrontError) -> FirstError {
+        match error {
+            FrontError::NoMemory => FirstError::NoMemory,
+            FrontError::Text(fault) => FirstError::Text(fault),
+            FrontError::Fault(kind, span) => FirstError::Fault(kind, span),
+            FrontError::TooLarge(size) => FirstError::TooLarge(size),
+        }
     }
 }
 
@@ -75,17 +70,7 @@ pub fn typed_of(alloc: Global, bytes: &[u8]) -> Result<Typed, FirstError>
     ensures program { IfOk result (λ t. IsTypedSource bytes.now (typed_program t)) }
     ensures refused { IfErr result (IsFaulty bytes.now) }
 {
-    let program = match parse(alloc, bytes) {
-        Ok(program) => program,
-        Err(TextError::NoMemory) => return Err(FirstError::NoMemory),
-        Err(error) => return Err(FirstError::Text(error)),
-    };
-    match check(alloc, program) {
-        Ok(typed) => Ok(typed),
-        Err(TypeError::NoMemory) => Err(FirstError::NoMemory),
-        Err(TypeError::Fault(kind, span)) => Err(FirstError::Fault(kind, span)),
-        Err(TypeError::TooLarge(size)) => Err(FirstError::TooLarge(size)),
-    }
+    Ok(typed(alloc, bytes)?)
 }
 
 /// Compiles a text whose program is typed, with an expanded size of at most 4,096, and of the first form: one function
@@ -99,7 +84,7 @@ pub fn compile_first(alloc: Global, bytes: &[u8]) -> Result<First, FirstError>
     ensures agrees { IfOk result (λ first. Agrees (main_words (typed_program first.program)) (source (typed_program first.program)) first.code) }
     ensures refused { IfErr result (IsCaused bytes.now) }
 {
-    let program = typed_of(alloc, bytes)?;
+    let (program, _flat) = front(alloc, bytes)?;
     let Some(form) = form_of(alloc, program.program())? else {
         return Err(FirstError::Unbuilt);
     };

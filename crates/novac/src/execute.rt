@@ -8,7 +8,8 @@ ghost use Rattle.novac.specs.Command.{Exec, inputs_of};
 ghost use Rattle.novac.specs.Executing.{ExecRefuses, IsExecuted};
 ghost use Rattle.novac.specs.Lines.{IsUncaused, IfReadFault};
 ghost use Rattle.novac.specs.Machine.{memory_limit, full_text};
-ghost use Rattle.novac.specs.Reading.{IsTypedSource, SourceRefuses, source_limit};
+ghost use Rattle.nova_front.specs.Sources.{IsTypedSource};
+ghost use Rattle.novac.specs.Reading.{SourceRefuses, source_limit};
 ghost use Rattle.novac.specs.Status.{outcome_status, IsOutcome};
 
 use crate::build::typed_of;

@@ -60,7 +60,7 @@ impl Status {
             Status::StepsSpent => 16,
             Status::CertificateRefused => 17,
             Status::Unlawful => 18,
-            Status::Unbuilt => 19,
+            Status::Unbuilt => 20,
         }
     }
 }

@@ -48,15 +48,15 @@ fn each_answer_has_its_cause(rt: HostRuntime) -> Result<(), Fail> {
         (3, SUM, &[0], compile),
         (3, SUM, &[], &["compile", "t", "o"]),
         (4, SUM, &[1], compile),
-        (19, b"fun main[]: word { 70000 }", &[], compile),
-        (19, b"fun main[]: word { 65536 }", &[], compile),
+        (20, b"fun main[]: word { 70000 }", &[], compile),
+        (20, b"fun main[]: word { 65536 }", &[], compile),
         (0, b"fun main[]: word { 65535 }", &[], compile),
         (7, b"fun main[a: word]: word { b }", &[], compile),
         (7, b"fun main[a: word, a: word]: word { a }", &[], compile),
         (0, b"fun main[a: word[1]]: word { a }", &[], compile),
-        (19, b"fun main[a: word]: word { (a) }", &[], compile),
+        (20, b"fun main[a: word]: word { (a) }", &[], compile),
         (
-            19,
+            20,
             b"fun main[a: word]: word { a } fun f[]: word { 1 }",
             &[],
             compile,
@@ -65,7 +65,7 @@ fn each_answer_has_its_cause(rt: HostRuntime) -> Result<(), Fail> {
         (6, b"fun main[a: word]: word { a + }", &[], compile),
         (6, b"fun main[a: word]: word { a @ }", &[], compile),
         (0, b"fun main[]: word { 1+1+1+1+1+1+1+1 }", &[], compile),
-        (19, b"fun main[]: word { 1+1+1+1+1+1+1+1+1 }", &[], compile),
+        (20, b"fun main[]: word { 1+1+1+1+1+1+1+1+1 }", &[], compile),
         (7, none, &[], compile),
     ];
     for (at, (status, source, failing, words)) in cases.iter().enumerate() {
@@ -231,7 +231,7 @@ fn each_status_prints_its_line(rt: HostRuntime) -> Result<(), Fail> {
         (&["lint", "longer"], 12, b"object 20\n"),
         (&["lint", "add"], 0, b"lawful 2\n"),
         (&["lint", "bank"], 18, b"unlawful place 0 rule 1\n"),
-        (&["compile", "unbuilt", "p"], 19, b"unbuilt\n"),
+        (&["compile", "unbuilt", "p"], 20, b"unbuilt\n"),
         (&["compile", "untyped", "p"], 7, b"type 10 at 19 20\n"),
         (&["compile", "grown", "p"], 8, b"too large 8180\n"),
         (

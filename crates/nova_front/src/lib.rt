@@ -1,0 +1,10 @@
+//! The front end: from the bytes of a text to its typed program and its flat program.
+#![tactic(auto)]
+
+mod error;
+mod front;
+#[cfg(test)]
+mod tests;
+
+pub use error::FrontError;
+pub use front::{front, typed};

@@ -1,0 +1,4 @@
+//! stub
+#![tactic(auto)]
+mod program;
+pub use program::flatten;
