@@ -3,7 +3,7 @@
 use Rattle.std.specs.Prelude.{ℕ, zero, suc, true, false, not, nat_eq, nat_lt, if◌then◌else◌, List, [], ◌∷◌, ◌++◌, Option, Some, None, bytes_eq, codes}
 use Rattle.nv_base.specs.declared.term.Bin.TheVariants as bin
 use Rattle.nv_base.specs.declared.outcome.Outcome.TheVariants as outcome
-use Rattle.nv_base.specs.Words.{bin_word, word_not, shifted_left, shifted_right, rotated_left}
+use Rattle.nv_base.specs.Words.{bin_word, word, word_not, shifted_left, shifted_right, rotated_left}
 use Rattle.nv_base.specs.Memories.{Memories}
 use Rattle.nv_base.specs.Meanings.{Meaning}
 use Rattle.nv_ast.specs.declared.tree.Op.{Op}
@@ -80,8 +80,9 @@ Calls = List ℕ → Values → Running → Result
 
 -- what an expression comes to in a scope, given what calls come to
 abbrev mutual
+  -- a number has at most 32 bits; of a larger one, which no text has, the lowest 32 are taken
   pub eval : Declared → Calls → Tree → Scope → Running → Result
-  eval d call (NumberTree s n) scope now = Gives (Word n) now
+  eval d call (NumberTree s n) scope now = Gives (Word (word n)) now
   eval d call (TruthTree s b) scope now = Gives (Truth b) now
   eval d call (VarTree s x) scope now = Gives (variable_in scope x) now
   eval d call (ParenTree s e) scope now = eval d call e scope now

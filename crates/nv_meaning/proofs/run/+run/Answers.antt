@@ -1,4 +1,4 @@
-use Rattle.std.proofs.Common.{◌≡◌, ◌∙◌, ◌+◌, ◌-◌, ◌*◌, ◌≤◌, [], ◌∷◌, ◌++◌, refl, sym, ap, subst, drop, Ok, Err, arith, append-nil}
+use Rattle.std.proofs.Common.{◌≡◌, ◌∙◌, ℕ, ◌<◌, ◌^◌, ◌+◌, ◌-◌, ◌*◌, ◌≤◌, [], ◌∷◌, ◌++◌, refl, sym, ap, subst, drop, Ok, Err, arith, append-nil}
 use Rattle.std.proofs.lemmas.Result.{err_from_is_err_and}
 use Rattle.nv_ast.specs.declared.tree.Expr.{out-Expr}
 use Rattle.nv_ast.specs.ExprView.{tree_of, list_trees, list_named_trees, list_statements, statement_tree}
@@ -24,11 +24,15 @@ use Rattle.nv_meaning.proofs.TreeKinds.{number-is, truth-is, variable-is, paren-
 use Rattle.nv_meaning.specs.Weight.{weight, weight_all, weight_named, weight_statement, weight_statements, span}
 use Rattle.nv_meaning.proofs.Falls.{falls, falls_all, falls_call, body-below, item-weight, item-weight_named, item-weight_statement}
 use Rattle.nv_meaning.proofs.Kept.{fewer, extends-nothing, extends-same, extends-from, kept-given, kept-then}
+use Rattle.nv_base.specs.Words.{word}
 use Rattle.nv_meaning.proofs.run.+run.Goals as goal
+
+word-same : (n : ℕ) → n < 2 ^ 32 → word n ≡ n
+word-same n h = omega arith
 
 pub eval-returns-in-Number : goal.eval-returns-in-Number
 eval-returns-in-Number t c = record {
-  ran = of-tree (declared_in c.args.t.now) (at c.args.left.now c.args.p.now c.args.log.now) (at c.args.left.now c.args.p.now c.args.log.now) (Ok (Done (code.Word c.in-Number.n))) (scope_of c.args.scope.now.items []) (tree_of c.args.e.now) (NumberTree (out-Expr c.args.e.now).span c.in-Number.n) (number-is c.args.e.now c.in-Number.n c.in-Number.is) (ran-here (declared_in c.args.t.now) (at c.args.left.now c.args.p.now c.args.log.now) (λ call now last. IsStep call (Ok (Done (code.Word c.in-Number.n))) last (Gives (Word c.in-Number.n) now)) (λ call grows x same. refl));
+  ran = of-tree (declared_in c.args.t.now) (at c.args.left.now c.args.p.now c.args.log.now) (at c.args.left.now c.args.p.now c.args.log.now) (Ok (Done (code.Word c.in-Number.n))) (scope_of c.args.scope.now.items []) (tree_of c.args.e.now) (NumberTree (out-Expr c.args.e.now).span c.in-Number.n) (number-is c.args.e.now c.in-Number.n c.in-Number.is) (ran-here (declared_in c.args.t.now) (at c.args.left.now c.args.p.now c.args.log.now) (λ call now last. IsStep call (Ok (Done (code.Word c.in-Number.n))) last (Gives (Word (word c.in-Number.n)) now)) (λ call grows x same. ap (λ k. Gives (Word k) x) (word-same c.in-Number.n (omega arith))));
   left = omega arith;
   extends = extends-nothing c.args.scope.now.items;
   same = refl;
