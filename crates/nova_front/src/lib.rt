@@ -2,9 +2,9 @@
 #![tactic(auto)]
 
 mod error;
-mod front;
+mod texts;
 #[cfg(test)]
 mod tests;
 
 pub use error::FrontError;
-pub use front::{front, typed};
+pub use texts::{front, typed};

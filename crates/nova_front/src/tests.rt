@@ -1,6 +1,6 @@
 // Texts through the front end.
 use crate::error::FrontError;
-use crate::front::{front, typed};
+use crate::texts::{front, typed};
 use nv_ast::Span;
 use nv_text::TextError;
 use std::alloc::Global;

@@ -26,7 +26,7 @@ calls (Try' q t k xs r u) = calls t ++ calls u
 calls (Give bs) = []
 
 -- a function is called from main on: it is main, or a function that is reached calls it
-data Reached (funs : List FlatFun) (main : ℕ) : ℕ → Type 0 where
+pub data Reached (funs : List FlatFun) (main : ℕ) : ℕ → Type 0 where
   itself : Reached funs main main
   called : (i j : ℕ) (f : FlatFun) → Reached funs main i → slice_get funs i ≡ Some f → is_in j (calls f.body) ≡ true → Reached funs main j
 
