@@ -3,7 +3,7 @@ use Rattle.std.proofs.Common.{◌≡◌, ℕ, ◌+◌, ◌≤◌, List, [], ◌�
 use Rattle.std.specs.Prelude.{slice_index, if◌then◌else◌, All}
 use Rattle.std.specs.Str.{bytes_eq}
 use Rattle.nv_base.specs.Memories.{Memories}
-use Rattle.nv_base.specs.Words.{word_sum}
+use Rattle.nv_base.specs.Words.{word, word_sum}
 use Rattle.nv_ast.specs.declared.tree.Op.TheVariants.{Add}
 use Rattle.nv_ast.specs.Outline.{Layouts}
 use Rattle.nv_ast.specs.Sizes.{main_words}
@@ -50,7 +50,9 @@ value-in known x (name ∷ names) (w ∷ ws) outer d l (inr h) =
 
 -- an operand's value
 eval-term : (d : Declared) (call : Calls) (known : Layouts) (names : List (List ℕ)) (args : List ℕ) (e : Tree) (t : Term) (now : Running) → AreDifferent names → length names ≡ length args → IsTerm names e t → eval d call e (with_params known names args []) now ≡ Gives (Word (term_word args t)) now
-eval-term d call known names args (NumberTree s n) t now u l h = ap (λ (v : Term). Gives (Word (term_word args v)) now) (sym h.1)
+eval-term d call known names args (NumberTree s n) t now u l h =
+    let small : word n ≡ n = omega (arith, h.0) in
+    ap (λ (k : ℕ). Gives (Word k) now) small ∙ ap (λ (v : Term). Gives (Word (term_word args v)) now) (sym h.1)
 eval-term d call known names args (VarTree s x) t now u l h = ap (λ (v : Value). Gives v now) (value-in known x names args [] u l h.0) ∙ ap (λ (v : Term). Gives (Word (term_word args v)) now) (sym h.1)
 eval-term d call known names args _ t now u l h = absurd h
 
