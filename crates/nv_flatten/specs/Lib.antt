@@ -1,1 +1,16 @@
+pub mod Symbols
+pub mod View
+pub mod Runs
+pub mod Whole
+pub mod WholeView
+pub mod Soundness
+pub mod Code
+pub mod Simulation
+pub mod Well
+pub mod Adds
 pub mod Flattened
+pub mod Narrow
+pub mod Fields
+pub mod Made
+pub mod Reads
+pub mod Code

@@ -1,21 +1,129 @@
 // Whole programs.
 
-ghost use Rattle.std.specs.Prelude.{◌≡◌, IfOk};
+ghost use Rattle.std.specs.Prelude.{◌≡◌, ◌≤◌, ◌+◌, ◌++◌, [], Some, IfOk, OnOk};
 ghost use Rattle.nv_base.specs.Meanings.{KeepsOutcomes};
+ghost use Rattle.nv_ast.specs.ProgramView.{fun_tree};
 ghost use Rattle.nv_ast.specs.Sizes.{main_words};
+ghost use Rattle.nv_ast.specs.Tree.{FunTree};
 ghost use Rattle.nv_ast.specs.TypedView.{typed_program};
-ghost use Rattle.nv_meaning.specs.Meaning.{source};
+ghost use Rattle.nv_ast.specs.Types.{named_types_of, total_named_words};
+ghost use Rattle.nv_ast.specs.TypeView.{list_named_types};
+ghost use Rattle.nv_meaning.specs.Meaning.{source, function_in};
 ghost use Rattle.flat_ir.specs.Meaning.{flat_meaning};
 ghost use Rattle.nv_flatten.specs.Flattened.{params_in};
+ghost use Rattle.nv_flatten.specs.Made.{IsMade, IsComplete};
+ghost use Rattle.nv_flatten.specs.Simulation.{Extends};
+ghost use Rattle.nv_flatten.specs.Symbols.{named_fresh, numbers_from, params_bound};
+ghost use Rattle.nv_flatten.specs.View.{scope_of};
+ghost use Rattle.nv_flatten.specs.WholeView.{whole_in};
 
-use flat_ir::FlatProgram;
-use nv_ast::Typed;
+use crate::forms::of_type;
+use crate::names::Names;
+use crate::scope::Scope;
+use crate::source::Source;
+use crate::walk::ending;
+use flat_ir::{Flat, FlatFun, FlatProgram};
+use nv_ast::{Fun, Name, TyText, Typed};
 use nv_base::NoMemory;
 use std::alloc::Global;
 
-/// stub
+/// The flat program of a typed one, which has its outcomes. Functions that `main` doesn't reach by
+/// calls are left out. `main` is number 0, and the others are numbered as they are first called.
 pub fn flatten(alloc: Global, t: &Typed) -> Result<FlatProgram, NoMemory>
     ensures kept { IfOk result (λ f. KeepsOutcomes (main_words (typed_program t.now)) (params_in f.funs.items f.main) (source (typed_program t.now)) (flat_meaning f.funs.items f.main)) }
 {
-    Err(NoMemory)
+    let source = Source::of(alloc, t.program())?;
+    let main = Name::new(alloc, b"main")?;
+    let funs = functions(alloc, &source, &main)?;
+    Ok(FlatProgram { funs, main: 0 })
+}
+
+// The function of a name, and behind it those that are called, in the order in which they are first
+// met; none where there is no such function.
+fn functions<'a>(alloc: Global, t: &Source<'a>, main: &Name) -> Result<Vec<FlatFun>, NoMemory>
+    ensures { IfOk result (λ funs. (g : FunTree) → function_in (whole_in t.now).declared.functions main.now ≡ Some g → IsComplete (whole_in t.now) main.now funs.items) }
+{
+    match t.function(main) {
+        Some((f, _)) => called_from(alloc, t, &f.name),
+        None => Ok(Vec::new(alloc)),
+    }
+}
+
+// The functions that are called from one on, which is the first of them.
+fn called_from<'a>(alloc: Global, t: &Source<'a>, first: &'a Name) -> Result<Vec<FlatFun>, NoMemory>
+    ensures { IfOk result (λ funs. IsComplete (whole_in t.now) first.now funs.items) }
+{
+    let mut names = Names::new(alloc);
+    let mut funs = Vec::new(alloc);
+    names.number(first)?;
+    while let Some(name) = names.get(funs.len()) {
+        funs.push(function(alloc, t, name, &mut names)?)?;
+    }
+    Ok(funs)
+}
+
+// The function of a name. No typed program calls one that isn't there; it would give nothing.
+fn function<'a>(
+    alloc: Global,
+    t: &Source<'a>,
+    name: &Name,
+    names: &mut Names<'a>,
+) -> Result<FlatFun, NoMemory>
+    ensures made { IfOk result (λ fun. (g : FunTree) → function_in (whole_in t.now).declared.functions name.now ≡ Some g → IsMade (whole_in t.now) names.new g fun) }
+    ensures names { Extends names.old names.new }
+{
+    match t.function(name) {
+        Some((f, group)) => flat_function(alloc, t, f, group, names),
+        None => Ok(FlatFun {
+            params: Vec::new(alloc),
+            results: 0,
+            body: Flat::Give(Vec::new(alloc)),
+            group: 0,
+        }),
+    }
+}
+
+// A function: new variables for the words of its parameters, and code that ends with its body's words.
+fn flat_function<'a>(
+    alloc: Global,
+    t: &Source<'a>,
+    f: &'a Fun,
+    group: u32,
+    names: &mut Names<'a>,
+) -> Result<FlatFun, NoMemory>
+    ensures made { IfOk result (λ fun. IsMade (whole_in t.now) names.new (fun_tree f.now) fun) }
+    ensures names { Extends names.old names.new }
+{
+    let mut next = 0;
+    let mut params = Vec::new(alloc);
+    let mut scope = entry(alloc, t, &f.params, &mut next, &mut params)?;
+    let tail = ending(alloc, t, &f.body, &mut scope, names, &mut next)?;
+    let results = t.words_of(alloc, &f.result)?;
+    Ok(FlatFun {
+        params,
+        results,
+        body: tail.code,
+        group,
+    })
+}
+
+// The scope in which a body begins: its parameters, of new variables, which are added to a list.
+fn entry<'a>(
+    alloc: Global,
+    t: &Source<'a>,
+    params: &'a [(Name, TyText)],
+    next: &mut u32,
+    made: &mut Vec<u32>,
+) -> Result<Scope<'a>, NoMemory>
+    ensures scope { IfOk result (λ scope. scope_of scope.items [] ≡ params_bound (named_fresh next.old (named_types_of (whole_in t.now).declared.layouts (list_named_types params.now))) []) }
+    ensures next { OnOk result (next.new ≡ next.old + total_named_words (named_types_of (whole_in t.now).declared.layouts (list_named_types params.now))) }
+    ensures made { OnOk result (made.new.items ≡ made.old.items ++ numbers_from next.old (total_named_words (named_types_of (whole_in t.now).declared.layouts (list_named_types params.now)))) }
+    ensures later { next.old ≤ next.new }
+{
+    let mut scope = Vec::new(alloc);
+    for param in params {
+        let value = of_type(alloc, &t.table, &param.1, next, made)?;
+        scope.push((&param.0, value))?;
+    }
+    Ok(scope)
 }

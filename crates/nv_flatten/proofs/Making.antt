@@ -1,0 +1,59 @@
+-- Flat functions as they are put together.
+use Rattle.std.proofs.Common.{◌≡◌, ◌∙◌, refl, sym, ap, subst, ℕ, ◌+◌, ◌≤◌, List, [], ◌++◌, append-nil, Option, Some, None, bytes_eq, arith}
+use Rattle.std.specs.Prelude.{Result, Ok, Err, IfOk, codes}
+use Rattle.std.proofs.lemmas.Slice.Eq.{bytes_eq-Decides}
+use Rattle.nv_ast.specs.Tree.{FunTree, NamedTypes, ProgramTree}
+use Rattle.nv_ast.specs.Types.{named_types_of, total_named_words}
+use Rattle.nv_ast.specs.Faults.{main_name}
+use Rattle.nv_meaning.specs.Meaning.{function_in}
+use Rattle.flat_ir.specs.declared.flat.FlatFun.{FlatFun}
+use Rattle.nv_flatten.specs.Symbols.{Symbol, SymbolScope, named_fresh, numbers_from, params_bound}
+use Rattle.nv_flatten.specs.Whole.{Whole, whole_of}
+use Rattle.nv_flatten.specs.Simulation.{Names, IsEnd}
+use Rattle.nv_flatten.specs.Made.{entry, IsMade, IsComplete}
+use Rattle.nv_flatten.proofs.Knowing.{function-named}
+
+-- what holds where there is an answer
+pub if-ok : {A E : Type 0} (r : Result A E) (P Q : A → Type 0) → ((a : A) → P a → Q a) → IfOk r P → IfOk r Q
+if-ok (Ok a) P Q h p = h a p
+if-ok (Err e) P Q h p = p
+
+pub made-of : (w : Whole) (g : FunTree) (fun : FlatFun) (names : Names) (low high : ℕ) (scope : SymbolScope) (form : Option Symbol) (types : NamedTypes) → types ≡ g.params
+    → scope ≡ params_bound (named_fresh 0 (named_types_of w.declared.layouts types)) []
+    → low ≡ 0 + total_named_words (named_types_of w.declared.layouts types)
+    → fun.params.items ≡ numbers_from 0 (total_named_words (named_types_of w.declared.layouts types))
+    → IsEnd w names low high scope g.body fun.body form → IsMade w names g fun
+made-of w g fun names low high scope form types same scopes lows params end =
+    let n : total_named_words (named_types_of w.declared.layouts types) ≡ total_named_words (named_types_of w.declared.layouts g.params) = ap (λ ts. total_named_words (named_types_of w.declared.layouts ts)) same in
+    record {
+      names = names;
+      more = ([], sym (append-nil names));
+      low = low;
+      high = high;
+      form = form;
+      params = params ∙ ap (numbers_from 0) n;
+      behind = omega arith;
+      end = subst (λ s. IsEnd w names low high s g.body fun.body form) (scopes ∙ ap (λ ts. params_bound (named_fresh 0 (named_types_of w.declared.layouts ts)) []) same) end;
+    }
+
+some_same : {A : Type 0} {x y : A} → Some x ≡ Some y → x ≡ y
+some_same e = cc
+
+-- the function that was found is the one that is made
+pub made-found : (w : Whole) (name : List ℕ) (names : Names) (f g : FunTree) (fun : FlatFun) → function_in w.declared.functions name ≡ Some f → IsMade w names f fun → function_in w.declared.functions name ≡ Some g → IsMade w names g fun
+made-found w name names f g fun found m e = subst (λ d. IsMade w names d fun) (some_same (sym found ∙ e)) m
+
+pub complete-found : (w : Whole) (name : List ℕ) (f : FunTree) (funs : List FlatFun) → function_in w.declared.functions name ≡ Some f → IsComplete w f.name funs → IsComplete w name funs
+complete-found w name f funs found c = subst (λ x. IsComplete w x funs) (sym ((bytes_eq-Decides name f.name).0 (function-named w.declared.functions name f found))) c
+
+pub none-found : {A : Type 0} (o : Option FunTree) (g : FunTree) → o ≡ None → o ≡ Some g → A
+none-found o g e f = absurd (no (sym e ∙ f))
+  where
+    no : None ≡ Some g → ⊥
+    no h = cc
+
+pub complete-main : (w v : Whole) (x : List ℕ) (funs : List FlatFun) → w ≡ v → x ≡ main_name → ((g : FunTree) → function_in w.declared.functions x ≡ Some g → IsComplete w x funs)
+    → (g : FunTree) → function_in v.declared.functions main_name ≡ Some g → IsComplete v main_name funs
+complete-main w v x funs e f h =
+    subst (λ y. (g : FunTree) → function_in v.declared.functions y ≡ Some g → IsComplete v y funs) f
+    (subst (λ u. (g : FunTree) → function_in u.declared.functions x ≡ Some g → IsComplete u x funs) e h)

@@ -1,0 +1,194 @@
+-- What an expression without faults says of its parts, for the form of its code.
+use Rattle.std.proofs.Common.{◌≡◌, ℕ, zero, suc, ◌+◌, ◌<◌, ◌≤◌, ◌==◌, Bool, true, false, not, nat_eq, nat_le, nat_lt, ◌&&◌, ◌||◌, List, [], ◌∷◌, ◌++◌, refl, sym, ap, subst, ◌∙◌, Option, Some, None, is_none, option_map, length, slice_get, bytes_eq, if◌then◌else◌, arith}
+use Rattle.std.proofs.lemmas.Bool.{and_parts, and_from, not-false, ltb-false, le-leb, leb-true, cases_Bool, false≢true}
+use Rattle.nv_base.specs.declared.term.Mem.{Mem}
+use Rattle.nv_base.specs.declared.term.Mem.TheVariants.{Sram, Sdram, Scratch}
+use Rattle.nv_base.specs.declared.term.Atom.{Atom}
+use Rattle.nv_base.specs.declared.term.Atom.TheVariants.{Var, Lit}
+use Rattle.nv_ast.specs.declared.token.Span.{Span}
+use Rattle.nv_ast.specs.Tree.{Tree, NumberTree, TruthTree, VarTree, ParenTree, TupleTree, FieldsTree, DotTree, InvertTree, NegateTree, BinaryTree, ShiftTree, CallTree, UnpackTree, PackTree, RaiseTree, IfTree, TryTree, FetchTree, BlockTree, Trees, NamedTrees, StatementTree, StatementTrees, PatternTrees, span_of}
+use Rattle.nv_ast.specs.Tests.{where_true, look_up}
+use Rattle.nv_ast.specs.Types.{Ty, WordTy, BoolTy, TupleTy, RecordTy, Tys, no_tys, ty_and, NamedTys, no_named_tys, named_ty_and, same_type, same_types, same_named_types, words, total_words, total_named_words}
+use Rattle.nv_ast.specs.Scope.{Place, inside, with_vars, plain_tys, bind_raised}
+use Rattle.nv_ast.specs.Typing.{type_at, operand_ty, vars_behind}
+use Rattle.nv_ast.specs.Faults.{Fault, Wanted, anything, of_type, same_as, raised_kinds, at_span, faults, node_faults, low_kinds, middle_kinds, other_type, no_value, too_large_value, wrong_scratch, can_move, list_faults, named_faults, statements_faults}
+use Rattle.flat_ir.specs.Formed as flat
+use Rattle.nv_flatten.specs.Symbols.{Symbol, SymbolScope, Word, word_operand}
+use Rattle.nv_flatten.specs.Whole.{Whole, Stands}
+use Rattle.nv_flatten.specs.Code.{is_given, is_comparison}
+use Rattle.nv_flatten.specs.Well.{IsLiteral}
+use Rattle.nv_flatten.proofs.WellBasics.{nil-left, nil-right}
+
+-- ---- kinds
+pub no-kinds : (s : Span) (kinds : List ℕ) → at_span s kinds ≡ [] → kinds ≡ []
+no-kinds s [] e = refl
+no-kinds s (k ∷ kinds) e = cc
+
+pub not-where : (b : Bool) (k : ℕ) → where_true b k ≡ [] → b ≡ false
+not-where true k e = cc
+not-where false k e = refl
+
+pub some-where : {A : Type 0} (o : Option A) (k : ℕ) → where_true (is_none o) k ≡ [] → (a : A) × (o ≡ Some a)
+some-where None k e = absurd (false≢true (sym (not-where true k e)))
+some-where (Some a) k e = (a, refl)
+
+-- ---- the node
+pub node-of : (p : Place) (w : Wanted) (e : Tree) → faults p w e ≡ [] → node_faults p w e ≡ []
+node-of p w (NumberTree s n) h = h
+node-of p w (TruthTree s b) h = h
+node-of p w (VarTree s x) h = h
+node-of p w (ParenTree s e) h = nil-right _ _ h
+node-of p w (TupleTree s es) h = nil-right _ _ h
+node-of p w (FieldsTree s es) h = nil-right _ _ h
+node-of p w (DotTree s e x) h = nil-right _ _ h
+node-of p w (InvertTree s e) h = nil-right _ _ h
+node-of p w (NegateTree s e) h = nil-right _ _ h
+node-of p w (BinaryTree s op a b) h = nil-right (faults (inside p) (of_type (operand_ty op)) b) _ (nil-right (faults (inside p) (of_type (operand_ty op)) a) _ h)
+node-of p w (ShiftTree s op e n) h = nil-right _ _ h
+node-of p w (CallTree s f es) h = nil-right _ _ h
+node-of p w (UnpackTree s l e) h = nil-right _ _ h
+node-of p w (PackTree s l e) h = nil-right _ _ h
+node-of p w (RaiseTree s x es) h = nil-right _ _ h
+node-of p w (IfTree s c a b) h = nil-right (faults p (same_as (type_at p.known p.vars a)) b) _ (nil-right (faults p anything a) _ (nil-right (faults (inside p) (of_type BoolTy) c) _ h))
+node-of p w (TryTree s a x ps e) h =
+    nil-right (faults (with_vars (bind_raised ps (look_up x p.known.exceptions) p.vars) p) (same_as (type_at p.known p.vars a)) e) _
+    (nil-right (at_span s (raised_kinds p.known x ps)) _ (nil-right (faults (inside p) anything a) _ h))
+node-of p w (FetchTree s m n a) h = nil-right _ _ h
+node-of p w (BlockTree s sts e) h = nil-right (faults (with_vars (vars_behind p.known p.vars sts) p) anything e) _ (nil-right (statements_faults (inside p) sts) _ h)
+
+node-kinds : (p : Place) (w : Wanted) (e : Tree) → faults p w e ≡ []
+    → low_kinds p e ++ (other_type w (type_at p.known p.vars e) ++ (middle_kinds p e ++ (no_value w (type_at p.known p.vars e) ++ too_large_value (type_at p.known p.vars e)))) ≡ []
+node-kinds p w e h = no-kinds (span_of e) _ (node-of p w e h)
+
+pub low-of : (p : Place) (w : Wanted) (e : Tree) → faults p w e ≡ [] → low_kinds p e ≡ []
+low-of p w e h = nil-left (low_kinds p e) _ (node-kinds p w e h)
+
+pub middle-of : (p : Place) (w : Wanted) (e : Tree) → faults p w e ≡ [] → middle_kinds p e ≡ []
+middle-of p w e h = nil-left (middle_kinds p e) _ (nil-right (other_type w (type_at p.known p.vars e)) _ (nil-right (low_kinds p e) _ (node-kinds p w e h)))
+
+right-at : (w : Wanted) (o : Option Ty) (t : Ty) → o ≡ Some t → other_type w o ≡ [] → w.right t ≡ true
+right-at w (Some u) t e h = let same : u ≡ t = cc in subst (λ x. w.right x ≡ true) same (not-false (w.right u) (not-where (not (w.right u)) 14 h))
+right-at w None t e h = cc
+
+-- an expression's type is a right one
+pub right-of : (p : Place) (w : Wanted) (e : Tree) (t : Ty) → faults p w e ≡ [] → type_at p.known p.vars e ≡ Some t → w.right t ≡ true
+right-of p w e t h a = right-at w (type_at p.known p.vars e) t a (nil-left (other_type w (type_at p.known p.vars e)) _ (nil-right (low_kinds p e) _ (node-kinds p w e h)))
+
+-- ---- equal types have as many words
+mutual
+  pub same-words : (t u : Ty) → same_type t u ≡ true → words t ≡ words u
+  same-words WordTy WordTy e = refl
+  same-words BoolTy BoolTy e = refl
+  same-words (TupleTy ts) (TupleTy us) e = same-total ts us e
+  same-words (RecordTy ts) (RecordTy us) e = same-named ts us e
+  same-words WordTy BoolTy e = refl
+  same-words WordTy (TupleTy us) e = cc
+  same-words WordTy (RecordTy us) e = cc
+  same-words BoolTy WordTy e = refl
+  same-words BoolTy (TupleTy us) e = cc
+  same-words BoolTy (RecordTy us) e = cc
+  same-words (TupleTy ts) WordTy e = cc
+  same-words (TupleTy ts) BoolTy e = cc
+  same-words (TupleTy ts) (RecordTy us) e = cc
+  same-words (RecordTy ts) WordTy e = cc
+  same-words (RecordTy ts) BoolTy e = cc
+  same-words (RecordTy ts) (TupleTy us) e = cc
+
+  same-total : (ts us : Tys) → same_types ts us ≡ true → total_words ts ≡ total_words us
+  same-total no_tys no_tys e = refl
+  same-total no_tys (ty_and u us) e = cc
+  same-total (ty_and t ts) no_tys e = cc
+  same-total (ty_and t ts) (ty_and u us) e =
+      let p = and_parts (same_type t u) (same_types ts us) e in let a = same-words t u p.0 in let b = same-total ts us p.1 in omega arith
+
+  same-named : (ts us : NamedTys) → same_named_types ts us ≡ true → total_named_words ts ≡ total_named_words us
+  same-named no_named_tys no_named_tys e = refl
+  same-named no_named_tys (named_ty_and y u us) e = cc
+  same-named (named_ty_and x t ts) no_named_tys e = cc
+  same-named (named_ty_and x t ts) (named_ty_and y u us) e =
+      let p = and_parts (bytes_eq x y) (same_type t u && same_named_types ts us) e in
+      let q = and_parts (same_type t u) (same_named_types ts us) p.1 in
+      let a = same-words t u q.0 in let b = same-named ts us q.1 in omega arith
+
+pub plain-words : (ts : NamedTys) → total_words (plain_tys ts) ≡ total_named_words ts
+plain-words no_named_tys = refl
+plain-words (named_ty_and x t ts) = let a = plain-words ts in omega arith
+
+-- ---- places
+pub stands-inside : (w : Whole) (own : ℕ) (scope : SymbolScope) (p : Place) → Stands w own scope p → Stands w own scope (inside p)
+stands-inside w own scope p h = record { part = h.part; vars = h.vars }
+
+-- what is given, or a comparison, doesn't ask whether it is the function's value
+pub given-inside : (p : Place) (w : Wanted) (e : Tree) → is_given e ≡ true → faults p w e ≡ faults (inside p) w e
+given-inside p w (NumberTree s n) g = refl
+given-inside p w (TruthTree s b) g = refl
+given-inside p w (VarTree s x) g = refl
+given-inside p w (ParenTree s e) g = cc
+given-inside p w (TupleTree s es) g = refl
+given-inside p w (FieldsTree s es) g = refl
+given-inside p w (DotTree s e x) g = refl
+given-inside p w (InvertTree s e) g = refl
+given-inside p w (NegateTree s e) g = refl
+given-inside p w (BinaryTree s op a b) g = refl
+given-inside p w (ShiftTree s op e n) g = refl
+given-inside p w (CallTree s f es) g = cc
+given-inside p w (UnpackTree s l e) g = refl
+given-inside p w (PackTree s l e) g = refl
+given-inside p w (RaiseTree s x es) g = cc
+given-inside p w (IfTree s c a b) g = cc
+given-inside p w (TryTree s a x ps h) g = cc
+given-inside p w (FetchTree s m n a) g = refl
+given-inside p w (BlockTree s sts e) g = cc
+
+pub comparison-inside : (p : Place) (w : Wanted) (e : Tree) → is_comparison e ≡ true → faults p w e ≡ faults (inside p) w e
+comparison-inside p w (BinaryTree s op a b) g = refl
+comparison-inside p w (NumberTree s n) g = refl
+comparison-inside p w (TruthTree s b) g = refl
+comparison-inside p w (VarTree s x) g = refl
+comparison-inside p w (ParenTree s e) g = cc
+comparison-inside p w (TupleTree s es) g = refl
+comparison-inside p w (FieldsTree s es) g = refl
+comparison-inside p w (DotTree s e x) g = refl
+comparison-inside p w (InvertTree s e) g = refl
+comparison-inside p w (NegateTree s e) g = refl
+comparison-inside p w (ShiftTree s op e n) g = refl
+comparison-inside p w (CallTree s f es) g = cc
+comparison-inside p w (UnpackTree s l e) g = refl
+comparison-inside p w (PackTree s l e) g = refl
+comparison-inside p w (RaiseTree s x es) g = cc
+comparison-inside p w (IfTree s c a b) g = cc
+comparison-inside p w (TryTree s a x ps h) g = cc
+comparison-inside p w (FetchTree s m n a) g = refl
+comparison-inside p w (BlockTree s sts e) g = cc
+
+-- ---- accesses of memory
+pub move-same : (m : Mem) (n : ℕ) → flat.can_move m n ≡ can_move m n
+move-same Sram n = refl
+move-same Sdram n = refl
+move-same Scratch n = refl
+
+address-at : (n : ℕ) (at : ℕ) (s : Symbol) → s ≡ Word (Lit at) → nat_lt 512 (at + n) ≡ false → flat.is_address Scratch (word_operand s) n ≡ true
+address-at n at s e h = ap (λ x. flat.is_address Scratch (word_operand x) n) e ∙ le-leb (at + n) 512 (ltb-false 512 (at + n) h)
+
+pub address-formed : (m : Mem) (a : Tree) (n : ℕ) (s : Symbol) → wrong_scratch m a n ≡ [] → IsLiteral a s → flat.is_address m (word_operand s) n ≡ true
+address-formed Sram a n s h l = refl
+address-formed Sdram a n s h l = refl
+address-formed Scratch (NumberTree sp at) n s h l = address-at n at s l (not-where (nat_lt 512 (at + n)) 20 h)
+address-formed Scratch (TruthTree sp b) n s h l = cc
+address-formed Scratch (VarTree sp x) n s h l = cc
+address-formed Scratch (ParenTree sp e) n s h l = cc
+address-formed Scratch (TupleTree sp es) n s h l = cc
+address-formed Scratch (FieldsTree sp es) n s h l = cc
+address-formed Scratch (DotTree sp e x) n s h l = cc
+address-formed Scratch (InvertTree sp e) n s h l = cc
+address-formed Scratch (NegateTree sp e) n s h l = cc
+address-formed Scratch (BinaryTree sp op a b) n s h l = cc
+address-formed Scratch (ShiftTree sp op e k) n s h l = cc
+address-formed Scratch (CallTree sp f es) n s h l = cc
+address-formed Scratch (UnpackTree sp x e) n s h l = cc
+address-formed Scratch (PackTree sp x e) n s h l = cc
+address-formed Scratch (RaiseTree sp x es) n s h l = cc
+address-formed Scratch (IfTree sp c a b) n s h l = cc
+address-formed Scratch (TryTree sp a x ps e) n s h l = cc
+address-formed Scratch (FetchTree sp m k e) n s h l = cc
+address-formed Scratch (BlockTree sp sts e) n s h l = cc

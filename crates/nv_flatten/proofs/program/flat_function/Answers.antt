@@ -1,0 +1,18 @@
+use Rattle.std.proofs.Common.{◌∙◌, ap, []}
+use Rattle.std.specs.Prelude.{option_map, ◌++◌}
+use Rattle.nv_ast.specs.ProgramView.{fun_tree}
+use Rattle.nv_ast.specs.Types.{named_types_of, total_named_words}
+use Rattle.nv_ast.specs.TypeView.{list_named_types}
+use Rattle.nv_flatten.specs.Symbols.{numbers_from}
+use Rattle.nv_flatten.specs.View.{view, scope_of}
+use Rattle.nv_flatten.specs.WholeView.{whole_in}
+use Rattle.nv_flatten.proofs.Making.{made-of}
+use Rattle.nv_flatten.proofs.program.flat_function.Goals as goal
+
+pub returns-clause-made : goal.returns-clause-made
+returns-clause-made c =
+    made-of (whole_in c.args.t.now) (fun_tree c.args.f.now) _ c.ending.new.names c.entry.new.next c.ending.new.next (scope_of c.in_ok-scope.scope.items []) (option_map view c.in_ok-tail.tail.form) (list_named_types c.deref.result.now)
+    (ap list_named_types c.deref.ensures.value)
+    c.in_ok-scope.ensures.scope c.in_ok-scope.ensures.next
+    (c.in_ok-scope.ensures.made ∙ ap (λ l. l ++ numbers_from 0 (total_named_words (named_types_of (whole_in c.args.t.now).declared.layouts (list_named_types c.deref.result.now)))) c.new-params.ensures.items)
+    c.in_ok-tail.ensures.end

@@ -1,0 +1,42 @@
+-- Flat functions as what is made of a program's.
+use Rattle.std.specs.Prelude.{◌≡◌, ℕ, ◌≤◌, List, [], Option, Some, slice_get}
+use Rattle.nv_ast.specs.Tree.{FunTree}
+use Rattle.nv_ast.specs.Types.{NamedTys, named_types_of, total_named_words}
+use Rattle.nv_meaning.specs.Meaning.{function_in}
+use Rattle.flat_ir.specs.declared.flat.FlatFun.{FlatFun}
+use Rattle.nv_flatten.specs.Symbols.{Symbol, SymbolScope, named_fresh, numbers_from, params_bound}
+use Rattle.nv_flatten.specs.Whole.{Whole}
+use Rattle.nv_flatten.specs.Simulation.{Names, Extends, IsEnd}
+
+-- the types of a function's parameters, with their names
+abbrev pub params_in : Whole → FunTree → NamedTys
+params_in w g = named_types_of w.declared.layouts g.params
+
+-- the scope in which a body begins: its parameters, of the first variables
+abbrev pub entry : Whole → FunTree → SymbolScope
+entry w g = params_bound (named_fresh 0 (params_in w g)) []
+
+-- a flat function has its parameters' words as its first variables, and its code ends with what the function's body comes to; of the functions that it calls, the names are among these
+pub record IsMade (w : Whole) (all : Names) (g : FunTree) (fun : FlatFun) : Type 0 where
+  pub names : Names
+  pub more : Extends names all
+  pub low : ℕ
+  pub high : ℕ
+  pub form : Option Symbol
+  pub params : fun.params.items ≡ numbers_from 0 (total_named_words (params_in w g))
+  pub behind : total_named_words (params_in w g) ≤ low
+  pub end : IsEnd w names low high (entry w g) g.body fun.body form
+
+-- each flat function is made of the function with its number's name
+pub record AreMade (w : Whole) (all : Names) (funs : List FlatFun) : Type 0 where
+  pub by : (i : ℕ) (f : List ℕ) (g : FunTree) (fun : FlatFun) → slice_get all i ≡ Some f → function_in w.declared.functions f ≡ Some g → slice_get funs i ≡ Some fun → IsMade w all g fun
+
+-- the same, and each function whose name has a number is there
+pub record AllMade (w : Whole) (all : Names) (funs : List FlatFun) : Type 0 where
+  pub by : (i : ℕ) (f : List ℕ) (g : FunTree) → slice_get all i ≡ Some f → function_in w.declared.functions f ≡ Some g → (fun : FlatFun) × (slice_get funs i ≡ Some fun) × IsMade w all g fun
+
+-- flat functions of a program's functions, the first one of the function of this name
+pub record IsComplete (w : Whole) (main : List ℕ) (funs : List FlatFun) : Type 0 where
+  pub all : Names
+  pub first : slice_get all 0 ≡ Some main
+  pub made : AllMade w all funs
