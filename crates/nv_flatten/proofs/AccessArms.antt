@@ -99,9 +99,9 @@ module _ (low high : ℕ) (m : Mem) (at : ℕ) (env new : Env) (last : Running) 
   read-some : (ws : List ℕ) (n : ℕ) → length ws ≡ n → AreWords ws → Follows (words_symbol (variables (numbers_from high n))) → rest (assigned_all new (numbers_from high n) ws) (flat_run last) ≡ next (words_value ws) last
   read-some ws n e h = subst (λ i. Follows (words_symbol (variables (numbers_from high i))) → rest (assigned_all new (numbers_from high i) ws) (flat_run last) ≡ next (words_value ws) last) e
       (λ same.
-        let after = assigned_all new (numbers_from high (length ws)) ws in
-        same after last (record { sizes = done.sizes; keeps = keeps-then low high env new after le done.keeps (numbers-keep high (length ws) new ws); fits = words-read-fit high new ws h })
-        ∙ ap (λ x. next x last) (words-read high new ws))
+      let after = assigned_all new (numbers_from high (length ws)) ws in
+      same after last (record { sizes = done.sizes; keeps = keeps-then low high env new after le done.keeps (numbers-keep high (length ws) new ws); fits = words-read-fit high new ws h })
+      ∙ ap (λ x. next x last) (words-read high new ws))
 
   read-any : (n : ℕ) (o : Option (List ℕ)) → ((ws : List ℕ) → o ≡ Some ws → (length ws ≡ n) × AreWords ws) → Follows (words_symbol (variables (numbers_from high n)))
       → flat.after_fetch m at o (flat_run last) (λ ws. rest (assigned_all new (numbers_from high n) ws) (flat_run last)) ≡ onward (after_fetch m at o last) next
@@ -118,12 +118,12 @@ module _ (w : Whole) (names : Names) (low high : ℕ) (scope : SymbolScope) (sp 
       unary w names low high (high + n) scope (FetchTree sp m n a) a ss (step ∷ []) s (words_symbol (variables (numbers_from high n))) (λ y last. fetch m n (word_of y) last) (λ p. of_type WordTy) v
       (λ call m' now. refl) (λ p wanted. refl)
       (λ own p wanted stands none o call env new last done rest next same.
-        let moves = not-false (can_move m n) (not-where {A = ℕ} (not (can_move m n)) 19 (none-before (wrong_access m n) (wrong_scratch m a n) (middle-none p wanted (FetchTree sp m n a) none))) in
-        let at = atom_word new (word_operand s) in
-        fetches call rest new (flat_run last)
-        ∙ read-any low high m at env new last (Fits new s) rest next le done n (fetched m at n last.packet) (λ ws e. fetched-words m at n last.packet ws done.sizes e) same
-        ∙ ap (λ r. onward r next) (sym (may-fetch m n at last moves))
-        ∙ ap (λ i. onward (fetch m n i last) next) (sym (word-of new s)))
+      let moves = not-false (can_move m n) (not-where {A = ℕ} (not (can_move m n)) 19 (none-before (wrong_access m n) (wrong_scratch m a n) (middle-none p wanted (FetchTree sp m n a) none))) in
+      let at = atom_word new (word_operand s) in
+      fetches call rest new (flat_run last)
+      ∙ read-any low high m at env new last (Fits new s) rest next le done n (fetched m at n last.packet) (λ ws e. fetched-words m at n last.packet ws done.sizes e) same
+      ∙ ap (λ r. onward r next) (sym (may-fetch m n at last moves))
+      ∙ ap (λ i. onward (fetch m n i last) next) (sym (word-of new s)))
       (record { by = λ own p wanted stands none t is. words-form high n ∙ some-same (words_ty n) t is })
       (λ o. subst (λ l. AreOlder (high + n) l) (sym (words-operands (variables (numbers_from high n)))) (numbers-older (high + n) high n (omega arith)))
 
@@ -158,21 +158,23 @@ module _ (w : Whole) (names : Names) (low mid high : ℕ) (scope : SymbolScope) 
       unary w names low mid high scope (UnpackTree sp l a) a ss ts s r (λ y last. Gives (unpacked_value layout y) last) (λ p. wanted_packed (look_up l p.known.layouts)) v
       (λ call m now. refl) (λ p wanted. refl)
       (λ own p wanted stands none o call env new last done rest next same.
-        let clean = none-before (faults (inside p) (wanted_packed (look_up l p.known.layouts)) a) (node_faults p wanted (UnpackTree sp l a)) none in
-        let found = unpack-known p wanted sp l a none in
-        let known = stands.part.layouts l found.0 found.1 in
-        let typed = of-type (inside p) (packed_ty found.0) a (subst (λ q. faults (inside p) (wanted_packed q) a ≡ []) found.1 clean) in
-        let shaped = v.formed.by own (inside p) (wanted_packed (look_up l p.known.layouts)) (stands-inside w own scope p stands) clean (packed_ty found.0) typed in
-        let count : length (operands s) ≡ packed_words layout = operands-count s ∙ ap words shaped ∙ words-count (packed_words found.0) ∙ ap packed_words (sym known.0) in
-        let spelled = words-fit new s done.fits in
-        let does = unpacks (subst IsSound (sym known.0) known.1) count (v.older o) new (subst AreWords spelled (are-words new s done.fits)) in
-        does.does call rest (flat_run last)
-        ∙ same does.new last (record { sizes = done.sizes; keeps = keeps-then low mid env new does.new le done.keeps does.keeps; fits = does.holds.1 })
-        ∙ ap (λ x. next x last) (does.holds.0 ∙ ap (λ ws. value_at layout (packed ws)) (sym spelled)))
-      (record { by = λ own p wanted stands none t is.
-        let found = unpack-known p wanted sp l a none in
-        let known = stands.part.layouts l found.0 found.1 in
-        formed ∙ ap unpacked_ty known.0 ∙ some-same (unpacked_ty found.0) t (sym (ap (option_map unpacked_ty) found.1) ∙ is) })
+      let clean = none-before (faults (inside p) (wanted_packed (look_up l p.known.layouts)) a) (node_faults p wanted (UnpackTree sp l a)) none in
+      let found = unpack-known p wanted sp l a none in
+      let known = stands.part.layouts l found.0 found.1 in
+      let typed = of-type (inside p) (packed_ty found.0) a (subst (λ q. faults (inside p) (wanted_packed q) a ≡ []) found.1 clean) in
+      let shaped = v.formed.by own (inside p) (wanted_packed (look_up l p.known.layouts)) (stands-inside w own scope p stands) clean (packed_ty found.0) typed in
+      let count : length (operands s) ≡ packed_words layout = operands-count s ∙ ap words shaped ∙ words-count (packed_words found.0) ∙ ap packed_words (sym known.0) in
+      let spelled = words-fit new s done.fits in
+      let does = unpacks (subst IsSound (sym known.0) known.1) count (v.older o) new (subst AreWords spelled (are-words new s done.fits)) in
+      does.does call rest (flat_run last)
+      ∙ same does.new last (record { sizes = done.sizes; keeps = keeps-then low mid env new does.new le done.keeps does.keeps; fits = does.holds.1 })
+      ∙ ap (λ x. next x last) (does.holds.0 ∙ ap (λ ws. value_at layout (packed ws)) (sym spelled)))
+      (record {
+        by = λ own p wanted stands none t is.
+            let found = unpack-known p wanted sp l a none in
+            let known = stands.part.layouts l found.0 found.1 in
+            formed ∙ ap unpacked_ty known.0 ∙ some-same (unpacked_ty found.0) t (sym (ap (option_map unpacked_ty) found.1) ∙ is);
+      })
       (λ o. older (v.older o))
 
   pub pack-value : low ≤ mid → IsValue w names low mid scope a ss s
@@ -183,20 +185,22 @@ module _ (w : Whole) (names : Names) (low mid high : ℕ) (scope : SymbolScope) 
       unary w names low mid high scope (PackTree sp l a) a ss ts s r (λ y last. Gives (packed_value layout y) last) (λ p. wanted_unpacked (look_up l p.known.layouts)) v
       (λ call m now. refl) (λ p wanted. refl)
       (λ own p wanted stands none o call env new last done rest next same.
-        let clean = none-before (faults (inside p) (wanted_unpacked (look_up l p.known.layouts)) a) (node_faults p wanted (PackTree sp l a)) none in
-        let found = pack-known p wanted sp l a none in
-        let known = stands.part.layouts l found.0 found.1 in
-        let here = subst (λ q. faults (inside p) (wanted_unpacked q) a ≡ []) found.1 clean in
-        let typed = has-type (inside p) (wanted_unpacked (Some found.0)) a here refl in
-        let right = right-type (inside p) (wanted_unpacked (Some found.0)) a typed.0 here typed.1 in
-        let shaped = v.formed.by own (inside p) (wanted_unpacked (look_up l p.known.layouts)) (stands-inside w own scope p stands) clean typed.0 typed.1 in
-        let may : can_pack (form_of layout) (form s) ≡ true = ap (λ q. can_pack (form_of q) (form s)) known.0 ∙ ap (can_pack (form_of found.0)) shaped ∙ right in
-        let does = packs (subst IsSound (sym known.0) known.1) may (v.older o) new done.fits in
-        does.does call rest (flat_run last)
-        ∙ same does.new last (record { sizes = done.sizes; keeps = keeps-then low mid env new does.new le done.keeps does.keeps; fits = does.holds.1 })
-        ∙ ap (λ x. next x last) does.holds.0)
-      (record { by = λ own p wanted stands none t is.
-        let found = pack-known p wanted sp l a none in
-        let known = stands.part.layouts l found.0 found.1 in
-        formed ∙ ap packed_ty known.0 ∙ some-same (packed_ty found.0) t (sym (ap (option_map packed_ty) found.1) ∙ is) })
+      let clean = none-before (faults (inside p) (wanted_unpacked (look_up l p.known.layouts)) a) (node_faults p wanted (PackTree sp l a)) none in
+      let found = pack-known p wanted sp l a none in
+      let known = stands.part.layouts l found.0 found.1 in
+      let here = subst (λ q. faults (inside p) (wanted_unpacked q) a ≡ []) found.1 clean in
+      let typed = has-type (inside p) (wanted_unpacked (Some found.0)) a here refl in
+      let right = right-type (inside p) (wanted_unpacked (Some found.0)) a typed.0 here typed.1 in
+      let shaped = v.formed.by own (inside p) (wanted_unpacked (look_up l p.known.layouts)) (stands-inside w own scope p stands) clean typed.0 typed.1 in
+      let may : can_pack (form_of layout) (form s) ≡ true = ap (λ q. can_pack (form_of q) (form s)) known.0 ∙ ap (can_pack (form_of found.0)) shaped ∙ right in
+      let does = packs (subst IsSound (sym known.0) known.1) may (v.older o) new done.fits in
+      does.does call rest (flat_run last)
+      ∙ same does.new last (record { sizes = done.sizes; keeps = keeps-then low mid env new does.new le done.keeps does.keeps; fits = does.holds.1 })
+      ∙ ap (λ x. next x last) does.holds.0)
+      (record {
+        by = λ own p wanted stands none t is.
+            let found = pack-known p wanted sp l a none in
+            let known = stands.part.layouts l found.0 found.1 in
+            formed ∙ ap packed_ty known.0 ∙ some-same (packed_ty found.0) t (sym (ap (option_map packed_ty) found.1) ∙ is);
+      })
       (λ o. older (v.older o))

@@ -1,10 +1,10 @@
 -- Steps that only compute, one after another.
-use Rattle.std.proofs.Common.{◌≡◌, ◌∙◌, refl, ap, sym, subst, ℕ, zero, suc, ◌+◌, ◌*◌, ◌/◌, ◌%◌, ◌^◌, ◌<◌, ◌≤◌, Bool, true, false, if◌then◌else◌, nat_eq, eq-eqb, List, [], ◌∷◌, ◌++◌, length, get_or, append_assoc, append-nil, arith, bit_or}
+use Rattle.std.proofs.Common.{◌≡◌, ◌∙◌, refl, ap, sym, subst, ℕ, zero, suc, ◌+◌, ◌*◌, ◌/◌, ◌^◌, ◌<◌, ◌≤◌, Bool, if◌then◌else◌, eq-eqb, List, [], ◌∷◌, ◌++◌, length, get_or, append_assoc, append-nil, arith, bit_or}
 use Rattle.std.proofs.lemmas.Bool.{ne_eqb}
 use Rattle.std.proofs.lemmas.Nat.{shr_le, or_of_32, mod_below, pow_pos}
-use Rattle.std.proofs.lemmas.List.Elements.{All-nil, All-cons, All-head, All-tail, All-get_or}
+use Rattle.std.proofs.lemmas.List.Elements.{All-nil, All-cons, All-head}
 use Rattle.nv_base.specs.declared.term.Atom.{Atom}
-use Rattle.nv_base.specs.declared.term.Atom.TheVariants.{Var, Lit}
+use Rattle.nv_base.specs.declared.term.Atom.TheVariants.{Var}
 use Rattle.nv_base.specs.declared.term.Bin.TheVariants.{Or}
 use Rattle.nv_base.specs.declared.term.Primitive.{Primitive}
 use Rattle.nv_base.specs.declared.term.Primitive.TheVariants.{Bin as BinOf}
@@ -18,7 +18,7 @@ use Rattle.nv_flatten.specs.Code.{Computes, shift_of}
 use Rattle.nv_flatten.specs.Soundness.{AreWords}
 use Rattle.nv_flatten.specs.Symbols.{IsOlder, AreOlder, Keeps}
 use Rattle.nv_flatten.specs.Reads.{Makes}
-use Rattle.nv_flatten.proofs.Keeping.{older-later, keeps-itself, keeps-earlier, keeps-then, keeps-operand, keeps-operands, steps-append}
+use Rattle.nv_flatten.proofs.Keeping.{older-later, keeps-itself, keeps-then, keeps-operand, keeps-operands, steps-append}
 
 -- ---- assignments
 assigned-there : (env : Env) (x w : ℕ) → assigned env x w x ≡ w

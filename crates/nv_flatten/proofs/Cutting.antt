@@ -1,5 +1,5 @@
 -- The numbers that shifts cut out of words.
-use Rattle.std.proofs.Common.{◌≡◌, ◌∙◌, refl, ap, sym, ℕ, zero, suc, ◌+◌, ◌-◌, ◌*◌, ◌/◌, ◌%◌, ◌^◌, ◌<◌, ◌≤◌, List, [], ◌∷◌, ◌++◌, take, drop, length, get_or, append_assoc, length-append, subst, arith, bit_or}
+use Rattle.std.proofs.Common.{◌≡◌, ◌∙◌, ap, sym, ℕ, suc, ◌+◌, ◌-◌, ◌*◌, ◌/◌, ◌%◌, ◌^◌, ◌<◌, ◌≤◌, List, [], ◌∷◌, ◌++◌, take, drop, length, get_or, append_assoc, length-append, subst, arith, bit_or}
 use Rattle.std.proofs.Math.Seq.{take-length, split_at}
 use Rattle.std.proofs.lemmas.Nat.{shr-shr, shl-shr, field_of, mod-pow-add, mod_low, or_shifted, pow_pos, pow-add, shr_below}
 use Rattle.nv_base.specs.Words.{shifted_left, shifted_right}

@@ -1,8 +1,8 @@
 -- A field that is looked for by its name.
-use Rattle.std.proofs.Common.{◌≡◌, ◌∙◌, refl, ap, ℕ, ◌+◌, ◌<◌, ◌≤◌, Bool, true, false, if◌then◌else◌, bytes_eq, List, [], ◌∷◌, drop, length, get_or}
+use Rattle.std.proofs.Common.{◌≡◌, ◌∙◌, ap, ℕ, ◌+◌, ◌<◌, ◌≤◌, Bool, true, false, if◌then◌else◌, bytes_eq, List, drop, length, get_or}
 use Rattle.nv_base.specs.declared.term.Atom.TheVariants.{Lit}
 use Rattle.nv_meaning.proofs.Lists.{dropped, dropped-all}
-use Rattle.nv_flatten.specs.Symbols.{Symbol, Word, field_named}
+use Rattle.nv_flatten.specs.Symbols.{Word, field_named}
 use Rattle.nv_flatten.specs.View.{Named, view, list_named_symbols}
 use Rattle.nv_flatten.specs.Reads.{has_symbol}
 

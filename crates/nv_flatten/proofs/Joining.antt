@@ -1,5 +1,5 @@
 -- The words that shifts join.
-use Rattle.std.proofs.Common.{◌≡◌, ◌∙◌, refl, ap, sym, subst, ℕ, zero, suc, ◌+◌, ◌-◌, ◌*◌, ◌/◌, ◌%◌, ◌^◌, ◌<◌, ◌≤◌, ◌≢◌, List, [], ◌∷◌, ◌++◌, take, drop, length, get_or, set, replicate, length-append, arith, bit_or, length-set}
+use Rattle.std.proofs.Common.{◌≡◌, ◌∙◌, refl, ap, sym, subst, ℕ, zero, suc, ◌+◌, ◌-◌, ◌*◌, ◌/◌, ◌%◌, ◌^◌, ◌<◌, ◌≤◌, ◌≢◌, List, ◌∷◌, ◌++◌, take, drop, length, get_or, set, replicate, arith, bit_or, length-set}
 use Rattle.std.specs.Int.Bits.{or_zero_l}
 use Rattle.std.proofs.Math.Seq.{split_at}
 use Rattle.std.proofs.lemmas.List.{take-replicate, drop-replicate, drop-drop, take-set, drop-set-lt, get_or-set_same, get_or-set_other}

@@ -1,5 +1,5 @@
 -- One field of packed words.
-use Rattle.std.proofs.Common.{◌≡◌, ◌∙◌, refl, ap, sym, subst, ℕ, zero, suc, ◌+◌, ◌-◌, ◌*◌, ◌/◌, ◌%◌, ◌^◌, ◌<◌, ◌≤◌, List, [], ◌∷◌, ◌++◌, length, get_or, add-one, arith}
+use Rattle.std.proofs.Common.{◌≡◌, ◌∙◌, refl, ap, sym, subst, ℕ, suc, ◌+◌, ◌-◌, ◌/◌, ◌%◌, ◌^◌, ◌<◌, ◌≤◌, List, [], ◌∷◌, ◌++◌, length, get_or, add-one, arith}
 use Rattle.std.proofs.lemmas.List.{get_or_default}
 use Rattle.std.proofs.lemmas.List.Elements.{All-head, All-tail, All-get_or}
 use Rattle.nv_base.specs.declared.term.Atom.{Atom}
@@ -15,7 +15,6 @@ use Rattle.nv_flatten.specs.Soundness.{AreWords}
 use Rattle.nv_flatten.specs.Reads.{Makes}
 use Rattle.nv_flatten.proofs.Computing.{older-one, older-two, words-one, words-two, words-at, length-atom_words, makes-of, makes-or}
 use Rattle.nv_flatten.proofs.Cutting.{between-number, across-number, one-cut, two-cut, packed-two}
-
 
 -- over two words
 pub across-makes : (word following high low : Atom) (first n from mid last end x : ℕ) (old m1 m2 new : List Step) → first ≤ 31 → n ≤ 32 → 33 ≤ first + n

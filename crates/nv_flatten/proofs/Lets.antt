@@ -1,26 +1,25 @@
 -- Steps that only compute, some behind others: well formed.
-use Rattle.std.proofs.Common.{◌≡◌, ◌∙◌, refl, ap, sym, subst, ℕ, zero, suc, ◌+◌, ◌<◌, ◌≤◌, Bool, true, false, nat_le, ◌&&◌, List, [], ◌∷◌, ◌++◌, append_assoc, append-nil, length, get_or, set, replicate, arith}
-use Rattle.std.proofs.lemmas.Bool.{and_parts, and_from, le-leb}
+use Rattle.std.proofs.Common.{◌≡◌, ◌∙◌, refl, ap, sym, subst, ℕ, zero, suc, ◌+◌, ◌<◌, ◌≤◌, true, nat_le, ◌&&◌, List, [], ◌∷◌, ◌++◌, append_assoc, append-nil, length, get_or, arith}
+use Rattle.std.proofs.lemmas.Bool.{and_from, le-leb}
 use Rattle.nv_base.specs.declared.term.Atom.{Atom}
-use Rattle.nv_base.specs.declared.term.Atom.TheVariants.{Var, Lit}
+use Rattle.nv_base.specs.declared.term.Atom.TheVariants.{Var}
 use Rattle.nv_base.specs.declared.term.Bin.TheVariants.{Or}
 use Rattle.nv_base.specs.declared.term.Primitive.{Primitive}
 use Rattle.nv_base.specs.declared.term.Primitive.TheVariants.{Bin as BinOf}
 use Rattle.nv_ast.specs.declared.tree.ShiftOp.{ShiftOp}
 use Rattle.nv_ast.specs.declared.tree.ShiftOp.TheVariants.{Left, Right, Rotate}
-use Rattle.flat_ir.specs.declared.flat.FlatFun.{FlatFun}
 use Rattle.flat_ir.specs.declared.spine.Step.{Step}
 use Rattle.flat_ir.specs.declared.spine.Step.TheVariants.{Let}
 use Rattle.flat_ir.specs.Formed.{is_known, all_known, is_primitive}
 use Rattle.flat_ir.specs.Pieces.{known_behind, steps_formed, steps_defined, steps_raised}
 use Rattle.flat_ir.proofs.Appended.{known-append, formed-append, defined-append, raised-append}
 use Rattle.nv_flatten.specs.Code.{shift_of}
-use Rattle.nv_flatten.specs.Symbols.{Symbol, Word, Record, NamedSymbols, no_named_symbols, named_symbol_and, operands, named_operands, fields_of, field_named, word_operand, words_symbol}
+use Rattle.nv_flatten.specs.Symbols.{Symbol, Record, NamedSymbols, no_named_symbols, named_symbol_and, operands, named_operands}
 use Rattle.nv_flatten.specs.View.{Named, list_named_symbols}
 use Rattle.nv_flatten.specs.Reads.{◌++_symbols◌}
 use Rattle.nv_flatten.specs.Well.{Rises, AreWellLets}
-use Rattle.nv_flatten.specs.Adds.{AddsLets, AddsFields, AddsWords}
-use Rattle.nv_flatten.proofs.WellBasics.{known-more, atoms-more, knows-both, knows-left, knows-right, knows-one, knows-two, knows-first, knows-rest, knows-new, knows-word, knows-field, words-operands, rises-append}
+use Rattle.nv_flatten.specs.Adds.{AddsLets, AddsFields}
+use Rattle.nv_flatten.proofs.WellBasics.{known-more, atoms-more, knows-both, knows-left, knows-right, knows-one, knows-two, knows-first, knows-rest, knows-new, rises-append}
 
 -- ---- steps alone
 pub lets-none : (low : ℕ) (given found : List Atom) → ((known : List ℕ) → all_known known given ≡ true → all_known known found ≡ true) → AreWellLets low low given [] found
@@ -40,11 +39,12 @@ lets-one low given p h = record {
 lets-then : (low mid high : ℕ) (given between found : List Atom) (ss ts : List Step) → AreWellLets low mid given ss between → AreWellLets mid high between ts found → AreWellLets low high given (ss ++ ts) found
 lets-then low mid high given between found ss ts a b = record {
   formed = λ funs own known k.
-    let first = a.formed funs own known k in
-    let behind = known_behind known ss in
-    let second = b.formed funs own behind first.1 in
-    (formed-append funs own known ss ts ∙ and_from (steps_formed funs own known ss) (steps_formed funs own behind ts) first.0 second.0,
-    subst (λ l. all_known l found ≡ true) (sym (known-append known ss ts)) second.1);
+      let first = a.formed funs own known k in
+      let behind = known_behind known ss in
+      let second = b.formed funs own behind first.1 in (
+        formed-append funs own known ss ts ∙ and_from (steps_formed funs own known ss) (steps_formed funs own behind ts) first.0 second.0,
+        subst (λ l. all_known l found ≡ true) (sym (known-append known ss ts)) second.1,
+      );
   rises = subst (λ xs. Rises low xs high) (sym (defined-append ss ts)) (rises-append low mid high (steps_defined ss) (steps_defined ts) a.rises b.rises);
   raises = raised-append ss ts ∙ ap (λ l. l ++ steps_raised ts) a.raises ∙ b.raises;
 }
@@ -53,8 +53,8 @@ pub lets-so : (low high : ℕ) (given given' found found' : List Atom) (ss : Lis
     → ((known : List ℕ) → all_known known given' ≡ true → all_known known found ≡ true → all_known known found' ≡ true) → AreWellLets low high given' ss found'
 lets-so low high given given' found found' ss a g h = record {
   formed = λ funs own known k.
-    let f = a.formed funs own known (g known k) in
-    (f.0, h (known_behind known ss) (atoms-more known (known_behind known ss) given' (known-more known ss) k) f.1);
+      let f = a.formed funs own known (g known k) in
+      (f.0, h (known_behind known ss) (atoms-more known (known_behind known ss) given' (known-more known ss) k) f.1);
   rises = a.rises;
   raises = a.raises;
 }

@@ -69,3 +69,4 @@ pub mod Found
 pub mod PackedWords
 pub mod NarrowNeeds
 pub mod NarrowProgram
+pub mod Reaching

@@ -92,13 +92,13 @@ module _ (w : Whole) (names more : Names) (low mid high : ℕ) (scope : SymbolSc
         steps-then c.fcall ss ts rest env (flat_run now)
         ∙ v.simulates.by own p (first_wanted wanted) stands here o (fewer w names more ext c) env now begins (steps_do c.fcall ts rest) (λ x last. onward_all (before_rest x (eval_all d c.call es (scope_in env scope) last)) next never)
         (λ new last done.
-          vs.simulate own p (other_wanted wanted) stands there (scope-later low mid scope le o) c new last (begins-then low env new scope now last (Fits new s) o begins done) rest (λ xs end. next (value_and (value_in new s) xs) end) never
-          (λ after end done'.
-            let kept = keeps-value mid new after s done'.keeps (v.older o) in
-            same after end (done-then low mid env new after (Fits new s) (AllFit after (symbol_and s us)) last end le done (record { sizes = done'.sizes; keeps = done'.keeps; fits = (keeps-fit mid new after s done'.keeps (v.older o) done.fits, done'.fits) }))
-            ∙ ap (λ x. next (value_and x (values_in after us)) end) kept)
-          ∙ sym (onward-before (value_in new s) (eval_all d c.call es (scope_in new scope) last) next never)
-          ∙ ap (λ m. onward_all (before_rest (value_in new s) (eval_all d c.call es m last)) next never) (keeps-scope low env new scope done.keeps o))
+        vs.simulate own p (other_wanted wanted) stands there (scope-later low mid scope le o) c new last (begins-then low env new scope now last (Fits new s) o begins done) rest (λ xs end. next (value_and (value_in new s) xs) end) never
+        (λ after end done'.
+        let kept = keeps-value mid new after s done'.keeps (v.older o) in
+        same after end (done-then low mid env new after (Fits new s) (AllFit after (symbol_and s us)) last end le done (record { sizes = done'.sizes; keeps = done'.keeps; fits = (keeps-fit mid new after s done'.keeps (v.older o) done.fits, done'.fits) }))
+        ∙ ap (λ x. next (value_and x (values_in after us)) end) kept)
+        ∙ sym (onward-before (value_in new s) (eval_all d c.call es (scope_in new scope) last) next never)
+        ∙ ap (λ m. onward_all (before_rest (value_in new s) (eval_all d c.call es m last)) next never) (keeps-scope low env new scope done.keeps o))
         ∙ sym (onward-more (eval d c.call e (scope_in env scope) now) (λ x last. before_rest x (eval_all d c.call es (scope_in env scope) last)) next never);
     formed = λ own p wanted stands none tys is.
         let clean = sym (list-split p wanted e es) ∙ none in
@@ -118,13 +118,13 @@ module _ (w : Whole) (names more : Names) (low mid high : ℕ) (scope : SymbolSc
         steps-then c.fcall ss ts rest env (flat_run now)
         ∙ v.simulates.by own p a_value stands here o (fewer w names more ext c) env now begins (steps_do c.fcall ts rest) (λ y last. onward_named (before_named x y (eval_named d c.call es (scope_in env scope) last)) next never)
         (λ new last done.
-          vs.simulate own p stands there (scope-later low mid scope le o) c new last (begins-then low env new scope now last (Fits new s) o begins done) rest (λ ys end. next (named_value_and x (value_in new s) ys) end) never
-          (λ after end done'.
-            let kept = keeps-value mid new after s done'.keeps (v.older o) in
-            same after end (done-then low mid env new after (Fits new s) (NamedFit after (named_symbol_and x s us)) last end le done (record { sizes = done'.sizes; keeps = done'.keeps; fits = (keeps-fit mid new after s done'.keeps (v.older o) done.fits, done'.fits) }))
-            ∙ ap (λ y. next (named_value_and x y (named_values_in after us)) end) kept)
-          ∙ sym (onward-before_named x (value_in new s) (eval_named d c.call es (scope_in new scope) last) next never)
-          ∙ ap (λ m. onward_named (before_named x (value_in new s) (eval_named d c.call es m last)) next never) (keeps-scope low env new scope done.keeps o))
+        vs.simulate own p stands there (scope-later low mid scope le o) c new last (begins-then low env new scope now last (Fits new s) o begins done) rest (λ ys end. next (named_value_and x (value_in new s) ys) end) never
+        (λ after end done'.
+        let kept = keeps-value mid new after s done'.keeps (v.older o) in
+        same after end (done-then low mid env new after (Fits new s) (NamedFit after (named_symbol_and x s us)) last end le done (record { sizes = done'.sizes; keeps = done'.keeps; fits = (keeps-fit mid new after s done'.keeps (v.older o) done.fits, done'.fits) }))
+        ∙ ap (λ y. next (named_value_and x y (named_values_in after us)) end) kept)
+        ∙ sym (onward-before_named x (value_in new s) (eval_named d c.call es (scope_in new scope) last) next never)
+        ∙ ap (λ m. onward_named (before_named x (value_in new s) (eval_named d c.call es m last)) next never) (keeps-scope low env new scope done.keeps o))
         ∙ sym (onward-more_named (eval d c.call e (scope_in env scope) now) (λ y last. before_named x y (eval_named d c.call es (scope_in env scope) last)) next never);
     formed = λ own p stands none.
         let here = none-before (faults p a_value e) (named_faults p es) none in
@@ -144,25 +144,33 @@ tuple-typed ss (Some ts) t h e = ap (λ x. TupleTy x) (h ts refl) ∙ some-same 
 module _ (w : Whole) (names : Names) (low high : ℕ) (scope : SymbolScope) where
   pub tuple-value : (sp : Span) (es : Trees) (steps : List Step) (ss : Symbols) → AreValues w names low high scope es steps ss → IsValue w names low high scope (TupleTree sp es) steps (Tuple ss)
   tuple-value sp es steps ss vs = record {
-    simulates = record { by = λ own p wanted stands none o c env now begins rest next same.
-        let clean = none-before (list_faults (inside p) [] es) (node_faults p wanted (TupleTree sp es)) none in
-        vs.simulate own (inside p) [] (stands-inside w own scope p stands) clean o c env now begins rest (λ xs last. next (meaning.Tuple xs) last) next (λ new last done. same new last (record { sizes = done.sizes; keeps = done.keeps; fits = done.fits }))
-        ∙ sym (onward-all (eval_all w.declared c.call es (scope_in env scope) now) (λ xs last. Gives (meaning.Tuple xs) last) next) };
-    formed = record { by = λ own p wanted stands none t is.
-        let clean = none-before (list_faults (inside p) [] es) (node_faults p wanted (TupleTree sp es)) none in
-        tuple-typed ss (types_at p.known p.vars es) t (λ ts e. vs.formed own (inside p) [] (stands-inside w own scope p stands) clean ts e) is };
+    simulates = record {
+      by = λ own p wanted stands none o c env now begins rest next same.
+          let clean = none-before (list_faults (inside p) [] es) (node_faults p wanted (TupleTree sp es)) none in
+          vs.simulate own (inside p) [] (stands-inside w own scope p stands) clean o c env now begins rest (λ xs last. next (meaning.Tuple xs) last) next (λ new last done. same new last (record { sizes = done.sizes; keeps = done.keeps; fits = done.fits }))
+          ∙ sym (onward-all (eval_all w.declared c.call es (scope_in env scope) now) (λ xs last. Gives (meaning.Tuple xs) last) next);
+    };
+    formed = record {
+      by = λ own p wanted stands none t is.
+          let clean = none-before (list_faults (inside p) [] es) (node_faults p wanted (TupleTree sp es)) none in
+          tuple-typed ss (types_at p.known p.vars es) t (λ ts e. vs.formed own (inside p) [] (stands-inside w own scope p stands) clean ts e) is;
+    };
     older = vs.older;
   }
 
   pub record-value : (sp : Span) (es : NamedTrees) (steps : List Step) (fs : NamedSymbols) → AreFields w names low high scope es steps fs → IsValue w names low high scope (FieldsTree sp es) steps (Record fs)
   record-value sp es steps fs vs = record {
-    simulates = record { by = λ own p wanted stands none o c env now begins rest next same.
-        let clean = none-before (named_faults (inside p) es) (node_faults p wanted (FieldsTree sp es)) none in
-        vs.simulate own (inside p) (stands-inside w own scope p stands) clean o c env now begins rest (λ xs last. next (meaning.Record xs) last) next (λ new last done. same new last (record { sizes = done.sizes; keeps = done.keeps; fits = done.fits }))
-        ∙ sym (onward-named (eval_named w.declared c.call es (scope_in env scope) now) (λ xs last. Gives (meaning.Record xs) last) next) };
-    formed = record { by = λ own p wanted stands none t is.
-        let clean = none-before (named_faults (inside p) es) (node_faults p wanted (FieldsTree sp es)) none in
-        some-same (RecordTy (named_forms fs)) t (sym (ap (option_map RecordTy) (vs.formed own (inside p) (stands-inside w own scope p stands) clean)) ∙ is) };
+    simulates = record {
+      by = λ own p wanted stands none o c env now begins rest next same.
+          let clean = none-before (named_faults (inside p) es) (node_faults p wanted (FieldsTree sp es)) none in
+          vs.simulate own (inside p) (stands-inside w own scope p stands) clean o c env now begins rest (λ xs last. next (meaning.Record xs) last) next (λ new last done. same new last (record { sizes = done.sizes; keeps = done.keeps; fits = done.fits }))
+          ∙ sym (onward-named (eval_named w.declared c.call es (scope_in env scope) now) (λ xs last. Gives (meaning.Record xs) last) next);
+    };
+    formed = record {
+      by = λ own p wanted stands none t is.
+          let clean = none-before (named_faults (inside p) es) (node_faults p wanted (FieldsTree sp es)) none in
+          some-same (RecordTy (named_forms fs)) t (sym (ap (option_map RecordTy) (vs.formed own (inside p) (stands-inside w own scope p stands) clean)) ∙ is);
+    };
     older = vs.older;
   }
 
@@ -179,7 +187,7 @@ module _ (w : Whole) (low : ℕ) (scope : SymbolScope) (es : List Expr) where
       → rest ≡ e ∷ rest' → low ≤ mid → mid ≤ mid' → Extends names names' → Front names mid ss symbols rest → IsValue w names' mid mid' scope (tree_of e) ts (view s) → ss' ≡ ss ++ ts → Front names' mid' ss' (symbols ++ s ∷ []) rest'
   front-more names names' mid mid' ss ts ss' symbols rest rest' e s is le le' ext front v same more high us others ext' le'' h =
       let whole = front more high (ts ++ us) (s ∷ others) (extends-then names names' more ext ext') (omega arith)
-          (subst (λ l. AreValues w more mid high scope (list_trees l) (ts ++ us) (list_symbols (s ∷ others))) (sym is) (values-and w names' more mid mid' high scope (tree_of e) (list_trees rest') ts us (view s) (list_symbols others) ext' le' le'' v h)) in
+      (subst (λ l. AreValues w more mid high scope (list_trees l) (ts ++ us) (list_symbols (s ∷ others))) (sym is) (values-and w names' more mid mid' high scope (tree_of e) (list_trees rest') ts us (view s) (list_symbols others) ext' le' le'' v h)) in
       subst (λ l. AreValues w more low high scope (list_trees es) (l ++ us) (list_symbols ((symbols ++ s ∷ []) ++ others))) (sym same)
       (subst (λ l. AreValues w more low high scope (list_trees es) l (list_symbols ((symbols ++ s ∷ []) ++ others))) (sym (append_assoc ss ts us))
       (subst (λ l. AreValues w more low high scope (list_trees es) (ss ++ (ts ++ us)) (list_symbols l)) (sym (append_assoc symbols (s ∷ []) others)) whole))
@@ -203,7 +211,7 @@ module _ (w : Whole) (low : ℕ) (scope : SymbolScope) (es : List (List ℕ × E
   named-more names names' mid mid' ss ts ss' fields rest rest' e f name is le le' ext front v same more high us others ext' le'' h =
       let here = subst (λ x. AreFields w more mid high scope (list_named_trees (e ∷ rest')) (ts ++ us) (named_symbol_and x (view f.1) (list_named_symbols others))) (sym name) (fields-and w names' more mid mid' high scope e.0 (tree_of e.1) (list_named_trees rest') ts us (view f.1) (list_named_symbols others) ext' le' le'' v h) in
       let whole = front more high (ts ++ us) (f ∷ others) (extends-then names names' more ext ext') (omega arith)
-          (subst (λ l. AreFields w more mid high scope (list_named_trees l) (ts ++ us) (list_named_symbols (f ∷ others))) (sym is) here) in
+      (subst (λ l. AreFields w more mid high scope (list_named_trees l) (ts ++ us) (list_named_symbols (f ∷ others))) (sym is) here) in
       subst (λ l. AreFields w more low high scope (list_named_trees es) (l ++ us) (list_named_symbols ((fields ++ f ∷ []) ++ others))) (sym same)
       (subst (λ l. AreFields w more low high scope (list_named_trees es) l (list_named_symbols ((fields ++ f ∷ []) ++ others))) (sym (append_assoc ss ts us))
       (subst (λ l. AreFields w more low high scope (list_named_trees es) (ss ++ (ts ++ us)) (list_named_symbols l)) (sym (append_assoc fields (f ∷ []) others)) whole))

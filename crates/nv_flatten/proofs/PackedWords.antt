@@ -1,5 +1,5 @@
 -- The words of a record that was written into zeros.
-use Rattle.std.proofs.Common.{◌≡◌, ◌∙◌, refl, ap, sym, subst, ℕ, zero, suc, ◌+◌, ◌*◌, ◌/◌, ◌<◌, ◌≤◌, ◌^◌, ◌==◌, Bool, true, false, if◌then◌else◌, inl, inr, List, [], ◌∷◌, ◌++◌, length, get_or, replicate, arith}
+use Rattle.std.proofs.Common.{◌≡◌, ◌∙◌, refl, ap, sym, subst, ℕ, zero, suc, ◌*◌, ◌<◌, ◌≤◌, ◌^◌, Bool, if◌then◌else◌, inl, inr, List, [], ◌∷◌, ◌++◌, length, get_or, replicate, arith}
 use Rattle.std.proofs.lemmas.Bool.{ne_eqb, cases_lt}
 use Rattle.std.proofs.lemmas.List.{get_or_past, length-replicate}
 use Rattle.std.proofs.lemmas.List.Elements.{All-head, All-tail, All-get_or, All-replicate}
@@ -7,16 +7,16 @@ use Rattle.nv_base.specs.declared.term.Atom.{Atom}
 use Rattle.nv_base.specs.declared.term.Atom.TheVariants.{Lit}
 use Rattle.nv_base.specs.Words.{Env, atom_word, atom_words}
 use Rattle.nv_ast.specs.Bits.{packed, replaced}
-use Rattle.nv_ast.specs.Outline.{OutlineTree, PartsOutline, no_named_outlines, size, IsSound}
-use Rattle.nv_ast.specs.Types.{Tys, WordTy, TupleTy, ty_and, word_parts, words_ty, packed_words, packed_ty}
+use Rattle.nv_ast.specs.Outline.{OutlineTree, PartsOutline, no_named_outlines, IsSound}
+use Rattle.nv_ast.specs.Types.{WordTy, TupleTy, ty_and, word_parts, words_ty, packed_words}
 use Rattle.nv_meaning.specs.Values.{Value, value_and, word_values, words_value}
 use Rattle.nv_meaning.specs.Values as meaning
-use Rattle.nv_meaning.specs.Packing.{bits_of, words_of_bits, packed_value, IsBlankFrom}
+use Rattle.nv_meaning.specs.Packing.{bits_of, words_of_bits, packed_value}
 use Rattle.nv_meaning.proofs.Writing.{bits-within, blank-zeros, words-written}
 use Rattle.flat_ir.specs.declared.spine.Step.{Step}
 use Rattle.nv_flatten.specs.Code.{Computes}
 use Rattle.nv_flatten.specs.Soundness.{AreWords}
-use Rattle.nv_flatten.specs.Symbols.{Symbol, Word, Tuple, symbol_and, operands, all_operands, form, forms, value_in, values_in, Fits, AllFit, IsOlder, AreOlder, Keeps, word_symbols, words_symbol}
+use Rattle.nv_flatten.specs.Symbols.{Symbol, operands, all_operands, form, forms, value_in, values_in, Fits, AllFit, IsOlder, AreOlder, word_symbols, words_symbol}
 use Rattle.nv_flatten.specs.Reads.{Writes, Packs}
 use Rattle.nv_flatten.proofs.Computing.{computes-so, length-atom_words}
 use Rattle.nv_flatten.proofs.Writing.{writes-none}
@@ -90,9 +90,10 @@ packs o low high n s none steps zeros after r m noneis zerosis count is =
           (m.by sound o' oz env fits small (blank-zeros n (atom_words env zeros) zs))
           (λ last k h.
           let lw : length (atom_words last after) ≡ n = length-atom_words last after ∙ la in
-          let words : atom_words last after ≡ words_of_bits n (bits_of o v) = words-written n (atom_words env zeros) (atom_words last after) (bits_of o v) zs lw (all-small (atom_words last after) h.1) short h.0 in
-          (ap (value_in last) is ∙ symbol-value last after ∙ ap words_value words ∙ ap (λ j. words_value (words_of_bits j (bits_of o v))) count,
-          subst (Fits last) (sym is) (symbol-fits last after h.1))));
+          let words : atom_words last after ≡ words_of_bits n (bits_of o v) = words-written n (atom_words env zeros) (atom_words last after) (bits_of o v) zs lw (all-small (atom_words last after) h.1) short h.0 in (
+            ap (value_in last) is ∙ symbol-value last after ∙ ap words_value words ∙ ap (λ j. words_value (words_of_bits j (bits_of o v))) count,
+            subst (Fits last) (sym is) (symbol-fits last after h.1),
+          )));
       formed = ap form is ∙ symbol-form after ∙ ap words_ty (la ∙ count);
       older = λ o'. subst (λ as'. AreOlder high as') (sym (ap operands is ∙ symbol-operands after)) (m.older o' oz);
     }

@@ -1,5 +1,5 @@
 -- Fields that are read out of packed words, some behind others.
-use Rattle.std.proofs.Common.{◌≡◌, ◌∙◌, refl, ap, sym, subst, ℕ, zero, suc, ◌+◌, ◌*◌, ◌/◌, ◌<◌, ◌≤◌, ◌^◌, min, max, List, [], ◌∷◌, ◌++◌, take, drop, length, get_or, append_assoc, append-nil, arith}
+use Rattle.std.proofs.Common.{◌≡◌, ◌∙◌, refl, ap, sym, subst, ℕ, zero, suc, ◌+◌, ◌*◌, ◌<◌, ◌≤◌, ◌^◌, min, List, [], ◌∷◌, ◌++◌, take, drop, length, get_or, append_assoc, append-nil, arith}
 use Rattle.std.proofs.lemmas.List.Elements.{All-nil, All-append}
 use Rattle.nv_base.specs.declared.term.Atom.{Atom}
 use Rattle.nv_base.specs.Words.{Env, atom_word, atom_words}
@@ -7,7 +7,7 @@ use Rattle.nv_ast.specs.Bits.{packed}
 use Rattle.nv_ast.specs.declared.tree.LayoutText.{LayoutText}
 use Rattle.nv_ast.specs.LayoutView.{layout_tree, field_tree}
 use Rattle.nv_ast.specs.Outline.{Layouts, OutlineTree, PartsOutline, no_named_outlines, outline, field_outline, size, total_size, total_named_size, longest, IsSound, AllSound, AllNamedSound}
-use Rattle.nv_ast.specs.Types.{Ty, WordTy, RecordTy, no_named_tys, named_ty_and, Form, WordForm, Forms, no_forms, form_and, ◌+++◌, form_of, forms_of, joined_forms, record_forms, unpacked, unpacked_all, unpacked_ty, packed_words}
+use Rattle.nv_ast.specs.Types.{RecordTy, no_named_tys, named_ty_and, Form, WordForm, Forms, no_forms, form_and, ◌+++◌, form_of, forms_of, joined_forms, record_forms, unpacked, unpacked_all, unpacked_ty}
 use Rattle.nv_layout.proofs.BitLists.{length-packed}
 use Rattle.nv_meaning.specs.Values.{NamedValues, no_named_values, named_value_and, ◌++_fields◌, fields_of}
 use Rattle.nv_meaning.specs.Values as meaning
@@ -17,9 +17,9 @@ use Rattle.nv_meaning.proofs.Unpacking.{FieldItem, outlines_of, joined_of, drop-
 use Rattle.flat_ir.specs.declared.spine.Step.{Step}
 use Rattle.nv_flatten.specs.Code.{Computes}
 use Rattle.nv_flatten.specs.Soundness.{AreWords}
-use Rattle.nv_flatten.specs.Symbols.{Symbol, Word, Record, NamedSymbols, no_named_symbols, named_symbol_and, form, named_forms, operands, named_operands, value_in, named_values_in, Fits, NamedFit, IsOlder, AreOlder, Keeps}
+use Rattle.nv_flatten.specs.Symbols.{Symbol, Word, Record, NamedSymbols, no_named_symbols, named_symbol_and, form, named_forms, operands, named_operands, value_in, named_values_in, Fits, NamedFit, IsOlder, AreOlder}
 use Rattle.nv_flatten.specs.View.{Named, view, list_named_symbols}
-use Rattle.nv_flatten.specs.Reads.{◌++_symbols◌, Makes, Reads, ReadsRecord, ReadsJoined, ReadsParts, ReadsAlternatives, ReadsField, Unpacks}
+use Rattle.nv_flatten.specs.Reads.{◌++_symbols◌, Makes, Reads, ReadsRecord, ReadsField, Unpacks}
 use Rattle.nv_flatten.proofs.Keeping.{older-later, keeps-operands, keeps-named, keeps-named_fit}
 use Rattle.nv_flatten.proofs.Computing.{computes-none, computes-then, computes-so, length-atom_words, older-one}
 
@@ -96,12 +96,13 @@ reads-then fit one two low mid high words old middle new before between after fs
           (λ e1 k1 h1.
           let same : atom_words e1 words ≡ atom_words env words = keeps-operands low env e1 words k1 o in
           computes-so mid n.steps e1 (λ last. (named_values_in last n.fields ≡ vs (atom_words e1 words)) × NamedFit last n.fields) H (n.by (q r) (older-later low mid words ml o) e1 (subst (λ xs. AreWords xs) (sym same) small))
-          (λ e2 k2 h2.
-          (values-append e2 m.fields n.fields
-          ∙ ap (λ l. l ++_fields named_values_in e2 n.fields) (keeps-named mid e1 e2 m.fields k2 (m.older o) ∙ h1.0)
-          ∙ ap (λ l. us (atom_words env words) ++_fields l) (h2.0 ∙ ap vs same)
-          ∙ sym (e (atom_words env words) (length-atom_words env words)),
-          fit-append e2 m.fields n.fields (keeps-named_fit mid e1 e2 m.fields k2 (m.older o) h1.1) h2.1)));
+          (λ e2 k2 h2. (
+            values-append e2 m.fields n.fields
+                ∙ ap (λ l. l ++_fields named_values_in e2 n.fields) (keeps-named mid e1 e2 m.fields k2 (m.older o) ∙ h1.0)
+                ∙ ap (λ l. us (atom_words env words) ++_fields l) (h2.0 ∙ ap vs same)
+                ∙ sym (e (atom_words env words) (length-atom_words env words)),
+            fit-append e2 m.fields n.fields (keeps-named_fit mid e1 e2 m.fields k2 (m.older o) h1.1) h2.1,
+          )));
     }
 
 -- one word

@@ -59,8 +59,8 @@ module _ (w : Whole) (names : Names) (low high : ℕ) (scope : SymbolScope) (sp 
         let k : Value → Running → Stated = λ x last. GoesOn (matched q x m) last in
         v.simulates.by own p a_value stands (let-clean p none) o c env now begins rest (λ x last. next (matched q x m) last)
         (λ new last done.
-          same new last (record { sizes = done.sizes; keeps = done.keeps; fits = bound-fits new q s scope done.fits (keeps-scope_fits low env new scope done.keeps o begins.fits) })
-          ∙ ap (λ z. next z last) (bound-values new q s scope ∙ ap (λ z. matched q (value_in new s) z) (keeps-scope low env new scope done.keeps o)))
+        same new last (record { sizes = done.sizes; keeps = done.keeps; fits = bound-fits new q s scope done.fits (keeps-scope_fits low env new scope done.keeps o begins.fits) })
+        ∙ ap (λ z. next z last) (bound-values new q s scope ∙ ap (λ z. matched q (value_in new s) z) (keeps-scope low env new scope done.keeps o)))
         ∙ sym (onward-then_stated (eval w.declared c.call e m now) k next never)
         ∙ sym (onward-alone (then_stated (eval w.declared c.call e m now) k) next never);
     formed = λ own p stands none.
@@ -131,26 +131,26 @@ module _ (w : Whole) (names more : Names) (low mid high : ℕ) (scope : SymbolSc
         ∙ steps-then c.fcall ss (ts ++ last_step) rest env (flat_run now)
         ∙ v.simulates.by own p (of_type WordTy) stands (address-clean p none) o (fewer w names more ext c) env now begins (steps_do c.fcall (ts ++ last_step) rest) (λ x last. onward_stated (left x last) next never)
         (λ new last done.
-          let x = value_in new s in
-          steps-then c.fcall ts last_step rest new (flat_run last)
-          ∙ v'.simulates.by own p wanted_stored stands (value-clean p none) (scope-later low mid scope le o) c new last (begins-then low env new scope now last (Fits new s) o begins done) (steps_do c.fcall last_step rest) (λ y end. onward_stated (right x y end) next never)
-          (λ after end done'.
-            let kept = keeps-value mid new after s done'.keeps (v.older o) in
-            let y = value_in after u in
-            let at = atom_word after (word_operand s) in
-            let spelled = words-fit after u done'.fits in
-            let both = done-then low mid env new after (Fits new s) (Fits after u) last end le done done' in
-            let t = has-type p wanted_stored e (value-clean p none) refl in
-            let count : length (words_of y) ≡ words t.0 = ap length spelled ∙ atoms-count after (operands u) ∙ operands-count u ∙ ap words (v'.formed.by own p wanted_stored stands (value-clean p none) t.0 t.1) in
-            let moves : can_move m (length (words_of y)) ≡ true = ap (can_move m) count ∙ moves-words p t.0 none t.1 in
-            stores c.fcall rest after (flat_run end)
-            ∙ ap (λ l. flat.store m at l (flat_run end) (λ now'. rest after now')) (sym spelled)
-            ∙ written-any low scope m at (words_of y) env after end (Fits after u) z rest next never (stored m at (words_of y) end.packet)
-              (λ q is. stored-sizes m at (words_of y) end.packet q done'.sizes (are-words after u done'.fits) is) both (keeps-scope_fits low env after scope both.keeps o begins.fits) (keeps-scope low env after scope both.keeps o) same
-            ∙ ap (λ r. onward_stated r next never) (sym (may-store z m at (words_of y) end moves))
-            ∙ ap (λ i. onward_stated (store z m i (words_of y) end) next never) (sym (word-of after s) ∙ ap word_of kept))
-          ∙ sym (onward-then_stated (eval w.declared c.call e (scope_in new scope) last) (right x) next never)
-          ∙ ap (λ y. onward_stated (then_stated (eval w.declared c.call e y last) (right x)) next never) (keeps-scope low env new scope done.keeps o))
+        let x = value_in new s in
+        steps-then c.fcall ts last_step rest new (flat_run last)
+        ∙ v'.simulates.by own p wanted_stored stands (value-clean p none) (scope-later low mid scope le o) c new last (begins-then low env new scope now last (Fits new s) o begins done) (steps_do c.fcall last_step rest) (λ y end. onward_stated (right x y end) next never)
+        (λ after end done'.
+        let kept = keeps-value mid new after s done'.keeps (v.older o) in
+        let y = value_in after u in
+        let at = atom_word after (word_operand s) in
+        let spelled = words-fit after u done'.fits in
+        let both = done-then low mid env new after (Fits new s) (Fits after u) last end le done done' in
+        let t = has-type p wanted_stored e (value-clean p none) refl in
+        let count : length (words_of y) ≡ words t.0 = ap length spelled ∙ atoms-count after (operands u) ∙ operands-count u ∙ ap words (v'.formed.by own p wanted_stored stands (value-clean p none) t.0 t.1) in
+        let moves : can_move m (length (words_of y)) ≡ true = ap (can_move m) count ∙ moves-words p t.0 none t.1 in
+        stores c.fcall rest after (flat_run end)
+        ∙ ap (λ l. flat.store m at l (flat_run end) (λ now'. rest after now')) (sym spelled)
+        ∙ written-any low scope m at (words_of y) env after end (Fits after u) z rest next never (stored m at (words_of y) end.packet)
+        (λ q is. stored-sizes m at (words_of y) end.packet q done'.sizes (are-words after u done'.fits) is) both (keeps-scope_fits low env after scope both.keeps o begins.fits) (keeps-scope low env after scope both.keeps o) same
+        ∙ ap (λ r. onward_stated r next never) (sym (may-store z m at (words_of y) end moves))
+        ∙ ap (λ i. onward_stated (store z m i (words_of y) end) next never) (sym (word-of after s) ∙ ap word_of kept))
+        ∙ sym (onward-then_stated (eval w.declared c.call e (scope_in new scope) last) (right x) next never)
+        ∙ ap (λ y. onward_stated (then_stated (eval w.declared c.call e y last) (right x)) next never) (keeps-scope low env new scope done.keeps o))
         ∙ sym (onward-then_stated (eval w.declared c.call a z now) left next never)
         ∙ sym (onward-alone (then_stated (eval w.declared c.call a z now) left) next never);
     formed = λ own p stands none. stands.vars;
@@ -175,8 +175,8 @@ module _ (w : Whole) (names more : Names) (low mid high : ℕ) (scope inner : Sy
         steps-then c.fcall ss ts rest env (flat_run now)
         ∙ v.simulate own p stands (first-clean p none) o (fewer w names more ext c) env now begins (steps_do c.fcall ts rest) (λ m last. onward_stated (k m last) next never) never
         (λ new last done.
-          v'.simulate own (with_vars (vars_after p.known p.vars st) p) (stands-behind own p stands none) (others-clean p none) (v.older o) c new last (record { sizes = done.sizes; fits = done.fits }) rest next never
-          (λ after end done'. same after end (done-then low mid env new after (ScopeFits new inner) (ScopeFits after behind) last end le done done')))
+        v'.simulate own (with_vars (vars_after p.known p.vars st) p) (stands-behind own p stands none) (others-clean p none) (v.older o) c new last (record { sizes = done.sizes; fits = done.fits }) rest next never
+        (λ after end done'. same after end (done-then low mid env new after (ScopeFits new inner) (ScopeFits after behind) last end le done done')))
         ∙ onward-alone one (λ m last. onward_stated (k m last) next never) never
         ∙ sym (onward-further one k next never);
     formed = λ own p stands none. v'.formed own (with_vars (vars_after p.known p.vars st) p) (stands-behind own p stands none) (others-clean p none);
@@ -205,7 +205,7 @@ module _ (w : Whole) (low : ℕ) (scope : SymbolScope) (sts : List Stmt) where
       → rest ≡ st ∷ rest' → mid ≤ mid' → Extends names names' → Led names mid ss inner rest → IsStated w names' mid mid' inner (statement_and (statement_tree st) no_statements) ts inner' → ss' ≡ ss ++ ts → Led names' mid' ss' inner' rest'
   led-more names names' mid mid' ss ts ss' inner inner' rest rest' st is le ext led v same more high us behind ext' le' h =
       let whole = led more high (ts ++ us) behind (extends-then names names' more ext ext') (omega arith)
-          (subst (λ l. IsStated w more mid high inner (list_statements l) (ts ++ us) behind) (sym is) (stated-and w names' more mid mid' high inner inner' (statement_tree st) (list_statements rest') ts us behind ext' le v h)) in
+      (subst (λ l. IsStated w more mid high inner (list_statements l) (ts ++ us) behind) (sym is) (stated-and w names' more mid mid' high inner inner' (statement_tree st) (list_statements rest') ts us behind ext' le v h)) in
       subst (λ l. IsStated w more low high scope (list_statements sts) (l ++ us) behind) (sym same)
       (subst (λ l. IsStated w more low high scope (list_statements sts) l behind) (sym (append_assoc ss ts us)) whole)
 
@@ -218,14 +218,16 @@ module _ (w : Whole) (low : ℕ) (scope : SymbolScope) (sts : List Stmt) where
 module _ (w : Whole) (names more : Names) (low mid high : ℕ) (scope inner : SymbolScope) (sp : Span) (sts : StatementTrees) (e : Tree) (ss ts : List Step) (s : Symbol) where
   pub block-value : Extends names more → low ≤ mid → IsStated w names low mid scope sts ss inner → IsValue w more mid high inner e ts s → IsValue w more low high scope (BlockTree sp sts e) (ss ++ ts) s
   block-value ext le v v' = record {
-    simulates = record { by = λ own p wanted stands none o c env now begins rest next same.
-        let k : Scope → Running → Result = λ m last. eval w.declared c.call e m last in
-        steps-then c.fcall ss ts rest env (flat_run now)
-        ∙ v.simulate own (inside p) (stands-inside w own scope p stands) (statements-clean p wanted none) o (fewer w names more ext c) env now begins (steps_do c.fcall ts rest) (λ m last. onward (k m last) next) next
-        (λ new last done.
+    simulates = record {
+      by = λ own p wanted stands none o c env now begins rest next same.
+          let k : Scope → Running → Result = λ m last. eval w.declared c.call e m last in
+          steps-then c.fcall ss ts rest env (flat_run now)
+          ∙ v.simulate own (inside p) (stands-inside w own scope p stands) (statements-clean p wanted none) o (fewer w names more ext c) env now begins (steps_do c.fcall ts rest) (λ m last. onward (k m last) next) next
+          (λ new last done.
           v'.simulates.by own (with_vars (vars_behind p.known p.vars sts) p) anything (stands-behind own p wanted stands none) (last-clean p wanted none) (v.older o) c new last (record { sizes = done.sizes; fits = done.fits }) rest next
           (λ after end done'. same after end (done-then low mid env new after (ScopeFits new inner) (Fits after s) last end le done done')))
-        ∙ sym (onward-stated (run_all w.declared c.call sts (scope_in env scope) now) k next) };
+          ∙ sym (onward-stated (run_all w.declared c.call sts (scope_in env scope) now) k next);
+    };
     formed = record { by = λ own p wanted stands none t is. v'.formed.by own (with_vars (vars_behind p.known p.vars sts) p) anything (stands-behind own p wanted stands none) (last-clean p wanted none) t is };
     older = λ o. v'.older (v.older o);
   }

@@ -56,9 +56,11 @@ module _ (w : Whole) (names : Names) (low high : ℕ) (scope : SymbolScope) wher
 
   pub truth-value : (sp : Span) (b : Bool) → IsValue w names low high scope (TruthTree sp b) [] (Truth (Lit (if b then 1 else 0)))
   truth-value sp b = record {
-    simulates = record { by = λ own p wanted stands none older c env now begins rest next same.
-        same env now (begins-done low env scope now (Fits env (Truth (Lit (if b then 1 else 0)))) begins (bit-fits b))
-        ∙ ap (λ x. next (meaning.Truth x) now) (bit-is b) };
+    simulates = record {
+      by = λ own p wanted stands none older c env now begins rest next same.
+          same env now (begins-done low env scope now (Fits env (Truth (Lit (if b then 1 else 0)))) begins (bit-fits b))
+          ∙ ap (λ x. next (meaning.Truth x) now) (bit-is b);
+    };
     formed = record { by = λ own p wanted stands none t is. some-same BoolTy t is };
     older = λ o. one-older high (Lit (if b then 1 else 0)) tt;
   }
@@ -101,9 +103,11 @@ module _ (w : Whole) (names : Names) (low high : ℕ) (scope : SymbolScope) wher
 
   pub var-value : (sp : Span) (x : List ℕ) → low ≤ high → IsValue w names low high scope (VarTree sp x) [] (symbol_in scope x)
   var-value sp x le = record {
-    simulates = record { by = λ own p wanted stands none older c env now begins rest next same.
-        same env now (begins-done low env scope now (Fits env (symbol_in scope x)) begins (variable-fits env scope x begins.fits))
-        ∙ ap (λ v. next v now) (variable-value env scope x) };
+    simulates = record {
+      by = λ own p wanted stands none older c env now begins rest next same.
+          same env now (begins-done low env scope now (Fits env (symbol_in scope x)) begins (variable-fits env scope x begins.fits))
+          ∙ ap (λ v. next v now) (variable-value env scope x);
+    };
     formed = record { by = λ own p wanted stands none t is. variable-form scope x t (ap (look_up x) (sym stands.vars) ∙ is) };
     older = λ o. older-later low high (operands (symbol_in scope x)) le (variable-older low scope x o);
   }
@@ -131,13 +135,15 @@ module _ (w : Whole) (names : Names) (low mid high : ℕ) (scope : SymbolScope) 
       → HasForm w scope e r → (ScopeOlder low scope → AreOlder high (operands r))
       → IsValue w names low high scope e (ss ++ ts) r
   unary v means parts makes formed older = record {
-    simulates = record { by = λ own p wanted stands none o c env now begins rest next same.
-        let clean = none-before (faults (inside p) (of p) a) (node_faults p wanted e) (sym (parts p wanted) ∙ none) in
-        let made = makes own p wanted stands none o in
-        steps-then c.fcall ss ts rest env (flat_run now)
-        ∙ v.simulates.by own (inside p) (of p) (stands-inside w own scope p stands) clean o c env now begins (steps_do c.fcall ts rest) (λ x last. onward (k x last) next) (λ new last done. made c.fcall env new last done rest next same)
-        ∙ sym (onward-then (eval w.declared c.call a (scope_in env scope) now) k next)
-        ∙ ap (λ x. onward x next) (sym (means c.call (scope_in env scope) now)) };
+    simulates = record {
+      by = λ own p wanted stands none o c env now begins rest next same.
+          let clean = none-before (faults (inside p) (of p) a) (node_faults p wanted e) (sym (parts p wanted) ∙ none) in
+          let made = makes own p wanted stands none o in
+          steps-then c.fcall ss ts rest env (flat_run now)
+          ∙ v.simulates.by own (inside p) (of p) (stands-inside w own scope p stands) clean o c env now begins (steps_do c.fcall ts rest) (λ x last. onward (k x last) next) (λ new last done. made c.fcall env new last done rest next same)
+          ∙ sym (onward-then (eval w.declared c.call a (scope_in env scope) now) k next)
+          ∙ ap (λ x. onward x next) (sym (means c.call (scope_in env scope) now));
+    };
     formed = formed;
     older = older;
   }
@@ -207,15 +213,19 @@ field-typed x s (Some u) t h e = field-form x s t (ap (λ v. field_ty x (Some v)
 module _ (w : Whole) (names : Names) (low high : ℕ) (scope : SymbolScope) where
   pub dot-value : (sp : Span) (a : Tree) (x : List ℕ) (ss : List Step) (s : Symbol) → IsValue w names low high scope a ss s → IsValue w names low high scope (DotTree sp a x) ss (field_named x (fields_of s))
   dot-value sp a x ss s v = record {
-    simulates = record { by = λ own p wanted stands none o c env now begins rest next same.
-        let clean = none-before (faults (inside p) a_value a) (node_faults p wanted (DotTree sp a x)) none in
-        let k : Value → Running → Result = λ y last. Gives (meaning.field_named x (meaning.fields_of y)) last in
-        v.simulates.by own (inside p) a_value (stands-inside w own scope p stands) clean o c env now begins rest (λ y last. onward (k y last) next)
-        (λ new last done. same new last (record { sizes = done.sizes; keeps = done.keeps; fits = field-fits new x s done.fits }) ∙ ap (λ z. next z last) (field-value new x s))
-        ∙ sym (onward-then (eval w.declared c.call a (scope_in env scope) now) k next) };
-    formed = record { by = λ own p wanted stands none t is.
-        let clean = none-before (faults (inside p) a_value a) (node_faults p wanted (DotTree sp a x)) none in
-        field-typed x s (type_at p.known p.vars a) t (λ u e. v.formed.by own (inside p) a_value (stands-inside w own scope p stands) clean u e) is };
+    simulates = record {
+      by = λ own p wanted stands none o c env now begins rest next same.
+          let clean = none-before (faults (inside p) a_value a) (node_faults p wanted (DotTree sp a x)) none in
+          let k : Value → Running → Result = λ y last. Gives (meaning.field_named x (meaning.fields_of y)) last in
+          v.simulates.by own (inside p) a_value (stands-inside w own scope p stands) clean o c env now begins rest (λ y last. onward (k y last) next)
+          (λ new last done. same new last (record { sizes = done.sizes; keeps = done.keeps; fits = field-fits new x s done.fits }) ∙ ap (λ z. next z last) (field-value new x s))
+          ∙ sym (onward-then (eval w.declared c.call a (scope_in env scope) now) k next);
+    };
+    formed = record {
+      by = λ own p wanted stands none t is.
+          let clean = none-before (faults (inside p) a_value a) (node_faults p wanted (DotTree sp a x)) none in
+          field-typed x s (type_at p.known p.vars a) t (λ u e. v.formed.by own (inside p) a_value (stands-inside w own scope p stands) clean u e) is;
+    };
     older = λ o. field-older high x s (v.older o);
   }
 
@@ -239,10 +249,10 @@ module _ (w : Whole) (names : Names) (low high : ℕ) (scope : SymbolScope) wher
       unary w names low high (high + 1) scope (InvertTree sp a) a ss (Let high (UnaOf una.Not (word_operand s)) ∷ []) s (Word (Var high)) (λ y last. Gives (meaning.Word (word_not (word_of y))) last) (λ p. of_type WordTy) v
       (λ call m now. refl) (λ p wanted. refl)
       (λ own p wanted stands none o call env new last done rest next same.
-        let made = word_not (atom_word new (word_operand s)) in
-        defined low high env new last (Fits new s) made (Word (Var high)) (meaning.Word (word_not (word_of (value_in new s)))) rest next le done
-        (ap (λ x. meaning.Word x) (assigned-here new high made) ∙ ap (λ x. meaning.Word (word_not x)) (sym (word-of new s)))
-        (subst (λ x. x < 2 ^ 32) (sym (assigned-here new high made)) (not-word (atom_word new (word_operand s)))) same)
+      let made = word_not (atom_word new (word_operand s)) in
+      defined low high env new last (Fits new s) made (Word (Var high)) (meaning.Word (word_not (word_of (value_in new s)))) rest next le done
+      (ap (λ x. meaning.Word x) (assigned-here new high made) ∙ ap (λ x. meaning.Word (word_not x)) (sym (word-of new s)))
+      (subst (λ x. x < 2 ^ 32) (sym (assigned-here new high made)) (not-word (atom_word new (word_operand s)))) same)
       (record { by = λ own p wanted stands none t is. some-same WordTy t is })
       (λ o. one-older (high + 1) (Var high) (omega arith))
 
@@ -251,9 +261,9 @@ module _ (w : Whole) (names : Names) (low high : ℕ) (scope : SymbolScope) wher
       unary w names low high (high + 1) scope (NegateTree sp a) a ss (Let high (BinOf bin.Xor (truth_operand s) (Lit 1)) ∷ []) s (Truth (Var high)) (λ y last. Gives (meaning.Truth (not (truth_of y))) last) (λ p. of_type BoolTy) v
       (λ call m now. refl) (λ p wanted. refl)
       (λ own p wanted stands none o call env new last done rest next same.
-        let x = atom_word new (truth_operand s) in
-        defined low high env new last (Fits new s) (bit_xor x 1) (Truth (Var high)) (meaning.Truth (not (truth_of (value_in new s)))) rest next le done
-        (ap (λ y. meaning.Truth (not (y == 0))) (assigned-here new high (bit_xor x 1)) ∙ ap (λ y. meaning.Truth y) (turned-is x (truth-fits new s done.fits)) ∙ ap (λ y. meaning.Truth (not y)) (sym (truth-of new s)))
-        (subst (λ y. y ≤ 1) (sym (assigned-here new high (bit_xor x 1))) (turned-truth x (truth-fits new s done.fits))) same)
+      let x = atom_word new (truth_operand s) in
+      defined low high env new last (Fits new s) (bit_xor x 1) (Truth (Var high)) (meaning.Truth (not (truth_of (value_in new s)))) rest next le done
+      (ap (λ y. meaning.Truth (not (y == 0))) (assigned-here new high (bit_xor x 1)) ∙ ap (λ y. meaning.Truth y) (turned-is x (truth-fits new s done.fits)) ∙ ap (λ y. meaning.Truth (not y)) (sym (truth-of new s)))
+      (subst (λ y. y ≤ 1) (sym (assigned-here new high (bit_xor x 1))) (turned-truth x (truth-fits new s done.fits))) same)
       (record { by = λ own p wanted stands none t is. some-same BoolTy t is })
       (λ o. one-older (high + 1) (Var high) (omega arith))

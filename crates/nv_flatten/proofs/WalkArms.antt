@@ -54,10 +54,10 @@ shift-as w names low high next scope sp op a n ss steps s r le v none past some 
     ⊎_elim
     (λ (z : n ≡ 0). same (λ one most. absurd (omega (arith, z, one))) (none z))
     (λ (one : 1 ≤ n). ⊎_elim
-      (λ (z : 31 < n). same (λ one' most. absurd (omega (arith, z, most))) (past z))
-      (λ (most : n ≤ 31). let h = some one most in
-        value-as w names low (high + 1) next scope (ShiftTree sp op a n) (ss ++ Let high (shift_of op n (word_operand s)) ∷ []) steps (Word (Var high)) (Word r) h.2 h.1 (ap (λ x. Word x) h.0) (shift-value w names low high scope sp op a n ss s one le v))
-      (most-cases n))
+    (λ (z : 31 < n). same (λ one' most. absurd (omega (arith, z, most))) (past z))
+    (λ (most : n ≤ 31). let h = some one most in
+    value-as w names low (high + 1) next scope (ShiftTree sp op a n) (ss ++ Let high (shift_of op n (word_operand s)) ∷ []) steps (Word (Var high)) (Word r) h.2 h.1 (ap (λ x. Word x) h.0) (shift-value w names low high scope sp op a n ss s one le v))
+    (most-cases n))
     (count-cases n)
   where
     same : (1 ≤ n → n ≤ 31 → ⊥) → (r ≡ word_operand s) × (steps ≡ ss) × (next ≡ high) → IsValue w names low next scope (ShiftTree sp op a n) steps (Word r)
@@ -67,13 +67,13 @@ shift-as w names low high next scope sp op a n ss steps s r le v none past some 
 pub unpack-as : (w : Whole) (names : Names) (low mid high : ℕ) (scope : SymbolScope) (sp : Span) (l : List ℕ) (a : Tree) (ss ts : List Step) (s r : Symbol) (as' : List Atom)
     → as' ≡ operands s → low ≤ mid → IsValue w names low mid scope a ss s
     → (IsSound (outline w.declared.layouts (NamedLayout l)) → length as' ≡ packed_words (outline w.declared.layouts (NamedLayout l)) → AreOlder mid as' → (env : Env) → AreWords (atom_words env as')
-      → Computes mid ts env (λ new. (value_in new r ≡ value_at (outline w.declared.layouts (NamedLayout l)) (packed (atom_words env as'))) × Fits new r))
+    → Computes mid ts env (λ new. (value_in new r ≡ value_at (outline w.declared.layouts (NamedLayout l)) (packed (atom_words env as'))) × Fits new r))
     → form r ≡ unpacked_ty (outline w.declared.layouts (NamedLayout l)) → (AreOlder mid as' → AreOlder high (operands r))
     → IsValue w names low high scope (UnpackTree sp l a) (ss ++ ts) r
 unpack-as w names low mid high scope sp l a ss ts s r as' is le v unpacks formed older =
     unpack-value w names low mid high scope sp l a ss ts s r le v
     (subst (λ x. IsSound (outline w.declared.layouts (NamedLayout l)) → length x ≡ packed_words (outline w.declared.layouts (NamedLayout l)) → AreOlder mid x → (env : Env) → AreWords (atom_words env x)
-      → Computes mid ts env (λ new. (value_in new r ≡ value_at (outline w.declared.layouts (NamedLayout l)) (packed (atom_words env x))) × Fits new r)) is unpacks)
+    → Computes mid ts env (λ new. (value_in new r ≡ value_at (outline w.declared.layouts (NamedLayout l)) (packed (atom_words env x))) × Fits new r)) is unpacks)
     formed
     (subst (λ x. AreOlder mid x → AreOlder high (operands r)) is older)
 

@@ -89,8 +89,8 @@ record-well w old names low high scope sp es ss vs a = record {
 pub dot-well : (w : Whole) (old names : Names) (low high : ℕ) (scope : SymbolScope) (sp : Span) (e : Tree) (x : List ℕ) (ss : List Step) (v : Symbol) → IsWellValue w old names low high scope e ss v → IsWellValue w old names low high scope (DotTree sp e x) ss (field_named x (fields_of v))
 dot-well w old names low high scope sp e x ss v a = record {
   well = λ own p wanted st f t.
-    steps-knowing w names low high high own scope ss (Knows (operands v)) (Knows (operands (field_named x (fields_of v)))) (omega arith)
-    (a.well own (inside p) a_value (stands-inside w own scope p st) (nil-left (faults (inside p) a_value e) _ f) refl) (λ known k q. knows-field known x v q);
+      steps-knowing w names low high high own scope ss (Knows (operands v)) (Knows (operands (field_named x (fields_of v)))) (omega arith)
+      (a.well own (inside p) a_value (stands-inside w own scope p st) (nil-left (faults (inside p) a_value e) _ f) refl) (λ known k q. knows-field known x v q);
   literal = tt {0};
   called = a.called;
 }
@@ -105,8 +105,8 @@ pub invert-well : (w : Whole) (old names : Names) (low mid : ℕ) (scope : Symbo
     → IsWellValue w old names low (mid + 1) scope (InvertTree sp e) (ss ++ Let mid (UnaOf Not (word_operand v)) ∷ []) (Word (Var mid))
 invert-well w old names low mid scope sp e ss v a = record {
   well = λ own p wanted st f t.
-    let-behind w names low mid own scope ss (UnaOf Not (word_operand v)) (Knows (operands v))
-    (a.well own (inside p) (of_type WordTy) (stands-inside w own scope p st) (nil-left (faults (inside p) (of_type WordTy) e) _ f) refl) (λ known q. knows-word known v q);
+      let-behind w names low mid own scope ss (UnaOf Not (word_operand v)) (Knows (operands v))
+      (a.well own (inside p) (of_type WordTy) (stands-inside w own scope p st) (nil-left (faults (inside p) (of_type WordTy) e) _ f) refl) (λ known q. knows-word known v q);
   literal = tt {0};
   called = steps-called-more old names ss (Let mid (UnaOf Not (word_operand v)) ∷ []) a.called;
 }
@@ -115,9 +115,9 @@ pub negate-well : (w : Whole) (old names : Names) (low mid : ℕ) (scope : Symbo
     → IsWellValue w old names low (mid + 1) scope (NegateTree sp e) (ss ++ Let mid (BinOf Xor (truth_operand v) (Lit 1)) ∷ []) (Truth (Var mid))
 negate-well w old names low mid scope sp e ss v a = record {
   well = λ own p wanted st f t.
-    let-behind w names low mid own scope ss (BinOf Xor (truth_operand v) (Lit 1)) (Knows (operands v))
-    (a.well own (inside p) (of_type BoolTy) (stands-inside w own scope p st) (nil-left (faults (inside p) (of_type BoolTy) e) _ f) refl)
-    (λ known q. and_from (is_known known (truth_operand v)) true (knows-truth known v q) refl);
+      let-behind w names low mid own scope ss (BinOf Xor (truth_operand v) (Lit 1)) (Knows (operands v))
+      (a.well own (inside p) (of_type BoolTy) (stands-inside w own scope p st) (nil-left (faults (inside p) (of_type BoolTy) e) _ f) refl)
+      (λ known q. and_from (is_known known (truth_operand v)) true (knows-truth known v q) refl);
   literal = tt {0};
   called = steps-called-more old names ss (Let mid (BinOf Xor (truth_operand v) (Lit 1)) ∷ []) a.called;
 }
@@ -134,14 +134,14 @@ pub combine-well : (w : Whole) (old names more : Names) (low mid high : ℕ) (sc
     → IsWellValue w old more low (high + 1) scope (BinaryTree sp op a b) ((ss ++ ts) ++ Let high (BinOf bin (word_operand u) (word_operand v)) ∷ []) (Word (Var high))
 combine-well w old names more low mid high scope sp op bin a b ss ts u v h l r = record {
   well = λ own p wanted st f t.
-    let want = of_type (operand_ty op) in
-    let st' = stands-inside w own scope p st in
-    let left = l.well own (inside p) want st' (nil-left (faults (inside p) want a) _ f) refl in
-    let right = r.well own (inside p) want st' (nil-left (faults (inside p) want b) _ (nil-right (faults (inside p) want a) _ f)) refl in
-    let-behind w more low high own scope (ss ++ ts) (BinOf bin (word_operand u) (word_operand v)) (Knows (operands u ++ operands v))
-    (two-values w names more low mid high own scope ss ts (operands u) (operands v) h left right)
-    (λ known q.
-    and_from (is_known known (word_operand u)) (is_known known (word_operand v)) (knows-word known u (knows-left known (operands u) (operands v) q)) (knows-word known v (knows-right known (operands u) (operands v) q)));
+      let want = of_type (operand_ty op) in
+      let st' = stands-inside w own scope p st in
+      let left = l.well own (inside p) want st' (nil-left (faults (inside p) want a) _ f) refl in
+      let right = r.well own (inside p) want st' (nil-left (faults (inside p) want b) _ (nil-right (faults (inside p) want a) _ f)) refl in
+      let-behind w more low high own scope (ss ++ ts) (BinOf bin (word_operand u) (word_operand v)) (Knows (operands u ++ operands v))
+      (two-values w names more low mid high own scope ss ts (operands u) (operands v) h left right)
+      (λ known q.
+      and_from (is_known known (word_operand u)) (is_known known (word_operand v)) (knows-word known u (knows-left known (operands u) (operands v) q)) (knows-word known v (knows-right known (operands u) (operands v) q)));
   literal = tt {0};
   called = steps-called-more old more (ss ++ ts) (Let high (BinOf bin (word_operand u) (word_operand v)) ∷ []) (steps-called-then old names more ss ts l.called r.called);
 }
@@ -184,8 +184,8 @@ pub shift-well : (w : Whole) (old names : Names) (low mid high : ℕ) (scope : S
     → IsShift op n mid high (word_operand v) x ss ts → IsWellValue w old names low high scope (ShiftTree sp op e n) ts (Word x)
 shift-well w old names low mid high scope sp op e n ss ts v x a s = record {
   well = λ own p wanted st f t.
-    let le : n ≤ 31 = ltb-false 31 n (not-where (nat_lt 31 n) 21 (middle-of p wanted (ShiftTree sp op e n) f)) in
-    shift-steps w names low mid high own scope op n ss ts v x le s (a.well own (inside p) (of_type WordTy) (stands-inside w own scope p st) (nil-left (faults (inside p) (of_type WordTy) e) _ f) refl) (zero-or n);
+      let le : n ≤ 31 = ltb-false 31 n (not-where (nat_lt 31 n) 21 (middle-of p wanted (ShiftTree sp op e n) f)) in
+      shift-steps w names low mid high own scope op n ss ts v x le s (a.well own (inside p) (of_type WordTy) (stands-inside w own scope p st) (nil-left (faults (inside p) (of_type WordTy) e) _ f) refl) (zero-or n);
   literal = tt {0};
   called = subst (λ k. AreCalled old names (steps_calls k)) (sym s.extends.1) (steps-called-more old names ss s.extends.0 a.called);
 }
@@ -204,16 +204,16 @@ pub unpack-well : (w : Whole) (old names : Names) (low mid high : ℕ) (scope : 
     → IsWellValue w old names low high scope (UnpackTree sp l e) (ss ++ ts) u
 unpack-well w old names low mid high scope sp l e ss ts v u a hf lets = record {
   well = λ own p wanted st f t.
-    let found = among-found l p.known.layouts (not-false (is_among l (names_of p.known.layouts)) (not-where (not (is_among l (names_of p.known.layouts))) 3 (low-of p wanted (UnpackTree sp l e) f))) in
-    let known = st.part.layouts l found.0 found.1 in
-    let st' = stands-inside w own scope p st in
-    let part = nil-left (faults (inside p) (wanted_packed (look_up l p.known.layouts)) e) _ f in
-    let part' : faults (inside p) (of_type (packed_ty found.0)) e ≡ [] = subst (λ o. faults (inside p) (wanted_packed o) e ≡ []) found.1 part in
-    let typed = wanted-type (inside p) (packed_ty found.0) e part' in
-    let formed : form v ≡ packed_ty found.0 = hf.by own (inside p) (of_type (packed_ty found.0)) st' part' (packed_ty found.0) typed in
-    let many : length (operands v) ≡ packed_words found.0 = operands-words v ∙ ap words formed ∙ words-ty-words (packed_words found.0) in
-    steps-compute w names low mid high own scope ss ts (operands v) (operands u) (a.well own (inside p) (of_type (packed_ty found.0)) st' part' refl)
-    (lets (subst IsSound (sym known.0) known.1) (many ∙ ap packed_words (sym known.0)));
+      let found = among-found l p.known.layouts (not-false (is_among l (names_of p.known.layouts)) (not-where (not (is_among l (names_of p.known.layouts))) 3 (low-of p wanted (UnpackTree sp l e) f))) in
+      let known = st.part.layouts l found.0 found.1 in
+      let st' = stands-inside w own scope p st in
+      let part = nil-left (faults (inside p) (wanted_packed (look_up l p.known.layouts)) e) _ f in
+      let part' : faults (inside p) (of_type (packed_ty found.0)) e ≡ [] = subst (λ o. faults (inside p) (wanted_packed o) e ≡ []) found.1 part in
+      let typed = wanted-type (inside p) (packed_ty found.0) e part' in
+      let formed : form v ≡ packed_ty found.0 = hf.by own (inside p) (of_type (packed_ty found.0)) st' part' (packed_ty found.0) typed in
+      let many : length (operands v) ≡ packed_words found.0 = operands-words v ∙ ap words formed ∙ words-ty-words (packed_words found.0) in
+      steps-compute w names low mid high own scope ss ts (operands v) (operands u) (a.well own (inside p) (of_type (packed_ty found.0)) st' part' refl)
+      (lets (subst IsSound (sym known.0) known.1) (many ∙ ap packed_words (sym known.0)));
   literal = tt {0};
   called = steps-called-more old names ss ts a.called;
 }
@@ -223,18 +223,18 @@ pub pack-well : (w : Whole) (old names : Names) (low mid high : ℕ) (scope : Sy
     → IsWellValue w old names low high scope (PackTree sp l e) (ss ++ ts) u
 pack-well w old names low mid high scope sp l e ss ts v u a hf lets = record {
   well = λ own p wanted st f t.
-    let found = among-found l p.known.layouts (not-false (is_among l (names_of p.known.layouts)) (not-where (not (is_among l (names_of p.known.layouts))) 3 (low-of p wanted (PackTree sp l e) f))) in
-    let known = st.part.layouts l found.0 found.1 in
-    let st' = stands-inside w own scope p st in
-    let want = wanted_unpacked (Some found.0) in
-    let part = nil-left (faults (inside p) (wanted_unpacked (look_up l p.known.layouts)) e) _ f in
-    let part' : faults (inside p) want e ≡ [] = subst (λ o. faults (inside p) (wanted_unpacked o) e ≡ []) found.1 part in
-    let typed = value-has-type (inside p) want e refl part' in
-    let formed : form v ≡ typed.0 = hf.by own (inside p) want st' part' typed.0 typed.1 in
-    let right : can_pack (form_of found.0) typed.0 ≡ true = right-of (inside p) want e typed.0 part' typed.1 in
-    let right' : can_pack (form_of found.0) (form v) ≡ true = subst (λ x. can_pack (form_of found.0) x ≡ true) (sym formed) right in
-    steps-compute w names low mid high own scope ss ts (operands v) (operands u) (a.well own (inside p) want st' part' refl)
-    (lets (subst IsSound (sym known.0) known.1) (subst (λ o. can_pack (form_of o) (form v) ≡ true) (sym known.0) right'));
+      let found = among-found l p.known.layouts (not-false (is_among l (names_of p.known.layouts)) (not-where (not (is_among l (names_of p.known.layouts))) 3 (low-of p wanted (PackTree sp l e) f))) in
+      let known = st.part.layouts l found.0 found.1 in
+      let st' = stands-inside w own scope p st in
+      let want = wanted_unpacked (Some found.0) in
+      let part = nil-left (faults (inside p) (wanted_unpacked (look_up l p.known.layouts)) e) _ f in
+      let part' : faults (inside p) want e ≡ [] = subst (λ o. faults (inside p) (wanted_unpacked o) e ≡ []) found.1 part in
+      let typed = value-has-type (inside p) want e refl part' in
+      let formed : form v ≡ typed.0 = hf.by own (inside p) want st' part' typed.0 typed.1 in
+      let right : can_pack (form_of found.0) typed.0 ≡ true = right-of (inside p) want e typed.0 part' typed.1 in
+      let right' : can_pack (form_of found.0) (form v) ≡ true = subst (λ x. can_pack (form_of found.0) x ≡ true) (sym formed) right in
+      steps-compute w names low mid high own scope ss ts (operands v) (operands u) (a.well own (inside p) want st' part' refl)
+      (lets (subst IsSound (sym known.0) known.1) (subst (λ o. can_pack (form_of o) (form v) ≡ true) (sym known.0) right'));
   literal = tt {0};
   called = steps-called-more old names ss ts a.called;
 }
@@ -244,20 +244,20 @@ pub fetch-well : (w : Whole) (old names : Names) (low mid : ℕ) (scope : Symbol
     → IsWellValue w old names low (mid + n) scope (FetchTree sp m n e) ts (words_symbol (variables (numbers_from mid n)))
 fetch-well w old names low mid scope sp m n e ss ts v xs last same a = record {
   well = λ own p wanted st f t.
-    subst (λ k. WellSteps w names low (mid + n) own scope k (Knows (operands (words_symbol (variables (numbers_from mid n)))))) (sym last)
-    (    let many : length xs.items ≡ n = ap length same ∙ numbers-length mid n in
-    let kinds = middle-of p wanted (FetchTree sp m n e) f in
-    let moves : flat.can_move m n ≡ true = move-same m n ∙ not-false (can_move m n) (not-where (not (can_move m n)) 19 (nil-left (wrong_access m n) _ kinds)) in
-    let address : flat.is_address m (word_operand v) n ≡ true = address-formed m e n v (nil-right (wrong_access m n) (wrong_scratch m e n) kinds) a.literal in
-    steps-last w names low mid (mid + n) own scope ss (Fetch m xs (word_operand v)) (Knows (operands v)) (Knows (operands (words_symbol (variables (numbers_from mid n)))))
-    (a.well own (inside p) (of_type WordTy) (stands-inside w own scope p st) (nil-left (faults (inside p) (of_type WordTy) e) _ f) refl)
-    (λ l known k q.
-    and_from (is_known known (word_operand v)) (flat.can_move m (length xs.items) && flat.is_address m (word_operand v) (length xs.items)) (knows-word known v q)
-    (and_from (flat.can_move m (length xs.items)) (flat.is_address m (word_operand v) (length xs.items)) (subst (λ k. flat.can_move m k ≡ true) (sym many) moves) (subst (λ k. flat.is_address m (word_operand v) k ≡ true) (sym many) address)))
-    (subst (λ k. Rises mid k (mid + n)) (sym same) (rises-numbers mid n (mid + n) (omega arith))) (tt {0})
-    (λ known k q.
-    subst (Knows (operands (words_symbol (variables (numbers_from mid n))))) (ap (λ l. l ++ known) (sym same))
-    (subst (λ as'. all_known (numbers_from mid n ++ known) as' ≡ true) (sym (words-operands (variables (numbers_from mid n)))) (knows-variables (numbers_from mid n) known))));
+      subst (λ k. WellSteps w names low (mid + n) own scope k (Knows (operands (words_symbol (variables (numbers_from mid n)))))) (sym last)
+      (let many : length xs.items ≡ n = ap length same ∙ numbers-length mid n in
+      let kinds = middle-of p wanted (FetchTree sp m n e) f in
+      let moves : flat.can_move m n ≡ true = move-same m n ∙ not-false (can_move m n) (not-where (not (can_move m n)) 19 (nil-left (wrong_access m n) _ kinds)) in
+      let address : flat.is_address m (word_operand v) n ≡ true = address-formed m e n v (nil-right (wrong_access m n) (wrong_scratch m e n) kinds) a.literal in
+      steps-last w names low mid (mid + n) own scope ss (Fetch m xs (word_operand v)) (Knows (operands v)) (Knows (operands (words_symbol (variables (numbers_from mid n)))))
+      (a.well own (inside p) (of_type WordTy) (stands-inside w own scope p st) (nil-left (faults (inside p) (of_type WordTy) e) _ f) refl)
+      (λ l known k q.
+      and_from (is_known known (word_operand v)) (flat.can_move m (length xs.items) && flat.is_address m (word_operand v) (length xs.items)) (knows-word known v q)
+      (and_from (flat.can_move m (length xs.items)) (flat.is_address m (word_operand v) (length xs.items)) (subst (λ k. flat.can_move m k ≡ true) (sym many) moves) (subst (λ k. flat.is_address m (word_operand v) k ≡ true) (sym many) address)))
+      (subst (λ k. Rises mid k (mid + n)) (sym same) (rises-numbers mid n (mid + n) (omega arith))) (tt {0})
+      (λ known k q.
+      subst (Knows (operands (words_symbol (variables (numbers_from mid n))))) (ap (λ l. l ++ known) (sym same))
+      (subst (λ as'. all_known (numbers_from mid n ++ known) as' ≡ true) (sym (words-operands (variables (numbers_from mid n)))) (knows-variables (numbers_from mid n) known))));
   literal = tt {0};
   called = subst (λ k. AreCalled old names (steps_calls k)) (sym last) (steps-called-more old names ss (Fetch m xs (word_operand v) ∷ []) a.called);
 }
@@ -271,13 +271,13 @@ pub block-well : (w : Whole) (old names more : Names) (low mid high : ℕ) (scop
     → IsWellValue w old more low high scope (BlockTree sp sts e) (ss ++ ts) v
 block-well w old names more low mid high scope inner sp sts e ss ts v h a vars b = record {
   well = λ own p wanted st f t.
-    let st' = stands-inside w own scope p st in
-    let none = nil-left (statements_faults (inside p) sts) _ f in
-    let rest = nil-right (statements_faults (inside p) sts) _ f in
-    let behind = with_vars (vars_behind p.known p.vars sts) p in
-    let first = steps-names w names more low mid own scope ss (λ known. ScopeKnown known inner) h (a.well own (inside p) st' none refl) in
-    let second = b.well own behind anything (stands-behind w own scope inner p sts st (vars own (inside p) st' none)) (nil-left (faults behind anything e) _ rest) t in
-    steps-then w more low mid high own scope inner ss ts (λ known. ScopeKnown known inner) (Knows (operands v)) (Knows (operands v)) first (λ known k q. q) second (λ known further le q r. r);
+      let st' = stands-inside w own scope p st in
+      let none = nil-left (statements_faults (inside p) sts) _ f in
+      let rest = nil-right (statements_faults (inside p) sts) _ f in
+      let behind = with_vars (vars_behind p.known p.vars sts) p in
+      let first = steps-names w names more low mid own scope ss (λ known. ScopeKnown known inner) h (a.well own (inside p) st' none refl) in
+      let second = b.well own behind anything (stands-behind w own scope inner p sts st (vars own (inside p) st' none)) (nil-left (faults behind anything e) _ rest) t in
+      steps-then w more low mid high own scope inner ss ts (λ known. ScopeKnown known inner) (Knows (operands v)) (Knows (operands v)) first (λ known k q. q) second (λ known further le q r. r);
   literal = tt {0};
   called = steps-called-then old names more ss ts a.called b.called;
 }

@@ -56,39 +56,39 @@ pub call-well : (w : Whole) (old names more : Names) (low high : ℕ) (scope : S
     → ((own : ℕ) (p : Place) (wanted : List Wanted) → Stands w own scope p → list_faults p wanted es ≡ [] → types_at p.known p.vars es ≡ Some (forms vs)) → IsWellEnd w old more low high scope (CallTree sp f es) t
 call-well w old names more low high scope sp f es ss vs t i bs nodes same at new h a types = record {
   well = λ own p wanted st fl.
-    let st' = stands-inside w own scope p st in
-    let args = wanted_arguments (params_of p.known f) es in
-    let none : list_faults (inside p) args es ≡ [] = nil-left (list_faults (inside p) args es) _ fl in
-    let kinds = low-of p wanted (CallTree sp f es) fl in
-    let found = some-where (look_up f (callable p.known)) 11 (nil-left (unknown_function p.known f) _ kinds) in
-    let rest = nil-right (unknown_function p.known f) _ kinds in
-    let tailed : (is_among f (names_of p.known.own) && not p.tail) ≡ false = not-where (is_among f (names_of p.known.own) && not p.tail) 12 (nil-left (not_in_tail p f) _ rest) in
-    let number = nil-right (not_in_tail p f) _ rest in
-    let g = found.0 in
-    let target = st.part.functions f g found.1 in
-    let pe : params_of p.known f ≡ Some (plain_tys g.params) = ap (option_map (λ (g : Signature). plain_tys g.params)) found.1 in
-    let none' : list_faults (inside p) (wanted_arguments (Some (plain_tys g.params)) es) es ≡ [] = subst (λ o. list_faults (inside p) (wanted_arguments o es) es ≡ []) pe none in
-    let number' : wrong_number (Some (plain_tys g.params)) es ≡ [] = subst (λ o. wrong_number o es ≡ []) pe number in
-    let typed = arguments-typed (inside p) (plain_tys g.params) es none' number' in
-    let formed = types own (inside p) (wanted_arguments (Some (plain_tys g.params)) es) st' none' in
-    let tys : forms vs ≡ plain_tys g.params = some-same (forms vs) (plain_tys g.params) (sym formed ∙ typed) in
-    let many : length bs.items ≡ total_named_words g.params = ap length same ∙ all-operands-words vs ∙ ap total_words tys ∙ plain-words g.params in
-    let o = type_at p.known p.vars (CallTree sp f es) in
-    let result : o ≡ Some g.result = ap (option_map (λ (g : Signature). g.result)) found.1 in
-    code-behind w more low high high own scope p.tail o ss (Knows (all_operands vs)) (Call i bs) t (steps-names w names more low high own scope ss (Knows (all_operands vs)) h (a.well own (inside p) args st' none refl)) nodes
-    (λ l known k q n gw.
-    let there = l.match.found i f target.fun target.group (get-extended more l.all i f l.more at) target.found target.numbered in
-    let params : length there.fun.params.items ≡ length bs.items = there.params ∙ ap (λ (g : Signature). total_named_words g.params) target.signed ∙ sym many in
-    let results : there.fun.results ≡ n = there.results ∙ ap (λ (g : Signature). words g.result) target.signed ∙ gives-words n o g.result result gw in
-    let stands : may_stand p.tail own there.fun.group ≡ true =
-    may-stand (is_among f (names_of p.known.own)) p.tail own there.fun.group tailed
-    (subst (λ x. (if is_among f (names_of p.known.own) then nat_le x own else nat_lt x own) ≡ true) (sym there.group) target.earlier)
-    in
-    and_from (all_known known bs.items) (can_call own p.tail (length bs.items) n (slice_get l.funs i)) (subst (λ as'. all_known known as' ≡ true) (sym same) q)
-    (ap (can_call own p.tail (length bs.items) n) there.there
-    ∙ and_from (length there.fun.params.items == length bs.items) ((there.fun.results == n) && may_stand p.tail own there.fun.group) (eq-eqb (length there.fun.params.items) (length bs.items) params)
-    (and_from (there.fun.results == n) (may_stand p.tail own there.fun.group) (eq-eqb there.fun.results n results) stands)))
-    (omega arith) (tt {0});
+      let st' = stands-inside w own scope p st in
+      let args = wanted_arguments (params_of p.known f) es in
+      let none : list_faults (inside p) args es ≡ [] = nil-left (list_faults (inside p) args es) _ fl in
+      let kinds = low-of p wanted (CallTree sp f es) fl in
+      let found = some-where (look_up f (callable p.known)) 11 (nil-left (unknown_function p.known f) _ kinds) in
+      let rest = nil-right (unknown_function p.known f) _ kinds in
+      let tailed : (is_among f (names_of p.known.own) && not p.tail) ≡ false = not-where (is_among f (names_of p.known.own) && not p.tail) 12 (nil-left (not_in_tail p f) _ rest) in
+      let number = nil-right (not_in_tail p f) _ rest in
+      let g = found.0 in
+      let target = st.part.functions f g found.1 in
+      let pe : params_of p.known f ≡ Some (plain_tys g.params) = ap (option_map (λ (g : Signature). plain_tys g.params)) found.1 in
+      let none' : list_faults (inside p) (wanted_arguments (Some (plain_tys g.params)) es) es ≡ [] = subst (λ o. list_faults (inside p) (wanted_arguments o es) es ≡ []) pe none in
+      let number' : wrong_number (Some (plain_tys g.params)) es ≡ [] = subst (λ o. wrong_number o es ≡ []) pe number in
+      let typed = arguments-typed (inside p) (plain_tys g.params) es none' number' in
+      let formed = types own (inside p) (wanted_arguments (Some (plain_tys g.params)) es) st' none' in
+      let tys : forms vs ≡ plain_tys g.params = some-same (forms vs) (plain_tys g.params) (sym formed ∙ typed) in
+      let many : length bs.items ≡ total_named_words g.params = ap length same ∙ all-operands-words vs ∙ ap total_words tys ∙ plain-words g.params in
+      let o = type_at p.known p.vars (CallTree sp f es) in
+      let result : o ≡ Some g.result = ap (option_map (λ (g : Signature). g.result)) found.1 in
+      code-behind w more low high high own scope p.tail o ss (Knows (all_operands vs)) (Call i bs) t (steps-names w names more low high own scope ss (Knows (all_operands vs)) h (a.well own (inside p) args st' none refl)) nodes
+      (λ l known k q n gw.
+      let there = l.match.found i f target.fun target.group (get-extended more l.all i f l.more at) target.found target.numbered in
+      let params : length there.fun.params.items ≡ length bs.items = there.params ∙ ap (λ (g : Signature). total_named_words g.params) target.signed ∙ sym many in
+      let results : there.fun.results ≡ n = there.results ∙ ap (λ (g : Signature). words g.result) target.signed ∙ gives-words n o g.result result gw in
+      let stands : may_stand p.tail own there.fun.group ≡ true =
+      may-stand (is_among f (names_of p.known.own)) p.tail own there.fun.group tailed
+      (subst (λ x. (if is_among f (names_of p.known.own) then nat_le x own else nat_lt x own) ≡ true) (sym there.group) target.earlier)
+      in
+      and_from (all_known known bs.items) (can_call own p.tail (length bs.items) n (slice_get l.funs i)) (subst (λ as'. all_known known as' ≡ true) (sym same) q)
+      (ap (can_call own p.tail (length bs.items) n) there.there
+      ∙ and_from (length there.fun.params.items == length bs.items) ((there.fun.results == n) && may_stand p.tail own there.fun.group) (eq-eqb (length there.fun.params.items) (length bs.items) params)
+      (and_from (there.fun.results == n) (may_stand p.tail own there.fun.group) (eq-eqb there.fun.results n results) stands)))
+      (omega arith) (tt {0});
   called = code-called-then old names more ss (Call i bs) t nodes a.called new;
 }
 
@@ -98,26 +98,26 @@ pub raise-well : (w : Whole) (old names : Names) (low high : ℕ) (scope : Symbo
     → ((own : ℕ) (p : Place) (wanted : List Wanted) → Stands w own scope p → list_faults p wanted es ≡ [] → types_at p.known p.vars es ≡ Some (forms vs)) → IsWellEnd w old names low high scope (RaiseTree sp x es) t
 raise-well w old names low high scope sp x es ss vs t k bs nodes same number a types = record {
   well = λ own p wanted st fl.
-    let st' = stands-inside w own scope p st in
-    let ex = look_up x p.known.exceptions in
-    let args = wanted_arguments ex es in
-    let none : list_faults (inside p) args es ≡ [] = nil-left (list_faults (inside p) args es) _ fl in
-    let counted : wrong_number ex es ≡ [] = low-of p wanted (RaiseTree sp x es) fl in
-    let found = some-where ex 17 (middle-of p wanted (RaiseTree sp x es) fl) in
-    let ts = found.0 in
-    let raised-k : raised_tys w k ≡ Some ts = ap (raised_tys w) number ∙ st.part.exceptions x ts found.1 in
-    let none' : list_faults (inside p) (wanted_arguments (Some ts) es) es ≡ [] = subst (λ o. list_faults (inside p) (wanted_arguments o es) es ≡ []) found.1 none in
-    let counted' : wrong_number (Some ts) es ≡ [] = subst (λ o. wrong_number o es ≡ []) found.1 counted in
-    let typed = arguments-typed (inside p) ts es none' counted' in
-    let formed = types own (inside p) (wanted_arguments (Some ts) es) st' none' in
-    let tys : forms vs ≡ ts = some-same (forms vs) ts (sym formed ∙ typed) in
-    let many : length bs.items ≡ total_words ts = ap length same ∙ all-operands-words vs ∙ ap total_words tys in
-    code-behind w names low high high own scope p.tail None ss (Knows (all_operands vs)) (Raise k bs) t (a.well own (inside p) args st' none refl) nodes
-    (λ l known ks q n gw.
-    let short : total_words ts ≤ 8 = l.short k ts raised-k in
-    and_from (all_known known bs.items) (nat_le 1 k && nat_le (length bs.items) 8) (subst (λ as'. all_known known as' ≡ true) (sym same) q)
-    (and_from (nat_le 1 k) (nat_le (length bs.items) 8) (raised-from-one w k ts raised-k) (le-leb (length bs.items) 8 (omega arith))))
-    (omega arith) ((ts, raised-k, many), tt {0});
+      let st' = stands-inside w own scope p st in
+      let ex = look_up x p.known.exceptions in
+      let args = wanted_arguments ex es in
+      let none : list_faults (inside p) args es ≡ [] = nil-left (list_faults (inside p) args es) _ fl in
+      let counted : wrong_number ex es ≡ [] = low-of p wanted (RaiseTree sp x es) fl in
+      let found = some-where ex 17 (middle-of p wanted (RaiseTree sp x es) fl) in
+      let ts = found.0 in
+      let raised-k : raised_tys w k ≡ Some ts = ap (raised_tys w) number ∙ st.part.exceptions x ts found.1 in
+      let none' : list_faults (inside p) (wanted_arguments (Some ts) es) es ≡ [] = subst (λ o. list_faults (inside p) (wanted_arguments o es) es ≡ []) found.1 none in
+      let counted' : wrong_number (Some ts) es ≡ [] = subst (λ o. wrong_number o es ≡ []) found.1 counted in
+      let typed = arguments-typed (inside p) ts es none' counted' in
+      let formed = types own (inside p) (wanted_arguments (Some ts) es) st' none' in
+      let tys : forms vs ≡ ts = some-same (forms vs) ts (sym formed ∙ typed) in
+      let many : length bs.items ≡ total_words ts = ap length same ∙ all-operands-words vs ∙ ap total_words tys in
+      code-behind w names low high high own scope p.tail None ss (Knows (all_operands vs)) (Raise k bs) t (a.well own (inside p) args st' none refl) nodes
+      (λ l known ks q n gw.
+      let short : total_words ts ≤ 8 = l.short k ts raised-k in
+      and_from (all_known known bs.items) (nat_le 1 k && nat_le (length bs.items) 8) (subst (λ as'. all_known known as' ≡ true) (sym same) q)
+      (and_from (nat_le 1 k) (nat_le (length bs.items) 8) (raised-from-one w k ts raised-k) (le-leb (length bs.items) 8 (omega arith))))
+      (omega arith) ((ts, raised-k, many), tt {0});
   called = code-called-more old names ss (Raise k bs) t nodes a.called;
 }
 
@@ -130,13 +130,13 @@ pub block-end-well : (w : Whole) (old names more : Names) (low mid high : ℕ) (
     → IsWellEnd w old more low high scope (BlockTree sp sts e) t
 block-end-well w old names more low mid high scope inner sp sts e ss last t h nodes a vars b = record {
   well = λ own p wanted st f.
-    let st' = stands-inside w own scope p st in
-    let none = nil-left (statements_faults (inside p) sts) _ f in
-    let rest = nil-right (statements_faults (inside p) sts) _ f in
-    let behind = with_vars (vars_behind p.known p.vars sts) p in
-    let first = steps-names w names more low mid own scope ss (λ known. ScopeKnown known inner) h (a.well own (inside p) st' none refl) in
-    let second = b.well own behind anything (stands-behind w own scope inner p sts st (vars own (inside p) st' none)) (nil-left (faults behind anything e) _ rest) in
-    code-inner w more low mid high own scope inner p.tail (type_at p.known p.vars (BlockTree sp sts e)) ss (λ known. ScopeKnown known inner) last t first (λ known k q. q) second nodes;
+      let st' = stands-inside w own scope p st in
+      let none = nil-left (statements_faults (inside p) sts) _ f in
+      let rest = nil-right (statements_faults (inside p) sts) _ f in
+      let behind = with_vars (vars_behind p.known p.vars sts) p in
+      let first = steps-names w names more low mid own scope ss (λ known. ScopeKnown known inner) h (a.well own (inside p) st' none refl) in
+      let second = b.well own behind anything (stands-behind w own scope inner p sts st (vars own (inside p) st' none)) (nil-left (faults behind anything e) _ rest) in
+      code-inner w more low mid high own scope inner p.tail (type_at p.known p.vars (BlockTree sp sts e)) ss (λ known. ScopeKnown known inner) last t first (λ known k q. q) second nodes;
   called = code-called-then old names more ss last t nodes a.called b.called;
 }
 
@@ -151,21 +151,22 @@ pub named-well : (w : Whole) (old names : Names) (low mid high : ℕ) (scope : S
     → IsWellValue w old names low high scope e ss v
 named-well w old names low mid high scope e code o ss v ws last same new le types a literal = record {
   well = λ own p wanted st f t.
-    let u = form_or_unit o in
-    let n = words u in
-    let body = a.well own p wanted st f in
-    let many : length ws.items ≡ n = ap length same ∙ numbers-length mid n in
-    let gives : GivesWords (length ws.items) (type_at p.known p.vars e) = subst (λ x. GivesWords (length ws.items) x) (sym (types own p wanted st f)) (subst (λ k. GivesWords k (option_map form o)) (sym many) (named-words o)) in
-    subst (λ k. WellSteps w names low high own scope k (Knows (operands v))) (sym last)
-    (record {
-      formed = λ l known k.
-        (and_from (is_formed l.funs own false (length ws.items) known code) true (subst (λ b. is_formed l.funs own b (length ws.items) known code ≡ true) t (body.formed l known k (length ws.items) gives)) refl,
-        subst (λ as'. all_known (ws.items ++ known) as' ≡ true) (sym (ap operands new ∙ fresh-operands mid u))
-        (subst (λ l. all_known (l ++ known) (variables (numbers_from mid n)) ≡ true) (sym same) (knows-variables (numbers_from mid n) known)));
-      rises = rises-append low high high (defined code ++ ws.items) []
-        (rises-append low mid high (defined code) ws.items body.rises (subst (λ l. Rises mid l high) (sym same) (rises-numbers mid n high le))) (omega arith);
-      raises = raised-both w (raised code) [] body.raises (tt {0});
-    });
+      let u = form_or_unit o in
+      let n = words u in
+      let body = a.well own p wanted st f in
+      let many : length ws.items ≡ n = ap length same ∙ numbers-length mid n in
+      let gives : GivesWords (length ws.items) (type_at p.known p.vars e) = subst (λ x. GivesWords (length ws.items) x) (sym (types own p wanted st f)) (subst (λ k. GivesWords k (option_map form o)) (sym many) (named-words o)) in
+      subst (λ k. WellSteps w names low high own scope k (Knows (operands v))) (sym last)
+      (record {
+        formed = λ l known k. (
+          and_from (is_formed l.funs own false (length ws.items) known code) true (subst (λ b. is_formed l.funs own b (length ws.items) known code ≡ true) t (body.formed l known k (length ws.items) gives)) refl,
+          subst (λ as'. all_known (ws.items ++ known) as' ≡ true) (sym (ap operands new ∙ fresh-operands mid u))
+              (subst (λ l. all_known (l ++ known) (variables (numbers_from mid n)) ≡ true) (sym same) (knows-variables (numbers_from mid n) known)),
+        );
+        rises = rises-append low high high (defined code ++ ws.items) []
+            (rises-append low mid high (defined code) ws.items body.rises (subst (λ l. Rises mid l high) (sym same) (rises-numbers mid n high le))) (omega arith);
+        raises = raised-both w (raised code) [] body.raises (tt {0});
+      });
   literal = literal;
   called = subst (λ k. AreCalled old names (steps_calls k)) (sym last) (called-more old names (calls code) [] a.called);
 }

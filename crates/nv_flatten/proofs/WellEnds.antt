@@ -120,14 +120,14 @@ pub given-well : (w : Whole) (old names : Names) (low high : ℕ) (scope : Symbo
     → HasForm w scope e v → IsWellEnd w old names low high scope e t
 given-well w old names low high scope e ss v t bs nodes same g a hf = record {
   well = λ own p wanted st f.
-    let f' : faults (inside p) wanted e ≡ [] = sym (given-inside p wanted e g) ∙ f in
-    let typed = given-has-type p wanted e f g in
-    let formed : form v ≡ typed.0 = hf.by own p wanted st f typed.0 typed.1 in
-    code-behind w names low high high own scope p.tail (type_at p.known p.vars e) ss (Knows (operands v)) (Give bs) t (a.well own (inside p) wanted (stands-inside w own scope p st) f' refl) nodes
-    (λ l known k q n gw.
-    let many : length bs.items ≡ n = ap length same ∙ operands-words v ∙ ap words formed ∙ gives-words n (type_at p.known p.vars e) typed.0 typed.1 gw in
-    and_from (all_known known bs.items) (length bs.items == n) (subst (λ as'. all_known known as' ≡ true) (sym same) q) (eq-eqb (length bs.items) n many))
-    (omega arith) (tt {0});
+      let f' : faults (inside p) wanted e ≡ [] = sym (given-inside p wanted e g) ∙ f in
+      let typed = given-has-type p wanted e f g in
+      let formed : form v ≡ typed.0 = hf.by own p wanted st f typed.0 typed.1 in
+      code-behind w names low high high own scope p.tail (type_at p.known p.vars e) ss (Knows (operands v)) (Give bs) t (a.well own (inside p) wanted (stands-inside w own scope p st) f' refl) nodes
+      (λ l known k q n gw.
+      let many : length bs.items ≡ n = ap length same ∙ operands-words v ∙ ap words formed ∙ gives-words n (type_at p.known p.vars e) typed.0 typed.1 gw in
+      and_from (all_known known bs.items) (length bs.items == n) (subst (λ as'. all_known known as' ≡ true) (sym same) q) (eq-eqb (length bs.items) n many))
+      (omega arith) (tt {0});
   called = code-called-more old names ss (Give bs) t nodes a.called;
 }
 
@@ -137,8 +137,8 @@ literal-well w names low high own scope tail o t le typed h =
     subst (WellCode w names low high own scope tail o) (sym h.2)
     (record {
       formed = λ l known k n g.
-        let many : length (h.0).items ≡ n = ap length h.3 ∙ gives-words n o BoolTy typed g in
-        and_from (all_known known (h.0).items) (length (h.0).items == n) (subst (λ as'. all_known known as' ≡ true) (sym h.3) refl) (eq-eqb (length (h.0).items) n many);
+          let many : length (h.0).items ≡ n = ap length h.3 ∙ gives-words n o BoolTy typed g in
+          and_from (all_known known (h.0).items) (length (h.0).items == n) (subst (λ as'. all_known known as' ≡ true) (sym h.3) refl) (eq-eqb (length (h.0).items) n many);
       rises = le;
       raises = tt {0};
     })
@@ -183,11 +183,11 @@ pub decided-well : (w : Whole) (old names : Names) (low high : ℕ) (scope : Sym
     → GivesLiteral first → GivesLiteral second → IsChoice ss c x y first second t → IsWellEnd w old names low high scope e t
 decided-well w old names low high scope e ss c x y first second t g a one two h = record {
   well = λ own p wanted st f.
-    let f' : faults (inside p) wanted e ≡ [] = sym (comparison-inside p wanted e g) ∙ f in
-    let o = type_at p.known p.vars e in
-    let typed = comparison-type p.known p.vars e g in
-    code-choice w names low high high high own scope p.tail o o o ss c x y first second t (a.well own (inside p) wanted (stands-inside w own scope p st) f' refl)
-    (literal-well w names high high own scope p.tail o first (omega arith) typed one) (literal-well w names high high own scope p.tail o second (omega arith) typed two) (λ n q. q) (λ n q. q) h;
+      let f' : faults (inside p) wanted e ≡ [] = sym (comparison-inside p wanted e g) ∙ f in
+      let o = type_at p.known p.vars e in
+      let typed = comparison-type p.known p.vars e g in
+      code-choice w names low high high high own scope p.tail o o o ss c x y first second t (a.well own (inside p) wanted (stands-inside w own scope p st) f' refl)
+      (literal-well w names high high own scope p.tail o first (omega arith) typed one) (literal-well w names high high own scope p.tail o second (omega arith) typed two) (λ n q. q) (λ n q. q) h;
   called = choice-called old names names names ss c x y first second t h a.called (called-none names (calls first)) (called-none names (calls second));
 }
 
@@ -195,14 +195,14 @@ pub both-well : (w : Whole) (old names more : Names) (low mid high : ℕ) (scope
     → IsWellEnd w names more mid high scope b first → GivesLiteral second → IsChoice ss c x y first second t → IsWellEnd w old more low high scope (BinaryTree sp Both a b) t
 both-well w old names more low mid high scope sp a b ss c x y first second t h test right fails choice = record {
   well = λ own p wanted st f.
-    let want = of_type BoolTy in
-    let st' = stands-inside w own scope p st in
-    let rest = nil-right (faults (inside p) want a) _ f in
-    let right-none : faults (inside p) want b ≡ [] = nil-left (faults (inside p) want b) _ rest in
-    let right' = code-tail w more mid high own scope p.tail (type_at p.known p.vars b) first (right.well own (inside p) want st' right-none) in
-    code-choice w more low mid high high own scope p.tail (Some BoolTy) (type_at p.known p.vars b) (Some BoolTy) ss c x y first second t
-    (steps-names w names more low mid own scope ss (Knows (x ∷ y ∷ [])) h (test.well own (inside p) want st' (nil-left (faults (inside p) want a) _ f) refl)) right'
-    (literal-well w more high high own scope p.tail (Some BoolTy) second (omega arith) refl fails) (λ n q. gives-at n n (type_at p.known p.vars b) BoolTy (wanted-type (inside p) BoolTy b right-none) q) (λ n q. q) choice;
+      let want = of_type BoolTy in
+      let st' = stands-inside w own scope p st in
+      let rest = nil-right (faults (inside p) want a) _ f in
+      let right-none : faults (inside p) want b ≡ [] = nil-left (faults (inside p) want b) _ rest in
+      let right' = code-tail w more mid high own scope p.tail (type_at p.known p.vars b) first (right.well own (inside p) want st' right-none) in
+      code-choice w more low mid high high own scope p.tail (Some BoolTy) (type_at p.known p.vars b) (Some BoolTy) ss c x y first second t
+      (steps-names w names more low mid own scope ss (Knows (x ∷ y ∷ [])) h (test.well own (inside p) want st' (nil-left (faults (inside p) want a) _ f) refl)) right'
+      (literal-well w more high high own scope p.tail (Some BoolTy) second (omega arith) refl fails) (λ n q. gives-at n n (type_at p.known p.vars b) BoolTy (wanted-type (inside p) BoolTy b right-none) q) (λ n q. q) choice;
   called = choice-called old names more more ss c x y first second t choice test.called right.called (called-none more (calls second));
 }
 
@@ -210,14 +210,14 @@ pub either-well : (w : Whole) (old names more : Names) (low mid high : ℕ) (sco
     → GivesLiteral first → IsWellEnd w names more mid high scope b second → IsChoice ss c x y first second t → IsWellEnd w old more low high scope (BinaryTree sp Either a b) t
 either-well w old names more low mid high scope sp a b ss c x y first second t h test holds right choice = record {
   well = λ own p wanted st f.
-    let want = of_type BoolTy in
-    let st' = stands-inside w own scope p st in
-    let rest = nil-right (faults (inside p) want a) _ f in
-    let right-none : faults (inside p) want b ≡ [] = nil-left (faults (inside p) want b) _ rest in
-    let right' = code-tail w more mid high own scope p.tail (type_at p.known p.vars b) second (right.well own (inside p) want st' right-none) in
-    code-choice w more low mid mid high own scope p.tail (Some BoolTy) (Some BoolTy) (type_at p.known p.vars b) ss c x y first second t
-    (steps-names w names more low mid own scope ss (Knows (x ∷ y ∷ [])) h (test.well own (inside p) want st' (nil-left (faults (inside p) want a) _ f) refl))
-    (literal-well w more mid mid own scope p.tail (Some BoolTy) first (omega arith) refl holds) right' (λ n q. q) (λ n q. gives-at n n (type_at p.known p.vars b) BoolTy (wanted-type (inside p) BoolTy b right-none) q) choice;
+      let want = of_type BoolTy in
+      let st' = stands-inside w own scope p st in
+      let rest = nil-right (faults (inside p) want a) _ f in
+      let right-none : faults (inside p) want b ≡ [] = nil-left (faults (inside p) want b) _ rest in
+      let right' = code-tail w more mid high own scope p.tail (type_at p.known p.vars b) second (right.well own (inside p) want st' right-none) in
+      code-choice w more low mid mid high own scope p.tail (Some BoolTy) (Some BoolTy) (type_at p.known p.vars b) ss c x y first second t
+      (steps-names w names more low mid own scope ss (Knows (x ∷ y ∷ [])) h (test.well own (inside p) want st' (nil-left (faults (inside p) want a) _ f) refl))
+      (literal-well w more mid mid own scope p.tail (Some BoolTy) first (omega arith) refl holds) right' (λ n q. q) (λ n q. gives-at n n (type_at p.known p.vars b) BoolTy (wanted-type (inside p) BoolTy b right-none) q) choice;
   called = choice-called old names names more ss c x y first second t choice test.called (called-none names (calls first)) right.called;
 }
 
@@ -241,17 +241,17 @@ pub choose-well : (w : Whole) (old names next more : Names) (low mid after high 
     → IsWellTest w old names low mid scope e ss x y → IsWellEnd w names next mid after scope a first → IsWellEnd w next more after high scope b second → IsChoice ss c x y first second t → IsWellEnd w old more low high scope (IfTree sp e a b) t
 choose-well w old names next more low mid after high scope sp e a b ss c x y first second t h1 h2 test f1 f2 choice = record {
   well = λ own p wanted st f.
-    let want = of_type BoolTy in
-    let rest = nil-right (faults (inside p) want e) _ f in
-    let none1 : faults p anything a ≡ [] = nil-left (faults p anything a) _ rest in
-    let ta = type_at p.known p.vars a in
-    let tb = type_at p.known p.vars b in
-    let none2 : faults p (same_as ta) b ≡ [] = nil-left (faults p (same_as ta) b) _ (nil-right (faults p anything a) _ rest) in
-    let test' = test.well own (inside p) want (stands-inside w own scope p st) (nil-left (faults (inside p) want e) _ f) refl in
-    code-choice w more low mid after high own scope p.tail (or_ty ta tb) ta tb ss c x y first second t
-    (steps-names w next more low mid own scope ss (Knows (x ∷ y ∷ [])) h2 (steps-names w names next low mid own scope ss (Knows (x ∷ y ∷ [])) h1 test'))
-    (code-names w next more mid after own scope p.tail ta first h2 (f1.well own p anything st none1)) (f2.well own p (same_as ta) st none2)
-    (λ n g. first-words n ta tb g) (λ n g. second-words n ta tb (same-parts p ta b none2) g) choice;
+      let want = of_type BoolTy in
+      let rest = nil-right (faults (inside p) want e) _ f in
+      let none1 : faults p anything a ≡ [] = nil-left (faults p anything a) _ rest in
+      let ta = type_at p.known p.vars a in
+      let tb = type_at p.known p.vars b in
+      let none2 : faults p (same_as ta) b ≡ [] = nil-left (faults p (same_as ta) b) _ (nil-right (faults p anything a) _ rest) in
+      let test' = test.well own (inside p) want (stands-inside w own scope p st) (nil-left (faults (inside p) want e) _ f) refl in
+      code-choice w more low mid after high own scope p.tail (or_ty ta tb) ta tb ss c x y first second t
+      (steps-names w next more low mid own scope ss (Knows (x ∷ y ∷ [])) h2 (steps-names w names next low mid own scope ss (Knows (x ∷ y ∷ [])) h1 test'))
+      (code-names w next more mid after own scope p.tail ta first h2 (f1.well own p anything st none1)) (f2.well own p (same_as ta) st none2)
+      (λ n g. first-words n ta tb g) (λ n g. second-words n ta tb (same-parts p ta b none2) g) choice;
   called = choice-called old names next more ss c x y first second t choice test.called f1.called f2.called;
 }
 
@@ -272,45 +272,45 @@ pub try-well : (w : Whole) (old names more : Names) (low mid high : ℕ) (scope 
     → IsWellEnd w old names low mid scope a first → IsWellEnd w names more (mid + total_words (raised_or_none w k)) high inner e second → IsWellEnd w old more low high scope (TryTree sp a x ps e) t
 try-well w old names more low mid high scope inner sp a x ps e first second t k q xs r node number same bound h f1 f2 = record {
   well = λ own p wanted st f.
-    let st' = stands-inside w own scope p st in
-    let none1 : faults (inside p) anything a ≡ [] = nil-left (faults (inside p) anything a) _ f in
-    let rest = nil-right (faults (inside p) anything a) _ f in
-    let kinds : raised_kinds p.known x ps ≡ [] = no-kinds sp (raised_kinds p.known x ps) (nil-left (at_span sp (raised_kinds p.known x ps)) _ rest) in
-    let ex = look_up x p.known.exceptions in
-    let unknown : unknown_exception p.known x ≡ [] = nil-right (not_all_fitting ps ex) (unknown_exception p.known x) (nil-right (wrong_number_of_patterns ex ps) _ (nil-right (variable_twice (names_in_all ps)) _ kinds)) in
-    let found = some-where ex 17 unknown in
-    let ts = found.0 in
-    let raised-k : raised_tys w k ≡ Some ts = ap (raised_tys w) number ∙ st.part.exceptions x ts found.1 in
-    let tys : raised_or_none w k ≡ ts = raised-found w k ts raised-k in
-    let behind = with_vars (bind_raised ps ex p.vars) p in
-    let ta = type_at p.known p.vars a in
-    let tb = type_at p.known (bind_raised ps ex p.vars) e in
-    let none2 : faults behind (same_as ta) e ≡ [] = nil-left (faults behind (same_as ta) e) _ (nil-right (at_span sp (raised_kinds p.known x ps)) _ rest) in
-    let vars : bind_raised ps ex p.vars ≡ vars_of inner =
-    ap (λ o. bind_raised ps o p.vars) found.1 ∙ ap (bind_all ps ts) st.vars ∙ ap (λ u. bind_all ps u (vars_of scope)) (sym (fresh-forms mid (raised_or_none w k) ∙ tys)) ∙ sym (all-bound-types ps (all_fresh mid (raised_or_none w k)) scope)
-    ∙ ap vars_of (sym bound)
-    in
-    let stands : Stands w own inner behind = record { part = st.part; vars = vars } in
-    let first' = code-names w names more low mid own scope false ta first h (f1.well own (inside p) anything st' none1) in
-    let second' = f2.well own behind (same_as ta) stands none2 in
-    let n' = total_words (raised_or_none w k) in
-    subst (WellCode w more low high own scope p.tail (or_ty ta tb)) (sym node)
-    (record {
-      formed = λ l known ks n g.
-        let inner-known : ScopeKnown (xs.items ++ known) inner =
-        subst (ScopeKnown (xs.items ++ known)) (sym bound)
-        (all-bound-known (xs.items ++ known) ps (all_fresh mid (raised_or_none w k)) scope
-        (subst (λ as'. all_known (xs.items ++ known) as' ≡ true) (sym (all-fresh-operands mid (raised_or_none w k)))
-        (subst (λ l. all_known (l ++ known) (variables (numbers_from mid n')) ≡ true) (sym same) (knows-variables (numbers_from mid n') known)))
-        (scope-more known (xs.items ++ known) scope (λ y y-in. in-append y xs.items known ∙ or_right (is_in y xs.items) (is_in y known) y-in) ks))
-        in
-        and_from (is_formed l.funs own false n known first) (nat_le 1 k && is_formed l.funs own p.tail n (xs.items ++ known) second) (first'.formed l known ks n (first-words n ta tb g))
-        (and_from (nat_le 1 k) (is_formed l.funs own p.tail n (xs.items ++ known) second) (raised-from-one w k ts raised-k)
-        (second'.formed l (xs.items ++ known) inner-known n (second-words n ta tb (same-parts behind ta e none2) g)));
-      rises = rises-append low mid high (defined first) (xs.items ++ defined second) first'.rises
-        (rises-append mid (mid + n') high xs.items (defined second) (subst (λ l. Rises mid l (mid + n')) (sym same) (rises-numbers mid n' (mid + n') (omega arith))) second'.rises);
-      raises = raised-both w (raised first) ((k, length xs.items) ∷ raised second) first'.raises
-        ((ts, raised-k, ap length same ∙ numbers-length mid n' ∙ ap total_words tys), second'.raises);
-    });
+      let st' = stands-inside w own scope p st in
+      let none1 : faults (inside p) anything a ≡ [] = nil-left (faults (inside p) anything a) _ f in
+      let rest = nil-right (faults (inside p) anything a) _ f in
+      let kinds : raised_kinds p.known x ps ≡ [] = no-kinds sp (raised_kinds p.known x ps) (nil-left (at_span sp (raised_kinds p.known x ps)) _ rest) in
+      let ex = look_up x p.known.exceptions in
+      let unknown : unknown_exception p.known x ≡ [] = nil-right (not_all_fitting ps ex) (unknown_exception p.known x) (nil-right (wrong_number_of_patterns ex ps) _ (nil-right (variable_twice (names_in_all ps)) _ kinds)) in
+      let found = some-where ex 17 unknown in
+      let ts = found.0 in
+      let raised-k : raised_tys w k ≡ Some ts = ap (raised_tys w) number ∙ st.part.exceptions x ts found.1 in
+      let tys : raised_or_none w k ≡ ts = raised-found w k ts raised-k in
+      let behind = with_vars (bind_raised ps ex p.vars) p in
+      let ta = type_at p.known p.vars a in
+      let tb = type_at p.known (bind_raised ps ex p.vars) e in
+      let none2 : faults behind (same_as ta) e ≡ [] = nil-left (faults behind (same_as ta) e) _ (nil-right (at_span sp (raised_kinds p.known x ps)) _ rest) in
+      let vars : bind_raised ps ex p.vars ≡ vars_of inner =
+      ap (λ o. bind_raised ps o p.vars) found.1 ∙ ap (bind_all ps ts) st.vars ∙ ap (λ u. bind_all ps u (vars_of scope)) (sym (fresh-forms mid (raised_or_none w k) ∙ tys)) ∙ sym (all-bound-types ps (all_fresh mid (raised_or_none w k)) scope)
+      ∙ ap vars_of (sym bound)
+      in
+      let stands : Stands w own inner behind = record { part = st.part; vars = vars } in
+      let first' = code-names w names more low mid own scope false ta first h (f1.well own (inside p) anything st' none1) in
+      let second' = f2.well own behind (same_as ta) stands none2 in
+      let n' = total_words (raised_or_none w k) in
+      subst (WellCode w more low high own scope p.tail (or_ty ta tb)) (sym node)
+      (record {
+        formed = λ l known ks n g.
+            let inner-known : ScopeKnown (xs.items ++ known) inner =
+            subst (ScopeKnown (xs.items ++ known)) (sym bound)
+            (all-bound-known (xs.items ++ known) ps (all_fresh mid (raised_or_none w k)) scope
+            (subst (λ as'. all_known (xs.items ++ known) as' ≡ true) (sym (all-fresh-operands mid (raised_or_none w k)))
+            (subst (λ l. all_known (l ++ known) (variables (numbers_from mid n')) ≡ true) (sym same) (knows-variables (numbers_from mid n') known)))
+            (scope-more known (xs.items ++ known) scope (λ y y-in. in-append y xs.items known ∙ or_right (is_in y xs.items) (is_in y known) y-in) ks))
+            in
+            and_from (is_formed l.funs own false n known first) (nat_le 1 k && is_formed l.funs own p.tail n (xs.items ++ known) second) (first'.formed l known ks n (first-words n ta tb g))
+            (and_from (nat_le 1 k) (is_formed l.funs own p.tail n (xs.items ++ known) second) (raised-from-one w k ts raised-k)
+            (second'.formed l (xs.items ++ known) inner-known n (second-words n ta tb (same-parts behind ta e none2) g)));
+        rises = rises-append low mid high (defined first) (xs.items ++ defined second) first'.rises
+            (rises-append mid (mid + n') high xs.items (defined second) (subst (λ l. Rises mid l (mid + n')) (sym same) (rises-numbers mid n' (mid + n') (omega arith))) second'.rises);
+        raises = raised-both w (raised first) ((k, length xs.items) ∷ raised second) first'.raises
+            ((ts, raised-k, ap length same ∙ numbers-length mid n' ∙ ap total_words tys), second'.raises);
+      });
   called = subst (λ u. AreCalled old more (calls u)) (sym node) (called-then old names more (calls first) (calls second) f1.called f2.called);
 }

@@ -1,5 +1,5 @@
 -- The tree of an expression whose kind the walk has read.
-use Rattle.std.proofs.Common.{◌≡◌, ◌∙◌, sym, ap, subst, ℕ, Bool, List, Vec, Box, Global, IfOk, Result, Ok, Err}
+use Rattle.std.proofs.Common.{◌≡◌, ◌∙◌, refl, sym, ap, subst, ℕ, Bool, List, Vec, Box, Global, IfOk, Result, Ok, Err}
 use Rattle.nv_base.specs.declared.term.Mem.{Mem}
 use Rattle.nv_ast.specs.declared.tree.Op.{Op}
 use Rattle.nv_ast.specs.declared.tree.ShiftOp.{ShiftOp}

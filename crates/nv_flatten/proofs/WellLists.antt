@@ -62,9 +62,9 @@ pub each-more : (w : Whole) (old names more : Names) (low mid high : ℕ) (scope
     → AreWellValues w old names low mid scope (list_trees xs) ss vs → IsWellValue w names more mid high scope (tree_of e) ts v → AreWellValues w old more low high scope (list_trees (xs ++ e ∷ [])) (ss ++ ts) (and_last vs v)
 each-more w old names more low mid high scope xs e ss ts vs v h a b = record {
   well = λ own p wanted st f t.
-    let parts = list-last p wanted xs e f in
-    subst (λ as'. WellSteps w more low high own scope (ss ++ ts) (Knows as')) (sym (and-last-operands vs v))
-    (two-values w names more low mid high own scope ss ts (all_operands vs) (operands v) h (a.well own p wanted st parts.0 t) (b.well own p parts.1 st parts.2 t));
+      let parts = list-last p wanted xs e f in
+      subst (λ as'. WellSteps w more low high own scope (ss ++ ts) (Knows as')) (sym (and-last-operands vs v))
+      (two-values w names more low mid high own scope ss ts (all_operands vs) (operands v) h (a.well own p wanted st parts.0 t) (b.well own p parts.1 st parts.2 t));
   called = steps-called-then old names more ss ts a.called b.called;
 }
 
@@ -89,9 +89,9 @@ pub fields-more : (w : Whole) (old names more : Names) (low mid high : ℕ) (sco
     → AreWellFields w old names low mid scope (list_named_trees xs) ss vs → IsWellValue w names more mid high scope (tree_of e.1) ts v → AreWellFields w old more low high scope (list_named_trees (xs ++ e ∷ [])) (ss ++ ts) (and_last_named vs x v)
 fields-more w old names more low mid high scope xs e ss ts vs x v h a b = record {
   well = λ own p st f t.
-    let parts = named-last p xs e f in
-    subst (λ as'. WellSteps w more low high own scope (ss ++ ts) (Knows as')) (sym (and-last-named-operands vs x v))
-    (two-values w names more low mid high own scope ss ts (named_operands vs) (operands v) h (a.well own p st parts.0 t) (b.well own p a_value st parts.1 t));
+      let parts = named-last p xs e f in
+      subst (λ as'. WellSteps w more low high own scope (ss ++ ts) (Knows as')) (sym (and-last-named-operands vs x v))
+      (two-values w names more low mid high own scope ss ts (named_operands vs) (operands v) h (a.well own p st parts.0 t) (b.well own p a_value st parts.1 t));
   called = steps-called-then old names more ss ts a.called b.called;
 }
 
@@ -103,8 +103,8 @@ pub let-well : (w : Whole) (old names : Names) (low high : ℕ) (scope : SymbolS
     → IsWellStated w old names low high scope (statement_and (LetStatement sp q e) no_statements) ss (bound q v scope)
 let-well w old names low high scope sp q e ss v a = record {
   well = λ own p st f t.
-    let none = nil-left (faults p a_value e) _ (nil-left (statement_faults p (LetStatement sp q e)) [] f) in
-    steps-knowing w names low high high own scope ss (Knows (operands v)) (λ known. ScopeKnown known (bound q v scope)) (omega arith) (a.well own p a_value st none t) (λ known k r. bound-known known q v scope r k);
+      let none = nil-left (faults p a_value e) _ (nil-left (statement_faults p (LetStatement sp q e)) [] f) in
+      steps-knowing w names low high high own scope ss (Knows (operands v)) (λ known. ScopeKnown known (bound q v scope)) (omega arith) (a.well own p a_value st none t) (λ known k r. bound-known known q v scope r k);
   called = a.called;
 }
 
@@ -116,25 +116,25 @@ pub store-well : (w : Whole) (old names more : Names) (low mid high : ℕ) (scop
     → IsWellStated w old more low high scope (statement_and (StoreStatement sp m a e) no_statements) us scope
 store-well w old names more low mid high scope sp m a e ss ts us u v bs last same h l r hf = record {
   well = λ own p st f t.
-    let f' = nil-left (statement_faults p (StoreStatement sp m a e)) [] f in
-    let none1 : faults p (of_type WordTy) a ≡ [] = nil-left (faults p (of_type WordTy) a) _ f' in
-    let rest = nil-right (faults p (of_type WordTy) a) _ f' in
-    let none2 : faults p wanted_stored e ≡ [] = nil-left (faults p wanted_stored e) _ rest in
-    let n = words_of_value (type_at p.known p.vars e) in
-    let kinds : wrong_access m n ++ wrong_scratch m a n ≡ [] = no-kinds sp _ (nil-right (faults p wanted_stored e) _ rest) in
-    let typed = value-has-type p wanted_stored e refl none2 in
-    let formed : form v ≡ typed.0 = hf.by own p wanted_stored st none2 typed.0 typed.1 in
-    let many : length bs.items ≡ n = ap length same ∙ operands-words v ∙ ap words formed ∙ sym (value-words (type_at p.known p.vars e) typed.0 typed.1) in
-    let moves : flat.can_move m n ≡ true = move-same m n ∙ not-false (can_move m n) (not-where (not (can_move m n)) 19 (nil-left (wrong_access m n) _ kinds)) in
-    let address : flat.is_address m (word_operand u) n ≡ true = address-formed m a n u (nil-right (wrong_access m n) (wrong_scratch m a n) kinds) l.literal in
-    subst (λ k. WellSteps w more low high own scope k (λ known. ScopeKnown known scope)) (sym last)
-    (steps-last w more low high high own scope (ss ++ ts) (Store m (word_operand u) bs) (Knows (operands u ++ operands v)) (λ known. ScopeKnown known scope)
-    (two-values w names more low mid high own scope ss ts (operands u) (operands v) h (l.well own p (of_type WordTy) st none1 t) (r.well own p wanted_stored st none2 t))
-    (λ li known k q.
-    and_from (is_known known (word_operand u)) (all_known known bs.items && (flat.can_move m (length bs.items) && flat.is_address m (word_operand u) (length bs.items))) (knows-word known u (knows-left known (operands u) (operands v) q))
-    (and_from (all_known known bs.items) (flat.can_move m (length bs.items) && flat.is_address m (word_operand u) (length bs.items)) (subst (λ as'. all_known known as' ≡ true) (sym same) (knows-right known (operands u) (operands v) q))
-    (and_from (flat.can_move m (length bs.items)) (flat.is_address m (word_operand u) (length bs.items)) (subst (λ k. flat.can_move m k ≡ true) (sym many) moves) (subst (λ k. flat.is_address m (word_operand u) k ≡ true) (sym many) address))))
-    (omega arith) (tt {0}) (λ known k q. k));
+      let f' = nil-left (statement_faults p (StoreStatement sp m a e)) [] f in
+      let none1 : faults p (of_type WordTy) a ≡ [] = nil-left (faults p (of_type WordTy) a) _ f' in
+      let rest = nil-right (faults p (of_type WordTy) a) _ f' in
+      let none2 : faults p wanted_stored e ≡ [] = nil-left (faults p wanted_stored e) _ rest in
+      let n = words_of_value (type_at p.known p.vars e) in
+      let kinds : wrong_access m n ++ wrong_scratch m a n ≡ [] = no-kinds sp _ (nil-right (faults p wanted_stored e) _ rest) in
+      let typed = value-has-type p wanted_stored e refl none2 in
+      let formed : form v ≡ typed.0 = hf.by own p wanted_stored st none2 typed.0 typed.1 in
+      let many : length bs.items ≡ n = ap length same ∙ operands-words v ∙ ap words formed ∙ sym (value-words (type_at p.known p.vars e) typed.0 typed.1) in
+      let moves : flat.can_move m n ≡ true = move-same m n ∙ not-false (can_move m n) (not-where (not (can_move m n)) 19 (nil-left (wrong_access m n) _ kinds)) in
+      let address : flat.is_address m (word_operand u) n ≡ true = address-formed m a n u (nil-right (wrong_access m n) (wrong_scratch m a n) kinds) l.literal in
+      subst (λ k. WellSteps w more low high own scope k (λ known. ScopeKnown known scope)) (sym last)
+      (steps-last w more low high high own scope (ss ++ ts) (Store m (word_operand u) bs) (Knows (operands u ++ operands v)) (λ known. ScopeKnown known scope)
+      (two-values w names more low mid high own scope ss ts (operands u) (operands v) h (l.well own p (of_type WordTy) st none1 t) (r.well own p wanted_stored st none2 t))
+      (λ li known k q.
+      and_from (is_known known (word_operand u)) (all_known known bs.items && (flat.can_move m (length bs.items) && flat.is_address m (word_operand u) (length bs.items))) (knows-word known u (knows-left known (operands u) (operands v) q))
+      (and_from (all_known known bs.items) (flat.can_move m (length bs.items) && flat.is_address m (word_operand u) (length bs.items)) (subst (λ as'. all_known known as' ≡ true) (sym same) (knows-right known (operands u) (operands v) q))
+      (and_from (flat.can_move m (length bs.items)) (flat.is_address m (word_operand u) (length bs.items)) (subst (λ k. flat.can_move m k ≡ true) (sym many) moves) (subst (λ k. flat.is_address m (word_operand u) k ≡ true) (sym many) address))))
+      (omega arith) (tt {0}) (λ known k q. k));
   called = subst (λ k. AreCalled old more (steps_calls k)) (sym last) (steps-called-more old more (ss ++ ts) (Store m (word_operand u) bs ∷ []) (steps-called-then old names more ss ts l.called r.called));
 }
 
@@ -175,11 +175,11 @@ pub statements-more : (w : Whole) (old names more : Names) (low mid high : ℕ) 
     → IsWellStated w names more mid high inner (statement_and (statement_tree x) no_statements) ts behind → IsWellStated w old more low high scope (list_statements (xs ++ x ∷ [])) (ss ++ ts) behind
 statements-more w old names more low mid high scope inner behind xs x ss ts h a vars b = record {
   well = λ own p st f t.
-    let parts = statements-last p xs x f in
-    let p' = with_vars (vars_behind p.known p.vars (list_statements xs)) p in
-    let stands : Stands w own inner p' = record { part = st.part; vars = vars own p st parts.0 } in
-    steps-then w more low mid high own scope inner ss ts (λ known. ScopeKnown known inner) (λ known. ScopeKnown known behind) (λ known. ScopeKnown known behind)
-    (steps-names w names more low mid own scope ss (λ known. ScopeKnown known inner) h (a.well own p st parts.0 t)) (λ known k q. q) (b.well own p' stands parts.1 t) (λ known further le q r. r);
+      let parts = statements-last p xs x f in
+      let p' = with_vars (vars_behind p.known p.vars (list_statements xs)) p in
+      let stands : Stands w own inner p' = record { part = st.part; vars = vars own p st parts.0 } in
+      steps-then w more low mid high own scope inner ss ts (λ known. ScopeKnown known inner) (λ known. ScopeKnown known behind) (λ known. ScopeKnown known behind)
+      (steps-names w names more low mid own scope ss (λ known. ScopeKnown known inner) h (a.well own p st parts.0 t)) (λ known k q. q) (b.well own p' stands parts.1 t) (λ known further le q r. r);
   called = steps-called-then old names more ss ts a.called b.called;
 }
 
@@ -196,7 +196,7 @@ negate-test-well w old names low high scope sp e ss x y a = record {
 pub truth-test-well : (w : Whole) (old names : Names) (low high : ℕ) (scope : SymbolScope) (e : Tree) (ss : List Step) (v : Symbol) → IsWellValue w old names low high scope e ss v → IsWellTest w old names low high scope e ss (truth_operand v) (Lit 0)
 truth-test-well w old names low high scope e ss v a = record {
   well = λ own p wanted st f t.
-    steps-knowing w names low high high own scope ss (Knows (operands v)) (Knows (truth_operand v ∷ Lit 0 ∷ [])) (omega arith) (a.well own p wanted st f t) (λ known k q. knows-two known (truth_operand v) (Lit 0) (knows-truth known v q) refl);
+      steps-knowing w names low high high own scope ss (Knows (operands v)) (Knows (truth_operand v ∷ Lit 0 ∷ [])) (omega arith) (a.well own p wanted st f t) (λ known k q. knows-two known (truth_operand v) (Lit 0) (knows-truth known v q) refl);
   called = a.called;
 }
 
@@ -210,14 +210,14 @@ pub compare-well : (w : Whole) (old names more : Names) (low mid high : ℕ) (sc
     → IsWellTest w old more low high scope (BinaryTree sp op a b) (ss ++ ts) x y
 compare-well w old names more low mid high scope sp op a b ss ts u v x y swapped h ex ey l r = record {
   well = λ own p wanted st f t.
-    let want = of_type (operand_ty op) in
-    let st' = stands-inside w own scope p st in
-    let left = l.well own (inside p) want st' (nil-left (faults (inside p) want a) _ f) refl in
-    let right = r.well own (inside p) want st' (nil-left (faults (inside p) want b) _ (nil-right (faults (inside p) want a) _ f)) refl in
-    steps-knowing w more low high high own scope (ss ++ ts) (Knows (operands u ++ operands v)) (Knows (x ∷ y ∷ [])) (omega arith) (two-values w names more low mid high own scope ss ts (operands u) (operands v) h left right)
-    (λ known k q.
-    knows-two known x y
-    (subst (λ z. is_known known z ≡ true) (sym ex) (either-known known swapped (word_operand v) (word_operand u) (knows-word known v (knows-right known (operands u) (operands v) q)) (knows-word known u (knows-left known (operands u) (operands v) q))))
-    (subst (λ z. is_known known z ≡ true) (sym ey) (either-known known swapped (word_operand u) (word_operand v) (knows-word known u (knows-left known (operands u) (operands v) q)) (knows-word known v (knows-right known (operands u) (operands v) q)))));
+      let want = of_type (operand_ty op) in
+      let st' = stands-inside w own scope p st in
+      let left = l.well own (inside p) want st' (nil-left (faults (inside p) want a) _ f) refl in
+      let right = r.well own (inside p) want st' (nil-left (faults (inside p) want b) _ (nil-right (faults (inside p) want a) _ f)) refl in
+      steps-knowing w more low high high own scope (ss ++ ts) (Knows (operands u ++ operands v)) (Knows (x ∷ y ∷ [])) (omega arith) (two-values w names more low mid high own scope ss ts (operands u) (operands v) h left right)
+      (λ known k q.
+      knows-two known x y
+      (subst (λ z. is_known known z ≡ true) (sym ex) (either-known known swapped (word_operand v) (word_operand u) (knows-word known v (knows-right known (operands u) (operands v) q)) (knows-word known u (knows-left known (operands u) (operands v) q))))
+      (subst (λ z. is_known known z ≡ true) (sym ey) (either-known known swapped (word_operand u) (word_operand v) (knows-word known u (knows-left known (operands u) (operands v) q)) (knows-word known v (knows-right known (operands u) (operands v) q)))));
   called = steps-called-then old names more ss ts l.called r.called;
 }

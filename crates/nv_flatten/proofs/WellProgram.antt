@@ -32,10 +32,10 @@ walked-fun w old names k high own p wanted scope e fun group tail st f params kn
     let code = a.well own p wanted st f in
     record {
       formed = λ l.
-        subst (λ g. is_formed l.funs g true fun.results fun.params.items fun.body ≡ true) (sym group)
-        (subst (λ b. is_formed l.funs own b fun.results fun.params.items fun.body ≡ true) tail (code.formed l fun.params.items known fun.results gives));
+          subst (λ g. is_formed l.funs g true fun.results fun.params.items fun.body ≡ true) (sym group)
+          (subst (λ b. is_formed l.funs own b fun.results fun.params.items fun.body ≡ true) tail (code.formed l fun.params.items known fun.results gives));
       different = rises-different 0 (fun.params.items ++ defined fun.body) high
-        (rises-append 0 k high fun.params.items (defined fun.body) (subst (λ xs. Rises 0 xs k) (sym params) (rises-numbers 0 k k (omega arith))) code.rises);
+          (rises-append 0 k high fun.params.items (defined fun.body) (subst (λ xs. Rises 0 xs k) (sym params) (rises-numbers 0 k k (omega arith))) code.rises);
       raises = code.raises;
     }
 
@@ -43,8 +43,8 @@ walked-fun w old names k high own p wanted scope e fun group tail st f params kn
 pub empty-fun : (w : Whole) (names : Names) (fun : FlatFun) (bs : _) → fun.body ≡ Give bs → bs.items ≡ [] → fun.params.items ≡ [] → fun.results ≡ 0 → IsWellFun w names fun
 empty-fun w names fun bs body none params results = record {
   formed = λ l.
-    ap (is_formed l.funs fun.group true fun.results fun.params.items) body
-    ∙ and_from (all_known fun.params.items bs.items) (length bs.items == fun.results) (ap (all_known fun.params.items) none) (eq-eqb (length bs.items) fun.results (ap length none ∙ sym results));
+      ap (is_formed l.funs fun.group true fun.results fun.params.items) body
+      ∙ and_from (all_known fun.params.items bs.items) (length bs.items == fun.results) (ap (all_known fun.params.items) none) (eq-eqb (length bs.items) fun.results (ap length none ∙ sym results));
   different = subst (λ t. all_different (fun.params.items ++ defined t) ≡ true) (sym body) (subst (λ xs. all_different (xs ++ []) ≡ true) (sym params) refl);
   raises = subst (λ t. RaisedMatch w (raised t)) (sym body) (tt {0});
 }
@@ -204,8 +204,8 @@ get-last (f ∷ funs) fun = get-last funs fun
 pub found-more : (old new : Names) (funs : List FlatFun) (fun : FlatFun) → length funs < length old → AreFound old funs → AreCalled old new (calls fun.body) → AreFound new (funs ++ fun ∷ [])
 found-more old new funs fun here h made = record {
   by = λ i lo hi.
-    ⊎_elim (λ (below : i < length old). let f = h.by i lo below in (f.0, f.1, f.2, get-more funs (fun ∷ []) f.0 f.1 f.3, f.4))
-    (λ (above : length old ≤ i). (length funs, fun, omega arith, get-last funs fun, made i above hi)) (cases_lt i (length old));
+      ⊎_elim (λ (below : i < length old). let f = h.by i lo below in (f.0, f.1, f.2, get-more funs (fun ∷ []) f.0 f.1 f.3, f.4))
+      (λ (above : length old ≤ i). (length funs, fun, omega arith, get-last funs fun, made i above hi)) (cases_lt i (length old));
 }
 
 reach : (names : Names) (funs : List FlatFun) → AreFound names funs → (bound i : ℕ) → i < bound → i < length names → Reached funs 0 i

@@ -63,11 +63,12 @@ pub steps-then : (w : Whole) (names : Names) (low mid high own : ℕ) (scope inn
     → ((known more : List ℕ) → Within known more → P known → Q more → R more) → WellSteps w names low high own scope (ss ++ ts) R
 steps-then w names low mid high own scope inner ss ts P Q R a into b out = record {
   formed = λ l known k.
-    let first = a.formed l known k in
-    let behind = known_behind known ss in
-    let second = b.formed l behind (into behind (scope-more known behind scope (known-more known ss) k) first.1) in
-    (formed-append l.funs own known ss ts ∙ and_from (steps_formed l.funs own known ss) (steps_formed l.funs own behind ts) first.0 second.0,
-    subst R (sym (known-append known ss ts)) (out behind (known_behind behind ts) (known-more behind ts) first.1 second.1));
+      let first = a.formed l known k in
+      let behind = known_behind known ss in
+      let second = b.formed l behind (into behind (scope-more known behind scope (known-more known ss) k) first.1) in (
+        formed-append l.funs own known ss ts ∙ and_from (steps_formed l.funs own known ss) (steps_formed l.funs own behind ts) first.0 second.0,
+        subst R (sym (known-append known ss ts)) (out behind (known_behind behind ts) (known-more behind ts) first.1 second.1),
+      );
   rises = subst (λ xs. Rises low xs high) (sym (defined-append ss ts)) (rises-append low mid high (steps_defined ss) (steps_defined ts) a.rises b.rises);
   raises = subst (RaisedMatch w) (sym (raised-append ss ts)) (raised-both w (steps_raised ss) (steps_raised ts) a.raises b.raises);
 }
@@ -78,11 +79,12 @@ pub steps-last : (w : Whole) (names : Names) (low mid high own : ℕ) (scope : S
     → Rises mid (step_defined s) high → RaisedMatch w (step_raised s) → ((known : List ℕ) → ScopeKnown known scope → P known → R (new_vars s ++ known)) → WellSteps w names low high own scope (ss ++ s ∷ []) R
 steps-last w names low mid high own scope ss s P R a step rise raise out = record {
   formed = λ l known k.
-    let first = a.formed l known k in
-    let behind = known_behind known ss in
-    let k' = scope-more known behind scope (known-more known ss) k in
-    (formed-append l.funs own known ss (s ∷ []) ∙ and_from (steps_formed l.funs own known ss) (step_formed l.funs own behind s && true) first.0 (and_from (step_formed l.funs own behind s) true (step l behind k' first.1) refl),
-    subst R (sym (known-append known ss (s ∷ []))) (out behind k' first.1));
+      let first = a.formed l known k in
+      let behind = known_behind known ss in
+      let k' = scope-more known behind scope (known-more known ss) k in (
+        formed-append l.funs own known ss (s ∷ []) ∙ and_from (steps_formed l.funs own known ss) (step_formed l.funs own behind s && true) first.0 (and_from (step_formed l.funs own behind s) true (step l behind k' first.1) refl),
+        subst R (sym (known-append known ss (s ∷ []))) (out behind k' first.1),
+      );
   rises = subst (λ xs. Rises low xs high) (sym (defined-append ss (s ∷ []))) (rises-append low mid high (steps_defined ss) (step_defined s ++ []) a.rises (rises-append mid high high (step_defined s) [] rise (omega arith)));
   raises = subst (RaisedMatch w) (sym (raised-append ss (s ∷ []))) (raised-both w (steps_raised ss) (step_raised s ++ []) a.raises (raised-both w (step_raised s) [] raise (tt {0})));
 }
@@ -92,11 +94,12 @@ pub steps-compute : (w : Whole) (names : Names) (low mid high own : ℕ) (scope 
     → WellSteps w names low mid own scope ss (Knows given) → AreWellLets mid high given ts found → WellSteps w names low high own scope (ss ++ ts) (Knows found)
 steps-compute w names low mid high own scope ss ts given found a b = record {
   formed = λ l known k.
-    let first = a.formed l known k in
-    let behind = known_behind known ss in
-    let second = b.formed l.funs own behind first.1 in
-    (formed-append l.funs own known ss ts ∙ and_from (steps_formed l.funs own known ss) (steps_formed l.funs own behind ts) first.0 second.0,
-    subst (Knows found) (sym (known-append known ss ts)) second.1);
+      let first = a.formed l known k in
+      let behind = known_behind known ss in
+      let second = b.formed l.funs own behind first.1 in (
+        formed-append l.funs own known ss ts ∙ and_from (steps_formed l.funs own known ss) (steps_formed l.funs own behind ts) first.0 second.0,
+        subst (Knows found) (sym (known-append known ss ts)) second.1,
+      );
   rises = subst (λ xs. Rises low xs high) (sym (defined-append ss ts)) (rises-append low mid high (steps_defined ss) (steps_defined ts) a.rises b.rises);
   raises = subst (RaisedMatch w) (sym (raised-append ss ts)) (raised-both w (steps_raised ss) (steps_raised ts) a.raises (subst (RaisedMatch w) (sym b.raises) (tt {0})));
 }
@@ -108,10 +111,10 @@ pub code-behind : (w : Whole) (names : Names) (low mid high own : ℕ) (scope : 
     → Rises mid (defined last) high → RaisedMatch w (raised last) → WellCode w names low high own scope tail o t
 code-behind w names low mid high own scope tail o ss P last t a nodes formed rise raise = record {
   formed = λ l known k n g.
-    let first = a.formed l known k in
-    let behind = known_behind known ss in
-    nodes-formed l.funs own tail n known ss last t nodes
-    ∙ and_from (steps_formed l.funs own known ss) (is_formed l.funs own tail n behind last) first.0 (formed l behind (scope-more known behind scope (known-more known ss) k) first.1 n g);
+      let first = a.formed l known k in
+      let behind = known_behind known ss in
+      nodes-formed l.funs own tail n known ss last t nodes
+      ∙ and_from (steps_formed l.funs own known ss) (is_formed l.funs own tail n behind last) first.0 (formed l behind (scope-more known behind scope (known-more known ss) k) first.1 n g);
   rises = subst (λ xs. Rises low xs high) (sym (nodes-defined ss last t nodes)) (rises-append low mid high (steps_defined ss) (defined last) a.rises rise);
   raises = subst (RaisedMatch w) (sym (nodes-raised ss last t nodes)) (raised-both w (steps_raised ss) (raised last) a.raises raise);
 }

@@ -69,16 +69,18 @@ module _ (w : Whole) (names : Names) (low high : ℕ) (scope : SymbolScope) (sp 
   -- by no place, the word itself; what isn't typed has no simulation
   pub shift-same : (1 ≤ n → n ≤ 31 → ⊥) → IsValue w names low high scope a ss s → IsValue w names low high scope (ShiftTree sp op a n) ss (Word (word_operand s))
   shift-same none_of v = record {
-    simulates = record { by = λ own p wanted stands none o c env now begins rest next same.
-        let clean = none-before (faults (inside p) (of_type WordTy) a) (node_faults p wanted (ShiftTree sp op a n)) none in
-        let k : Value → Running → Result = λ y last. Gives (meaning.Word (shifted op n (word_of y))) last in
-        let nothing : n ≡ 0 = no-places n none_of (few p wanted none) in
-        v.simulates.by own (inside p) (of_type WordTy) (stands-inside w own scope p stands) clean o c env now begins rest (λ y last. onward (k y last) next)
-        (λ new last done.
+    simulates = record {
+      by = λ own p wanted stands none o c env now begins rest next same.
+          let clean = none-before (faults (inside p) (of_type WordTy) a) (node_faults p wanted (ShiftTree sp op a n)) none in
+          let k : Value → Running → Result = λ y last. Gives (meaning.Word (shifted op n (word_of y))) last in
+          let nothing : n ≡ 0 = no-places n none_of (few p wanted none) in
+          v.simulates.by own (inside p) (of_type WordTy) (stands-inside w own scope p stands) clean o c env now begins rest (λ y last. onward (k y last) next)
+          (λ new last done.
           let small = word-fits new s done.fits in
           same new last (record { sizes = done.sizes; keeps = done.keeps; fits = small })
           ∙ ap (λ x. next (meaning.Word x) last) (sym (shift-nothing op (atom_word new (word_operand s)) small) ∙ ap (λ x. shifted op 0 x) (sym (word-of new s)) ∙ ap (λ i. shifted op i (word_of (value_in new s))) (sym nothing)))
-        ∙ sym (onward-then (eval w.declared c.call a (scope_in env scope) now) k next) };
+          ∙ sym (onward-then (eval w.declared c.call a (scope_in env scope) now) k next);
+    };
     formed = record { by = λ own p wanted stands none t is. some-same WordTy t is };
     older = λ o. operand-older high s (v.older o);
   }
@@ -92,12 +94,12 @@ module _ (w : Whole) (names : Names) (low high : ℕ) (scope : SymbolScope) (sp 
       unary w names low high (high + 1) scope (ShiftTree sp op a n) a ss (Let high (shift_of op n (word_operand s)) ∷ []) s (Word (Var high)) (λ y last. Gives (meaning.Word (shifted op n (word_of y))) last) (λ p. of_type WordTy) v
       (λ call m now. refl) (λ p wanted. refl)
       (λ own p wanted stands none o call env new last done rest next same.
-        let x = atom_word new (word_operand s) in
-        let made = prim_word new (shift_of op n (word_operand s)) in
-        let is = shift-word op n (word_operand s) new in
-        defined low high env new last (Fits new s) made (Word (Var high)) (meaning.Word (shifted op n (word_of (value_in new s)))) rest next le done
-        (ap (λ y. meaning.Word y) (assigned-here new high made ∙ is) ∙ ap (λ y. meaning.Word (shifted op n y)) (sym (word-of new s)))
-        (subst (λ y. y < 2 ^ 32) (sym (assigned-here new high made ∙ is)) (shift-fits op n x some (few p wanted none) (word-fits new s done.fits))) same)
+      let x = atom_word new (word_operand s) in
+      let made = prim_word new (shift_of op n (word_operand s)) in
+      let is = shift-word op n (word_operand s) new in
+      defined low high env new last (Fits new s) made (Word (Var high)) (meaning.Word (shifted op n (word_of (value_in new s)))) rest next le done
+      (ap (λ y. meaning.Word y) (assigned-here new high made ∙ is) ∙ ap (λ y. meaning.Word (shifted op n y)) (sym (word-of new s)))
+      (subst (λ y. y < 2 ^ 32) (sym (assigned-here new high made ∙ is)) (shift-fits op n x some (few p wanted none) (word-fits new s done.fits))) same)
       (record { by = λ own p wanted stands none t is. some-same WordTy t is })
       (λ o. one-older (high + 1) (Var high) (omega arith))
 
@@ -139,37 +141,39 @@ module _ (w : Whole) (names more : Names) (low mid high : ℕ) (scope : SymbolSc
   pub combine-value : arithmetic_of op ≡ Some b → Extends names more → low ≤ mid → mid ≤ high → IsValue w names low mid scope x ss s → IsValue w more mid high scope y ts u
       → IsValue w more low (high + 1) scope (BinaryTree sp op x y) ((ss ++ ts) ++ Let high (BinOf b (word_operand s) (word_operand u)) ∷ []) (Word (Var high))
   combine-value is ext le le' v v' = record {
-    simulates = record { by = λ own p wanted stands none o c env now begins rest next same.
-        let step = Let high (BinOf b (word_operand s) (word_operand u)) ∷ [] in
-        let f = faults (inside p) (of_type (operand_ty op)) x in
-        let g = faults (inside p) (of_type (operand_ty op)) y in
-        let own_faults = node_faults p wanted (BinaryTree sp op x y) in
-        let first = none-before f (g ++ own_faults) none in
-        let second = none-before g own_faults (none-behind f (g ++ own_faults) none) in
-        let inner = stands-inside w own scope p stands in
-        let m = scope_in env scope in
-        let right : Running → Result = λ now'. eval w.declared c.call y m now' in
-        ap (λ l. steps_do c.fcall l rest env (flat_run now)) (append_assoc ss ts step)
-        ∙ steps-then c.fcall ss (ts ++ step) rest env (flat_run now)
-        ∙ v.simulates.by own (inside p) (of_type (operand_ty op)) inner first o (fewer w names more ext c) env now begins (steps_do c.fcall (ts ++ step) rest) (λ i last. onward (and_then (right last) (both_words b i)) next)
-        (λ new last done.
+    simulates = record {
+      by = λ own p wanted stands none o c env now begins rest next same.
+          let step = Let high (BinOf b (word_operand s) (word_operand u)) ∷ [] in
+          let f = faults (inside p) (of_type (operand_ty op)) x in
+          let g = faults (inside p) (of_type (operand_ty op)) y in
+          let own_faults = node_faults p wanted (BinaryTree sp op x y) in
+          let first = none-before f (g ++ own_faults) none in
+          let second = none-before g own_faults (none-behind f (g ++ own_faults) none) in
+          let inner = stands-inside w own scope p stands in
+          let m = scope_in env scope in
+          let right : Running → Result = λ now'. eval w.declared c.call y m now' in
+          ap (λ l. steps_do c.fcall l rest env (flat_run now)) (append_assoc ss ts step)
+          ∙ steps-then c.fcall ss (ts ++ step) rest env (flat_run now)
+          ∙ v.simulates.by own (inside p) (of_type (operand_ty op)) inner first o (fewer w names more ext c) env now begins (steps_do c.fcall (ts ++ step) rest) (λ i last. onward (and_then (right last) (both_words b i)) next)
+          (λ new last done.
           steps-then c.fcall ts step rest new (flat_run last)
           ∙ v'.simulates.by own (inside p) (of_type (operand_ty op)) inner second (scope-later low mid scope le o) c new last (begins-then low env new scope now last (Fits new s) o begins done) (steps_do c.fcall step rest) (λ j end. onward (both_words b (value_in new s) j end) next)
           (λ after end done'.
-            let kept = keeps-value mid new after s done'.keeps (v.older o) in
-            let fits = keeps-fit mid new after s done'.keeps (v.older o) done.fits in
-            let made = bin_word b (atom_word after (word_operand s)) (atom_word after (word_operand u)) in
-            defined low high env after end (Fits after u) made (Word (Var high)) (meaning.Word (bin_word b (word_of (value_in new s)) (word_of (value_in after u)))) rest next (omega arith)
-            (done-then low mid env new after (Fits new s) (Fits after u) last end le done done')
-            (ap (λ i. meaning.Word i) (assigned-here after high made)
-              ∙ ap (λ i. meaning.Word (bin_word b i (atom_word after (word_operand u)))) (sym (word-of after s) ∙ ap word_of kept)
-              ∙ ap (λ j. meaning.Word (bin_word b (word_of (value_in new s)) j)) (sym (word-of after u)))
-            (subst (λ i. i < 2 ^ 32) (sym (assigned-here after high made)) (bin-fits b (atom_word after (word_operand s)) (atom_word after (word_operand u)) (word-fits after s fits) (word-fits after u done'.fits)))
-            same)
+          let kept = keeps-value mid new after s done'.keeps (v.older o) in
+          let fits = keeps-fit mid new after s done'.keeps (v.older o) done.fits in
+          let made = bin_word b (atom_word after (word_operand s)) (atom_word after (word_operand u)) in
+          defined low high env after end (Fits after u) made (Word (Var high)) (meaning.Word (bin_word b (word_of (value_in new s)) (word_of (value_in after u)))) rest next (omega arith)
+          (done-then low mid env new after (Fits new s) (Fits after u) last end le done done')
+          (ap (λ i. meaning.Word i) (assigned-here after high made)
+          ∙ ap (λ i. meaning.Word (bin_word b i (atom_word after (word_operand u)))) (sym (word-of after s) ∙ ap word_of kept)
+          ∙ ap (λ j. meaning.Word (bin_word b (word_of (value_in new s)) j)) (sym (word-of after u)))
+          (subst (λ i. i < 2 ^ 32) (sym (assigned-here after high made)) (bin-fits b (atom_word after (word_operand s)) (atom_word after (word_operand u)) (word-fits after s fits) (word-fits after u done'.fits)))
+          same)
           ∙ sym (onward-then (eval w.declared c.call y (scope_in new scope) last) (both_words b (value_in new s)) next)
           ∙ ap (λ z. onward (and_then (eval w.declared c.call y z last) (both_words b (value_in new s))) next) (keeps-scope low env new scope done.keeps o))
-        ∙ sym (onward-then (eval w.declared c.call x m now) (λ i last. and_then (right last) (both_words b i)) next)
-        ∙ ap (λ r. onward r next) (sym (arithmetic-is op b (eval w.declared c.call x m now) right is)) };
+          ∙ sym (onward-then (eval w.declared c.call x m now) (λ i last. and_then (right last) (both_words b i)) next)
+          ∙ ap (λ r. onward r next) (sym (arithmetic-is op b (eval w.declared c.call x m now) right is));
+    };
     formed = record { by = λ own p wanted stands none t e. sym (arithmetic-type op b is) ∙ some-same (result_ty op) t e };
     older = λ o. one-older (high + 1) (Var high) (omega arith);
   }

@@ -1,6 +1,6 @@
 -- Bits that are written into words, some behind others.
-use Rattle.std.proofs.Common.{◌≡◌, ◌∙◌, refl, ap, sym, subst, ℕ, zero, suc, ◌+◌, ◌-◌, ◌*◌, ◌/◌, ◌%◌, ◌<◌, ◌≤◌, ◌^◌, Bool, true, false, if◌then◌else◌, bytes_eq, List, [], ◌∷◌, ◌++◌, take, drop, length, get_or, set, replicate, append_assoc, append-nil, length-append, length-set, arith, bit_or}
-use Rattle.std.proofs.lemmas.List.Elements.{All-nil, All-cons, All-head, All-tail, All-append, All-set, All-get_or}
+use Rattle.std.proofs.Common.{◌≡◌, ◌∙◌, refl, ap, sym, subst, ℕ, zero, suc, ◌+◌, ◌-◌, ◌*◌, ◌/◌, ◌%◌, ◌<◌, ◌≤◌, ◌^◌, Bool, true, false, if◌then◌else◌, bytes_eq, List, [], ◌∷◌, ◌++◌, length, get_or, set, replicate, append_assoc, append-nil, length-set, arith, bit_or}
+use Rattle.std.proofs.lemmas.List.Elements.{All-nil, All-cons, All-head, All-tail, All-set, All-get_or}
 use Rattle.std.specs.Int.Bits.{or_zero_l}
 use Rattle.std.proofs.lemmas.Nat.{or_of_32}
 use Rattle.nv_base.specs.declared.term.Atom.{Atom}
@@ -12,17 +12,15 @@ use Rattle.nv_ast.specs.Bits.{bits, packed, replaced}
 use Rattle.nv_layout.proofs.BitLists.{length-packed}
 use Rattle.nv_meaning.specs.Values.{Value, NamedValues, no_named_values, named_value_and, word_of}
 use Rattle.nv_meaning.specs.Values as meaning
-use Rattle.nv_meaning.specs.Packing.{IsBlankFrom}
 use Rattle.nv_meaning.proofs.Packed.{replaced-zeros}
 use Rattle.nv_meaning.proofs.Writing.{written-more, blank-after}
 use Rattle.flat_ir.specs.declared.spine.Step.{Step}
 use Rattle.flat_ir.specs.declared.spine.Step.TheVariants.{Let}
-use Rattle.nv_flatten.specs.Code.{Computes}
 use Rattle.nv_flatten.specs.Soundness.{AreWords}
-use Rattle.nv_flatten.specs.Symbols.{Symbol, Word, Truth, Tuple, Record, NamedSymbols, no_named_symbols, named_symbol_and, operands, named_operands, value_in, named_values_in, Fits, NamedFit, IsOlder, AreOlder, Keeps, word_operand, fields_of, field_named}
+use Rattle.nv_flatten.specs.Symbols.{Symbol, Word, Truth, Tuple, Record, NamedSymbols, no_named_symbols, named_symbol_and, operands, named_operands, value_in, named_values_in, Fits, NamedFit, IsOlder, AreOlder, word_operand, fields_of, field_named}
 use Rattle.nv_flatten.specs.Reads.{Makes, Writes, has_symbol}
 use Rattle.nv_flatten.proofs.Keeping.{older-later, keeps-operand, keeps-operands, keeps-value, keeps-fit}
-use Rattle.nv_flatten.proofs.Computing.{computes-none, computes-then, computes-so, length-atom_words, older-one, older-two, words-one, words-two, words-at, makes-of, makes-there, makes-let}
+use Rattle.nv_flatten.proofs.Computing.{computes-none, computes-then, computes-so, length-atom_words, older-one, older-two, words-one, words-two, makes-there, makes-let}
 use Rattle.nv_flatten.proofs.Leaves.{older-at, words-small, word-is}
 use Rattle.nv_flatten.proofs.Joining.{one-joined, two-joined}
 
@@ -177,7 +175,6 @@ words-set env [] q a = refl
 words-set env (b ∷ as') zero a = refl
 words-set env (b ∷ as') (suc q) a = ap (λ l. atom_word env b ∷ l) (words-set env as' q a)
 
-
 -- into one word
 pub writes-one : (fit : Type 0) (low high : ℕ) (word a : Atom) (old new : List Step) (before after : List Atom) (at n q s : ℕ) → q ≡ at / 32 → s ≡ at % 32 → s + n ≤ 32 → q < length before
     → Makes (1 ≤ 1) low high (word ∷ before) old new a (λ ws. bit_or (get_or ws (suc q) 0) (shifted_right s (shifted_left (32 - n) (get_or ws 0 0))))
@@ -199,9 +196,10 @@ writes-one fit low high word a old new before after at n q s e f few inside m is
           (m.by (omega arith) (All-cons (IsOlder low) word before (All-head (IsOlder low) word [] o) b) env (All-cons (λ w. w < 2 ^ 32) w ws fits small))
           (λ last k h.
           let kept : atom_words last before ≡ ws = keeps-operands low env last before k b in
-          let new : atom_words last after ≡ set ws q y = ap (atom_words last) is ∙ words-set last before q a ∙ ap (λ l. set l q (atom_word last a)) kept ∙ ap (λ x. set ws q x) h.0 in
-          (ap packed new ∙ one-joined ws w at n q s e f few (omega arith) blank,
-          subst (λ l. AreWords l) (sym new) (All-set (λ w. w < 2 ^ 32) ws q y (subst (λ x. x < 2 ^ 32) h.0 h.1) small)));
+          let new : atom_words last after ≡ set ws q y = ap (atom_words last) is ∙ words-set last before q a ∙ ap (λ l. set l q (atom_word last a)) kept ∙ ap (λ x. set ws q x) h.0 in (
+            ap packed new ∙ one-joined ws w at n q s e f few (omega arith) blank,
+            subst (λ l. AreWords l) (sym new) (All-set (λ w. w < 2 ^ 32) ws q y (subst (λ x. x < 2 ^ 32) h.0 h.1) small),
+          ));
     }
 
 -- into two words
@@ -239,9 +237,10 @@ writes-two fit low mid high word a c old middle new before after at n q s e f fe
           let av : atom_word e2 a ≡ y = keeps-operand mid e1 e2 a k2 oa ∙ h1.0 in
           let cv : atom_word e2 c ≡ z = h2.0 ∙ ap (shifted_left (64 - s - n)) same in
           let new : atom_words e2 after ≡ set (set ws q y) (suc q) z =
-          ap (atom_words e2) is ∙ words-set e2 (set before q a) (suc q) c ∙ ap (λ l. set l (suc q) (atom_word e2 c)) (words-set e2 before q a ∙ ap (λ l. set l q (atom_word e2 a)) kept ∙ ap (λ x. set ws q x) av) ∙ ap (λ x. set (set ws q y) (suc q) x) cv in
-          (ap packed new ∙ two-joined ws w at n q s e f few over (omega arith) (All-get_or (λ w. w < 2 ^ 32) ws (suc q) 0 (omega arith) small) blank,
-          subst (λ l. AreWords l) (sym new) (All-set (λ w. w < 2 ^ 32) (set ws q y) (suc q) z (subst (λ x. x < 2 ^ 32) cv h2.1) (All-set (λ w. w < 2 ^ 32) ws q y (subst (λ x. x < 2 ^ 32) h1.0 h1.1) small)))));
+          ap (atom_words e2) is ∙ words-set e2 (set before q a) (suc q) c ∙ ap (λ l. set l (suc q) (atom_word e2 c)) (words-set e2 before q a ∙ ap (λ l. set l q (atom_word e2 a)) kept ∙ ap (λ x. set ws q x) av) ∙ ap (λ x. set (set ws q y) (suc q) x) cv in (
+            ap packed new ∙ two-joined ws w at n q s e f few over (omega arith) (All-get_or (λ w. w < 2 ^ 32) ws (suc q) 0 (omega arith) small) blank,
+            subst (λ l. AreWords l) (sym new) (All-set (λ w. w < 2 ^ 32) (set ws q y) (suc q) z (subst (λ x. x < 2 ^ 32) cv h2.1) (All-set (λ w. w < 2 ^ 32) ws q y (subst (λ x. x < 2 ^ 32) h1.0 h1.1) small)),
+          )));
     }
 
 -- the word so far with more joined into it
@@ -278,8 +277,10 @@ pub joined-none : (low : ℕ) (so_far more' : Atom) (steps : List Step) → so_f
 joined-none low so_far more' steps is =
     makes-there (1 ≤ 1) low (so_far ∷ more' ∷ []) steps more' (λ ws. bit_or (get_or ws 0 0) (get_or ws 1 0))
     (λ o. All-head (IsOlder low) more' [] (All-tail (IsOlder low) so_far (more' ∷ []) o))
-    (λ q env ws. (sym (ap (λ (a : Atom). bit_or (atom_word env a) (atom_word env more')) is ∙ or_zero_l (atom_word env more')),
-    All-head (λ w. w < 2 ^ 32) (atom_word env more') [] (All-tail (λ w. w < 2 ^ 32) (atom_word env so_far) (atom_word env more' ∷ []) ws)))
+    (λ q env ws. (
+      sym (ap (λ (a : Atom). bit_or (atom_word env a) (atom_word env more')) is ∙ or_zero_l (atom_word env more')),
+      All-head (λ w. w < 2 ^ 32) (atom_word env more') [] (All-tail (λ w. w < 2 ^ 32) (atom_word env so_far) (atom_word env more' ∷ []) ws),
+    ))
 
 pub joined-some : (low high x : ℕ) (so_far more' : Atom) (old new : List Step) → x ≡ low → high ≡ low + 1 → new ≡ old ++ Let low (BinOf Or so_far more') ∷ []
     → Makes (1 ≤ 1) low high (so_far ∷ more' ∷ []) old new (Var x) (λ ws. bit_or (get_or ws 0 0) (get_or ws 1 0))
@@ -288,8 +289,11 @@ joined-some low high x so_far more' old new is later adds =
     (subst (λ (y : ℕ). Makes (1 ≤ 1) low y (so_far ∷ more' ∷ []) old new (Var low) (λ ws. bit_or (get_or ws 0 0) (get_or ws 1 0))) (sym later)
     (subst (λ (ss : List Step). Makes (1 ≤ 1) low (low + 1) (so_far ∷ more' ∷ []) old ss (Var low) (λ ws. bit_or (get_or ws 0 0) (get_or ws 1 0))) (sym adds)
     (makes-let (1 ≤ 1) low (so_far ∷ more' ∷ []) old (BinOf Or so_far more') (λ ws. bit_or (get_or ws 0 0) (get_or ws 1 0))
-    (λ q env ws. (refl, or_of_32 (atom_word env so_far) (atom_word env more') (All-head (λ w. w < 2 ^ 32) (atom_word env so_far) (atom_word env more' ∷ []) ws)
-    (All-head (λ w. w < 2 ^ 32) (atom_word env more') [] (All-tail (λ w. w < 2 ^ 32) (atom_word env so_far) (atom_word env more' ∷ []) ws)))))))
+    (λ q env ws. (
+      refl,
+      or_of_32 (atom_word env so_far) (atom_word env more') (All-head (λ w. w < 2 ^ 32) (atom_word env so_far) (atom_word env more' ∷ []) ws)
+          (All-head (λ w. w < 2 ^ 32) (atom_word env more') [] (All-tail (λ w. w < 2 ^ 32) (atom_word env so_far) (atom_word env more' ∷ []) ws)),
+    )))))
 
 -- what is never asked for
 pub writes-never : (fit : Type 0) (low : ℕ) (s : Symbol) (steps : List Step) (words : List Atom) (at : ℕ) (f : Value → List ℕ) → (fit → ⊥) → Writes fit low low s steps steps words words at f

@@ -1,5 +1,5 @@
 -- Flat programs as what is made of typed ones.
-use Rattle.std.specs.Prelude.{◌≡◌, ℕ, ◌<◌, Bool, true, List, [], ◌∷◌, ◌++◌, Option, Some, None, slice_get, length, ◌⊎◌}
+use Rattle.std.specs.Prelude.{◌≡◌, ℕ, ◌<◌, ◌≤◌, Bool, true, List, [], ◌∷◌, ◌++◌, Option, Some, None, slice_get, length, ◌⊎◌}
 use Rattle.flat_ir.specs.declared.flat.Flat.{Flat}
 use Rattle.flat_ir.specs.declared.flat.Flat.TheVariants.{Let', Fetch', Store', If', Bind', Call, Raise, Try', Give}
 use Rattle.flat_ir.specs.declared.flat.FlatFun.{FlatFun}
@@ -33,3 +33,7 @@ pub data Reached (funs : List FlatFun) (main : ℕ) : ℕ → Type 0 where
 -- all functions of a program are reached
 abbrev pub AreReached : List FlatFun → ℕ → Type 0
 AreReached funs main = (i : ℕ) → i < length funs → Reached funs main i
+
+-- code that calls these functions calls each one whose name is new
+abbrev pub CallsNew : {A : Type 0} → List A → List A → List ℕ → Type 0
+CallsNew old new called_ones = (i : ℕ) → length old ≤ i → i < length new → is_in i called_ones ≡ true

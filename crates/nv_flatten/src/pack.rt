@@ -321,12 +321,7 @@ fn write_bits(
 }
 
 // Two words joined bit by bit: the second, where the first is the literal 0.
-fn joined(
-    so_far: Atom,
-    more: Atom,
-    steps: &mut Vec<Step>,
-    next: &mut u32,
-) -> Result<Atom, NoMemory>
+fn joined(so_far: Atom, more: Atom, steps: &mut Vec<Step>, next: &mut u32) -> Result<Atom, NoMemory>
     ensures makes { IfOk result (λ a. Makes (1 ≤ 1) next.old next.new (so_far ∷ more ∷ []) steps.old.items steps.new.items a (λ ws. bit_or (slice_index ws 0) (slice_index ws 1))) }
     ensures well { IfOk result (λ a. AddsLets next.old next.new (so_far ∷ more ∷ []) steps.old.items steps.new.items (a ∷ [])) }
     ensures later { next.old ≤ next.new }

@@ -1,5 +1,4 @@
 use Rattle.std.proofs.Common.{◌∙◌, ap, sym}
-use Rattle.nv_base.specs.declared.term.Atom.{Atom}
 use Rattle.nv_base.specs.declared.term.Atom.TheVariants.{Lit}
 use Rattle.nv_flatten.proofs.Writing.{joined-none, joined-some}
 use Rattle.nv_flatten.proofs.WordLets.{adds-more, adds-or}

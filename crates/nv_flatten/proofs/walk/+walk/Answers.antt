@@ -130,12 +130,12 @@ combine-returns-clause-value t c =
     value-as (whole_in c.args.t.now) c.value-2.new.names c.args.next.now (c.value-2.new.next + 1) c.define.new.next (scope_of c.args.scope.now.items []) (BinaryTree s op (tree_of c.args.a.now) (tree_of c.args.b.now)) ((left.steps.items ++ right.steps.items) ++ Let c.value-2.new.next (BinOf c.args.bin (word_operand (view left.symbol)) (word_operand (view right.symbol))) ∷ []) c.define.new.steps.items (Word (Var c.value-2.new.next)) _
     c.in_ok-x.ensures.next
     (c.in_ok-x.ensures.steps
-      ∙ ap (λ l. l ++ Let c.value-2.new.next (BinOf c.args.bin c.word_in.result c.word_in-2.result) ∷ []) c.in_ok-add_steps.ensures
-      ∙ ap (λ a. (left.steps.items ++ right.steps.items) ++ Let c.value-2.new.next (BinOf c.args.bin a c.word_in-2.result) ∷ []) c.word_in.ensures
-      ∙ ap (λ a. (left.steps.items ++ right.steps.items) ++ Let c.value-2.new.next (BinOf c.args.bin (word_operand (view left.symbol)) a) ∷ []) c.word_in-2.ensures)
+    ∙ ap (λ l. l ++ Let c.value-2.new.next (BinOf c.args.bin c.word_in.result c.word_in-2.result) ∷ []) c.in_ok-add_steps.ensures
+    ∙ ap (λ a. (left.steps.items ++ right.steps.items) ++ Let c.value-2.new.next (BinOf c.args.bin a c.word_in-2.result) ∷ []) c.word_in.ensures
+    ∙ ap (λ a. (left.steps.items ++ right.steps.items) ++ Let c.value-2.new.next (BinOf c.args.bin (word_operand (view left.symbol)) a) ∷ []) c.word_in-2.ensures)
     (ap (λ x. Word (Var x)) c.in_ok-x.ensures.variable)
     (combine-value (whole_in c.args.t.now) c.value.new.names c.value-2.new.names c.args.next.now c.value.new.next c.value-2.new.next (scope_of c.args.scope.now.items []) s op c.args.bin (tree_of c.args.a.now) (tree_of c.args.b.now) left.steps.items right.steps.items (view left.symbol) (view right.symbol) is c.in_ok-right.ensures.names c.in_ok-left.ensures.later c.in_ok-right.ensures.later c.in_ok-left.ensures.value
-      (value-in-scope (whole_in c.args.t.now) c.value-2.new.names c.value.new.next c.value-2.new.next c.value.new.scope.items c.args.scope.now.items (tree_of c.args.b.now) right.steps.items (view right.symbol) c.in_ok-left.ensures.scope c.in_ok-right.ensures.value))
+    (value-in-scope (whole_in c.args.t.now) c.value-2.new.names c.value.new.next c.value-2.new.next c.value.new.scope.items c.args.scope.now.items (tree_of c.args.b.now) right.steps.items (view right.symbol) c.in_ok-left.ensures.scope c.in_ok-right.ensures.value))
 
 pub combine-returns-in_err-right-clause-names : goal.combine-returns-in_err-right-clause-names
 combine-returns-in_err-right-clause-names t c =
@@ -168,7 +168,7 @@ unpack-returns-clause-value t c =
     let later : c.value.new.next ≤ c.unpacked.new.next = c.in_ok-fields.ensures.later in
     value-as (whole_in c.args.t.now) c.value.new.names c.args.next.now c.unpacked.new.next c.unpacked.new.next (scope_of c.args.scope.now.items []) (UnpackTree s c.args.l.now (tree_of c.args.a.now)) (p.steps.items ++ f.steps.items) c.add_steps.new.steps.items (view f.symbol) (view f.symbol) refl c.in_ok-add_steps.ensures refl
     (unpack-as (whole_in c.args.t.now) c.value.new.names c.args.next.now c.value.new.next c.unpacked.new.next (scope_of c.args.scope.now.items []) s c.args.l.now (tree_of c.args.a.now) p.steps.items f.steps.items (view p.symbol) (view f.symbol) c.deref.result.now
-      (c.deref.ensures.value ∙ c.in_ok-words.ensures) c.in_ok-packed.ensures.later c.in_ok-packed.ensures.value c.in_ok-fields.ensures.value c.in_ok-fields.ensures.formed c.in_ok-fields.ensures.older)
+    (c.deref.ensures.value ∙ c.in_ok-words.ensures) c.in_ok-packed.ensures.later c.in_ok-packed.ensures.value c.in_ok-fields.ensures.value c.in_ok-fields.ensures.formed c.in_ok-fields.ensures.older)
 
 pub unpack-value-requires : goal.unpack-value-requires
 unpack-value-requires t c =
@@ -180,7 +180,7 @@ pack-returns-clause-value t c =
     let p = c.in_ok-words.words in
     value-as (whole_in c.args.t.now) c.value.new.names c.args.next.now c.packed.new.next c.packed.new.next (scope_of c.args.scope.now.items []) (PackTree s c.args.l.now (tree_of c.args.a.now)) (f.steps.items ++ p.steps.items) c.add_steps.new.steps.items (view p.symbol) (view p.symbol) refl c.in_ok-add_steps.ensures refl
     (pack-value (whole_in c.args.t.now) c.value.new.names c.args.next.now c.value.new.next c.packed.new.next (scope_of c.args.scope.now.items []) s c.args.l.now (tree_of c.args.a.now) f.steps.items p.steps.items (view f.symbol) (view p.symbol)
-      c.in_ok-fields.ensures.later c.in_ok-fields.ensures.value c.in_ok-words.ensures.value c.in_ok-words.ensures.formed c.in_ok-words.ensures.older)
+    c.in_ok-fields.ensures.later c.in_ok-fields.ensures.value c.in_ok-words.ensures.value c.in_ok-words.ensures.formed c.in_ok-words.ensures.older)
 
 pub pack-value-requires : goal.pack-value-requires
 pack-value-requires t c =
@@ -193,11 +193,11 @@ fetch-returns-clause-value t c =
     c.in_ok-vars.ensures.next c.in_ok-push.ensures.items
     (c.in_ok-symbol_of_words.ensures ∙ ap words_symbol (c.deref.ensures.value ∙ c.in_ok-vars.ensures.words ∙ ap (λ l. l ++ variables (numbers_from c.value.new.next c.args.n)) c.new-words.ensures.items))
     (fetch-value (whole_in c.args.t.now) c.value.new.names c.args.next.now c.value.new.next (scope_of c.args.scope.now.items []) s c.args.m c.args.n (tree_of c.args.a.now) ad.steps.items (view ad.symbol) (Fetch c.args.m c.in_ok-vars.vars c.word_in.result) c.in_ok-address.ensures.later
-      (λ call rest env now.
-        ap (λ l. flat.fetch c.args.m (length l) (atom_word env c.word_in.result) now (λ ws. rest (assigned_all env l ws) now)) c.in_ok-vars.ensures.variables
-        ∙ ap (λ i. flat.fetch c.args.m i (atom_word env c.word_in.result) now (λ ws. rest (assigned_all env (numbers_from c.value.new.next c.args.n) ws) now)) (numbers-length c.value.new.next c.args.n)
-        ∙ ap (λ a. flat.fetch c.args.m c.args.n (atom_word env a) now (λ ws. rest (assigned_all env (numbers_from c.value.new.next c.args.n) ws) now)) c.word_in.ensures)
-      c.in_ok-address.ensures.value)
+    (λ call rest env now.
+    ap (λ l. flat.fetch c.args.m (length l) (atom_word env c.word_in.result) now (λ ws. rest (assigned_all env l ws) now)) c.in_ok-vars.ensures.variables
+    ∙ ap (λ i. flat.fetch c.args.m i (atom_word env c.word_in.result) now (λ ws. rest (assigned_all env (numbers_from c.value.new.next c.args.n) ws) now)) (numbers-length c.value.new.next c.args.n)
+    ∙ ap (λ a. flat.fetch c.args.m c.args.n (atom_word env a) now (λ ws. rest (assigned_all env (numbers_from c.value.new.next c.args.n) ws) now)) c.word_in.ensures)
+    c.in_ok-address.ensures.value)
 
 pub fetch-value-requires : goal.fetch-value-requires
 fetch-value-requires t c =
@@ -209,7 +209,7 @@ block-returns-clause-value t c =
     let l = c.in_ok-last.last in
     value-as (whole_in c.args.t.now) c.value.new.names c.args.next.now c.value.new.next c.value.new.next (scope_of c.args.scope.now.items []) (BlockTree s (list_statements c.args.sts.now) (tree_of c.args.a.now)) (st.items ++ l.steps.items) c.add_steps.new.steps.items (view l.symbol) (view l.symbol) refl c.in_ok-add_steps.ensures refl
     (block-value (whole_in c.args.t.now) c.statements.new.names c.value.new.names c.args.next.now c.statements.new.next c.value.new.next (scope_of c.args.scope.now.items []) (scope_of c.statements.new.scope.items []) s (list_statements c.args.sts.now) (tree_of c.args.a.now) st.items l.steps.items (view l.symbol)
-      c.in_ok-last.ensures.names c.in_ok-steps.ensures.later c.in_ok-steps.ensures.stated c.in_ok-last.ensures.value)
+    c.in_ok-last.ensures.names c.in_ok-steps.ensures.later c.in_ok-steps.ensures.stated c.in_ok-last.ensures.value)
 
 pub block-returns-in_err-last-clause-names : goal.block-returns-in_err-last-clause-names
 block-returns-in_err-last-clause-names t c =
@@ -242,11 +242,11 @@ store-returns-clause-stated t c =
     (c.in_ok-push.ensures.items ∙ ap (λ l. l ++ (Store c.args.m c.word_in.result c.in_ok-words.words) ∷ []) c.in_ok-add_steps.ensures)
     (ap (λ l. scope_of l []) (c.in_ok-stored.ensures.scope ∙ c.in_ok-address.ensures.scope))
     (store-stated (whole_in c.args.t.now) c.value.new.names c.value-2.new.names c.args.next.now c.value.new.next c.value-2.new.next (scope_of c.args.scope.now.items []) s c.args.m (tree_of c.args.a.now) (tree_of c.args.e.now) c.in_ok-address.address.steps.items c.in_ok-stored.stored.steps.items (view c.in_ok-address.address.symbol) (view c.in_ok-stored.stored.symbol) (Store c.args.m c.word_in.result c.in_ok-words.words)
-      (λ call rest env now.
-        ap (λ l. flat.store c.args.m (atom_word env c.word_in.result) (atom_words env l) now (λ x. rest env x)) (c.in_ok-words.ensures ∙ c.deref.ensures.value ∙ c.in_ok-operands_in.ensures)
-        ∙ ap (λ a. flat.store c.args.m (atom_word env a) (atom_words env (operands (view c.in_ok-stored.stored.symbol))) now (λ x. rest env x)) c.word_in.ensures)
-      c.in_ok-stored.ensures.names c.in_ok-address.ensures.later c.in_ok-stored.ensures.later c.in_ok-address.ensures.value
-      (value-in-scope (whole_in c.args.t.now) c.value-2.new.names c.value.new.next c.value-2.new.next c.value.new.scope.items c.args.scope.now.items (tree_of c.args.e.now) c.in_ok-stored.stored.steps.items (view c.in_ok-stored.stored.symbol) c.in_ok-address.ensures.scope c.in_ok-stored.ensures.value))
+    (λ call rest env now.
+    ap (λ l. flat.store c.args.m (atom_word env c.word_in.result) (atom_words env l) now (λ x. rest env x)) (c.in_ok-words.ensures ∙ c.deref.ensures.value ∙ c.in_ok-operands_in.ensures)
+    ∙ ap (λ a. flat.store c.args.m (atom_word env a) (atom_words env (operands (view c.in_ok-stored.stored.symbol))) now (λ x. rest env x)) c.word_in.ensures)
+    c.in_ok-stored.ensures.names c.in_ok-address.ensures.later c.in_ok-stored.ensures.later c.in_ok-address.ensures.value
+    (value-in-scope (whole_in c.args.t.now) c.value-2.new.names c.value.new.next c.value-2.new.next c.value.new.scope.items c.args.scope.now.items (tree_of c.args.e.now) c.in_ok-stored.stored.steps.items (view c.in_ok-stored.stored.symbol) c.in_ok-address.ensures.scope c.in_ok-stored.ensures.value))
 
 pub store-returns-in_err-stored-clause-names : goal.store-returns-in_err-stored-clause-names
 store-returns-in_err-stored-clause-names t c =
@@ -302,7 +302,7 @@ each-loop-e-preserved t c =
     record {
       well = each-at _ _ _ _ _ _ _ _ _ c.args.es.now c.loop-e.e-index c.e-item.result _ _ _ _ _ c.in_ok-v.v.symbol (omega arith) c.e-item.is c.in_ok-add_steps.ensures c.in_ok-push.ensures.items c.loop-e.invariant.same c.in_ok-v.ensures.names c.loop-e.invariant.well c.in_ok-v.ensures.well;
       front = subst (λ l. Front (whole_in c.args.t.now) c.args.next.now (scope_of c.args.scope.now.items []) c.args.es.now c.value.new.names c.value.new.next c.add_steps.new.steps.items l (drop (i + 1) c.args.es.now)) (sym c.in_ok-push.ensures.items)
-        (front-more (whole_in c.args.t.now) c.args.next.now (scope_of c.args.scope.now.items []) c.args.es.now c.loop-e.names c.value.new.names c.loop-e.next c.value.new.next c.loop-e.steps.items c.in_ok-v.v.steps.items c.add_steps.new.steps.items c.loop-e.symbols.items (drop i c.args.es.now) (drop (i + 1) c.args.es.now) c.e-item.result c.in_ok-v.v.symbol (dropped c.args.es.now i c.e-item.result (omega arith) c.e-item.is) before later c.in_ok-v.ensures.names c.loop-e.invariant.front
+          (front-more (whole_in c.args.t.now) c.args.next.now (scope_of c.args.scope.now.items []) c.args.es.now c.loop-e.names c.value.new.names c.loop-e.next c.value.new.next c.loop-e.steps.items c.in_ok-v.v.steps.items c.add_steps.new.steps.items c.loop-e.symbols.items (drop i c.args.es.now) (drop (i + 1) c.args.es.now) c.e-item.result c.in_ok-v.v.symbol (dropped c.args.es.now i c.e-item.result (omega arith) c.e-item.is) before later c.in_ok-v.ensures.names c.loop-e.invariant.front
           (value-in-scope (whole_in c.args.t.now) c.value.new.names c.loop-e.next c.value.new.next c.loop-e.scope.items c.args.scope.now.items (tree_of c.e-item.result) c.in_ok-v.v.steps.items (view c.in_ok-v.v.symbol) c.loop-e.invariant.same c.in_ok-v.ensures.value) c.in_ok-add_steps.ensures);
       same = c.in_ok-v.ensures.scope ∙ c.loop-e.invariant.same;
       names = extends-then c.args.names.now c.loop-e.names c.value.new.names c.loop-e.invariant.names c.in_ok-v.ensures.names;
@@ -347,7 +347,7 @@ each_named-loop-e-preserved t c =
     record {
       well = fields-at _ _ _ _ _ _ _ _ _ c.args.es.now c.loop-e.e-index c.e-item.result _ _ _ _ _ _ (omega arith) c.e-item.is c.in_ok-add_steps.ensures c.in_ok-push.ensures.items c.loop-e.invariant.same c.in_ok-v.ensures.names c.loop-e.invariant.well c.in_ok-v.ensures.well;
       front = subst (λ l. FrontNamed (whole_in c.args.t.now) c.args.next.now (scope_of c.args.scope.now.items []) c.args.es.now c.value.new.names c.value.new.next c.add_steps.new.steps.items l (drop (i + 1) c.args.es.now)) (sym c.in_ok-push.ensures.items)
-        (named-more (whole_in c.args.t.now) c.args.next.now (scope_of c.args.scope.now.items []) c.args.es.now c.loop-e.names c.value.new.names c.loop-e.next c.value.new.next c.loop-e.steps.items c.in_ok-v.v.steps.items c.add_steps.new.steps.items c.loop-e.fields.items (drop i c.args.es.now) (drop (i + 1) c.args.es.now) c.e-item.result (_, c.in_ok-v.v.symbol) refl (dropped c.args.es.now i c.e-item.result (omega arith) c.e-item.is) before later c.in_ok-v.ensures.names c.loop-e.invariant.front
+          (named-more (whole_in c.args.t.now) c.args.next.now (scope_of c.args.scope.now.items []) c.args.es.now c.loop-e.names c.value.new.names c.loop-e.next c.value.new.next c.loop-e.steps.items c.in_ok-v.v.steps.items c.add_steps.new.steps.items c.loop-e.fields.items (drop i c.args.es.now) (drop (i + 1) c.args.es.now) c.e-item.result (_, c.in_ok-v.v.symbol) refl (dropped c.args.es.now i c.e-item.result (omega arith) c.e-item.is) before later c.in_ok-v.ensures.names c.loop-e.invariant.front
           (value-in-scope (whole_in c.args.t.now) c.value.new.names c.loop-e.next c.value.new.next c.loop-e.scope.items c.args.scope.now.items (tree_of c.e-item.result.1) c.in_ok-v.v.steps.items (view c.in_ok-v.v.symbol) c.loop-e.invariant.same c.in_ok-v.ensures.value) c.in_ok-add_steps.ensures);
       same = c.in_ok-v.ensures.scope ∙ c.loop-e.invariant.same;
       names = extends-then c.args.names.now c.loop-e.names c.value.new.names c.loop-e.invariant.names c.in_ok-v.ensures.names;
@@ -394,7 +394,7 @@ statements-loop-st-preserved t c =
       typed = typed-at _ _ _ _ c.args.sts.now c.loop-st.st-index c.st-item.result (omega arith) c.st-item.is c.loop-st.invariant.typed c.in_ok-statement.ensures.stated.formed;
       well = statements-at _ _ _ _ _ _ _ _ _ _ c.args.sts.now c.loop-st.st-index c.st-item.result _ _ _ (omega arith) c.st-item.is c.in_ok-add_steps.ensures c.in_ok-statement.ensures.names c.loop-st.invariant.well c.loop-st.invariant.typed c.in_ok-statement.ensures.well;
       led = led-more (whole_in c.args.t.now) c.args.next.now (scope_of c.args.scope.now.items []) c.args.sts.now c.loop-st.names c.statement.new.names c.loop-st.next c.statement.new.next c.loop-st.steps.items c.in_ok-statement.field-0.items c.add_steps.new.steps.items (scope_of c.loop-st.scope.items []) (scope_of c.statement.new.scope.items []) (drop i c.args.sts.now) (drop (i + 1) c.args.sts.now) c.st-item.result
-        (dropped c.args.sts.now i c.st-item.result (omega arith) c.st-item.is) later c.in_ok-statement.ensures.names c.loop-st.invariant.led c.in_ok-statement.ensures.stated c.in_ok-add_steps.ensures;
+          (dropped c.args.sts.now i c.st-item.result (omega arith) c.st-item.is) later c.in_ok-statement.ensures.names c.loop-st.invariant.led c.in_ok-statement.ensures.stated c.in_ok-add_steps.ensures;
       extends = extends-then c.args.scope.now.items c.loop-st.scope.items c.statement.new.scope.items c.loop-st.invariant.extends c.in_ok-statement.ensures.scope;
       names = extends-then c.args.names.now c.loop-st.names c.statement.new.names c.loop-st.invariant.names c.in_ok-statement.ensures.names;
       later = omega arith;
@@ -421,8 +421,8 @@ statement-returns-in_ok-bind-in-Let-clause-stated t c =
     let is = ap statement_tree c.in-Let.is in
     subst (λ st. IsStated (whole_in c.args.t.now) c.value.new.names c.args.next.now c.value.new.next (scope_of c.args.scope.now.items []) (statement_and st no_statements) c.in_ok-v-in-Let.v.steps.items (scope_of c.bind.new.scope.items [])) (sym is)
     (stated-as (whole_in c.args.t.now) c.value.new.names c.args.next.now c.value.new.next (scope_of c.args.scope.now.items []) (statement_and (LetStatement c.in-Let.field-2 (pattern_tree c.in-Let.pattern) (tree_of c.in-Let.e)) no_statements) c.in_ok-v-in-Let.v.steps.items c.in_ok-v-in-Let.v.steps.items (bound (pattern_tree c.in-Let.pattern) (view c.in_ok-v-in-Let.v.symbol) (scope_of c.args.scope.now.items [])) (scope_of c.bind.new.scope.items []) refl
-      (c.in_ok-bind-in-Let.ensures.bound ∙ ap (λ l. bound (pattern_tree c.in-Let.pattern) (view c.in_ok-v-in-Let.v.symbol) (scope_of l [])) c.in_ok-v-in-Let.ensures.scope)
-      (let-stated (whole_in c.args.t.now) c.value.new.names c.args.next.now c.value.new.next (scope_of c.args.scope.now.items []) c.in-Let.field-2 (pattern_tree c.in-Let.pattern) (tree_of c.in-Let.e) c.in_ok-v-in-Let.v.steps.items (view c.in_ok-v-in-Let.v.symbol) c.in_ok-v-in-Let.ensures.later c.in_ok-v-in-Let.ensures.value))
+    (c.in_ok-bind-in-Let.ensures.bound ∙ ap (λ l. bound (pattern_tree c.in-Let.pattern) (view c.in_ok-v-in-Let.v.symbol) (scope_of l [])) c.in_ok-v-in-Let.ensures.scope)
+    (let-stated (whole_in c.args.t.now) c.value.new.names c.args.next.now c.value.new.next (scope_of c.args.scope.now.items []) c.in-Let.field-2 (pattern_tree c.in-Let.pattern) (tree_of c.in-Let.e) c.in_ok-v-in-Let.v.steps.items (view c.in_ok-v-in-Let.v.symbol) c.in_ok-v-in-Let.ensures.later c.in_ok-v-in-Let.ensures.value))
 
 pub statement-returns-in-Store-clause-stated : goal.statement-returns-in-Store-clause-stated
 statement-returns-in-Store-clause-stated t c =
@@ -1066,6 +1066,16 @@ pub statements-returns-clause-well : goal.statements-returns-clause-well
 statements-returns-clause-well t c =
     let h : length c.args.sts.now ≤ c.loop-st.st-index = omega arith in
     statements-end _ _ _ _ _ _ _ _ _ _ (take_all c.loop-st.st-index c.args.sts.now h) c.loop-st.invariant.well
+
+pub statement-returns-in_ok-bind-in-Let-clause-well : goal.statement-returns-in_ok-bind-in-Let-clause-well
+statement-returns-in_ok-bind-in-Let-clause-well t c =
+    stated-tree _ _ _ _ _ _ _ _ _ (ap (λ k. statement_and (statement_tree k) no_statements) c.in-Let.is)
+    (stated-at _ _ _ _ _ _ _ _ _ _ (c.in_ok-bind-in-Let.ensures.bound ∙ ap (λ l. bound (pattern_tree c.in-Let.pattern) (view c.in_ok-v-in-Let.v.symbol) (scope_of l [])) c.in_ok-v-in-Let.ensures.scope)
+    (let-well _ _ _ _ _ _ _ _ _ _ _ c.in_ok-v-in-Let.ensures.well))
+
+pub statement-returns-in-Store-clause-well : goal.statement-returns-in-Store-clause-well
+statement-returns-in-Store-clause-well t c =
+    mapped c.store.result (λ x h. stated-tree _ _ _ _ _ _ _ _ _ (ap (λ k. statement_and (statement_tree k) no_statements) c.in-Store.is) (h _)) c.store.ensures.well
 
 pub value-returns-in-Number-clause-well : goal.value-returns-in-Number-clause-well
 value-returns-in-Number-clause-well t c = value-of _ _ _ _ _ _ _ _ _ _ _ _ (well_number-is c.args.e.now c.in-Number.n c.in-Number.is) c.constant.ensures.steps (ap view c.constant.ensures.symbol) (number-well _ _ _ _ _ _)
