@@ -9,12 +9,7 @@ pub mod Lists
 pub mod Bindings
 pub mod Fields
 pub mod Within
-pub mod NarrowSteps
-pub mod NarrowFacts
 pub mod Bound
-pub mod NarrowValues
-pub mod NarrowLists
-pub mod NarrowEnds
 pub mod WellBasics
 pub mod Lets
 pub mod WordLets
@@ -56,7 +51,6 @@ pub mod Reading
 pub mod SymbolRows
 pub mod Joining
 pub mod Writing
-pub mod NarrowCalls
 pub mod Dispatch
 pub mod WalkArms
 pub mod WellViews
@@ -67,6 +61,4 @@ pub mod Sources
 pub mod Making
 pub mod Found
 pub mod PackedWords
-pub mod NarrowNeeds
-pub mod NarrowProgram
 pub mod Reaching

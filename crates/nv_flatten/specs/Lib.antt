@@ -9,7 +9,6 @@ pub mod Simulation
 pub mod Well
 pub mod Adds
 pub mod Flattened
-pub mod Narrow
 pub mod Fields
 pub mod Made
 pub mod Reads

@@ -1,4 +1,4 @@
-use Rattle.std.proofs.Common.{◌≤◌, ◌<◌, ◌-◌, ◌/◌, ◌%◌, ◌+◌, refl, ap, suc, add-one, length, get_or, set, arith}
+use Rattle.std.proofs.Common.{◌≤◌, ◌<◌, ◌-◌, ◌/◌, ◌%◌, ◌+◌, ◌∷◌, refl, ap, suc, add-one, length, get_or, set, arith}
 use Rattle.std.proofs.lemmas.List.{get_or_default}
 use Rattle.nv_base.specs.Words.{shifted_left, shifted_right}
 use Rattle.nv_ast.specs.Bits.{bits}

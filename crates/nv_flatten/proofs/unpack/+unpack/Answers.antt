@@ -1,20 +1,19 @@
-use Rattle.std.proofs.Common.{◌≡◌, ◌∙◌, ◌+◌, ◌*◌, ◌≤◌, min, ap, sym, refl, subst, arith, List, ℕ, take, drop, length, IfOk}
+use Rattle.std.proofs.Common.{◌≡◌, ◌∙◌, ◌+◌, ◌*◌, ◌≤◌, min, ap, sym, refl, subst, arith, List, take, drop, length, IfOk}
 use Rattle.std.proofs.lemmas.List.{take_all}
 use Rattle.std.proofs.lemmas.Result.{IfOk-weaker}
 use Rattle.std.below.core.specs.declared.int.u64.TheConstants.{MAX}
 use Rattle.nv_ast.specs.Bits.{number, packed, slice}
-use Rattle.nv_ast.specs.declared.tree.FieldText.{FieldText}
 use Rattle.nv_ast.specs.declared.tree.LayoutText.{LayoutText}
 use Rattle.nv_ast.specs.LayoutView.{layout_tree, field_tree, list_fields, list_layouts}
-use Rattle.nv_ast.specs.Outline.{OutlineTree, BitsOutline, PartsOutline, JoinedOutline, OverlayOutline, outline, outlines, field_outline, field_outlines, size, total_size, total_named_size, longest, outline_height, IsSound, AllSound, AllNamedSound}
+use Rattle.nv_ast.specs.Outline.{OutlineTree, BitsOutline, PartsOutline, JoinedOutline, OverlayOutline, outline, outlines, field_outline, field_outlines, size, longest, outline_height, IsSound}
 use Rattle.nv_ast.specs.Types.{form_of, forms_of, joined_forms, record_forms}
 use Rattle.nv_ast.proofs.Reading.{parts_is, joined_is, overlay_is}
-use Rattle.nv_meaning.specs.Values.{Word, Record, fields_of, named_value_and, no_named_values}
+use Rattle.nv_meaning.specs.Values.{Word, fields_of, named_value_and, no_named_values}
 use Rattle.nv_meaning.specs.Packing.{value_at, parts_at, alternatives_at, joined_at}
 use Rattle.nv_meaning.specs.TableView.{declared_in}
 use Rattle.nv_meaning.specs.Tables.{layout_pairs}
 use Rattle.nv_meaning.proofs.Records.{layout-record}
-use Rattle.nv_meaning.proofs.Unpacking.{FieldItem, alias_rank, alias-low, alias-none, total_named_more, longest_more, highest_named_within, total_more, highest_within}
+use Rattle.nv_meaning.proofs.Unpacking.{FieldItem, alias-low, total_named_more, longest_more, highest_named_within, total_more, highest_within}
 use Rattle.nv_flatten.specs.Symbols.{NamedSymbols, no_named_symbols, named_symbol_and, named_operands}
 use Rattle.nv_flatten.specs.View.{list_named_symbols}
 use Rattle.nv_flatten.specs.Reads.{◌++_symbols◌, Reads, ReadsRecord, ReadsField}

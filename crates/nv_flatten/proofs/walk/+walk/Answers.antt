@@ -938,8 +938,8 @@ shift-returns-clause-well t c =
       none = λ z. let h = c.in_ok-shifted.ensures.none z in (h.0 ∙ c.word_in-word.ensures, h.1.0, h.1.1);
       extends = c.in_ok-shifted.ensures.extends;
       some = λ lo hi.
-        let h = c.in_ok-shifted.ensures.some lo hi in
-        (h.0, h.1.0 ∙ ap (λ a. c.in_ok-operand.operand.steps.items ++ Let c.value.new.next (shift_of c.args.op c.args.n a) ∷ []) c.word_in-word.ensures, h.1.1);
+          let h = c.in_ok-shifted.ensures.some lo hi in
+          (h.0, h.1.0 ∙ ap (λ a. c.in_ok-operand.operand.steps.items ++ Let c.value.new.next (shift_of c.args.op c.args.n a) ∷ []) c.word_in-word.ensures, h.1.1);
     })
 
 pub unpack-returns-clause-well : goal.unpack-returns-clause-well
@@ -992,12 +992,12 @@ compare-returns-clause-well t c =
     λ s op found.
     let right = value-in _ _ _ _ _ _ _ _ _ _ c.in_ok-left.ensures.scope c.in_ok-right.ensures.well in
     elim c.if-swapped.branch [
-      then-swapped w ↦
-      test-at _ _ _ _ _ _ _ _ _ _ _ _ _ c.in_ok-add_steps.ensures refl refl
-      (compare-well _ _ _ _ _ _ _ _ s op _ _ _ _ _ _ _ _ true c.in_ok-right.ensures.names (ap (λ q. q.0) w.left-is ∙ c.word_in-y.ensures) (ap (λ q. q.1) w.left-is ∙ c.word_in-x.ensures) c.in_ok-left.ensures.well right)
-    | else-swapped w ↦
-      test-at _ _ _ _ _ _ _ _ _ _ _ _ _ c.in_ok-add_steps.ensures refl refl
-      (compare-well _ _ _ _ _ _ _ _ s op _ _ _ _ _ _ _ _ false c.in_ok-right.ensures.names (ap (λ q. q.0) w.left-is ∙ c.word_in-x.ensures) (ap (λ q. q.1) w.left-is ∙ c.word_in-y.ensures) c.in_ok-left.ensures.well right)
+      | then-swapped w ↦
+          test-at _ _ _ _ _ _ _ _ _ _ _ _ _ c.in_ok-add_steps.ensures refl refl
+          (compare-well _ _ _ _ _ _ _ _ s op _ _ _ _ _ _ _ _ true c.in_ok-right.ensures.names (ap (λ q. q.0) w.left-is ∙ c.word_in-y.ensures) (ap (λ q. q.1) w.left-is ∙ c.word_in-x.ensures) c.in_ok-left.ensures.well right)
+      | else-swapped w ↦
+          test-at _ _ _ _ _ _ _ _ _ _ _ _ _ c.in_ok-add_steps.ensures refl refl
+          (compare-well _ _ _ _ _ _ _ _ s op _ _ _ _ _ _ _ _ false c.in_ok-right.ensures.names (ap (λ q. q.0) w.left-is ∙ c.word_in-x.ensures) (ap (λ q. q.1) w.left-is ∙ c.word_in-y.ensures) c.in_ok-left.ensures.well right)
     ]
 
 pub truth-returns-clause-well : goal.truth-returns-clause-well
@@ -1069,13 +1069,13 @@ statements-returns-clause-well t c =
 
 pub statement-returns-in_ok-bind-in-Let-clause-well : goal.statement-returns-in_ok-bind-in-Let-clause-well
 statement-returns-in_ok-bind-in-Let-clause-well t c =
-    stated-tree _ _ _ _ _ _ _ _ _ (ap (λ k. statement_and (statement_tree k) no_statements) c.in-Let.is)
+    stated-tree _ _ _ _ _ _ _ _ _ _ (ap (λ k. statement_and (statement_tree k) no_statements) c.in-Let.is)
     (stated-at _ _ _ _ _ _ _ _ _ _ (c.in_ok-bind-in-Let.ensures.bound ∙ ap (λ l. bound (pattern_tree c.in-Let.pattern) (view c.in_ok-v-in-Let.v.symbol) (scope_of l [])) c.in_ok-v-in-Let.ensures.scope)
     (let-well _ _ _ _ _ _ _ _ _ _ _ c.in_ok-v-in-Let.ensures.well))
 
 pub statement-returns-in-Store-clause-well : goal.statement-returns-in-Store-clause-well
 statement-returns-in-Store-clause-well t c =
-    mapped c.store.result (λ x h. stated-tree _ _ _ _ _ _ _ _ _ (ap (λ k. statement_and (statement_tree k) no_statements) c.in-Store.is) (h _)) c.store.ensures.well
+    mapped c.store.result (λ x h. stated-tree _ _ _ _ _ _ _ _ _ _ (ap (λ k. statement_and (statement_tree k) no_statements) c.in-Store.is) (h _)) c.store.ensures.well
 
 pub value-returns-in-Number-clause-well : goal.value-returns-in-Number-clause-well
 value-returns-in-Number-clause-well t c = value-of _ _ _ _ _ _ _ _ _ _ _ _ (well_number-is c.args.e.now c.in-Number.n c.in-Number.is) c.constant.ensures.steps (ap view c.constant.ensures.symbol) (number-well _ _ _ _ _ _)
