@@ -8,8 +8,6 @@ pub mod Rows
 pub mod Lists
 pub mod Bindings
 pub mod Fields
-pub mod Within
-pub mod Bound
 pub mod WellBasics
 pub mod Lets
 pub mod WordLets
@@ -61,4 +59,4 @@ pub mod Sources
 pub mod Making
 pub mod Found
 pub mod PackedWords
-pub mod Reaching
+pub mod FormedProgram
