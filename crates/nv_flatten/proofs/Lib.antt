@@ -59,4 +59,4 @@ pub mod Sources
 pub mod Making
 pub mod Found
 pub mod PackedWords
-pub mod Reaching
+pub mod FormedProgram

@@ -58,7 +58,7 @@ own-faults p w (TryTree s a x ps b) h =
 own-faults p w (FetchTree s m n a) h = no_rest (faults (inside p) (of_type WordTy) a) _ h
 own-faults p w (BlockTree s sts e) h = no_rest (faults (with_vars (vars_behind p.known p.vars sts) p) anything e) _ (no_rest (statements_faults (inside p) sts) _ h)
 
-right-type : (p : Place) (w : Wanted) (e : Tree) (t : Ty) → faults p w e ≡ [] → type_at p.known p.vars e ≡ Some t → w.right t ≡ true
+pub right-type : (p : Place) (w : Wanted) (e : Tree) (t : Ty) → faults p w e ≡ [] → type_at p.known p.vars e ≡ Some t → w.right t ≡ true
 right-type p w e t h q =
     let kinds : other_type w (type_at p.known p.vars e) ≡ [] = no_front (other_type w (type_at p.known p.vars e)) _ (no_rest (low_kinds p e) _ (no_kinds (span_of e) _ (own-faults p w e h))) in
     where_not {A = ℕ} (w.right t) 14 (sym (ap (other_type w) q) ∙ kinds)
@@ -69,10 +69,10 @@ retyped w o want (Raises k vs now) h c = c
 retyped w o want (Stops how now) h c = c
 
 -- ---- a function's body
-abbrev body_place : Known → FunTree → Place
+abbrev pub body_place : Known → FunTree → Place
 body_place k g = record { known = k; vars = param_vars (named_types_of k.layouts g.params) []; tail = true }
 
-abbrev body_wanted : Known → FunTree → Wanted
+abbrev pub body_wanted : Known → FunTree → Wanted
 body_wanted k g = same_as (Some (type_of k.layouts g.result))
 
 body-typed : (w : Whole) (f : List ℕ) (g : FunTree) → IsBody w f g → (call : Calls) → CallsTyped w call → (vs : Values) (now : Running) → value_tys vs ≡ plain_tys (params_in w g) → AreWords (all_words vs) → HasSizes now.packet
@@ -106,7 +106,7 @@ body-agrees : (w : Whole) (f : List ℕ) (g : FunTree) → IsBody w f g → (all
     → code.does fcall fun.body (assigned_all code.blank fun.params.items (all_words vs)) (flat_run now) ≡ ended (eval w.declared call g.body (entered g.params vs []) now)
 body-agrees w f g b all fun m call fcall typed same vs now types are sizes =
     let env : Env = start w g vs in
-    let behind : total_named_words (params_in w g) ≤ m.low = m.behind in
+    let behind : m.low ≡ total_named_words (params_in w g) = m.behind in
     let scopes : scope_in env (entry w g) ≡ entered g.params vs [] = params-values env 0 w.declared.layouts g.params [] ∙ ap (λ us. entered g.params us []) (start-values w g vs types) in
     ap (λ xs. code.does fcall fun.body (assigned_all code.blank xs (all_words vs)) (flat_run now)) m.params
     ∙ m.end.simulates b.own (body_place b.known g) (body_wanted b.known g)
@@ -174,11 +174,12 @@ closed-same w t few narrow (Raises k vs now) c =
 closed-same w t few narrow (Stops how now) c = refl
 
 -- main's parameters and result
-record IsNarrow (w : Whole) (g : FunTree) : Type 0 where
-  bools : some_named_bool (params_in w g) ≡ false
-  result : words (type_of w.declared.layouts g.result) ≤ 8
+pub record IsNarrow (w : Whole) (g : FunTree) : Type 0 where
+  pub bools : some_named_bool (params_in w g) ≡ false
+  pub params : total_named_words (params_in w g) ≤ 8
+  pub result : words (type_of w.declared.layouts g.result) ≤ 8
 
-main-narrow : (w : Whole) (g : FunTree) → IsBody w main_name g → function_in w.declared.functions main_name ≡ Some g → IsNarrow w g
+pub main-narrow : (w : Whole) (g : FunTree) → IsBody w main_name g → function_in w.declared.functions main_name ≡ Some g → IsNarrow w g
 main-narrow w g b found =
     let named : bytes_eq g.name main_name ≡ true = (bytes_eq-Decides g.name main_name).1 (sym ((bytes_eq-Decides main_name g.name).0 (function-named w.declared.functions main_name g found))) in
     let k = b.known.layouts in
@@ -187,6 +188,7 @@ main-narrow w g b found =
     let wide : wide_main (signature k g) ≡ [] = sym (ap (λ c. if c then wide_main (signature k g) else []) named) ∙ last in
     let rest : (some_named_bool (named_types_of k g.params) || nat_lt 8 (words (type_of k g.result))) ≡ false = neither_second (nat_lt 8 (total_named_words (named_types_of k g.params))) _ (not_where {A = ℕ} _ 23 wide) in
     record {
+      params = subst (λ ts. total_named_words ts ≤ 8) b.params (ltb-false 8 (total_named_words (named_types_of k g.params)) (neither_first (nat_lt 8 (total_named_words (named_types_of k g.params))) _ (not_where {A = ℕ} _ 23 wide)));
       bools = ap some_named_bool (sym b.params) ∙ neither_first (some_named_bool (named_types_of k g.params)) _ rest;
       result = subst (λ t. words t ≤ 8) b.result (ltb-false 8 (words (type_of k g.result)) (neither_second (some_named_bool (named_types_of k g.params)) _ rest));
     }

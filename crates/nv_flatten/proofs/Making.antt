@@ -3,14 +3,15 @@ use Rattle.std.proofs.Common.{◌≡◌, ◌∙◌, refl, sym, ap, subst, ℕ, �
 use Rattle.std.specs.Prelude.{Result, Ok, Err, IfOk, codes}
 use Rattle.std.proofs.lemmas.Slice.Eq.{bytes_eq-Decides}
 use Rattle.nv_ast.specs.Tree.{FunTree, NamedTypes, ProgramTree}
-use Rattle.nv_ast.specs.Types.{named_types_of, total_named_words}
+use Rattle.nv_ast.specs.Types.{type_of, named_types_of, words, total_named_words}
 use Rattle.nv_ast.specs.Faults.{main_name}
 use Rattle.nv_meaning.specs.Meaning.{function_in}
 use Rattle.flat_ir.specs.declared.flat.FlatFun.{FlatFun}
 use Rattle.nv_flatten.specs.Symbols.{Symbol, SymbolScope, named_fresh, numbers_from, params_bound}
-use Rattle.nv_flatten.specs.Whole.{Whole, whole_of}
+use Rattle.nv_flatten.specs.Whole.{Whole, whole_of, group_of}
 use Rattle.nv_flatten.specs.Simulation.{Names, IsEnd}
-use Rattle.nv_flatten.specs.Made.{entry, IsMade, IsComplete}
+use Rattle.nv_flatten.specs.Made.{entry, IsMade, IsPlaced, IsComplete}
+use Rattle.nv_flatten.specs.Well.{IsWellEnd}
 use Rattle.nv_flatten.proofs.Knowing.{function-named}
 
 -- what holds where there is an answer
@@ -18,12 +19,13 @@ pub if-ok : {A E : Type 0} (r : Result A E) (P Q : A → Type 0) → ((a : A) �
 if-ok (Ok a) P Q h p = h a p
 if-ok (Err e) P Q h p = p
 
-pub made-of : (w : Whole) (g : FunTree) (fun : FlatFun) (names : Names) (low high : ℕ) (scope : SymbolScope) (form : Option Symbol) (types : NamedTypes) → types ≡ g.params
+pub made-of : (w : Whole) (g : FunTree) (fun : FlatFun) (old names : Names) (low high : ℕ) (scope : SymbolScope) (form : Option Symbol) (types : NamedTypes) → types ≡ g.params
     → scope ≡ params_bound (named_fresh 0 (named_types_of w.declared.layouts types)) []
     → low ≡ 0 + total_named_words (named_types_of w.declared.layouts types)
     → fun.params.items ≡ numbers_from 0 (total_named_words (named_types_of w.declared.layouts types))
-    → IsEnd w names low high scope g.body fun.body form → IsMade w names g fun
-made-of w g fun names low high scope form types same scopes lows params end =
+    → IsEnd w names low high scope g.body fun.body form → IsWellEnd w old names low high scope g.body fun.body
+    → fun.results ≡ words (type_of w.declared.layouts g.result) → IsMade w names g fun
+made-of w g fun old names low high scope form types same scopes lows params end well results =
     let n : total_named_words (named_types_of w.declared.layouts types) ≡ total_named_words (named_types_of w.declared.layouts g.params) = ap (λ ts. total_named_words (named_types_of w.declared.layouts ts)) same in
     record {
       names = names;
@@ -34,6 +36,9 @@ made-of w g fun names low high scope form types same scopes lows params end =
       params = params ∙ ap (numbers_from 0) n;
       behind = omega arith;
       end = subst (λ s. IsEnd w names low high s g.body fun.body form) (scopes ∙ ap (λ ts. params_bound (named_fresh 0 (named_types_of w.declared.layouts ts)) []) same) end;
+      old = old;
+      well = subst (λ s. IsWellEnd w old names low high s g.body fun.body) (scopes ∙ ap (λ ts. params_bound (named_fresh 0 (named_types_of w.declared.layouts ts)) []) same) well;
+      results = results;
     }
 
 some_same : {A : Type 0} {x y : A} → Some x ≡ Some y → x ≡ y
@@ -51,6 +56,13 @@ none-found o g e f = absurd (no (sym e ∙ f))
   where
     no : None ≡ Some g → ⊥
     no h = cc
+
+-- the function that was found is in its group
+pub placed-found : (w : Whole) (name : List ℕ) (f : FunTree) (group : ℕ) (fun : FlatFun) → function_in w.declared.functions name ≡ Some f → group_of w name ≡ Some group → fun.group ≡ group → IsPlaced w name fun
+placed-found w name f group fun found numbered same = record {
+  group = λ g n e at. same ∙ some_same (sym numbered ∙ at);
+  absent = λ none. none-found (function_in w.declared.functions name) f none found;
+}
 
 pub complete-main : (w v : Whole) (x : List ℕ) (funs : List FlatFun) → w ≡ v → x ≡ main_name → ((g : FunTree) → function_in w.declared.functions x ≡ Some g → IsComplete w x funs)
     → (g : FunTree) → function_in v.declared.functions main_name ≡ Some g → IsComplete v main_name funs

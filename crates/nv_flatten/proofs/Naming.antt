@@ -8,7 +8,10 @@ use Rattle.nv_meaning.specs.Meaning.{function_in}
 use Rattle.flat_ir.specs.declared.flat.FlatFun.{FlatFun}
 use Rattle.nv_flatten.specs.Whole.{Whole}
 use Rattle.nv_flatten.specs.Simulation.{Names, Extends}
-use Rattle.nv_flatten.specs.Made.{IsMade, AreMade, AllMade, IsComplete}
+use Rattle.nv_flatten.specs.Flattened.{calls}
+use Rattle.nv_flatten.specs.Made.{IsMade, AreMade, AllMade, IsPlaced, ArePlaced, IsComplete}
+use Rattle.nv_flatten.specs.Well.{AreCalled}
+use Rattle.nv_flatten.proofs.WellProgram.{AreFound, found-first, found-more, found-reached}
 
 some_same : {A : Type 0} {x y : A} → Some x ≡ Some y → x ≡ y
 some_same e = cc
@@ -81,6 +84,8 @@ pub record MadeSoFar (w : Whole) (main : List ℕ) (names : Names) (funs : List 
   pub first : slice_get names 0 ≡ Some main
   pub few : length funs ≤ length names
   pub made : AreMade w names funs
+  pub placed : ArePlaced w names funs
+  pub found : AreFound names funs
 
 more-names : (w : Whole) (names new : Names) (g : FunTree) (fun : FlatFun) → Extends names new → IsMade w names g fun → IsMade w new g fun
 more-names w names new g fun more m = record {
@@ -92,6 +97,9 @@ more-names w names new g fun more m = record {
   params = m.params;
   behind = m.behind;
   end = m.end;
+  old = m.old;
+  well = m.well;
+  results = m.results;
 }
 
 first-added : (old new : Names) (x : List ℕ) (i : ℕ) → old ≡ [] → Added old new x → slice_get new i ≡ Some x → slice_get new 0 ≡ Some x
@@ -100,11 +108,19 @@ first-added old new x i none a there = elim a [
   | inr more ↦ ap (λ l. slice_get l 0) (more ∙ ap (λ l. l ++ x ∷ []) none)
 ]
 
+alone : (old new : Names) (x : List ℕ) (i : ℕ) → old ≡ [] → Added old new x → slice_get new i ≡ Some x → new ≡ x ∷ []
+alone old new x i none a there = elim a [
+  | inl same ↦ (let e : slice_get {X = List ℕ} [] i ≡ Some x = sym (ap (λ l. slice_get l i) (same ∙ none)) ∙ there in cc)
+  | inr more ↦ more ∙ ap (λ l. l ++ x ∷ []) none
+]
+
 pub made-first : (w : Whole) (main : List ℕ) (names new : Names) (i : ℕ) (funs : List FlatFun) → names ≡ [] → Added names new main → slice_get new i ≡ Some main → funs ≡ [] → MadeSoFar w main new funs
 made-first w main names new i funs none added there empty = record {
   first = first-added names new main i none added there;
   few = (let e : length funs ≡ 0 = ap length empty in omega arith);
   made = record { by = λ j f g fun named found here. absurd (no-function j fun (sym (ap (λ l. slice_get l j) empty) ∙ here)) };
+  placed = record { by = λ j f fun named here. absurd (no-function j fun (sym (ap (λ l. slice_get l j) empty) ∙ here)) };
+  found = subst (λ l. AreFound l funs) (sym (alone names new main i none added there)) (subst (AreFound (main ∷ [])) (sym empty) (found-first main));
 }
   where
     no-function : (j : ℕ) (fun : FlatFun) → slice_get {X = FlatFun} [] j ≡ Some fun → ⊥
@@ -112,11 +128,13 @@ made-first w main names new i funs none added there empty = record {
 
 -- one function more
 pub made-more : (w : Whole) (main name : List ℕ) (names new : Names) (funs funs' : List FlatFun) (fun : FlatFun) → MadeSoFar w main names funs → slice_get names (length funs) ≡ Some name → Extends names new
-    → ((g : FunTree) → function_in w.declared.functions name ≡ Some g → IsMade w new g fun) → funs' ≡ funs ++ fun ∷ [] → MadeSoFar w main new funs'
-made-more w main name names new funs funs' fun so named more made pushed = record {
+    → ((g : FunTree) → function_in w.declared.functions name ≡ Some g → IsMade w new g fun) → IsPlaced w name fun → AreCalled names new (calls fun.body) → funs' ≡ funs ++ fun ∷ [] → MadeSoFar w main new funs'
+made-more w main name names new funs funs' fun so named more made placed calling pushed = record {
   first = ap (λ l. slice_get l 0) more.1 ∙ slice-front names more.0 0 main so.first;
   few = few;
   made = record { by = by };
+  placed = record { by = stands };
+  found = subst (AreFound new) (sym pushed) (found-more names new funs fun inside so.found calling);
 }
   where
     inside : length funs < length names
@@ -157,6 +175,20 @@ made-more w main name names new funs funs' fun so named more made pushed = recor
               subst (IsMade w new g) (sym (s.here here)) (made g (ap (function_in w.declared.functions) same ∙ found)))
         ]
 
+    stands : (i : ℕ) (f : List ℕ) (d : FlatFun) → slice_get new i ≡ Some f → slice_get funs' i ≡ Some d → IsPlaced w f d
+    stands i f d called there =
+        let c : length funs < length names = inside in
+        let s = slice-last funs fun i d (sym (ap (λ l. slice_get l i) pushed) ∙ there) in
+        let p : i ≤ length funs = s.place in
+        let named' : slice_get names i ≡ Some f = earlier i (omega arith) f called in
+        elim (cases_lt i (length funs)) [
+          | inl below ↦ so.placed.by i f d named' (s.before below)
+          | inr past ↦ (
+              let here : i ≡ length funs = omega arith in
+              let same : name ≡ f = some_same (sym named ∙ ap (slice_get names) (sym here) ∙ named') in
+              subst (λ x. IsPlaced w x d) same (subst (IsPlaced w name) (sym (s.here here)) placed))
+        ]
+
 -- none is left
 pub made-all : (w : Whole) (main : List ℕ) (names : Names) (funs : List FlatFun) → MadeSoFar w main names funs → slice_get names (length funs) ≡ None → IsComplete w main funs
 made-all w main names funs so none = record {
@@ -169,4 +201,7 @@ made-all w main names funs so none = record {
         let r = slice-there funs i (omega arith) in
         (r.0, r.1, so.made.by i f g r.0 named found r.1);
   };
+  many = so.few;
+  placed = so.placed;
+  reached = found-reached names funs so.few so.found;
 }

@@ -33,7 +33,3 @@ pub data Reached (funs : List FlatFun) (main : ℕ) : ℕ → Type 0 where
 -- all functions of a program are reached
 abbrev pub AreReached : List FlatFun → ℕ → Type 0
 AreReached funs main = (i : ℕ) → i < length funs → Reached funs main i
-
--- code that calls these functions calls each one whose name is new
-abbrev pub CallsNew : {A : Type 0} → List A → List A → List ℕ → Type 0
-CallsNew old new called_ones = (i : ℕ) → length old ≤ i → i < length new → is_in i called_ones ≡ true

@@ -10,11 +10,12 @@ ghost use Rattle.nv_ast.specs.Types.{named_types_of, total_named_words};
 ghost use Rattle.nv_ast.specs.TypeView.{list_named_types};
 ghost use Rattle.nv_meaning.specs.Meaning.{source, function_in};
 ghost use Rattle.flat_ir.specs.Meaning.{flat_meaning};
-ghost use Rattle.nv_flatten.specs.Flattened.{params_in};
-ghost use Rattle.nv_flatten.specs.Made.{IsMade, IsComplete};
+ghost use Rattle.nv_flatten.specs.Flattened.{params_in, calls, AreReached};
+ghost use Rattle.nv_flatten.specs.Made.{IsMade, IsPlaced, IsComplete};
 ghost use Rattle.nv_flatten.specs.Simulation.{Extends};
 ghost use Rattle.nv_flatten.specs.Symbols.{named_fresh, numbers_from, params_bound};
 ghost use Rattle.nv_flatten.specs.View.{scope_of};
+ghost use Rattle.nv_flatten.specs.Well.{AreCalled};
 ghost use Rattle.nv_flatten.specs.WholeView.{whole_in};
 
 use crate::forms::of_type;
@@ -31,6 +32,7 @@ use std::alloc::Global;
 /// calls are left out. `main` is number 0, and the others are numbered as they are first called.
 pub fn flatten(alloc: Global, t: &Typed) -> Result<FlatProgram, NoMemory>
     ensures kept { IfOk result (λ f. KeepsOutcomes (main_words (typed_program t.now)) (params_in f.funs.items f.main) (source (typed_program t.now)) (flat_meaning f.funs.items f.main)) }
+    ensures reached { IfOk result (λ f. AreReached f.funs.items f.main) }
 {
     let source = Source::of(alloc, t.program())?;
     let main = Name::new(alloc, b"main")?;
@@ -70,6 +72,8 @@ fn function<'a>(
     names: &mut Names<'a>,
 ) -> Result<FlatFun, NoMemory>
     ensures made { IfOk result (λ fun. (g : FunTree) → function_in (whole_in t.now).declared.functions name.now ≡ Some g → IsMade (whole_in t.now) names.new g fun) }
+    ensures placed { IfOk result (λ fun. IsPlaced (whole_in t.now) name.now fun) }
+    ensures called { IfOk result (λ fun. AreCalled names.old names.new (calls fun.body)) }
     ensures names { Extends names.old names.new }
 {
     match t.function(name) {
@@ -92,6 +96,8 @@ fn flat_function<'a>(
     names: &mut Names<'a>,
 ) -> Result<FlatFun, NoMemory>
     ensures made { IfOk result (λ fun. IsMade (whole_in t.now) names.new (fun_tree f.now) fun) }
+    ensures group { IfOk result (λ fun. fun.group ≡ group) }
+    ensures called { IfOk result (λ fun. AreCalled names.old names.new (calls fun.body)) }
     ensures names { Extends names.old names.new }
 {
     let mut next = 0;

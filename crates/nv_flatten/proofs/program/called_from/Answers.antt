@@ -11,7 +11,7 @@ pub loop-name-preserved : goal.loop-name-preserved
 loop-name-preserved c =
     let n : c.len.result ≡ length c.loop-name.funs.items = omega (arith, c.len.ensures, c.loop-name.funs.ok.0) in
     made-more (whole_in c.args.t.now) c.args.first.now c.in-Some.name.now c.loop-name.names c.function.new.names c.loop-name.funs.items c.push.new.self.items _ c.loop-name.invariant
-    (ap (slice_get c.loop-name.names) (sym n) ∙ c.in-Some.ensures) c.function.ensures.names c.in_ok-function.ensures.made c.in_ok-push.ensures.items
+    (ap (slice_get c.loop-name.names) (sym n) ∙ c.in-Some.ensures) c.function.ensures.names c.in_ok-function.ensures.made c.in_ok-function.ensures.placed c.in_ok-function.ensures.called c.in_ok-push.ensures.items
 
 pub returns : goal.returns
 returns c =

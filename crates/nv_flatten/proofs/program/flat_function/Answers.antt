@@ -11,8 +11,11 @@ use Rattle.nv_flatten.proofs.program.flat_function.Goals as goal
 
 pub returns-clause-made : goal.returns-clause-made
 returns-clause-made c =
-    made-of (whole_in c.args.t.now) (fun_tree c.args.f.now) _ c.ending.new.names c.entry.new.next c.ending.new.next (scope_of c.in_ok-scope.scope.items []) (option_map view c.in_ok-tail.tail.form) (list_named_types c.deref.result.now)
+    made-of (whole_in c.args.t.now) (fun_tree c.args.f.now) _ c.args.names.now c.ending.new.names c.entry.new.next c.ending.new.next (scope_of c.in_ok-scope.scope.items []) (option_map view c.in_ok-tail.tail.form) (list_named_types c.deref.result.now)
     (ap list_named_types c.deref.ensures.value)
     c.in_ok-scope.ensures.scope c.in_ok-scope.ensures.next
     (c.in_ok-scope.ensures.made ∙ ap (λ l. l ++ numbers_from 0 (total_named_words (named_types_of (whole_in c.args.t.now).declared.layouts (list_named_types c.deref.result.now)))) c.new-params.ensures.items)
-    c.in_ok-tail.ensures.end
+    c.in_ok-tail.ensures.end c.in_ok-tail.ensures.well c.in_ok-results.ensures
+
+pub returns-clause-called : goal.returns-clause-called
+returns-clause-called c = c.in_ok-tail.ensures.well.called

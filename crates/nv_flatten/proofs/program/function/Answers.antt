@@ -1,8 +1,12 @@
 use Rattle.nv_ast.specs.ProgramView.{fun_tree}
 use Rattle.nv_flatten.specs.WholeView.{whole_in}
-use Rattle.nv_flatten.proofs.Making.{if-ok, made-found}
+use Rattle.nv_flatten.proofs.Making.{if-ok, made-found, placed-found}
 use Rattle.nv_flatten.proofs.program.function.Goals as goal
 
 pub returns-in-Some-clause-made : goal.returns-in-Some-clause-made
 returns-in-Some-clause-made c =
     if-ok c.flat_function.result _ _ (λ fun m. λ g e. made-found (whole_in c.args.t.now) c.args.name.now c.flat_function.new.names (fun_tree c.in-Some.f.now) g fun c.in-Some.ensures.0 m e) c.flat_function.ensures.made
+
+pub returns-in-Some-clause-placed : goal.returns-in-Some-clause-placed
+returns-in-Some-clause-placed c =
+    if-ok c.flat_function.result _ _ (λ fun same. placed-found (whole_in c.args.t.now) c.args.name.now (fun_tree c.in-Some.f.now) _ fun c.in-Some.ensures.0 c.in-Some.ensures.1 same) c.flat_function.ensures.group
