@@ -2,9 +2,9 @@
 #![tactic(auto)]
 
 mod error;
-mod texts;
 #[cfg(test)]
 mod tests;
+mod texts;
 
 pub use error::FrontError;
 pub use texts::{front, typed};

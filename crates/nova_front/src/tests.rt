@@ -30,7 +30,10 @@ fn each_refusal_has_its_cause(rt: HostRuntime) {
     let wide = b"layout l = {a: 1}; fun main[]: word { 1".as_slice();
     let cases = [
         (FrontError::Text(TextError::Syntax(39)), wide),
-        (FrontError::Text(TextError::Char(19)), b"fun main[]: word { @ }"),
+        (
+            FrontError::Text(TextError::Char(19)),
+            b"fun main[]: word { @ }",
+        ),
         (
             FrontError::Fault(
                 14,

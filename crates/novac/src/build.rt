@@ -11,10 +11,10 @@ ghost use Rattle.nova_front.specs.Sources.{IsTypedSource};
 
 use crate::emit::emit;
 use crate::form::form_of;
+use nova_front::{FrontError, front, typed};
 use nv_ast::{Span, Typed};
 use nv_base::NoMemory;
 use nv_text::TextError;
-use nova_front::{FrontError, front, typed};
 use std::alloc::Global;
 use uc_isa::Code;
 
