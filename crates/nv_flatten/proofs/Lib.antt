@@ -33,10 +33,6 @@ pub mod EndArms
 pub mod CallArms
 pub mod TryArm
 pub mod Ranks
-pub mod Rows
-pub mod Lists
-pub mod Bindings
-pub mod Fields
 pub mod Knowing
 pub mod Bodies
 pub mod Entering

@@ -8,7 +8,7 @@ use Rattle.nv_base.specs.declared.term.Bin.TheVariants as bin
 use Rattle.nv_base.specs.declared.term.Una.TheVariants as una
 use Rattle.nv_base.specs.declared.term.Primitive.{Primitive}
 use Rattle.nv_base.specs.declared.term.Primitive.TheVariants.{Una as UnaOf, Bin as BinOf}
-use Rattle.nv_base.specs.Words.{Env, atom_word, assigned, prim_word, bin_word, word_not}
+use Rattle.nv_base.specs.Words.{Env, word, atom_word, assigned, prim_word, bin_word, word_not}
 use Rattle.nv_base.specs.Memories.{HasSizes}
 use Rattle.nv_ast.specs.declared.token.Span.{Span}
 use Rattle.nv_ast.specs.declared.tree.Op.{Op}
@@ -37,11 +37,14 @@ use Rattle.nv_flatten.proofs.Keeping.{older-left, older-right, older-later, scop
 use Rattle.nv_flatten.proofs.Faultless.{none-before, none-behind, some-same, none-some}
 use Rattle.nv_flatten.proofs.Following.{onward-then, steps-then, stands-inside, value-more, word-of, word-fits, truth-of, truth-fits, one-older, assigned-here, defined}
 
+word-same : (n : ℕ) → n < 2 ^ 32 → word n ≡ n
+word-same n h = omega arith
+
 -- ---- values without steps
 module _ (w : Whole) (names : Names) (low high : ℕ) (scope : SymbolScope) where
   pub number-value : (sp : Span) (n : ℕ) → n < 2 ^ 32 → IsValue w names low high scope (NumberTree sp n) [] (Word (Lit n))
   number-value sp n small = record {
-    simulates = record { by = λ own p wanted stands none older c env now begins rest next same. same env now (begins-done low env scope now (Fits env (Word (Lit n))) begins small) };
+    simulates = record { by = λ own p wanted stands none older c env now begins rest next same. same env now (begins-done low env scope now (Fits env (Word (Lit n))) begins small) ∙ ap (λ k. next (meaning.Word k) now) (sym (word-same n small)) };
     formed = record { by = λ own p wanted stands none t is. some-same WordTy t is };
     older = λ o. one-older high (Lit n) tt;
   }

@@ -53,7 +53,7 @@ may-stand false false own group n e = e
 -- ---- a call
 pub call-well : (w : Whole) (old names more : Names) (low high : ℕ) (scope : SymbolScope) (sp : Span) (f : List ℕ) (es : Trees) (ss : List Step) (vs : Symbols) (t : Flat) (i : ℕ) (bs : _) → AreNodes ss (Call i bs) t → bs.items ≡ all_operands vs
     → slice_get more i ≡ Some f → AreCalled names more (i ∷ []) → Extends names more → AreWellValues w old names low high scope es ss vs
-    → ((own : ℕ) (p : Place) (wanted : List Wanted) → Stands w own scope p → list_faults p wanted es ≡ [] → types_at p.known p.vars es ≡ Some (forms vs)) → IsWellEnd w old more low high scope (CallTree sp f es) t
+    → ((own : ℕ) (p : Place) (wanted : List Wanted) → Stands w own scope p → list_faults p wanted es ≡ [] → (ts : Tys) → types_at p.known p.vars es ≡ Some ts → forms vs ≡ ts) → IsWellEnd w old more low high scope (CallTree sp f es) t
 call-well w old names more low high scope sp f es ss vs t i bs nodes same at new h a types = record {
   well = λ own p wanted st fl.
       let st' = stands-inside w own scope p st in
@@ -70,8 +70,7 @@ call-well w old names more low high scope sp f es ss vs t i bs nodes same at new
       let none' : list_faults (inside p) (wanted_arguments (Some (plain_tys g.params)) es) es ≡ [] = subst (λ o. list_faults (inside p) (wanted_arguments o es) es ≡ []) pe none in
       let number' : wrong_number (Some (plain_tys g.params)) es ≡ [] = subst (λ o. wrong_number o es ≡ []) pe number in
       let typed = arguments-typed (inside p) (plain_tys g.params) es none' number' in
-      let formed = types own (inside p) (wanted_arguments (Some (plain_tys g.params)) es) st' none' in
-      let tys : forms vs ≡ plain_tys g.params = some-same (forms vs) (plain_tys g.params) (sym formed ∙ typed) in
+      let tys : forms vs ≡ plain_tys g.params = types own (inside p) (wanted_arguments (Some (plain_tys g.params)) es) st' none' (plain_tys g.params) typed in
       let many : length bs.items ≡ total_named_words g.params = ap length same ∙ all-operands-words vs ∙ ap total_words tys ∙ plain-words g.params in
       let o = type_at p.known p.vars (CallTree sp f es) in
       let result : o ≡ Some g.result = ap (option_map (λ (g : Signature). g.result)) found.1 in
@@ -95,7 +94,7 @@ call-well w old names more low high scope sp f es ss vs t i bs nodes same at new
 -- ---- a raise
 pub raise-well : (w : Whole) (old names : Names) (low high : ℕ) (scope : SymbolScope) (sp : Span) (x : List ℕ) (es : Trees) (ss : List Step) (vs : Symbols) (t : Flat) (k : ℕ) (bs : _) → AreNodes ss (Raise k bs) t → bs.items ≡ all_operands vs
     → k ≡ exception_number w.declared.exceptions x → AreWellValues w old names low high scope es ss vs
-    → ((own : ℕ) (p : Place) (wanted : List Wanted) → Stands w own scope p → list_faults p wanted es ≡ [] → types_at p.known p.vars es ≡ Some (forms vs)) → IsWellEnd w old names low high scope (RaiseTree sp x es) t
+    → ((own : ℕ) (p : Place) (wanted : List Wanted) → Stands w own scope p → list_faults p wanted es ≡ [] → (ts : Tys) → types_at p.known p.vars es ≡ Some ts → forms vs ≡ ts) → IsWellEnd w old names low high scope (RaiseTree sp x es) t
 raise-well w old names low high scope sp x es ss vs t k bs nodes same number a types = record {
   well = λ own p wanted st fl.
       let st' = stands-inside w own scope p st in
@@ -109,8 +108,7 @@ raise-well w old names low high scope sp x es ss vs t k bs nodes same number a t
       let none' : list_faults (inside p) (wanted_arguments (Some ts) es) es ≡ [] = subst (λ o. list_faults (inside p) (wanted_arguments o es) es ≡ []) found.1 none in
       let counted' : wrong_number (Some ts) es ≡ [] = subst (λ o. wrong_number o es ≡ []) found.1 counted in
       let typed = arguments-typed (inside p) ts es none' counted' in
-      let formed = types own (inside p) (wanted_arguments (Some ts) es) st' none' in
-      let tys : forms vs ≡ ts = some-same (forms vs) ts (sym formed ∙ typed) in
+      let tys : forms vs ≡ ts = types own (inside p) (wanted_arguments (Some ts) es) st' none' ts typed in
       let many : length bs.items ≡ total_words ts = ap length same ∙ all-operands-words vs ∙ ap total_words tys in
       code-behind w names low high high own scope p.tail None ss (Knows (all_operands vs)) (Raise k bs) t (a.well own (inside p) args st' none refl) nodes
       (λ l known ks q n gw.

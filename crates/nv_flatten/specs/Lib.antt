@@ -12,4 +12,3 @@ pub mod Flattened
 pub mod Fields
 pub mod Made
 pub mod Reads
-pub mod Code

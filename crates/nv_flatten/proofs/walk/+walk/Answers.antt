@@ -40,7 +40,7 @@ use Rattle.nv_ast.specs.declared.tree.Expr.{out-Expr}
 use Rattle.nv_ast.specs.declared.tree.Op.TheVariants.{Both, Either}
 use Rattle.nv_meaning.proofs.TreeKinds.{number-is, truth-is, variable-is, paren-is, dot-is, invert-is, negate-is, shift-is, unpack-is, pack-is, fetch-is, binary-is, if-is, try-is, tuple-is, record-is, call-is, raise-is, block-is}
 use Rattle.nv_flatten.proofs.Dispatch.{end-here, end-at, end-paren, value-here, value-at, value-paren, value-combined, test-here, test-paren, test-compared, both-only, either-only, value-made}
-use Rattle.nv_flatten.proofs.walk.+walk.Goals.{compare-then-swapped, compare-else-swapped, then-swapped, else-swapped}
+use Rattle.nv_flatten.proofs.walk.+walk.Goals.{compare-then-swapped, compare-else-swapped}
 use Rattle.std.proofs.lemmas.List.{take_all}
 use Rattle.nv_base.specs.declared.term.Bin.TheVariants.{Xor}
 use Rattle.nv_base.specs.declared.term.Una.TheVariants.{Not}
@@ -450,7 +450,7 @@ statement-store-requires t c =
 pub both-returns-clause-end : goal.both-returns-clause-end
 both-returns-clause-end t c = λ s. both-end (whole_in c.args.t.now) c.condition.new.names c.ending.new.names c.args.next.now c.condition.new.next c.ending.new.next (scope_of c.args.scope.now.items []) s (tree_of c.args.a.now) (tree_of c.args.b.now) c.in_ok-test.test.steps.items c.in_ok-test.test.cmp c.in_ok-test.test.left c.in_ok-test.test.right c.in_ok-right.right.code c.in_ok-fails.fails c.in_ok-branch.field-0 (option_map view c.in_ok-right.right.form) c.in_ok-test.ensures.test
     (end-in (whole_in c.args.t.now) c.ending.new.names c.condition.new.next c.ending.new.next c.condition.new.scope.items c.args.scope.now.items (tree_of c.args.b.now) c.in_ok-right.right.code (option_map view c.in_ok-right.right.form) c.in_ok-test.ensures.scope c.in_ok-right.ensures.end)
-    c.ending.ensures.names c.condition.ensures.later c.in_ok-fails.ensures c.in_ok-branch.ensures
+    c.ending.ensures.names c.condition.ensures.later c.in_ok-fails.ensures.gives c.in_ok-branch.ensures.chooses
 
 pub both-condition-requires : goal.both-condition-requires
 both-condition-requires t c = (let r : condition_rank (tree_of c.args.a.now) < 6 = condition_rank-small (tree_of c.args.a.now) in omega (arith, r, c.decreases), tt)
@@ -473,7 +473,7 @@ choose-returns-clause-end t c = λ s. end-as (whole_in c.args.t.now) c.ending-2.
     (choose-end (whole_in c.args.t.now) c.condition.new.names c.ending.new.names c.ending-2.new.names c.args.next.now c.condition.new.next c.ending.new.next c.ending-2.new.next (scope_of c.args.scope.now.items []) s (tree_of c.args.c.now) (tree_of c.args.a.now) (tree_of c.args.b.now) c.in_ok-test.test.steps.items c.in_ok-test.test.cmp c.in_ok-test.test.left c.in_ok-test.test.right c.in_ok-first.first.code c.in_ok-second.second.code c.in_ok-branch.field-0 (option_map view c.in_ok-first.first.form) (option_map view c.in_ok-second.second.form) c.in_ok-test.ensures.test
     (end-in (whole_in c.args.t.now) c.ending.new.names c.condition.new.next c.ending.new.next c.condition.new.scope.items c.args.scope.now.items (tree_of c.args.a.now) c.in_ok-first.first.code (option_map view c.in_ok-first.first.form) c.in_ok-test.ensures.scope c.in_ok-first.ensures.end)
     (end-in (whole_in c.args.t.now) c.ending-2.new.names c.ending.new.next c.ending-2.new.next c.ending.new.scope.items c.args.scope.now.items (tree_of c.args.b.now) c.in_ok-second.second.code (option_map view c.in_ok-second.second.form) (c.in_ok-first.ensures.scope ∙ c.in_ok-test.ensures.scope) c.in_ok-second.ensures.end)
-    c.ending.ensures.names c.ending-2.ensures.names c.condition.ensures.later c.ending.ensures.later c.in_ok-branch.ensures)
+    c.ending.ensures.names c.ending-2.ensures.names c.condition.ensures.later c.ending.ensures.later c.in_ok-branch.ensures.chooses)
 
 pub choose-condition-requires : goal.choose-condition-requires
 choose-condition-requires t c = (let r : condition_rank (tree_of c.args.c.now) < 6 = condition_rank-small (tree_of c.args.c.now) in omega (arith, r, c.decreases), tt)
@@ -573,7 +573,7 @@ condition-truth-requires-in-Block t c = (let g : value_rank (tree_of c.args.e.no
 -- ---- decided
 
 pub decided-returns-clause-end : goal.decided-returns-clause-end
-decided-returns-clause-end t c = λ h. decided-end (whole_in c.args.t.now) c.condition.new.names c.args.next.now c.condition.new.next (scope_of c.args.scope.now.items []) (tree_of c.args.e.now) c.in_ok-test.test.steps.items c.in_ok-test.test.cmp c.in_ok-test.test.left c.in_ok-test.test.right c.in_ok-holds.holds c.in_ok-fails.fails c.in_ok-branch.field-0 c.in_ok-test.ensures.test h c.in_ok-holds.ensures c.in_ok-fails.ensures c.in_ok-branch.ensures
+decided-returns-clause-end t c = λ h. decided-end (whole_in c.args.t.now) c.condition.new.names c.args.next.now c.condition.new.next (scope_of c.args.scope.now.items []) (tree_of c.args.e.now) c.in_ok-test.test.steps.items c.in_ok-test.test.cmp c.in_ok-test.test.left c.in_ok-test.test.right c.in_ok-holds.holds c.in_ok-fails.fails c.in_ok-branch.field-0 c.in_ok-test.ensures.test h c.in_ok-holds.ensures.gives c.in_ok-fails.ensures.gives c.in_ok-branch.ensures.chooses
 
 pub decided-condition-requires : goal.decided-condition-requires
 decided-condition-requires t c = (omega (arith, c.decreases), tt)
@@ -583,7 +583,7 @@ decided-condition-requires t c = (omega (arith, c.decreases), tt)
 pub either-returns-clause-end : goal.either-returns-clause-end
 either-returns-clause-end t c = λ s. either-end (whole_in c.args.t.now) c.condition.new.names c.ending.new.names c.args.next.now c.condition.new.next c.ending.new.next (scope_of c.args.scope.now.items []) s (tree_of c.args.a.now) (tree_of c.args.b.now) c.in_ok-test.test.steps.items c.in_ok-test.test.cmp c.in_ok-test.test.left c.in_ok-test.test.right c.in_ok-holds.holds c.in_ok-right.right.code c.in_ok-branch.field-0 (option_map view c.in_ok-right.right.form) c.in_ok-test.ensures.test
     (end-in (whole_in c.args.t.now) c.ending.new.names c.condition.new.next c.ending.new.next c.condition.new.scope.items c.args.scope.now.items (tree_of c.args.b.now) c.in_ok-right.right.code (option_map view c.in_ok-right.right.form) c.in_ok-test.ensures.scope c.in_ok-right.ensures.end)
-    c.ending.ensures.names c.condition.ensures.later c.in_ok-holds.ensures c.in_ok-branch.ensures
+    c.ending.ensures.names c.condition.ensures.later c.in_ok-holds.ensures.gives c.in_ok-branch.ensures.chooses
 
 pub either-condition-requires : goal.either-condition-requires
 either-condition-requires t c = (let r : condition_rank (tree_of c.args.a.now) < 6 = condition_rank-small (tree_of c.args.a.now) in omega (arith, r, c.decreases), tt)
@@ -731,7 +731,7 @@ pub ending_block-returns-clause-end : goal.ending_block-returns-clause-end
 ending_block-returns-clause-end t c = λ s. block-end (whole_in c.args.t.now) c.statements.new.names c.ending.new.names c.args.next.now c.statements.new.next c.ending.new.next (scope_of c.args.scope.now.items []) (scope_of c.statements.new.scope.items []) s (list_statements c.args.sts.now) (tree_of c.args.a.now) c.in_ok-steps.steps.items c.in_ok-last.last.code c.in_ok-join.field-0 (option_map view c.in_ok-last.last.form) c.in_ok-steps.ensures.stated c.in_ok-last.ensures.end c.ending.ensures.names c.in_ok-join.ensures
 
 pub ending_block-returns-clause-scope : goal.ending_block-returns-clause-scope
-ending_block-returns-clause-scope t c = restored c.args.scope.now.items c.statements.new.scope.items c.truncate.new.self.items c.len-outside.result (c.truncate.ensures.items ∙ ap (λ l. take c.len-outside.result l) c.in_ok-last.ensures.scope) (c.len-outside.ensures ∙ c.args.scope.now.ok.0) c.statements.ensures.scope
+ending_block-returns-clause-scope t c = restored c.args.scope.now.items c.statements.new.scope.items c.truncate.new.self.items c.len-outside.result (c.truncate.ensures.items ∙ ap (λ l. take c.len-outside.result l) c.in_ok-last.ensures.scope) (c.len-outside.ensures ∙ c.args.scope.now.ok.0) c.in_ok-steps.ensures.scope
 
 pub ending_block-statements-requires : goal.ending_block-statements-requires
 ending_block-statements-requires t c = (omega (arith, c.decreases), tt)
@@ -992,10 +992,10 @@ compare-returns-clause-well t c =
     λ s op found.
     let right = value-in _ _ _ _ _ _ _ _ _ _ c.in_ok-left.ensures.scope c.in_ok-right.ensures.well in
     elim c.if-swapped.branch [
-      | then-swapped w ↦
+      | compare-then-swapped w ↦
           test-at _ _ _ _ _ _ _ _ _ _ _ _ _ c.in_ok-add_steps.ensures refl refl
           (compare-well _ _ _ _ _ _ _ _ s op _ _ _ _ _ _ _ _ true c.in_ok-right.ensures.names (ap (λ q. q.0) w.left-is ∙ c.word_in-y.ensures) (ap (λ q. q.1) w.left-is ∙ c.word_in-x.ensures) c.in_ok-left.ensures.well right)
-      | else-swapped w ↦
+      | compare-else-swapped w ↦
           test-at _ _ _ _ _ _ _ _ _ _ _ _ _ c.in_ok-add_steps.ensures refl refl
           (compare-well _ _ _ _ _ _ _ _ s op _ _ _ _ _ _ _ _ false c.in_ok-right.ensures.names (ap (λ q. q.0) w.left-is ∙ c.word_in-x.ensures) (ap (λ q. q.1) w.left-is ∙ c.word_in-y.ensures) c.in_ok-left.ensures.well right)
     ]
@@ -1078,10 +1078,10 @@ statement-returns-in-Store-clause-well t c =
     mapped c.store.result (λ x h. stated-tree _ _ _ _ _ _ _ _ _ _ (ap (λ k. statement_and (statement_tree k) no_statements) c.in-Store.is) (h _)) c.store.ensures.well
 
 pub value-returns-in-Number-clause-well : goal.value-returns-in-Number-clause-well
-value-returns-in-Number-clause-well t c = value-of _ _ _ _ _ _ _ _ _ _ _ _ (well_number-is c.args.e.now c.in-Number.n c.in-Number.is) c.constant.ensures.steps (ap view c.constant.ensures.symbol) (number-well _ _ _ _ _ _)
+value-returns-in-Number-clause-well t c = value-of _ _ _ _ _ _ _ _ _ _ _ _ (well_number-is c.args.e.now c.in-Number.n c.in-Number.is) c.constant.ensures.steps (ap view c.constant.ensures.symbol ∙ c.number.ensures.symbol) (number-well _ _ _ _ _ _)
 
 pub value-returns-in-Truth-clause-well : goal.value-returns-in-Truth-clause-well
-value-returns-in-Truth-clause-well t c = value-of _ _ _ _ _ _ _ _ _ _ _ _ (well_truth-is c.args.e.now c.in-Truth.b c.in-Truth.is) c.constant-in-Truth.ensures.steps (ap view c.constant-in-Truth.ensures.symbol) (truth-well _ _ _ _ _ _ _)
+value-returns-in-Truth-clause-well t c = value-of _ _ _ _ _ _ _ _ _ _ _ _ (well_truth-is c.args.e.now c.in-Truth.b c.in-Truth.is) c.constant-in-Truth.ensures.steps (ap view c.constant-in-Truth.ensures.symbol ∙ c.bit.ensures) (truth-well _ _ _ _ _ _ _)
 
 pub value-returns-in_ok-variable-in-Var-clause-well : goal.value-returns-in_ok-variable-in-Var-clause-well
 value-returns-in_ok-variable-in-Var-clause-well t c =
