@@ -2,6 +2,7 @@
 use crate::error::FrontError;
 use crate::texts::{front, typed};
 use nv_ast::Span;
+use nv_base::NoMemory;
 use nv_text::TextError;
 use std::alloc::Global;
 
@@ -51,7 +52,7 @@ fn each_refusal_has_its_cause(rt: HostRuntime) {
 }
 
 // fun main[]: word { let x = 1; let x = x + 1; .. x }
-fn straight(alloc: Global, lets: usize) -> Result<Vec<u8>, FrontError> {
+fn straight(alloc: Global, lets: usize) -> Result<Vec<u8>, NoMemory> {
     let mut text = Vec::new(alloc);
     text.extend_from_slice(b"fun main[]: word { let x = 1;")?;
     for _ in 0..lets {
