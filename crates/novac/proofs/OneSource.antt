@@ -40,7 +40,7 @@ record Why (bytes : List ℕ) (e : Refusal) : Type 0 where
   is : e ≡ told cause
 
 why : (bytes : List ℕ) (e : Refusal) → SourceRefuses bytes e → Why bytes e
-unfolding refusal-of, told
+unfolding refusal-of told
 why bytes (SourceChar at) h = record { cause = front.Text (text.Char at); caused = h; is = refl }
 why bytes (SourceNumber at) h = record { cause = front.Text (text.Number at); caused = h; is = refl }
 why bytes (SourceName at) h = record { cause = front.Text (text.Name at); caused = h; is = refl }
