@@ -25,7 +25,8 @@ use Rattle.novac.specs.Assembly.{AsmRefuses, HasAssembly, IsListed, assembly_lim
 use Rattle.novac.specs.Command.{Command, Compile, Run, Exec, Asm, Dis, Lint, Check}
 use Rattle.novac.specs.Checking.{CheckRefuses, IsChecked, report_limit}
 use Rattle.novac.proofs.OneReport.{check-one, check-good, checked-one}
-use Rattle.novac.proofs.OneSource.{source-program, source-one, source-good, compile-one, compile-good}
+use Rattle.novac.proofs.OneSource.{source-one, source-good, compile-one, compile-good}
+use Rattle.nova_front.proofs.OneSource.{source-program}
 use Rattle.nv_ast.specs.Sizes.{main_words}
 use Rattle.nv_ast.specs.Tree.{ProgramTree}
 use Rattle.nv_meaning.specs.Meaning.{source as meaning}
