@@ -1,4 +1,4 @@
-//! Flat programs: functions over words, between a typed program and its continuations.
+//! Flat programs: functions over words, what a typed program becomes.
 #![tactic(auto)]
 
 mod flat;

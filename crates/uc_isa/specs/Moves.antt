@@ -1,4 +1,4 @@
--- What moves cost: each instruction has a weight, which counts by the label that it stands in.
+-- What moves cost: each instruction has a weight, which counts by the label that it stands in. No contract cites it so far.
 use Rattle.std.specs.Prelude.{ℕ, suc, ◌+◌, ◌*◌, List, [], ◌∷◌, nat_eq, nat_le, if◌then◌else◌}
 use Rattle.nv_base.specs.declared.term.Mem.{Mem}
 use Rattle.nv_base.specs.declared.term.Mem.TheVariants.{Sram, Sdram, Scratch}

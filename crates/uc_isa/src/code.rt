@@ -23,6 +23,7 @@ impl Model for Code {
 }
 
 impl Code {
+    /// Code of so many argument words, at most 8, and these instructions.
     pub fn new(params: u8, list: Vec<Instr>) -> Code
         requires params { params ≤ 8 }
         requires some { 1 ≤ length list.items }

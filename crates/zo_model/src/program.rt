@@ -5,11 +5,11 @@ ghost use Rattle.zo_model.specs.Program.{columns, cost_of, vector, AreSmallTerms
 ghost use Rattle.zo_model.specs.Program as program;
 
 /// At most so many columns, and as many rows.
-const COUNT_LIMIT: usize = 1 << 26;
+pub(crate) const COUNT_LIMIT: usize = 1 << 26;
 /// The cost of a column is below this.
-const COST_LIMIT: u32 = 1 << 20;
+pub(crate) const COST_LIMIT: u32 = 1 << 20;
 /// The least of a row is at most this far from 0.
-const LEAST_LIMIT: i32 = 1 << 30;
+pub(crate) const LEAST_LIMIT: i32 = 1 << 30;
 
 /// Demands that the coefficients of the columns that are 1 sum to at least `least`.
 ///

@@ -15,18 +15,9 @@ ghost use Rattle.zo_model.specs.declared.error.ZoError.{ZoError};
 ghost use Rattle.zo_model.specs.declared.error.ZoError.TheVariants.{Bad};
 
 use crate::error::ZoError;
-use crate::program::{Row, ZeroOne};
+use crate::program::{COST_LIMIT, COUNT_LIMIT, LEAST_LIMIT, Row, ZeroOne};
 use line_text::{Lines, Parts, read_decimal, read_signed, split_once};
 use std::alloc::{AllocError, Global};
-
-/// The greatest number of columns, and of rows.
-const MOST: u64 = 1 << 26;
-
-/// The least cost that is too great.
-const COST: u64 = 1 << 20;
-
-/// The greatest absolute value of a row's least.
-const LEAST: i32 = 1 << 30;
 
 /// The lines of a text, read one by one, and how many were read.
 #[derive(Drop)]
@@ -88,7 +79,7 @@ fn cost_of(line: &[u8]) -> Option<u32>
     ensures some { IfSome result (λ c. (c < 2 ^ 20) × (line.now ≡ cost_line c)) }
     ensures none { IfNone result (¬ IsCost line.now) }
 {
-    Some(counted_of(line, b"c", COST - 1)? as u32)
+    Some(counted_of(line, b"c", u64::from(COST_LIMIT) - 1)? as u32)
 }
 
 /// Reads the lines of so many columns.
@@ -119,7 +110,7 @@ fn term_of(part: &[u8], low: u64, columns: u64) -> Option<(u32, i32)>
     ensures none { IfNone result ((t : ℕ × ℤ) → ¬ IsTerm low columns part.now t) }
 {
     let (column, coefficient) = split_once(part, b':')?;
-    let column = read_decimal(column, MOST)?;
+    let column = read_decimal(column, COUNT_LIMIT as u64)?;
     let coefficient = read_signed(coefficient, -32_768, 32_767)?;
     if column < low || columns <= column || coefficient == 0 {
         return None;
@@ -160,7 +151,7 @@ fn row_of(alloc: Global, line: &[u8], columns: u64) -> Result<Option<Row>, Alloc
     if !parts.next_is(b"r") {
         return Ok(None);
     }
-    let Some(least) = parts.next_signed(-LEAST, LEAST) else {
+    let Some(least) = parts.next_signed(-LEAST_LIMIT, LEAST_LIMIT) else {
         return Ok(None);
     };
     match terms_of(alloc, parts, columns)? {
@@ -200,8 +191,8 @@ pub fn read_program_lines(alloc: Global, reader: &mut Reader) -> Result<ZeroOne,
     ensures room { OnOk result (2 * reader.new.number + length reader.new.lines < 2 ^ 32) }
     ensures err { IfErr result (IsProgramFault reader.old.lines reader.old.number) }
 {
-    let n = read_counted(reader, b"columns", MOST)?;
-    let m = read_counted(reader, b"rows", MOST)?;
+    let n = read_counted(reader, b"columns", COUNT_LIMIT as u64)?;
+    let m = read_counted(reader, b"rows", COUNT_LIMIT as u64)?;
     let costs = read_costs(alloc, reader, n)?;
     let rows = read_rows(alloc, reader, n, m)?;
     Ok(ZeroOne { costs, rows })

@@ -56,7 +56,7 @@ fn first_free(terms: &[(u32, i32)], fixed: &[Option<bool>]) -> Option<u32>
 
 /// The first unfixed column of a row that isn't met, if there is one.
 #[tactic(auto, using(zo_model::proofs::Rows::terms_small))]
-fn helper(row: &Row, fixed: &[Option<bool>]) -> Option<u32>
+fn first_free_of_unmet(row: &Row, fixed: &[Option<bool>]) -> Option<u32>
     requires terms { AreTerms (length fixed.now) row.now.terms.items }
     ensures { IfSome result (λ j. slice_get fixed.now j ≡ Some None) }
 {
@@ -99,7 +99,7 @@ pub fn first_choice(z: &ZeroOne, fixed: &Fixed) -> u32
 {
     let mut best: Option<u32> = None;
     for i in 0..z.rows.len() {
-        best = lesser(best, helper(&z.rows[i], &fixed.at));
+        best = lesser(best, first_free_of_unmet(&z.rows[i], &fixed.at));
     }
     match best {
         Some(column) => column,

@@ -796,5 +796,4 @@ of_operand-returns t c = record {
 }
 
 pub of_operand-settled-requires : goal.of_operand-settled-requires
-of_operand-settled-requires t c =
-    (omega (arith, c.decreases), tt)
+of_operand-settled-requires t c = (omega (arith, c.decreases), tt)
