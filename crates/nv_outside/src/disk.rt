@@ -20,7 +20,7 @@ const TEMPORARY_NAMES: u32 = 1000;
 ///
 /// A save to a name that is absent or a regular file writes a temporary file in the same folder, syncs it
 /// and renames it, so a run that is killed leaves the old file, or the new one, whole. Anything else, as
-/// a device, a pipe or a symbolic link, is written in place.
+/// a device, a pipe or a symbolic link, is written in place, and so is a file whose folder takes no new one.
 #[derive(Drop)]
 pub struct DiskFiles<'a, R: rt::Files> {
     rt: &'a R,

@@ -143,6 +143,7 @@ impl Files for MemFiles {
         ensures failed { result ≡ Saved.Failed → (Contains (failing_calls self.old) (next_call self.old) ⊎ (refused_count self.new ≡ one_more (refused_count self.old))) }
         ensures stopped { Contains (failing_calls self.old) (next_call self.old) → result ≡ Saved.Failed }
         ensures not_refused { result ≡ Saved.Done → refused_count self.new ≡ refused_count self.old }
+        ensures stopped_not_refused { Contains (failing_calls self.old) (next_call self.old) → refused_count self.new ≡ refused_count self.old }
 
         ensures number { IsNumbered self.old self.new }
         ensures save_faults { save_count self.old ≤ save_count self.new }
@@ -233,6 +234,7 @@ impl Sink for MemSink {
         ensures failed { result ≡ Put.Failed → (Contains (failing_puts self.old) (next_put self.old) ⊎ (refused_puts self.new ≡ one_more (refused_puts self.old))) }
         ensures stopped { Contains (failing_puts self.old) (next_put self.old) → result ≡ Put.Failed }
         ensures not_refused { result ≡ Put.Done → refused_puts self.new ≡ refused_puts self.old }
+        ensures stopped_not_refused { Contains (failing_puts self.old) (next_put self.old) → refused_puts self.new ≡ refused_puts self.old }
 
         ensures number { IsNumberedPut self.old self.new }
         ensures faults { put_count self.old ≤ put_count self.new }
