@@ -1,9 +1,7 @@
 -- Fetches, and packed values.
-use Rattle.std.proofs.Common.{◌≡◌, ◌∙◌, refl, ap, sym, subst, ℕ, zero, suc, ◌+◌, ◌<◌, ◌≤◌, ◌^◌, ◌==◌, ◌||◌, Bool, true, false, not, if◌then◌else◌, List, [], ◌∷◌, ◌++◌, length, length-append, Option, Some, None, option_map, bytes_eq, All, arith, rules, tests}
+use Rattle.std.proofs.Common.{◌≡◌, ◌∙◌, refl, ap, sym, subst, ℕ, zero, suc, ◌+◌, ◌≤◌, ◌==◌, ◌||◌, Bool, true, false, if◌then◌else◌, List, [], ◌∷◌, ◌++◌, length, length-append, Option, Some, None, option_map, bytes_eq, arith, rules, tests}
 use Rattle.nv_base.specs.declared.term.Atom.{Atom}
-use Rattle.nv_base.specs.declared.term.Atom.TheVariants.{Var, Lit}
 use Rattle.nv_base.specs.declared.term.Mem.{Mem}
-use Rattle.nv_base.specs.declared.outcome.Outcome.TheVariants as outcome
 use Rattle.nv_base.specs.Words.{Env, atom_word, atom_words, assigned_all}
 use Rattle.nv_base.specs.Memories.{fetched}
 use Rattle.nv_base.proofs.MemoryLemmas.{fetched-words}
@@ -12,27 +10,27 @@ use Rattle.nv_ast.specs.Bits.{packed}
 use Rattle.nv_ast.specs.Outline.{OutlineTree, outline, IsSound}
 use Rattle.nv_ast.specs.Tests.{is_among, names_of, look_up}
 use Rattle.nv_ast.specs.Tree.{Tree, FetchTree, UnpackTree, PackTree, NamedLayout}
-use Rattle.nv_ast.specs.Types.{Ty, WordTy, TupleTy, RecordTy, Tys, no_tys, ty_and, NamedTys, no_named_tys, named_ty_and, words, total_words, total_named_words, word_parts, words_ty, packed_words, packed_ty, unpacked_ty, form_of, can_pack}
+use Rattle.nv_ast.specs.Types.{WordTy, TupleTy, ty_and, words, total_words, total_named_words, word_parts, words_ty, packed_words, packed_ty, unpacked_ty, form_of, can_pack}
 use Rattle.nv_ast.specs.Scope.{Place, inside}
 use Rattle.nv_ast.specs.Typing.{type_at}
 use Rattle.nv_ast.specs.Faults.{Wanted, faults, node_faults, of_type, can_move, wrong_access, wrong_scratch, wanted_packed, wanted_unpacked}
 use Rattle.nv_meaning.specs.Values.{Value, word_of, words_of, words_value}
 use Rattle.nv_meaning.specs.Values as meaning
 use Rattle.nv_meaning.specs.Packing.{value_at, unpacked_value, packed_value}
-use Rattle.nv_meaning.specs.Running.{Running, Result, Gives, Stops, after_fetch, fetch}
+use Rattle.nv_meaning.specs.Running.{Running, Gives, after_fetch, fetch}
 use Rattle.flat_ir.specs.Running as flat
 use Rattle.flat_ir.specs.Meaning as code
-use Rattle.flat_ir.specs.Spine.{Act, step_does, steps_do}
+use Rattle.flat_ir.specs.Spine.{Act, step_does}
 use Rattle.flat_ir.specs.declared.spine.Step.{Step}
 use Rattle.nv_flatten.specs.Code.{Computes, variables}
-use Rattle.nv_flatten.specs.Symbols.{Symbol, Word, Truth, Tuple, Record, Symbols, no_symbols, symbol_and, NamedSymbols, no_named_symbols, named_symbol_and, SymbolScope, operands, all_operands, named_operands, form, forms, named_forms, value_in, Fits, AreOlder, word_operand, word_symbols, words_symbol, numbers_from, ScopeOlder}
+use Rattle.nv_flatten.specs.Symbols.{Symbol, Word, Truth, Tuple, Record, Symbols, no_symbols, symbol_and, NamedSymbols, no_named_symbols, named_symbol_and, SymbolScope, operands, all_operands, named_operands, form, forms, named_forms, value_in, Fits, AreOlder, word_operand, word_symbols, words_symbol, numbers_from}
 use Rattle.nv_flatten.specs.Runs.{flat_run, onward}
 use Rattle.nv_flatten.specs.Soundness.{AreWords}
-use Rattle.nv_flatten.specs.Whole.{Whole, Stands}
+use Rattle.nv_flatten.specs.Whole.{Whole}
 use Rattle.nv_flatten.specs.Simulation.{Names, Done, IsValue}
 use Rattle.nv_flatten.proofs.Keeping.{keeps-then, words-fit, are-words}
-use Rattle.nv_flatten.proofs.Fresh.{numbers-length, numbers-keep, numbers-older, words-read, words-read-fit}
-use Rattle.nv_flatten.proofs.Faultless.{none-before, none-behind, not-where, not-false, some-same, none-some, low-none, middle-none, has-type, right-type, same-type, of-type}
+use Rattle.nv_flatten.proofs.Fresh.{numbers-keep, numbers-older, words-read, words-read-fit}
+use Rattle.nv_flatten.proofs.NoFaults.{none-left, set, some-same, value-has-type, clean as is-clean, is-right, wanted-type}
 use Rattle.nv_flatten.proofs.Following.{stands-inside, word-of}
 use Rattle.nv_flatten.proofs.ValueArms.{unary}
 
@@ -118,7 +116,7 @@ module _ (w : Whole) (names : Names) (low high : ℕ) (scope : SymbolScope) (sp 
       unary w names low high (high + n) scope (FetchTree sp m n a) a ss (step ∷ []) s (words_symbol (variables (numbers_from high n))) (λ y last. fetch m n (word_of y) last) (λ p. of_type WordTy) v
       (λ call m' now. refl) (λ p wanted. refl)
       (λ own p wanted stands none o call env new last done rest next same.
-      let moves = not-false (can_move m n) (not-where {A = ℕ} (not (can_move m n)) 19 (none-before (wrong_access m n) (wrong_scratch m a n) (middle-none p wanted (FetchTree sp m n a) none))) in
+      let moves = set (can_move m n) 19 (none-left (wrong_access m n) (wrong_scratch m a n) (is-clean p wanted (FetchTree sp m n a) none).middle) in
       let at = atom_word new (word_operand s) in
       fetches call rest new (flat_run last)
       ∙ read-any low high m at env new last (Fits new s) rest next le done n (fetched m at n last.packet) (λ ws e. fetched-words m at n last.packet ws done.sizes e) same
@@ -140,10 +138,10 @@ known-name x [] e = absurd (false-true e)
 known-name x ((y, a) ∷ known) e = chosen-name (bytes_eq x y) a (is_among x (names_of known)) (look_up x known) (known-name x known) e
 
 unpack-known : (p : Place) (wanted : Wanted) (sp : Span) (l : List ℕ) (a : Tree) → faults p wanted (UnpackTree sp l a) ≡ [] → (o : OutlineTree) × (look_up l p.known.layouts ≡ Some o)
-unpack-known p wanted sp l a none = known-name l p.known.layouts (not-false (is_among l (names_of p.known.layouts)) (not-where {A = ℕ} (not (is_among l (names_of p.known.layouts))) 3 (low-none p wanted (UnpackTree sp l a) none)))
+unpack-known p wanted sp l a none = known-name l p.known.layouts (set (is_among l (names_of p.known.layouts)) 3 (is-clean p wanted (UnpackTree sp l a) none).low)
 
 pack-known : (p : Place) (wanted : Wanted) (sp : Span) (l : List ℕ) (a : Tree) → faults p wanted (PackTree sp l a) ≡ [] → (o : OutlineTree) × (look_up l p.known.layouts ≡ Some o)
-pack-known p wanted sp l a none = known-name l p.known.layouts (not-false (is_among l (names_of p.known.layouts)) (not-where {A = ℕ} (not (is_among l (names_of p.known.layouts))) 3 (low-none p wanted (PackTree sp l a) none)))
+pack-known p wanted sp l a none = known-name l p.known.layouts (set (is_among l (names_of p.known.layouts)) 3 (is-clean p wanted (PackTree sp l a) none).low)
 
 -- ---- packing and unpacking by a layout
 module _ (w : Whole) (names : Names) (low mid high : ℕ) (scope : SymbolScope) (sp : Span) (l : List ℕ) (a : Tree) (ss ts : List Step) (s r : Symbol) where
@@ -158,10 +156,10 @@ module _ (w : Whole) (names : Names) (low mid high : ℕ) (scope : SymbolScope) 
       unary w names low mid high scope (UnpackTree sp l a) a ss ts s r (λ y last. Gives (unpacked_value layout y) last) (λ p. wanted_packed (look_up l p.known.layouts)) v
       (λ call m now. refl) (λ p wanted. refl)
       (λ own p wanted stands none o call env new last done rest next same.
-      let clean = none-before (faults (inside p) (wanted_packed (look_up l p.known.layouts)) a) (node_faults p wanted (UnpackTree sp l a)) none in
+      let clean = none-left (faults (inside p) (wanted_packed (look_up l p.known.layouts)) a) (node_faults p wanted (UnpackTree sp l a)) none in
       let found = unpack-known p wanted sp l a none in
       let known = stands.part.layouts l found.0 found.1 in
-      let typed = of-type (inside p) (packed_ty found.0) a (subst (λ q. faults (inside p) (wanted_packed q) a ≡ []) found.1 clean) in
+      let typed = wanted-type (inside p) (packed_ty found.0) a (subst (λ q. faults (inside p) (wanted_packed q) a ≡ []) found.1 clean) in
       let shaped = v.formed.by own (inside p) (wanted_packed (look_up l p.known.layouts)) (stands-inside w own scope p stands) clean (packed_ty found.0) typed in
       let count : length (operands s) ≡ packed_words layout = operands-count s ∙ ap words shaped ∙ words-count (packed_words found.0) ∙ ap packed_words (sym known.0) in
       let spelled = words-fit new s done.fits in
@@ -185,12 +183,12 @@ module _ (w : Whole) (names : Names) (low mid high : ℕ) (scope : SymbolScope) 
       unary w names low mid high scope (PackTree sp l a) a ss ts s r (λ y last. Gives (packed_value layout y) last) (λ p. wanted_unpacked (look_up l p.known.layouts)) v
       (λ call m now. refl) (λ p wanted. refl)
       (λ own p wanted stands none o call env new last done rest next same.
-      let clean = none-before (faults (inside p) (wanted_unpacked (look_up l p.known.layouts)) a) (node_faults p wanted (PackTree sp l a)) none in
+      let clean = none-left (faults (inside p) (wanted_unpacked (look_up l p.known.layouts)) a) (node_faults p wanted (PackTree sp l a)) none in
       let found = pack-known p wanted sp l a none in
       let known = stands.part.layouts l found.0 found.1 in
       let here = subst (λ q. faults (inside p) (wanted_unpacked q) a ≡ []) found.1 clean in
-      let typed = has-type (inside p) (wanted_unpacked (Some found.0)) a here refl in
-      let right = right-type (inside p) (wanted_unpacked (Some found.0)) a typed.0 here typed.1 in
+      let typed = value-has-type (inside p) (wanted_unpacked (Some found.0)) a refl here in
+      let right = is-right (wanted_unpacked (Some found.0)) (type_at p.known p.vars a) typed.0 (is-clean (inside p) (wanted_unpacked (Some found.0)) a here).other typed.1 in
       let shaped = v.formed.by own (inside p) (wanted_unpacked (look_up l p.known.layouts)) (stands-inside w own scope p stands) clean typed.0 typed.1 in
       let may : can_pack (form_of layout) (form s) ≡ true = ap (λ q. can_pack (form_of q) (form s)) known.0 ∙ ap (can_pack (form_of found.0)) shaped ∙ right in
       let does = packs (subst IsSound (sym known.0) known.1) may (v.older o) new done.fits in

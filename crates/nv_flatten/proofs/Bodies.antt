@@ -1,9 +1,8 @@
 -- Each function of a program without faults has a body without faults, where what is known is so in the whole program.
-use Rattle.std.proofs.Common.{◌≡◌, ◌∙◌, refl, sym, ap, subst, ℕ, zero, suc, ◌+◌, ◌<◌, ◌≤◌, Bool, true, false, List, [], ◌∷◌, ◌++◌, map, length, All, Option, Some, None, bytes_eq, append_assoc, append-nil, arith, if◌then◌else◌}
+use Rattle.std.proofs.Common.{◌≡◌, ◌∙◌, refl, sym, ap, subst, ℕ, zero, suc, ◌+◌, ◌<◌, ◌≤◌, Bool, true, false, List, [], ◌∷◌, ◌++◌, map, length, All, Option, Some, None, bytes_eq, append_assoc, arith, if◌then◌else◌}
 use Rattle.std.specs.Prelude.{nat_lt, nat_le, slice_get, replicate}
 use Rattle.std.proofs.lemmas.Bool.{lt-ltb, le-leb}
 use Rattle.std.proofs.lemmas.List.Elements.{All-append}
-use Rattle.std.proofs.lemmas.Slice.Eq.{bytes_eq-Decides}
 use Rattle.nv_ast.specs.Tests.{is_among, names_of, look_up}
 use Rattle.nv_ast.specs.Outline.{OutlineTree, PartsOutline, no_named_outlines, Layouts, outline, IsSound}
 use Rattle.nv_ast.specs.LayoutFaults.{layout_faults, unfit, declared_faults}
@@ -11,13 +10,13 @@ use Rattle.nv_ast.specs.Tree.{NamedLayout, FunTree, DeclTree, LayoutDecl, Except
 use Rattle.nv_ast.specs.Types.{Tys, type_of, types_of, named_types_of, total_words, total_named_words}
 use Rattle.nv_ast.specs.Sizes.{main_words, signature_words}
 use Rattle.nv_ast.specs.Scope.{Signature, signature, signatures, Known, nothing_known, in_group, known_after}
-use Rattle.nv_ast.specs.Faults.{types_faults, wide_exception, declared_before, signature_faults, signatures_faults, bodies_faults, body_faults, name_faults, decl_faults, decls_faults, known_behind, main_name, no_main, program_faults, at_span}
+use Rattle.nv_ast.specs.Faults.{types_faults, wide_exception, declared_before, signature_faults, signatures_faults, bodies_faults, body_faults, name_faults, decl_faults, decls_faults, known_behind, main_name, no_main, program_faults}
 use Rattle.nv_layout.proofs.Sound.{layout_sound}
 use Rattle.nv_meaning.specs.Meaning.{Declared, with_decl, with_decls, function_in}
 use Rattle.nv_meaning.specs.Running.{exception_number}
 use Rattle.nv_meaning.specs.Tables.{place_from}
 use Rattle.nv_flatten.specs.Whole.{Whole, whole_of, raised_tys, raised_in, groups_from, group_of, group_at, IsCallable, IsPart}
-use Rattle.nv_flatten.proofs.Knowing.{no_front, no_rest, no_kinds, where_not, at_most, some_same, value-found, sound-found, types-stay, params-stay, result-stays, signatures-stay, function-front, function-behind, function-named, signature-found, signature-there, function-among, among-function, signatures-append, AllAre, are-also, are-both, are-replicate, length-replicate, length-both, slice-behind, grouped, group-behind, numbered, names-append, mapped, AllNarrow, narrow-append, narrow-found, with-layouts, with-exceptions, with-functions}
+use Rattle.nv_flatten.proofs.Knowing.{no_front, no_rest, no_kinds, where_not, at_most, some_same, value-found, sound-found, types-stay, params-stay, result-stays, signatures-stay, function-front, function-behind, signature-found, signature-there, function-among, among-function, signatures-append, AllAre, are-also, are-both, are-replicate, length-replicate, length-both, slice-behind, grouped, group-behind, numbered, names-append, mapped, AllNarrow, narrow-append, narrow-found, with-layouts, with-exceptions, with-functions}
 
 -- what is declared by what is known and some functions
 abbrev pub so_far : Known → List FunTree → Declared

@@ -1,31 +1,31 @@
 -- Calls, exceptions and blocks at the end of code.
-use Rattle.std.proofs.Common.{◌≡◌, ◌∙◌, refl, ap, sym, subst, ℕ, zero, suc, ◌≤◌, Bool, true, false, not, if◌then◌else◌, is_none, List, [], ◌∷◌, ◌++◌, Option, Some, None, option_map, Vec, Global, slice_get, take, length}
+use Rattle.std.proofs.Common.{◌≡◌, ◌∙◌, refl, ap, sym, subst, ℕ, zero, suc, is_none, List, [], ◌∷◌, ◌++◌, Option, Some, None, option_map, Vec, Global, slice_get, take, length}
 use Rattle.std.proofs.Math.Seq.{take-append_seam}
 use Rattle.nv_base.specs.declared.term.Atom.{Atom}
 use Rattle.nv_base.specs.Words.{Env, atom_words}
 use Rattle.nv_ast.specs.declared.token.Span.{Span}
 use Rattle.nv_ast.specs.Tree.{Tree, CallTree, RaiseTree, BlockTree, Trees, StatementTrees, FunTree}
-use Rattle.nv_ast.specs.Types.{Ty, Tys, type_of, named_types_of}
-use Rattle.nv_ast.specs.Tests.{look_up, where_true}
+use Rattle.nv_ast.specs.Types.{type_of, named_types_of}
+use Rattle.nv_ast.specs.Tests.{look_up}
 use Rattle.nv_ast.specs.Scope.{Signature, Place, inside, with_vars, plain_tys, callable, signature}
-use Rattle.nv_ast.specs.Typing.{type_at, types_at, vars_behind}
-use Rattle.nv_ast.specs.Faults.{Wanted, anything, faults, list_faults, statements_faults, node_faults, wanted_arguments, all_wanted, params_of, as_many, wrong_number, unknown_function, not_in_tail}
-use Rattle.nv_meaning.specs.Values.{Value, Values, Scope, words_of, all_words}
-use Rattle.nv_meaning.specs.Running.{Running, Result, Raises, exception_number}
+use Rattle.nv_ast.specs.Typing.{types_at, vars_behind}
+use Rattle.nv_ast.specs.Faults.{Wanted, anything, faults, list_faults, statements_faults, node_faults, wanted_arguments, params_of, wrong_number, unknown_function, not_in_tail}
+use Rattle.nv_meaning.specs.Values.{words_of, all_words}
+use Rattle.nv_meaning.specs.Running.{Raises, exception_number}
 use Rattle.nv_meaning.specs.Meaning.{eval, eval_all, run_all, function_in}
 use Rattle.flat_ir.specs.Running as flat
 use Rattle.flat_ir.specs.Meaning as code
-use Rattle.flat_ir.specs.Spine.{Act, steps_do, IsJoined}
+use Rattle.flat_ir.specs.Spine.{IsJoined}
 use Rattle.flat_ir.specs.declared.flat.Flat.{Flat}
 use Rattle.flat_ir.specs.declared.flat.Flat.TheVariants.{Call}
 use Rattle.flat_ir.specs.declared.spine.Step.{Step}
-use Rattle.nv_flatten.specs.Symbols.{Symbol, Symbols, SymbolScope, all_operands, form, forms, values_in, vars_of, scope_in, AllFit, ScopeOlder}
-use Rattle.nv_flatten.specs.Runs.{flat_run, onward, ended}
+use Rattle.nv_flatten.specs.Symbols.{Symbol, Symbols, SymbolScope, all_operands, form, values_in, scope_in}
+use Rattle.nv_flatten.specs.Runs.{flat_run, ended}
 use Rattle.nv_flatten.specs.Soundness.{value_tys}
-use Rattle.nv_flatten.specs.Whole.{Whole, Stands, result_of, IsCallable}
-use Rattle.nv_flatten.specs.Simulation.{Names, Extends, Setting, Begins, Done, IsEnd, AreValues, IsStated}
-use Rattle.nv_flatten.proofs.Keeping.{scope-later, all-words-fit, all-are-words, forms-of-values}
-use Rattle.nv_flatten.proofs.NoFaults.{none-left, none-right, unset, given, some-same, clean, arguments-typed}
+use Rattle.nv_flatten.specs.Whole.{Whole, Stands, result_of}
+use Rattle.nv_flatten.specs.Simulation.{Names, Extends, IsEnd, AreValues, IsStated}
+use Rattle.nv_flatten.proofs.Keeping.{all-words-fit, all-are-words, forms-of-values}
+use Rattle.nv_flatten.proofs.NoFaults.{none-left, none-right, unset, given, clean, arguments-typed}
 use Rattle.nv_flatten.proofs.Following.{onward-all, onward-stated, stands-inside, values-more, stated-more}
 
 -- ---- an exception

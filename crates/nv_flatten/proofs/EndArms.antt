@@ -1,5 +1,5 @@
 -- Code that ends with an expression's words.
-use Rattle.std.proofs.Common.{◌≡◌, ◌∙◌, refl, ap, sym, subst, ℕ, ◌≤◌, Bool, true, false, not, if◌then◌else◌, List, [], ◌∷◌, ◌++◌, Option, Some, None, option_map, Vec, Global, arith}
+use Rattle.std.proofs.Common.{◌≡◌, ◌∙◌, refl, ap, sym, ℕ, ◌≤◌, Bool, true, false, if◌then◌else◌, List, [], ◌∷◌, ◌++◌, Option, Some, None, option_map, Vec, Global, arith}
 use Rattle.std.specs.Prelude.{⊤}
 use Rattle.std.specs.Option.{option_or}
 use Rattle.nv_base.specs.declared.term.Atom.{Atom}
@@ -7,34 +7,32 @@ use Rattle.nv_base.specs.declared.term.Atom.TheVariants.{Lit}
 use Rattle.nv_base.specs.declared.term.Cmp.{Cmp}
 use Rattle.nv_base.specs.Words.{Env, atom_word, atom_words, compares}
 use Rattle.nv_ast.specs.declared.token.Span.{Span}
-use Rattle.nv_ast.specs.declared.tree.Op.{Op}
 use Rattle.nv_ast.specs.declared.tree.Op.TheVariants.{Add, Sub, And, Or, Xor, Eq, Ne, Lt, Le, Gt, Ge, Both, Either}
-use Rattle.nv_ast.specs.Tree.{Tree, NumberTree, TruthTree, VarTree, ParenTree, TupleTree, FieldsTree, DotTree, InvertTree, NegateTree, BinaryTree, ShiftTree, CallTree, UnpackTree, PackTree, RaiseTree, IfTree, TryTree, FetchTree, BlockTree, Trees, StatementTrees}
-use Rattle.nv_ast.specs.Types.{Ty, Tys, BoolTy, type_of, named_types_of}
-use Rattle.nv_ast.specs.Tests.{look_up}
-use Rattle.nv_ast.specs.Scope.{Signature, Place, inside, with_vars, plain_tys, callable}
-use Rattle.nv_ast.specs.Typing.{type_at, types_at, or_ty, operand_ty, result_ty, vars_behind}
-use Rattle.nv_ast.specs.Faults.{Wanted, a_value, anything, of_type, same_as, faults, list_faults, statements_faults, node_faults, wanted_arguments, params_of}
-use Rattle.nv_meaning.specs.Values.{Value, Values, Scope, words_of, all_words, truth_of}
+use Rattle.nv_ast.specs.Tree.{Tree, NumberTree, TruthTree, VarTree, ParenTree, TupleTree, FieldsTree, DotTree, InvertTree, NegateTree, BinaryTree, ShiftTree, CallTree, UnpackTree, PackTree, RaiseTree, IfTree, TryTree, FetchTree, BlockTree}
+use Rattle.nv_ast.specs.Types.{BoolTy}
+use Rattle.nv_ast.specs.Scope.{Place, inside}
+use Rattle.nv_ast.specs.Typing.{type_at, or_ty}
+use Rattle.nv_ast.specs.Faults.{Wanted, a_value, anything, of_type, same_as, faults, node_faults}
+use Rattle.nv_meaning.specs.Values.{words_of, truth_of}
 use Rattle.nv_meaning.specs.Values as meaning
-use Rattle.nv_meaning.specs.Running.{Running, Result, Gives, Raises, Stops, and_then, exception_number}
-use Rattle.nv_meaning.specs.Meaning.{eval, eval_all, run_all, binary, function_in}
+use Rattle.nv_meaning.specs.Running.{Running, Result, Gives, and_then}
+use Rattle.nv_meaning.specs.Meaning.{eval}
 use Rattle.flat_ir.specs.Running as flat
 use Rattle.flat_ir.specs.Meaning as code
-use Rattle.flat_ir.specs.Spine.{Act, steps_do, IsJoined}
+use Rattle.flat_ir.specs.Spine.{steps_do, IsJoined}
 use Rattle.flat_ir.specs.declared.flat.Flat.{Flat}
-use Rattle.flat_ir.specs.declared.flat.Flat.TheVariants.{Call, Raise, Give}
+use Rattle.flat_ir.specs.declared.flat.Flat.TheVariants.{Give}
 use Rattle.flat_ir.specs.declared.spine.Step.{Step}
-use Rattle.nv_flatten.specs.Symbols.{Symbol, Truth, Symbols, SymbolScope, operands, all_operands, form, forms, value_in, values_in, vars_of, scope_in, Fits, AllFit, ScopeFits, ScopeOlder}
-use Rattle.nv_flatten.specs.Code.{chosen, ends_of, is_given, is_comparison}
+use Rattle.nv_flatten.specs.Symbols.{Symbol, Truth, SymbolScope, operands, form, scope_in, ScopeOlder}
+use Rattle.nv_flatten.specs.Code.{chosen, is_given, is_comparison}
 use Rattle.nv_flatten.specs.declared.symbol.Symbol as declared
-use Rattle.nv_flatten.specs.View.{Named, view, scope_of}
-use Rattle.nv_flatten.specs.Runs.{flat_run, onward, ended}
-use Rattle.nv_flatten.specs.Whole.{Whole, Stands, result_of, IsCallable}
-use Rattle.nv_flatten.specs.Simulation.{Names, Extends, Setting, Begins, Done, IsValue, IsTest, IsEnd, AreValues, IsStated}
-use Rattle.nv_flatten.proofs.Keeping.{scope-later, keeps-scope, begins-then, extends-then, words-fit, all-words-fit, all-are-words, forms-of-values}
+use Rattle.nv_flatten.specs.View.{view}
+use Rattle.nv_flatten.specs.Runs.{flat_run, ended}
+use Rattle.nv_flatten.specs.Whole.{Whole, Stands}
+use Rattle.nv_flatten.specs.Simulation.{Names, Extends, Setting, Begins, Done, IsValue, IsTest, IsEnd}
+use Rattle.nv_flatten.proofs.Keeping.{scope-later, keeps-scope, begins-then, extends-then, words-fit}
 use Rattle.nv_flatten.proofs.NoFaults.{none-left, none-right, wanted-type, given-has-type}
-use Rattle.nv_flatten.proofs.Following.{onward-then, onward-all, onward-stated, stands-inside, values-more, stated-more}
+use Rattle.nv_flatten.proofs.Following.{onward-then, stands-inside}
 use Rattle.nv_flatten.proofs.TestArms.{test-more}
 
 -- ---- further names, and later assignments
@@ -220,16 +218,7 @@ choose-end w names between later low mid mid' high scope sp e a b steps c x y fi
     le-then : (l m n : ℕ) → l ≤ m → m ≤ n → l ≤ n
     le-then l m n h k = omega arith
 
--- ---- as the code has them: the scope is a list, and the parts are equal to these
-pub end-in : (w : Whole) (names : Names) (low high : ℕ) (xs ys : List Named) (e : Tree) (t : Flat) (o : Option Symbol) → xs ≡ ys → IsEnd w names low high (scope_of xs []) e t o → IsEnd w names low high (scope_of ys []) e t o
-end-in w names low high xs ys e t o p v = subst (λ l. IsEnd w names low high (scope_of l []) e t o) p v
-
-pub end-of : (w : Whole) (names : Names) (low high : ℕ) (scope : SymbolScope) (e e' : Tree) (t : Flat) (o : Option Symbol) → e' ≡ e → IsEnd w names low high scope e t o → IsEnd w names low high scope e' t o
-end-of w names low high scope e e' t o p v = subst (λ x. IsEnd w names low high scope x t o) (sym p) v
-
-pub end-as : (w : Whole) (names : Names) (low high : ℕ) (scope : SymbolScope) (e : Tree) (t : Flat) (o o' : Option Symbol) → o' ≡ o → IsEnd w names low high scope e t o → IsEnd w names low high scope e t o'
-end-as w names low high scope e t o o' p v = subst (λ x. IsEnd w names low high scope e t x) (sym p) v
-
+-- ---- the form of what the code has
 pub view-or : (a b : Option declared.Symbol) → option_map view (option_or a b) ≡ option_or (option_map view a) (option_map view b)
 view-or None b = refl
 view-or (Some s) b = refl

@@ -1,17 +1,17 @@
 -- A function is entered with values of its parameters' types.
-use Rattle.std.proofs.Common.{◌≡◌, ◌∙◌, refl, sym, ap, subst, ℕ, zero, suc, ◌+◌, ◌<◌, ◌≤◌, ◌^◌, ◌==◌, not, Bool, true, false, ◌&&◌, ◌||◌, List, [], ◌∷◌, ◌++◌, length, take, drop, get_or, All, Option, Some, None, bytes_eq, arith, if◌then◌else◌, slice_index}
+use Rattle.std.proofs.Common.{◌≡◌, ◌∙◌, refl, sym, ap, ℕ, zero, suc, ◌+◌, ◌≤◌, Bool, true, false, ◌&&◌, ◌||◌, List, [], ◌∷◌, ◌++◌, length, take, drop, bytes_eq, arith, slice_index}
 use Rattle.std.proofs.lemmas.Slice.Eq.{bytes_eq-Decides}
-use Rattle.nv_base.specs.Words.{Env, assigned_all}
+use Rattle.nv_base.specs.Words.{Env}
 use Rattle.nv_ast.specs.Outline.{Layouts}
-use Rattle.nv_ast.specs.Tree.{TypeTree, NamedTypes, no_named_types, named_type_and}
+use Rattle.nv_ast.specs.Tree.{NamedTypes, no_named_types, named_type_and}
 use Rattle.nv_ast.specs.Types.{Ty, WordTy, BoolTy, TupleTy, RecordTy, Tys, no_tys, ty_and, NamedTys, no_named_tys, named_ty_and, type_of, named_types_of, words, total_words, total_named_words, has_bool, some_bool, some_named_bool, same_type, same_types, same_named_types}
-use Rattle.nv_ast.specs.Scope.{Vars, plain_tys, param_vars}
+use Rattle.nv_ast.specs.Scope.{plain_tys, param_vars}
 use Rattle.nv_meaning.specs.Values.{Value, Word, Truth, Tuple, Record, Values, no_values, value_and, NamedValues, no_named_values, named_value_and, words_of, all_words, all_named_words, value_from, values_from, named_values_from, Scope}
 use Rattle.nv_meaning.specs.Meaning.{entered, named_scope}
-use Rattle.nv_flatten.specs.Symbols.{Symbol, SymbolScope, operands, form, value_in, values_in, Fits, AllFit, AreOlder, fresh, all_fresh, named_fresh, numbers_from, ScopeFits, ScopeOlder, scope_in, vars_of, params_bound}
+use Rattle.nv_flatten.specs.Symbols.{SymbolScope, operands, values_in, AllFit, fresh, all_fresh, named_fresh, ScopeFits, ScopeOlder, scope_in, vars_of, params_bound}
 use Rattle.nv_flatten.specs.Soundness.{AreWords, ScopeWords, value_ty, value_tys, named_value_tys, scope_tys}
 use Rattle.nv_flatten.proofs.Keeping.{older-later}
-use Rattle.nv_flatten.proofs.Fresh.{fresh-form, fresh-older, fresh-values, all-fresh-fit}
+use Rattle.nv_flatten.proofs.Fresh.{fresh-form, fresh-older}
 
 -- ---- types are the same where the test says so
 name-same : (x y : List ℕ) → bytes_eq x y ≡ true → x ≡ y

@@ -1,5 +1,5 @@
 -- The field of a name, among fields of which some are looked at already.
-use Rattle.std.proofs.Common.{◌≡◌, ◌∙◌, ap, sym, ℕ, Bool, true, false, List, ◌∷◌, bytes_eq, if◌then◌else◌}
+use Rattle.std.proofs.Common.{◌≡◌, ◌∙◌, ap, sym, ℕ, true, false, List, ◌∷◌, bytes_eq, if◌then◌else◌}
 use Rattle.nv_flatten.specs.Symbols.{field_named}
 use Rattle.nv_flatten.specs.View.{Named, view, list_named_symbols}
 

@@ -1,20 +1,16 @@
 -- What follows a value, on both sides; operands of symbolic values; and one new variable.
-use Rattle.std.proofs.Common.{◌≡◌, ◌∙◌, refl, ap, sym, subst, ℕ, zero, suc, ◌+◌, ◌<◌, ◌≤◌, ◌^◌, ◌==◌, nat_eq, Bool, true, false, not, if◌then◌else◌, List, [], ◌∷◌, ◌++◌, bytes_eq, All, arith, rules, tests}
+use Rattle.std.proofs.Common.{◌≡◌, ◌∙◌, refl, ap, ℕ, ◌<◌, ◌≤◌, ◌^◌, ◌==◌, nat_eq, true, false, not, if◌then◌else◌, List, [], ◌∷◌, ◌++◌, arith, rules, tests}
 use Rattle.std.proofs.lemmas.List.Elements.{All-nil, All-cons}
 use Rattle.nv_base.specs.declared.term.Atom.{Atom}
-use Rattle.nv_base.specs.declared.term.Atom.TheVariants.{Var, Lit}
-use Rattle.nv_base.specs.declared.term.Primitive.{Primitive}
-use Rattle.nv_base.specs.Words.{Env, atom_word, assigned, prim_word}
-use Rattle.nv_base.specs.Memories.{HasSizes}
-use Rattle.nv_ast.specs.Scope.{Place, inside, with_vars}
+use Rattle.nv_base.specs.Words.{Env, atom_word, assigned}
+use Rattle.nv_ast.specs.Scope.{Place, inside}
 use Rattle.nv_meaning.specs.Values.{Value, Values, NamedValues, Scope, word_of, truth_of}
-use Rattle.nv_meaning.specs.Values as meaning
-use Rattle.nv_meaning.specs.Running.{Running, Result, Gives, Raises, Stops, and_then, and_all, and_named, and_stated, and_further, then_more, then_named, then_stated, before_rest, before_named, Results, GiveAll, Breaks, NamedResults, GiveNamed, BreaksNamed, Stated, GoesOn, StopsAt}
+use Rattle.nv_meaning.specs.Running.{Running, Result, Gives, Raises, Stops, and_then, and_all, and_named, and_stated, and_further, Results, GiveAll, Breaks, NamedResults, GiveNamed, BreaksNamed, Stated, GoesOn, StopsAt}
 use Rattle.flat_ir.specs.Running as flat
 use Rattle.flat_ir.specs.Meaning as code
 use Rattle.flat_ir.specs.Spine.{Act, steps_do}
 use Rattle.flat_ir.specs.declared.spine.Step.{Step}
-use Rattle.nv_flatten.specs.Symbols.{Symbol, Word, Truth, Tuple, Record, SymbolScope, operands, value_in, Fits, IsOlder, AreOlder, Keeps, word_operand, truth_operand}
+use Rattle.nv_flatten.specs.Symbols.{Symbol, Word, Truth, Tuple, Record, SymbolScope, value_in, Fits, IsOlder, AreOlder, Keeps, word_operand, truth_operand}
 use Rattle.nv_flatten.specs.Runs.{flat_run, onward}
 use Rattle.nv_flatten.specs.Whole.{Whole, Stands}
 use Rattle.nv_flatten.specs.Simulation.{Names, Extends, Setting, Done, IsValue, AreValues, AreFields, IsStated, onward_all, onward_named, onward_stated}

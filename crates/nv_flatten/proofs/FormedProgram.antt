@@ -57,7 +57,7 @@ made-well w f g b found all fun m placed =
     (words-given w f g b fun.results m.results (type_at b.known (body_place b.known g).vars g.body) refl))
 
 -- ---- the program
-matched : (w : Whole) (main : List ℕ) (funs : List FlatFun) (c : IsComplete w main funs) → FunsMatch w c.all funs
+pub matched : (w : Whole) (main : List ℕ) (funs : List FlatFun) (c : IsComplete w main funs) → FunsMatch w c.all funs
 matched w main funs c = record {
   found = λ i f g n named found at.
       let r = c.made.by i f g named found in
@@ -70,7 +70,7 @@ matched w main funs c = record {
       };
 }
 
-all-well : (t : ProgramTree) → program_faults t ≡ [] → (main : List ℕ) (funs : List FlatFun) (c : IsComplete (whole_of t) main funs) (i : ℕ) (fun : FlatFun) → slice_get funs i ≡ Some fun → IsWellFun (whole_of t) c.all fun
+pub all-well : (t : ProgramTree) → program_faults t ≡ [] → (main : List ℕ) (funs : List FlatFun) (c : IsComplete (whole_of t) main funs) (i : ℕ) (fun : FlatFun) → slice_get funs i ≡ Some fun → IsWellFun (whole_of t) c.all fun
 all-well t h main funs c i fun here = by (function_in (whole_of t).declared.functions name.0) refl
   where
     name : (f : List ℕ) × (slice_get c.all i ≡ Some f)

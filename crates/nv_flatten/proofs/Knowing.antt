@@ -1,21 +1,17 @@
 -- What is known behind some declarations of a program without faults.
-use Rattle.std.proofs.Common.{◌≡◌, ◌∙◌, refl, sym, ap, subst, ℕ, zero, suc, ◌+◌, ◌<◌, ◌≤◌, Bool, true, false, not, ◌&&◌, ◌||◌, List, [], ◌∷◌, ◌++◌, map, length, get_or, All, Option, Some, None, bytes_eq, append_assoc, append-nil, arith, if◌then◌else◌}
-use Rattle.std.specs.Prelude.{nat_lt, nat_le, slice_get, replicate, option_map, is_none}
-use Rattle.std.proofs.lemmas.Bool.{lt-ltb, le-leb, ltb-false, leb-true}
-use Rattle.std.proofs.lemmas.Slice.Eq.{bytes_eq-Decides}
+use Rattle.std.proofs.Common.{◌≡◌, ◌∙◌, refl, sym, ap, subst, ℕ, zero, suc, ◌+◌, ◌≤◌, Bool, true, false, not, ◌||◌, List, [], ◌∷◌, ◌++◌, map, length, All, Some, None, bytes_eq, append_assoc, append-nil, arith, if◌then◌else◌}
+use Rattle.std.specs.Prelude.{nat_lt, slice_get, replicate}
+use Rattle.std.proofs.lemmas.Bool.{ltb-false}
 use Rattle.nv_ast.specs.declared.token.Span.{Span}
 use Rattle.nv_ast.specs.Tests.{where_true, is_among, names_of, look_up, value_at}
 use Rattle.nv_ast.specs.Outline.{OutlineTree, PartsOutline, no_named_outlines, Layouts, outline, IsSound}
-use Rattle.nv_ast.specs.LayoutFaults.{layout_faults, unfit, declared_faults}
 use Rattle.nv_ast.specs.Tree.{TypeTree, WordType, BoolType, PackedType, UnpackedType, TupleType, RecordType, TypeTrees, no_types, type_and, NamedTypes, no_named_types, named_type_and, NamedLayout, FunTree, DeclTree, LayoutDecl, ExceptionDecl, GroupDecl}
-use Rattle.nv_ast.specs.Types.{Ty, TupleTy, RecordTy, Tys, ty_and, NamedTys, named_ty_and, type_of, types_of, named_types_of, packed_ty, unpacked_ty, total_words}
-use Rattle.nv_ast.specs.Scope.{Signature, signature, signatures, Known, in_group, known_after, callable}
-use Rattle.nv_ast.specs.Faults.{Fault, at_span, type_faults, types_faults, named_types_faults, too_large, no_layout, wrong_words, twice_in_type, type_names, variable_twice, wide_main, wide_exception, declared_before, signature_faults, signatures_faults, bodies_faults, body_faults, name_faults, decl_faults, decls_faults, known_behind, main_name}
-use Rattle.nv_layout.proofs.Sound.{layout_sound}
+use Rattle.nv_ast.specs.Types.{TupleTy, RecordTy, Tys, ty_and, named_ty_and, type_of, types_of, named_types_of, packed_ty, unpacked_ty, total_words}
+use Rattle.nv_ast.specs.Scope.{Signature, signature, signatures}
+use Rattle.nv_ast.specs.Faults.{at_span, type_faults, types_faults, named_types_faults, too_large, no_layout, twice_in_type, type_names, signature_faults, signatures_faults}
 use Rattle.nv_meaning.specs.Meaning.{Declared, with_decl, with_decls, function_in}
-use Rattle.nv_meaning.specs.Running.{number_from, exception_number}
+use Rattle.nv_meaning.specs.Running.{number_from}
 use Rattle.nv_meaning.specs.Tables.{place_from}
-use Rattle.nv_flatten.specs.Whole.{Whole, raised_tys, raised_in, groups_from, group_of, group_at, IsCallable, IsPart}
 
 -- ---- no faults
 pub no_front : {A : Type 0} (xs ys : List A) → xs ++ ys ≡ [] → xs ≡ []

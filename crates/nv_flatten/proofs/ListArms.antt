@@ -1,13 +1,11 @@
 -- Expressions one after another, with and without names: tuples and records.
-use Rattle.std.proofs.Common.{◌≡◌, ◌∙◌, refl, ap, sym, subst, ℕ, ◌+◌, ◌<◌, ◌≤◌, Bool, true, false, List, [], ◌∷◌, ◌++◌, append_assoc, append-nil, Option, Some, None, option_map, All, Bor, arith}
+use Rattle.std.proofs.Common.{◌≡◌, ◌∙◌, refl, ap, sym, subst, ℕ, ◌≤◌, List, [], ◌∷◌, ◌++◌, append_assoc, append-nil, Option, Some, None, option_map, arith}
 use Rattle.std.proofs.lemmas.List.Elements.{All-nil, All-append}
-use Rattle.nv_base.specs.declared.term.Atom.{Atom}
-use Rattle.nv_base.specs.Words.{Env}
 use Rattle.nv_ast.specs.declared.token.Span.{Span}
 use Rattle.nv_ast.specs.declared.tree.Expr.{Expr}
 use Rattle.nv_ast.specs.ExprView.{tree_of, list_trees, list_named_trees}
 use Rattle.nv_ast.specs.Tree.{Tree, TupleTree, FieldsTree, Trees, no_trees, tree_and, NamedTrees, no_named_trees, named_tree_and}
-use Rattle.nv_ast.specs.Types.{Ty, TupleTy, RecordTy, Tys, no_tys, ty_and, NamedTys, no_named_tys, named_ty_and}
+use Rattle.nv_ast.specs.Types.{Ty, TupleTy, RecordTy, Tys, no_tys, ty_and, named_ty_and}
 use Rattle.nv_ast.specs.Scope.{Place, inside}
 use Rattle.nv_ast.specs.Typing.{type_at, types_at, named_types_at, and_ty, and_named_ty}
 use Rattle.nv_ast.specs.Faults.{Wanted, faults, list_faults, named_faults, node_faults, a_value}
@@ -16,17 +14,17 @@ use Rattle.nv_meaning.specs.Values as meaning
 use Rattle.nv_meaning.specs.Running.{Running, Result, Gives, Raises, Stops, Results, GiveAll, Breaks, NamedResults, GiveNamed, BreaksNamed, then_more, then_named, before_rest, before_named}
 use Rattle.nv_meaning.specs.Meaning.{eval, eval_all, eval_named}
 use Rattle.flat_ir.specs.Running as flat
-use Rattle.flat_ir.specs.Spine.{Act, steps_do}
+use Rattle.flat_ir.specs.Spine.{steps_do}
 use Rattle.flat_ir.specs.declared.spine.Step.{Step}
 use Rattle.nv_flatten.specs.declared.symbol.Symbol as coded
-use Rattle.nv_flatten.specs.Symbols.{Symbol, Tuple, Record, Symbols, no_symbols, symbol_and, NamedSymbols, no_named_symbols, named_symbol_and, SymbolScope, operands, all_operands, named_operands, form, forms, named_forms, value_in, values_in, named_values_in, Fits, AllFit, NamedFit, IsOlder, AreOlder, ScopeOlder, scope_in}
+use Rattle.nv_flatten.specs.Symbols.{Symbol, Tuple, Record, Symbols, no_symbols, symbol_and, NamedSymbols, no_named_symbols, named_symbol_and, SymbolScope, operands, all_operands, named_operands, form, forms, named_forms, value_in, values_in, named_values_in, Fits, AllFit, NamedFit, IsOlder, scope_in}
 use Rattle.nv_flatten.specs.View.{view, list_symbols, Named, list_named_symbols}
 use Rattle.nv_flatten.specs.Runs.{flat_run, onward}
-use Rattle.nv_flatten.specs.Whole.{Whole, Stands}
-use Rattle.nv_flatten.specs.Simulation.{Names, Extends, Setting, Begins, Done, IsValue, AreValues, AreFields, onward_all, onward_named}
+use Rattle.nv_flatten.specs.Whole.{Whole}
+use Rattle.nv_flatten.specs.Simulation.{Names, Extends, IsValue, AreValues, AreFields, onward_all, onward_named}
 use Rattle.nv_flatten.proofs.Keeping.{older-later, scope-later, keeps-value, keeps-fit, keeps-scope, begins-then, begins-done, done-then, extends-itself, extends-then}
-use Rattle.nv_flatten.proofs.Faultless.{none-before, none-behind, some-same, none-some, has-type}
-use Rattle.nv_flatten.proofs.Following.{onward-all, onward-named, steps-then, stands-inside, value-more, fewer}
+use Rattle.nv_flatten.proofs.NoFaults.{none-left, none-right, some-same, none-some, value-has-type}
+use Rattle.nv_flatten.proofs.Following.{onward-all, onward-named, steps-then, stands-inside, fewer}
 
 -- ---- what follows the first of some values
 onward-more : (r : Result) (k : Value → Running → Results) (next : Values → Running → flat.Result) (never : Value → Running → flat.Result) → onward_all (then_more r k) next never ≡ onward r (λ v now. onward_all (k v now) next never)
@@ -86,8 +84,8 @@ module _ (w : Whole) (names more : Names) (low mid high : ℕ) (scope : SymbolSc
   values-and e es ss ts s us ext le le' v vs = record {
     simulate = λ own p wanted stands none o c env now begins rest next never same.
         let clean = sym (list-split p wanted e es) ∙ none in
-        let here = none-before (faults p (first_wanted wanted) e) (list_faults p (other_wanted wanted) es) clean in
-        let there = none-behind (faults p (first_wanted wanted) e) (list_faults p (other_wanted wanted) es) clean in
+        let here = none-left (faults p (first_wanted wanted) e) (list_faults p (other_wanted wanted) es) clean in
+        let there = none-right (faults p (first_wanted wanted) e) (list_faults p (other_wanted wanted) es) clean in
         let d = w.declared in
         steps-then c.fcall ss ts rest env (flat_run now)
         ∙ v.simulates.by own p (first_wanted wanted) stands here o (fewer w names more ext c) env now begins (steps_do c.fcall ts rest) (λ x last. onward_all (before_rest x (eval_all d c.call es (scope_in env scope) last)) next never)
@@ -102,8 +100,8 @@ module _ (w : Whole) (names more : Names) (low mid high : ℕ) (scope : SymbolSc
         ∙ sym (onward-more (eval d c.call e (scope_in env scope) now) (λ x last. before_rest x (eval_all d c.call es (scope_in env scope) last)) next never);
     formed = λ own p wanted stands none tys is.
         let clean = sym (list-split p wanted e es) ∙ none in
-        let here = none-before (faults p (first_wanted wanted) e) (list_faults p (other_wanted wanted) es) clean in
-        let there = none-behind (faults p (first_wanted wanted) e) (list_faults p (other_wanted wanted) es) clean in
+        let here = none-left (faults p (first_wanted wanted) e) (list_faults p (other_wanted wanted) es) clean in
+        let there = none-right (faults p (first_wanted wanted) e) (list_faults p (other_wanted wanted) es) clean in
         and-typed s us (type_at p.known p.vars e) (types_at p.known p.vars es) tys (λ t x. v.formed.by own p (first_wanted wanted) stands here t x) (λ qs x. vs.formed own p (other_wanted wanted) stands there qs x) is;
     older = λ o. All-append (IsOlder high) (operands s) (all_operands us) (older-later mid high (operands s) le' (v.older o)) (vs.older (scope-later low mid scope le o));
   }
@@ -112,8 +110,8 @@ module _ (w : Whole) (names more : Names) (low mid high : ℕ) (scope : SymbolSc
       → IsValue w names low mid scope e ss s → AreFields w more mid high scope es ts us → AreFields w more low high scope (named_tree_and x e es) (ss ++ ts) (named_symbol_and x s us)
   fields-and x e es ss ts s us ext le le' v vs = record {
     simulate = λ own p stands none o c env now begins rest next never same.
-        let here = none-before (faults p a_value e) (named_faults p es) none in
-        let there = none-behind (faults p a_value e) (named_faults p es) none in
+        let here = none-left (faults p a_value e) (named_faults p es) none in
+        let there = none-right (faults p a_value e) (named_faults p es) none in
         let d = w.declared in
         steps-then c.fcall ss ts rest env (flat_run now)
         ∙ v.simulates.by own p a_value stands here o (fewer w names more ext c) env now begins (steps_do c.fcall ts rest) (λ y last. onward_named (before_named x y (eval_named d c.call es (scope_in env scope) last)) next never)
@@ -127,9 +125,9 @@ module _ (w : Whole) (names more : Names) (low mid high : ℕ) (scope : SymbolSc
         ∙ ap (λ m. onward_named (before_named x (value_in new s) (eval_named d c.call es m last)) next never) (keeps-scope low env new scope done.keeps o))
         ∙ sym (onward-more_named (eval d c.call e (scope_in env scope) now) (λ y last. before_named x y (eval_named d c.call es (scope_in env scope) last)) next never);
     formed = λ own p stands none.
-        let here = none-before (faults p a_value e) (named_faults p es) none in
-        let there = none-behind (faults p a_value e) (named_faults p es) none in
-        let t = has-type p a_value e here refl in
+        let here = none-left (faults p a_value e) (named_faults p es) none in
+        let there = none-right (faults p a_value e) (named_faults p es) none in
+        let t = value-has-type p a_value e refl here in
         ap (λ o. and_named_ty x o (named_types_at p.known p.vars es)) t.1
         ∙ ap (and_named_ty x (Some t.0)) (vs.formed own p stands there)
         ∙ ap (λ u. Some (named_ty_and x u (named_forms us))) (sym (v.formed.by own p a_value stands here t.0 t.1));
@@ -146,13 +144,13 @@ module _ (w : Whole) (names : Names) (low high : ℕ) (scope : SymbolScope) wher
   tuple-value sp es steps ss vs = record {
     simulates = record {
       by = λ own p wanted stands none o c env now begins rest next same.
-          let clean = none-before (list_faults (inside p) [] es) (node_faults p wanted (TupleTree sp es)) none in
+          let clean = none-left (list_faults (inside p) [] es) (node_faults p wanted (TupleTree sp es)) none in
           vs.simulate own (inside p) [] (stands-inside w own scope p stands) clean o c env now begins rest (λ xs last. next (meaning.Tuple xs) last) next (λ new last done. same new last (record { sizes = done.sizes; keeps = done.keeps; fits = done.fits }))
           ∙ sym (onward-all (eval_all w.declared c.call es (scope_in env scope) now) (λ xs last. Gives (meaning.Tuple xs) last) next);
     };
     formed = record {
       by = λ own p wanted stands none t is.
-          let clean = none-before (list_faults (inside p) [] es) (node_faults p wanted (TupleTree sp es)) none in
+          let clean = none-left (list_faults (inside p) [] es) (node_faults p wanted (TupleTree sp es)) none in
           tuple-typed ss (types_at p.known p.vars es) t (λ ts e. vs.formed own (inside p) [] (stands-inside w own scope p stands) clean ts e) is;
     };
     older = vs.older;
@@ -162,13 +160,13 @@ module _ (w : Whole) (names : Names) (low high : ℕ) (scope : SymbolScope) wher
   record-value sp es steps fs vs = record {
     simulates = record {
       by = λ own p wanted stands none o c env now begins rest next same.
-          let clean = none-before (named_faults (inside p) es) (node_faults p wanted (FieldsTree sp es)) none in
+          let clean = none-left (named_faults (inside p) es) (node_faults p wanted (FieldsTree sp es)) none in
           vs.simulate own (inside p) (stands-inside w own scope p stands) clean o c env now begins rest (λ xs last. next (meaning.Record xs) last) next (λ new last done. same new last (record { sizes = done.sizes; keeps = done.keeps; fits = done.fits }))
           ∙ sym (onward-named (eval_named w.declared c.call es (scope_in env scope) now) (λ xs last. Gives (meaning.Record xs) last) next);
     };
     formed = record {
       by = λ own p wanted stands none t is.
-          let clean = none-before (named_faults (inside p) es) (node_faults p wanted (FieldsTree sp es)) none in
+          let clean = none-left (named_faults (inside p) es) (node_faults p wanted (FieldsTree sp es)) none in
           some-same (RecordTy (named_forms fs)) t (sym (ap (option_map RecordTy) (vs.formed own (inside p) (stands-inside w own scope p stands) clean)) ∙ is);
     };
     older = vs.older;

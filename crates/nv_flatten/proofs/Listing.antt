@@ -1,16 +1,15 @@
 -- Symbolic values of new variables in lists: what is said of a list as far as a loop has come.
-use Rattle.std.proofs.Common.{◌≡◌, ◌∙◌, refl, sym, ap, subst, ℕ, zero, suc, ◌+◌, ◌<◌, ◌≤◌, Bool, true, false, List, [], ◌∷◌, ◌++◌, length, take, drop, get_or, bytes_eq, append_assoc, append-nil, arith, if◌then◌else◌, Vec, Global, Bor}
+use Rattle.std.proofs.Common.{◌≡◌, ◌∙◌, refl, sym, ap, ℕ, zero, suc, ◌+◌, Bool, true, false, List, [], ◌∷◌, ◌++◌, take, bytes_eq, append_assoc, append-nil, arith, if◌then◌else◌, Vec, Global}
 use Rattle.std.specs.Prelude.{◌==◌}
 use Rattle.std.proofs.lemmas.Bool.{eqb-true}
 use Rattle.nv_ast.specs.Tests.{value_at as found_at}
 use Rattle.nv_ast.specs.Tree.{LayoutTree, NamedLayout, GapLayout, PartsLayout, JoinedLayout}
 use Rattle.nv_ast.specs.Outline.{Layouts, OutlineTree, PartsOutline, no_named_outlines, outline}
-use Rattle.nv_ast.specs.Types.{Ty, WordTy, TupleTy, Tys, no_tys, ty_and, NamedTys, no_named_tys, named_ty_and, words, total_words, total_named_words, word_parts, words_ty, Form, Forms, no_forms, form_and, RecordForm, ◌+++◌, form_of, record_forms, unpacked, unpacked_all}
+use Rattle.nv_ast.specs.Types.{Ty, WordTy, TupleTy, Tys, no_tys, ty_and, NamedTys, no_named_tys, named_ty_and, words, total_words, total_named_words, word_parts, words_ty, Forms, no_forms, form_and, RecordForm, ◌+++◌, form_of, record_forms, unpacked, unpacked_all}
 use Rattle.nv_meaning.specs.Tables.{laid}
-use Rattle.nv_meaning.proofs.Lists.{dropped, dropped-all}
 use Rattle.nv_flatten.specs.declared.symbol.Symbol as code
 use Rattle.nv_flatten.specs.declared.symbol.Symbol.TheBlock.{Row_of-Symbol, end_of-Symbol, more_of-Symbol, items-the_row-Symbol, hidden-the_row-Symbol-0, items_hidden-the_row-Symbol-0, Row_of-Symbol-Record-0-2, end_of-Symbol-Record-0-2, more_of-Symbol-Record-0-2, items-the_row-Symbol-Record-0-2, hidden-the_row-Symbol-Record-0-2-1, items_hidden-the_row-Symbol-Record-0-2-1}
-use Rattle.nv_flatten.specs.Symbols.{Symbol, Tuple, Record, Symbols, no_symbols, symbol_and, NamedSymbols, no_named_symbols, named_symbol_and, SymbolScope, fresh, all_fresh, named_fresh, numbers_from, params_bound}
+use Rattle.nv_flatten.specs.Symbols.{Tuple, Record, Symbols, no_symbols, symbol_and, NamedSymbols, no_named_symbols, named_symbol_and, SymbolScope, fresh, all_fresh, named_fresh, numbers_from, params_bound}
 use Rattle.nv_flatten.specs.View.{view, row_symbols, row_named_symbols, list_symbols, list_named_symbols, Named, scope_of}
 use Rattle.nv_flatten.specs.Fields.{◌++_symbols◌}
 

@@ -1,32 +1,33 @@
 -- A program and its flat program do the same, call by call.
-use Rattle.std.proofs.Common.{◌≡◌, ◌∙◌, refl, sym, ap, subst, ℕ, zero, suc, ◌+◌, ◌<◌, ◌≤◌, Bool, true, false, ◌||◌, List, [], ◌∷◌, ◌++◌, length, take, All, Option, Some, None, bytes_eq, arith, if◌then◌else◌}
-use Rattle.std.specs.Prelude.{nat_lt, slice_get, codes}
+use Rattle.std.proofs.Common.{◌≡◌, ◌∙◌, refl, sym, ap, subst, ℕ, zero, suc, ◌≤◌, true, false, ◌||◌, List, [], length, Option, Some, bytes_eq, arith, if◌then◌else◌}
+use Rattle.std.specs.Prelude.{nat_lt, slice_get}
 use Rattle.std.proofs.lemmas.Bool.{ltb-false}
 use Rattle.std.proofs.lemmas.Slice.Eq.{bytes_eq-Decides}
 use Rattle.nv_base.specs.Words.{Env, assigned_all}
 use Rattle.nv_base.specs.Memories.{Memories, HasSizes}
-use Rattle.nv_base.specs.Meanings.{FullOutcome, Same, KeepsOutcomes, AreArguments, seen}
+use Rattle.nv_base.specs.Meanings.{KeepsOutcomes, seen}
 use Rattle.nv_base.specs.declared.outcome.Outcome.TheVariants as outcome
 use Rattle.nv_base.proofs.Same.{same_seen}
 use Rattle.nv_ast.specs.Tree.{Tree, NumberTree, TruthTree, VarTree, ParenTree, TupleTree, FieldsTree, DotTree, InvertTree, NegateTree, BinaryTree, ShiftTree, CallTree, UnpackTree, PackTree, RaiseTree, IfTree, TryTree, FetchTree, BlockTree, FunTree, ProgramTree, span_of}
 use Rattle.nv_ast.specs.Tests.{look_up}
-use Rattle.nv_ast.specs.Types.{Ty, WordTy, BoolTy, Tys, NamedTys, type_of, named_types_of, words, total_words, total_named_words, same_type, some_bool, some_named_bool}
+use Rattle.nv_ast.specs.Types.{Ty, WordTy, BoolTy, Tys, type_of, named_types_of, words, total_words, total_named_words, some_named_bool}
 use Rattle.nv_ast.specs.Sizes.{main_words}
 use Rattle.nv_ast.specs.Scope.{Known, Place, inside, with_vars, plain_tys, param_vars, bind_raised, signature}
 use Rattle.nv_ast.specs.Typing.{type_at, operand_ty, vars_behind}
-use Rattle.nv_ast.specs.Faults.{Wanted, a_value, anything, of_type, same_as, faults, list_faults, named_faults, statements_faults, node_faults, low_kinds, other_type, at_span, raised_kinds, wanted_arguments, wanted_packed, wanted_unpacked, params_of, named_types_faults, type_faults, type_names, variable_twice, wide_main, signature_faults, program_faults, main_name}
-use Rattle.nv_meaning.specs.Values.{Value, Values, values_from, words_of, all_words}
+use Rattle.nv_ast.specs.Faults.{Wanted, a_value, anything, of_type, same_as, faults, list_faults, named_faults, statements_faults, node_faults, low_kinds, other_type, at_span, raised_kinds, wanted_arguments, wanted_packed, wanted_unpacked, params_of, named_types_faults, type_faults, type_names, variable_twice, wide_main, program_faults, main_name}
+use Rattle.nv_meaning.specs.Values.{Values, values_from, words_of, all_words}
 use Rattle.nv_meaning.specs.Running.{Running, Result, Gives, Raises, Stops, taken, closed}
 use Rattle.nv_meaning.specs.Meaning.{Calls, eval, enter, entered, calls_within, function_in, run_main, source}
 use Rattle.flat_ir.specs.declared.flat.FlatFun.{FlatFun}
 use Rattle.flat_ir.specs.Running as flat
 use Rattle.flat_ir.specs.Meaning as code
-use Rattle.nv_flatten.specs.Symbols.{values_in, AllFit, all_fresh, numbers_from, scope_in, vars_of, ScopeFits, ScopeOlder}
+use Rattle.nv_flatten.specs.Symbols.{values_in, AllFit, all_fresh, numbers_from, scope_in}
 use Rattle.nv_flatten.specs.Runs.{flat_run, ended}
-use Rattle.nv_flatten.specs.Whole.{Whole, whole_of, raised_tys, Stands}
-use Rattle.nv_flatten.specs.Soundness.{AreWords, value_ty, value_tys, scope_tys, ComesTo, CallsTyped}
-use Rattle.nv_flatten.specs.Simulation.{Names, CallsAgree, Setting, Begins}
+use Rattle.nv_flatten.specs.Whole.{Whole, whole_of, raised_tys}
+use Rattle.nv_flatten.specs.Soundness.{AreWords, value_ty, value_tys, ComesTo, CallsTyped}
+use Rattle.nv_flatten.specs.Simulation.{Names, CallsAgree}
 use Rattle.nv_flatten.specs.Made.{params_in, entry, IsMade, AllMade, IsComplete}
+use Rattle.nv_flatten.specs.Equal.{AreEqual}
 use Rattle.nv_flatten.specs.Flattened as flattened
 use Rattle.nv_flatten.proofs.Fresh.{fresh-values, all-fresh-fit}
 use Rattle.nv_flatten.proofs.Sound.{typed-eval}
@@ -225,13 +226,20 @@ main-same t h all funs made g fun found there m args p count are sizes n =
     ∙ ap (λ ws. flat.closed (code.does (code.calls_within n funs) fun.body (assigned_all code.blank fun.params.items ws) (flat_run (begun n p)))) (sym spelled)
     ∙ ap flat.closed (body-agrees w main_name g b all fun m (calls_within n w.declared) (code.calls_within n funs) lock.typed lock.same vs (begun n p) types fit sizes))
 
-pub keeps : (t : ProgramTree) → program_faults t ≡ [] → (funs : List FlatFun) → ((g : FunTree) → function_in (whole_of t).declared.functions main_name ≡ Some g → IsComplete (whole_of t) main_name funs) → KeepsOutcomes (main_words t) (flattened.params_in funs 0) (source t) (code.flat_meaning funs 0)
-keeps t h funs complete =
-    let w = whole_of t in
-    let m = has-main t h in
-    let c = complete m.fun m.found in
-    let r = c.made.by 0 main_name m.fun c.first m.found in
-    record {
-      arguments = m.words ∙ sym (ap flattened.params_of r.1 ∙ ap length r.2.params ∙ length-numbers 0 (total_named_words (params_in w m.fun)));
-      same = λ args p are sizes. same_seen (source t args p) (code.flat_meaning funs 0 args p) (λ n. ap seen (main-same t h c.all funs c.made m.fun r.0 m.found r.1 r.2 args p (are.0 ∙ m.words) are.1 sizes n));
-    }
+module _ (t : ProgramTree) (h : program_faults t ≡ []) (funs : List FlatFun) (complete : (g : FunTree) → function_in (whole_of t).declared.functions main_name ≡ Some g → IsComplete (whole_of t) main_name funs) where
+  pub equal : AreEqual (main_words t) (source t) (code.flat_meaning funs 0)
+  equal args p are sizes n =
+      let m = has-main t h in
+      let c = complete m.fun m.found in
+      let r = c.made.by 0 main_name m.fun c.first m.found in
+      main-same t h c.all funs c.made m.fun r.0 m.found r.1 r.2 args p (are.0 ∙ m.words) are.1 sizes n
+
+  pub keeps : KeepsOutcomes (main_words t) (flattened.params_in funs 0) (source t) (code.flat_meaning funs 0)
+  keeps =
+      let m = has-main t h in
+      let c = complete m.fun m.found in
+      let r = c.made.by 0 main_name m.fun c.first m.found in
+      record {
+        arguments = m.words ∙ sym (ap flattened.params_of r.1 ∙ ap length r.2.params ∙ length-numbers 0 (total_named_words (params_in (whole_of t) m.fun)));
+        same = λ args p are sizes. same_seen (source t args p) (code.flat_meaning funs 0 args p) (λ n. ap seen (equal args p are sizes n));
+      }

@@ -1,18 +1,15 @@
 -- Flat functions as they are put together.
-use Rattle.std.proofs.Common.{◌≡◌, ◌∙◌, refl, sym, ap, subst, ℕ, ◌+◌, ◌≤◌, List, [], ◌++◌, append-nil, Option, Some, None, bytes_eq, arith}
-use Rattle.std.specs.Prelude.{Result, Ok, Err, IfOk, codes}
-use Rattle.std.proofs.lemmas.Slice.Eq.{bytes_eq-Decides}
-use Rattle.nv_ast.specs.Tree.{FunTree, NamedTypes, ProgramTree}
+use Rattle.std.proofs.Common.{◌≡◌, ◌∙◌, sym, ap, subst, ℕ, ◌+◌, List, [], append-nil, Option, Some, None, arith}
+use Rattle.std.specs.Prelude.{Result, Ok, Err, IfOk}
+use Rattle.nv_ast.specs.Tree.{FunTree, NamedTypes}
 use Rattle.nv_ast.specs.Types.{type_of, named_types_of, words, total_named_words}
-use Rattle.nv_ast.specs.Faults.{main_name}
 use Rattle.nv_meaning.specs.Meaning.{function_in}
 use Rattle.flat_ir.specs.declared.flat.FlatFun.{FlatFun}
 use Rattle.nv_flatten.specs.Symbols.{Symbol, SymbolScope, named_fresh, numbers_from, params_bound}
-use Rattle.nv_flatten.specs.Whole.{Whole, whole_of, group_of}
+use Rattle.nv_flatten.specs.Whole.{Whole, group_of}
 use Rattle.nv_flatten.specs.Simulation.{Names, IsEnd}
-use Rattle.nv_flatten.specs.Made.{entry, IsMade, IsPlaced, IsComplete}
+use Rattle.nv_flatten.specs.Made.{IsMade, IsPlaced}
 use Rattle.nv_flatten.specs.Well.{IsWellEnd}
-use Rattle.nv_flatten.proofs.Knowing.{function-named}
 
 -- what holds where there is an answer
 pub if-ok : {A E : Type 0} (r : Result A E) (P Q : A → Type 0) → ((a : A) → P a → Q a) → IfOk r P → IfOk r Q
@@ -48,9 +45,6 @@ some_same e = cc
 pub made-found : (w : Whole) (name : List ℕ) (names : Names) (f g : FunTree) (fun : FlatFun) → function_in w.declared.functions name ≡ Some f → IsMade w names f fun → function_in w.declared.functions name ≡ Some g → IsMade w names g fun
 made-found w name names f g fun found m e = subst (λ d. IsMade w names d fun) (some_same (sym found ∙ e)) m
 
-pub complete-found : (w : Whole) (name : List ℕ) (f : FunTree) (funs : List FlatFun) → function_in w.declared.functions name ≡ Some f → IsComplete w f.name funs → IsComplete w name funs
-complete-found w name f funs found c = subst (λ x. IsComplete w x funs) (sym ((bytes_eq-Decides name f.name).0 (function-named w.declared.functions name f found))) c
-
 pub none-found : {A : Type 0} (o : Option FunTree) (g : FunTree) → o ≡ None → o ≡ Some g → A
 none-found o g e f = absurd (no (sym e ∙ f))
   where
@@ -63,9 +57,3 @@ placed-found w name f group fun found numbered same = record {
   group = λ g n e at. same ∙ some_same (sym numbered ∙ at);
   absent = λ none. none-found (function_in w.declared.functions name) f none found;
 }
-
-pub complete-main : (w v : Whole) (x : List ℕ) (funs : List FlatFun) → w ≡ v → x ≡ main_name → ((g : FunTree) → function_in w.declared.functions x ≡ Some g → IsComplete w x funs)
-    → (g : FunTree) → function_in v.declared.functions main_name ≡ Some g → IsComplete v main_name funs
-complete-main w v x funs e f h =
-    subst (λ y. (g : FunTree) → function_in v.declared.functions y ≡ Some g → IsComplete v y funs) f
-    (subst (λ u. (g : FunTree) → function_in u.declared.functions x ≡ Some g → IsComplete u x funs) e h)

@@ -11,7 +11,6 @@ use Rattle.nv_meaning.specs.Meaning.{eval}
 use Rattle.flat_ir.specs.Running as flat
 use Rattle.flat_ir.specs.Spine.{Act}
 use Rattle.flat_ir.specs.declared.flat.Flat.{Flat}
-use Rattle.flat_ir.specs.declared.spine.Step.{Step}
 use Rattle.flat_ir.specs.declared.spine.Step.TheVariants.{Bind}
 use Rattle.nv_flatten.specs.Code.{form_or_unit}
 use Rattle.nv_flatten.specs.Symbols.{Symbol, SymbolScope, form, value_in, scope_in, Fits, fresh, numbers_from}

@@ -1,6 +1,6 @@
 -- Names by their numbers, and flat functions one after another.
-use Rattle.std.proofs.Common.{◌≡◌, ◌∙◌, refl, sym, ap, subst, ℕ, zero, suc, ◌+◌, ◌<◌, ◌≤◌, Bool, true, false, List, [], ◌∷◌, ◌++◌, map, length, Option, Some, None, bytes_eq, append_assoc, append-nil, arith, if◌then◌else◌, Bor, ◌⊎◌, inl, inr}
-use Rattle.std.specs.Prelude.{slice_get, option_map}
+use Rattle.std.proofs.Common.{◌≡◌, ◌∙◌, refl, sym, ap, subst, ℕ, zero, suc, ◌+◌, ◌<◌, ◌≤◌, Bool, true, false, List, [], ◌∷◌, ◌++◌, map, length, Some, None, bytes_eq, append_assoc, append-nil, arith, if◌then◌else◌, Bor, ◌⊎◌, inl, inr}
+use Rattle.std.specs.Prelude.{slice_get}
 use Rattle.std.proofs.lemmas.Bool.{cases_lt}
 use Rattle.std.proofs.lemmas.Slice.Eq.{bytes_eq-Decides}
 use Rattle.nv_ast.specs.Tree.{FunTree}
@@ -9,9 +9,9 @@ use Rattle.flat_ir.specs.declared.flat.FlatFun.{FlatFun}
 use Rattle.nv_flatten.specs.Whole.{Whole}
 use Rattle.nv_flatten.specs.Simulation.{Names, Extends}
 use Rattle.nv_flatten.specs.Flattened.{calls}
-use Rattle.nv_flatten.specs.Made.{IsMade, AreMade, AllMade, IsPlaced, ArePlaced, IsComplete}
+use Rattle.nv_flatten.specs.Made.{IsMade, AreMade, AllMade, IsPlaced, ArePlaced}
 use Rattle.nv_flatten.specs.Well.{AreCalled}
-use Rattle.nv_flatten.proofs.WellProgram.{AreFound, found-first, found-more, found-reached}
+use Rattle.nv_flatten.proofs.WellProgram.{AreFound, found-first, found-more}
 
 some_same : {A : Type 0} {x y : A} → Some x ≡ Some y → x ≡ y
 some_same e = cc
@@ -190,18 +190,11 @@ made-more w main name names new funs funs' fun so named more made placed calling
         ]
 
 -- none is left
-pub made-all : (w : Whole) (main : List ℕ) (names : Names) (funs : List FlatFun) → MadeSoFar w main names funs → slice_get names (length funs) ≡ None → IsComplete w main funs
-made-all w main names funs so none = record {
-  all = names;
-  first = so.first;
-  made = record {
-    by = λ i f g named found.
-        let below : i < length names = slice-below names i f named in
-        let past : length names ≤ length funs = slice-past names (length funs) none in
-        let r = slice-there funs i (omega arith) in
-        (r.0, r.1, so.made.by i f g r.0 named found r.1);
-  };
-  many = so.few;
-  placed = so.placed;
-  reached = found-reached names funs so.few so.found;
+pub all-made : (w : Whole) (main : List ℕ) (names : Names) (funs : List FlatFun) → MadeSoFar w main names funs → slice_get names (length funs) ≡ None → AllMade w names funs
+all-made w main names funs so none = record {
+  by = λ i f g named found.
+      let below : i < length names = slice-below names i f named in
+      let past : length names ≤ length funs = slice-past names (length funs) none in
+      let r = slice-there funs i (omega arith) in
+      (r.0, r.1, so.made.by i f g r.0 named found r.1);
 }

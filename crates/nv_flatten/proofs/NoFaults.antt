@@ -44,6 +44,9 @@ given (Some a) h = (a, refl)
 pub some-same : {A : Type 0} (a b : A) → Some a ≡ Some b → a ≡ b
 some-same a b h = cc
 
+pub none-some : {A : Type 0} (a : A) → None ≡ Some a → ⊥
+none-some a h = cc
+
 pub is-name : (x y : List ℕ) → bytes_eq x y ≡ true → x ≡ y
 is-name x y h = (bytes_eq-Decides x y).0 h
 

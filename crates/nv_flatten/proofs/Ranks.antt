@@ -1,13 +1,10 @@
 -- What the walk's recursion goes down by: the text, and for the functions of one expression the order in which they call one another.
-use Rattle.std.proofs.Common.{◌≡◌, ℕ, ◌+◌, ◌*◌, ◌<◌, Bool, true, false, Option, Some, None, refl, sym, ap, subst, arith}
-use Rattle.nv_base.specs.declared.term.Cmp.{Cmp}
-use Rattle.nv_ast.specs.declared.token.Span.{Span}
-use Rattle.nv_ast.specs.declared.tree.Op.{Op}
-use Rattle.nv_ast.specs.declared.tree.Op.TheVariants.{Add, Sub, And, Or, Xor, Eq, Ne, Lt, Le, Gt, Ge, Both, Either}
+use Rattle.std.proofs.Common.{◌≡◌, ℕ, ◌+◌, ◌<◌, true, false, not, sym, arith}
 use Rattle.nv_ast.specs.Tree.{Tree, BinaryTree, NumberTree, TruthTree, VarTree, ParenTree, TupleTree, FieldsTree, DotTree, InvertTree, NegateTree, ShiftTree, CallTree, UnpackTree, PackTree, RaiseTree, IfTree, TryTree, FetchTree, BlockTree}
 use Rattle.nv_flatten.specs.declared.parts.Ends.{Ends}
 use Rattle.nv_flatten.specs.declared.parts.Ends.TheVariants as ends
-use Rattle.nv_flatten.specs.Code.{arithmetic_of, comparison_of, ends_of}
+use Rattle.nv_flatten.specs.Arms.{is_named}
+use Rattle.nv_flatten.specs.Code.{ends_of, gives, tests, is_given, is_comparison}
 
 -- a value is made by its own function, or by way of code that ends with its words: a comparison's, or another's
 abbrev value_by : Ends → ℕ
@@ -137,82 +134,119 @@ condition_rank-small (TryTree s a x ps h) = omega arith
 condition_rank-small (FetchTree s m n e) = omega arith
 condition_rank-small (BlockTree s sts e) = omega arith
 
--- ---- which calls which, of an operator
+-- ---- which calls which
 
-none-some : {A : Type 0} {x : A} → Some x ≡ None → ⊥
-none-some e = cc
+apart : false ≡ true → ⊥
+apart e = cc
 
-pub named-below : (s : Span) (op : Op) (a b : Tree) → arithmetic_of op ≡ None → ending_rank (BinaryTree s op a b) + 1 < value_rank (BinaryTree s op a b)
-named-below s Add a b h = absurd (none-some h)
-named-below s Sub a b h = absurd (none-some h)
-named-below s And a b h = absurd (none-some h)
-named-below s Or a b h = absurd (none-some h)
-named-below s Xor a b h = absurd (none-some h)
-named-below s Eq a b h = omega arith
-named-below s Ne a b h = omega arith
-named-below s Lt a b h = omega arith
-named-below s Le a b h = omega arith
-named-below s Gt a b h = omega arith
-named-below s Ge a b h = omega arith
-named-below s Both a b h = omega arith
-named-below s Either a b h = omega arith
+-- an expression whose words get names calls its end
+named-below-ends : (n : Ends) → not (gives n) ≡ true → ending_by n + 1 < value_by n
+named-below-ends ends.Value h = absurd (apart h)
+named-below-ends ends.Test h = omega arith
+named-below-ends ends.Both h = omega arith
+named-below-ends ends.Either h = omega arith
 
-pub truth-below : (s : Span) (op : Op) (a b : Tree) → comparison_of op ≡ None → value_rank (BinaryTree s op a b) + 1 < condition_rank (BinaryTree s op a b)
-truth-below s Add a b h = omega arith
-truth-below s Sub a b h = omega arith
-truth-below s And a b h = omega arith
-truth-below s Or a b h = omega arith
-truth-below s Xor a b h = omega arith
-truth-below s Eq a b h = absurd (none-some h)
-truth-below s Ne a b h = absurd (none-some h)
-truth-below s Lt a b h = absurd (none-some h)
-truth-below s Le a b h = absurd (none-some h)
-truth-below s Gt a b h = absurd (none-some h)
-truth-below s Ge a b h = absurd (none-some h)
-truth-below s Both a b h = omega arith
-truth-below s Either a b h = omega arith
+pub named-below : (e : Tree) → is_named e ≡ true → ending_rank e + 1 < value_rank e
+named-below (BinaryTree s op a b) h = named-below-ends (ends_of op) h
+named-below (NumberTree s n) h = absurd (apart h)
+named-below (TruthTree s b) h = absurd (apart h)
+named-below (VarTree s x) h = absurd (apart h)
+named-below (ParenTree s e) h = absurd (apart h)
+named-below (TupleTree s es) h = absurd (apart h)
+named-below (FieldsTree s es) h = absurd (apart h)
+named-below (DotTree s e x) h = absurd (apart h)
+named-below (InvertTree s e) h = absurd (apart h)
+named-below (NegateTree s e) h = absurd (apart h)
+named-below (ShiftTree s op e n) h = absurd (apart h)
+named-below (CallTree s f es) h = omega arith
+named-below (UnpackTree s l e) h = absurd (apart h)
+named-below (PackTree s l e) h = absurd (apart h)
+named-below (RaiseTree s x es) h = omega arith
+named-below (IfTree s c a b) h = omega arith
+named-below (TryTree s a x ps e) h = omega arith
+named-below (FetchTree s m n e) h = absurd (apart h)
+named-below (BlockTree s sts e) h = absurd (apart h)
 
-test-value : ends.Test ≡ ends.Value → ⊥
-test-value e = cc
+-- a condition that is no comparison calls its value
+truth-below-ends : (n : Ends) → tests n ≡ false → value_by n + 1 < condition_by n
+truth-below-ends ends.Value h = omega arith
+truth-below-ends ends.Test h = absurd (apart (sym h))
+truth-below-ends ends.Both h = omega arith
+truth-below-ends ends.Either h = omega arith
 
-both-value : ends.Both ≡ ends.Value → ⊥
-both-value e = cc
+pub truth-below : (e : Tree) → is_comparison e ≡ false → value_rank e + 1 < condition_rank e
+truth-below (BinaryTree s op a b) h = truth-below-ends (ends_of op) h
+truth-below (NumberTree s n) h = omega arith
+truth-below (TruthTree s b) h = omega arith
+truth-below (VarTree s x) h = omega arith
+truth-below (ParenTree s e) h = omega arith
+truth-below (TupleTree s es) h = omega arith
+truth-below (FieldsTree s es) h = omega arith
+truth-below (DotTree s e x) h = omega arith
+truth-below (InvertTree s e) h = omega arith
+truth-below (NegateTree s e) h = omega arith
+truth-below (ShiftTree s op e n) h = omega arith
+truth-below (CallTree s f es) h = omega arith
+truth-below (UnpackTree s l e) h = omega arith
+truth-below (PackTree s l e) h = omega arith
+truth-below (RaiseTree s x es) h = omega arith
+truth-below (IfTree s c a b) h = omega arith
+truth-below (TryTree s a x ps e) h = omega arith
+truth-below (FetchTree s m n e) h = omega arith
+truth-below (BlockTree s sts e) h = omega arith
 
-either-value : ends.Either ≡ ends.Value → ⊥
-either-value e = cc
+-- the end of what steps give calls its value
+given-below-ends : (n : Ends) → gives n ≡ true → value_by n + 1 < ending_by n
+given-below-ends ends.Value h = omega arith
+given-below-ends ends.Test h = absurd (apart h)
+given-below-ends ends.Both h = absurd (apart h)
+given-below-ends ends.Either h = absurd (apart h)
 
-both-test : ends.Both ≡ ends.Test → ⊥
-both-test e = cc
+pub given-below : (e : Tree) → is_given e ≡ true → value_rank e + 1 < ending_rank e
+given-below (BinaryTree s op a b) h = given-below-ends (ends_of op) h
+given-below (NumberTree s n) h = omega arith
+given-below (TruthTree s b) h = omega arith
+given-below (VarTree s x) h = omega arith
+given-below (ParenTree s e) h = absurd (apart h)
+given-below (TupleTree s es) h = omega arith
+given-below (FieldsTree s es) h = omega arith
+given-below (DotTree s e x) h = omega arith
+given-below (InvertTree s e) h = omega arith
+given-below (NegateTree s e) h = omega arith
+given-below (ShiftTree s op e n) h = omega arith
+given-below (CallTree s f es) h = absurd (apart h)
+given-below (UnpackTree s l e) h = omega arith
+given-below (PackTree s l e) h = omega arith
+given-below (RaiseTree s x es) h = absurd (apart h)
+given-below (IfTree s c a b) h = absurd (apart h)
+given-below (TryTree s a x ps e) h = absurd (apart h)
+given-below (FetchTree s m n e) h = omega arith
+given-below (BlockTree s sts e) h = absurd (apart h)
 
-either-test : ends.Either ≡ ends.Test → ⊥
-either-test e = cc
+-- the end of a comparison calls its condition
+decided-below-ends : (n : Ends) → tests n ≡ true → condition_by n + 1 < ending_by n
+decided-below-ends ends.Value h = absurd (apart h)
+decided-below-ends ends.Test h = omega arith
+decided-below-ends ends.Both h = absurd (apart h)
+decided-below-ends ends.Either h = absurd (apart h)
 
-pub given-below : (s : Span) (op : Op) (a b : Tree) → ends_of op ≡ ends.Value → value_rank (BinaryTree s op a b) + 1 < ending_rank (BinaryTree s op a b)
-given-below s Add a b h = omega arith
-given-below s Sub a b h = omega arith
-given-below s And a b h = omega arith
-given-below s Or a b h = omega arith
-given-below s Xor a b h = omega arith
-given-below s Eq a b h = absurd (test-value h)
-given-below s Ne a b h = absurd (test-value h)
-given-below s Lt a b h = absurd (test-value h)
-given-below s Le a b h = absurd (test-value h)
-given-below s Gt a b h = absurd (test-value h)
-given-below s Ge a b h = absurd (test-value h)
-given-below s Both a b h = absurd (both-value h)
-given-below s Either a b h = absurd (either-value h)
-
-pub decided-below : (s : Span) (op : Op) (a b : Tree) → ends_of op ≡ ends.Test → condition_rank (BinaryTree s op a b) + 1 < ending_rank (BinaryTree s op a b)
-decided-below s Add a b h = absurd (test-value (sym h))
-decided-below s Sub a b h = absurd (test-value (sym h))
-decided-below s And a b h = absurd (test-value (sym h))
-decided-below s Or a b h = absurd (test-value (sym h))
-decided-below s Xor a b h = absurd (test-value (sym h))
-decided-below s Eq a b h = omega arith
-decided-below s Ne a b h = omega arith
-decided-below s Lt a b h = omega arith
-decided-below s Le a b h = omega arith
-decided-below s Gt a b h = omega arith
-decided-below s Ge a b h = omega arith
-decided-below s Both a b h = absurd (both-test h)
-decided-below s Either a b h = absurd (either-test h)
+pub decided-below : (e : Tree) → is_comparison e ≡ true → condition_rank e + 1 < ending_rank e
+decided-below (BinaryTree s op a b) h = decided-below-ends (ends_of op) h
+decided-below (NumberTree s n) h = absurd (apart h)
+decided-below (TruthTree s b) h = absurd (apart h)
+decided-below (VarTree s x) h = absurd (apart h)
+decided-below (ParenTree s e) h = absurd (apart h)
+decided-below (TupleTree s es) h = absurd (apart h)
+decided-below (FieldsTree s es) h = absurd (apart h)
+decided-below (DotTree s e x) h = absurd (apart h)
+decided-below (InvertTree s e) h = absurd (apart h)
+decided-below (NegateTree s e) h = absurd (apart h)
+decided-below (ShiftTree s op e n) h = absurd (apart h)
+decided-below (CallTree s f es) h = absurd (apart h)
+decided-below (UnpackTree s l e) h = absurd (apart h)
+decided-below (PackTree s l e) h = absurd (apart h)
+decided-below (RaiseTree s x es) h = absurd (apart h)
+decided-below (IfTree s c a b) h = absurd (apart h)
+decided-below (TryTree s a x ps e) h = absurd (apart h)
+decided-below (FetchTree s m n e) h = absurd (apart h)
+decided-below (BlockTree s sts e) h = absurd (apart h)

@@ -1,5 +1,5 @@
 -- What is declared, in lists: what is said of a list as far as a loop has come.
-use Rattle.std.proofs.Common.{◌≡◌, ◌∙◌, refl, sym, ap, subst, ℕ, zero, suc, ◌+◌, ◌<◌, ◌≤◌, Bool, true, false, List, [], ◌∷◌, ◌++◌, map, length, take, drop, get_or, Option, Some, None, append_assoc, append-nil, add-one, arith, if◌then◌else◌, Bor, Vec, Global}
+use Rattle.std.proofs.Common.{◌≡◌, ◌∙◌, refl, sym, ap, ℕ, zero, suc, ◌+◌, ◌<◌, ◌≤◌, List, [], ◌∷◌, ◌++◌, map, length, drop, get_or, Some, append_assoc, append-nil, add-one, arith, Bor, Vec, Global}
 use Rattle.std.specs.Prelude.{slice_get, replicate, unwrap_or}
 use Rattle.nv_ast.specs.declared.token.Span.{Span}
 use Rattle.nv_ast.specs.declared.tree.Decl.{Decl}
@@ -8,9 +8,9 @@ use Rattle.nv_ast.specs.declared.tree.Fun.{Fun}
 use Rattle.nv_ast.specs.declared.tree.TyText.{TyText}
 use Rattle.nv_ast.specs.ProgramView.{decl_tree, fun_tree}
 use Rattle.nv_ast.specs.TypeView.{list_types}
-use Rattle.nv_ast.specs.Tree.{DeclTree, LayoutDecl, ExceptionDecl, GroupDecl, FunTree, ProgramTree, TypeTrees}
+use Rattle.nv_ast.specs.Tree.{DeclTree, LayoutDecl, ExceptionDecl, GroupDecl, ProgramTree, TypeTrees}
 use Rattle.nv_ast.specs.Outline.{Layouts}
-use Rattle.nv_ast.specs.Types.{Tys, no_tys, types_of}
+use Rattle.nv_ast.specs.Types.{no_tys, types_of}
 use Rattle.nv_meaning.specs.Meaning.{Declared, declared}
 use Rattle.nv_meaning.specs.Tables.{place_from, functions_in}
 use Rattle.nv_meaning.proofs.Places.{declared-functions}

@@ -1,5 +1,5 @@
 -- Statements, and blocks.
-use Rattle.std.proofs.Common.{◌≡◌, ◌∙◌, refl, ap, sym, subst, ℕ, suc, ◌+◌, ◌<◌, ◌≤◌, ◌^◌, Bool, true, false, not, if◌then◌else◌, List, [], ◌∷◌, ◌++◌, append_assoc, append-nil, length, Option, Some, None, All, arith}
+use Rattle.std.proofs.Common.{◌≡◌, ◌∙◌, refl, ap, sym, subst, ℕ, suc, ◌≤◌, true, if◌then◌else◌, List, [], ◌∷◌, ◌++◌, append_assoc, append-nil, length, Option, Some, None, arith}
 use Rattle.nv_base.specs.declared.term.Atom.{Atom}
 use Rattle.nv_base.specs.declared.term.Mem.{Mem}
 use Rattle.nv_base.specs.Words.{Env, atom_word, atom_words}
@@ -15,20 +15,19 @@ use Rattle.nv_ast.specs.Typing.{type_at, vars_after, vars_behind}
 use Rattle.nv_ast.specs.Types.{words_of_value}
 use Rattle.nv_ast.specs.Faults.{Fault, Wanted, faults, statement_faults, statements_faults, node_faults, at_span, a_value, anything, of_type, wanted_stored, variable_twice, not_fitting, can_move, wrong_access, wrong_scratch}
 use Rattle.nv_meaning.specs.Values.{Value, Scope, word_of, words_of, matched}
-use Rattle.nv_meaning.specs.Running.{Running, Result, Gives, Raises, Stops, Stated, GoesOn, StopsAt, and_stated, and_further, then_stated, after_store, store}
+use Rattle.nv_meaning.specs.Running.{Running, Result, Gives, Raises, Stops, Stated, GoesOn, StopsAt, and_further, then_stated, after_store, store}
 use Rattle.nv_meaning.specs.Meaning.{eval, run_one, run_all}
 use Rattle.flat_ir.specs.Running as flat
 use Rattle.flat_ir.specs.Meaning as code
 use Rattle.flat_ir.specs.Spine.{Act, step_does, steps_do}
 use Rattle.flat_ir.specs.declared.spine.Step.{Step}
-use Rattle.nv_flatten.specs.Symbols.{Symbol, SymbolScope, operands, form, value_in, Fits, AreOlder, word_operand, ScopeFits, ScopeOlder, scope_in, vars_of, bound}
+use Rattle.nv_flatten.specs.Symbols.{Symbol, SymbolScope, operands, value_in, Fits, word_operand, ScopeFits, scope_in, vars_of, bound}
 use Rattle.nv_flatten.specs.Runs.{flat_run, onward}
-use Rattle.nv_flatten.specs.Soundness.{AreWords}
 use Rattle.nv_flatten.specs.Whole.{Whole, Stands}
-use Rattle.nv_flatten.specs.Simulation.{Names, Extends, Setting, Begins, Done, IsValue, IsStated, onward_stated}
-use Rattle.nv_flatten.proofs.Keeping.{scope-later, keeps-value, keeps-fit, keeps-scope, keeps-scope_fits, begins-then, begins-done, done-then, words-fit, are-words, extends-itself, extends-then, keeps-then}
+use Rattle.nv_flatten.specs.Simulation.{Names, Extends, Done, IsValue, IsStated, onward_stated}
+use Rattle.nv_flatten.proofs.Keeping.{scope-later, keeps-value, keeps-scope, keeps-scope_fits, begins-then, begins-done, done-then, words-fit, are-words, extends-itself, extends-then}
 use Rattle.nv_flatten.proofs.Fresh.{bound-values, bound-types, bound-fits, bound-older}
-use Rattle.nv_flatten.proofs.Faultless.{none-before, none-behind, no-kinds, not-where, not-false, has-type}
+use Rattle.nv_flatten.proofs.NoFaults.{none-left, none-right, no-kinds, set, value-has-type}
 use Rattle.nv_flatten.proofs.Following.{onward-stated, onward-further, steps-then, stands-inside, fewer, word-of}
 use Rattle.nv_flatten.proofs.AccessArms.{operands-count}
 
@@ -50,7 +49,7 @@ module _ (w : Whole) (names : Names) (low high : ℕ) (scope : SymbolScope) (sp 
   let-clean : (p : Place) → statements_faults p the_let ≡ [] → faults p a_value e ≡ []
   let-clean p none =
       let fit = at_span sp (variable_twice (names_in q) ++ not_fitting q (type_at p.known p.vars e)) in
-      none-before (faults p a_value e) fit (none-before (faults p a_value e ++ fit) [] none)
+      none-left (faults p a_value e) fit (none-left (faults p a_value e ++ fit) [] none)
 
   pub let-stated : low ≤ high → IsValue w names low high scope e steps s → IsStated w names low high scope the_let steps (bound q s scope)
   let-stated le v = record {
@@ -64,7 +63,7 @@ module _ (w : Whole) (names : Names) (low high : ℕ) (scope : SymbolScope) (sp 
         ∙ sym (onward-then_stated (eval w.declared c.call e m now) k next never)
         ∙ sym (onward-alone (then_stated (eval w.declared c.call e m now) k) next never);
     formed = λ own p stands none.
-        let t = has-type p a_value e (let-clean p none) refl in
+        let t = value-has-type p a_value e refl (let-clean p none) in
         ap (λ z. bind_value q z p.vars) t.1
         ∙ ap (bind q t.0) stands.vars
         ∙ ap (λ z. bind q z (vars_of scope)) (sym (v.formed.by own p a_value stands (let-clean p none) t.0 t.1))
@@ -102,22 +101,22 @@ module _ (w : Whole) (names more : Names) (low mid high : ℕ) (scope : SymbolSc
   access_faults p = at_span sp (wrong_access m (words_of_value (type_at p.known p.vars e)) ++ wrong_scratch m a (words_of_value (type_at p.known p.vars e)))
 
   store-none : (p : Place) → statements_faults p the_store ≡ [] → faults p (of_type WordTy) a ++ (faults p wanted_stored e ++ access_faults p) ≡ []
-  store-none p none = none-before (faults p (of_type WordTy) a ++ (faults p wanted_stored e ++ access_faults p)) [] none
+  store-none p none = none-left (faults p (of_type WordTy) a ++ (faults p wanted_stored e ++ access_faults p)) [] none
 
   address-clean : (p : Place) → statements_faults p the_store ≡ [] → faults p (of_type WordTy) a ≡ []
-  address-clean p none = none-before (faults p (of_type WordTy) a) (faults p wanted_stored e ++ access_faults p) (store-none p none)
+  address-clean p none = none-left (faults p (of_type WordTy) a) (faults p wanted_stored e ++ access_faults p) (store-none p none)
 
   behind-address : (p : Place) → statements_faults p the_store ≡ [] → faults p wanted_stored e ++ access_faults p ≡ []
-  behind-address p none = none-behind (faults p (of_type WordTy) a) (faults p wanted_stored e ++ access_faults p) (store-none p none)
+  behind-address p none = none-right (faults p (of_type WordTy) a) (faults p wanted_stored e ++ access_faults p) (store-none p none)
 
   value-clean : (p : Place) → statements_faults p the_store ≡ [] → faults p wanted_stored e ≡ []
-  value-clean p none = none-before (faults p wanted_stored e) (access_faults p) (behind-address p none)
+  value-clean p none = none-left (faults p wanted_stored e) (access_faults p) (behind-address p none)
 
   moves-words : (p : Place) (t : Ty) → statements_faults p the_store ≡ [] → type_at p.known p.vars e ≡ Some t → can_move m (words t) ≡ true
   moves-words p t none is =
       let n = words_of_value (type_at p.known p.vars e) in
-      let kinds = no-kinds sp (wrong_access m n ++ wrong_scratch m a n) (none-behind (faults p wanted_stored e) (access_faults p) (behind-address p none)) in
-      ap (λ o. can_move m (words_of_value o)) (sym is) ∙ not-false (can_move m n) (not-where {A = ℕ} (not (can_move m n)) 19 (none-before (wrong_access m n) (wrong_scratch m a n) kinds))
+      let kinds = no-kinds sp (wrong_access m n ++ wrong_scratch m a n) (none-right (faults p wanted_stored e) (access_faults p) (behind-address p none)) in
+      ap (λ o. can_move m (words_of_value o)) (sym is) ∙ (set (can_move m n) 19 (none-left (wrong_access m n) (wrong_scratch m a n) kinds))
 
   pub store-stated : StoresTo m (word_operand s) (operands u) step → Extends names more → low ≤ mid → mid ≤ high → IsValue w names low mid scope a ss s → IsValue w more mid high scope e ts u
       → IsStated w more low high scope the_store ((ss ++ ts) ++ step ∷ []) scope
@@ -140,7 +139,7 @@ module _ (w : Whole) (names more : Names) (low mid high : ℕ) (scope : SymbolSc
         let at = atom_word after (word_operand s) in
         let spelled = words-fit after u done'.fits in
         let both = done-then low mid env new after (Fits new s) (Fits after u) last end le done done' in
-        let t = has-type p wanted_stored e (value-clean p none) refl in
+        let t = value-has-type p wanted_stored e refl (value-clean p none) in
         let count : length (words_of y) ≡ words t.0 = ap length spelled ∙ atoms-count after (operands u) ∙ operands-count u ∙ ap words (v'.formed.by own p wanted_stored stands (value-clean p none) t.0 t.1) in
         let moves : can_move m (length (words_of y)) ≡ true = ap (can_move m) count ∙ moves-words p t.0 none t.1 in
         stores c.fcall rest after (flat_run end)
@@ -184,10 +183,10 @@ module _ (w : Whole) (names more : Names) (low mid high : ℕ) (scope inner : Sy
   }
     where
       first-clean : (p : Place) → statements_faults p (statement_and st sts) ≡ [] → statements_faults p (statement_and st no_statements) ≡ []
-      first-clean p none = append-nil (statement_faults p st) ∙ none-before (statement_faults p st) (statements_faults (with_vars (vars_after p.known p.vars st) p) sts) none
+      first-clean p none = append-nil (statement_faults p st) ∙ none-left (statement_faults p st) (statements_faults (with_vars (vars_after p.known p.vars st) p) sts) none
 
       others-clean : (p : Place) → statements_faults p (statement_and st sts) ≡ [] → statements_faults (with_vars (vars_after p.known p.vars st) p) sts ≡ []
-      others-clean p none = none-behind (statement_faults p st) (statements_faults (with_vars (vars_after p.known p.vars st) p) sts) none
+      others-clean p none = none-right (statement_faults p st) (statements_faults (with_vars (vars_after p.known p.vars st) p) sts) none
 
       stands-behind : (own : ℕ) (p : Place) → Stands w own scope p → statements_faults p (statement_and st sts) ≡ [] → Stands w own inner (with_vars (vars_after p.known p.vars st) p)
       stands-behind own p stands none = record { part = stands.part; vars = v.formed own p stands (first-clean p none) }
@@ -233,12 +232,12 @@ module _ (w : Whole) (names more : Names) (low mid high : ℕ) (scope inner : Sy
   }
     where
       statements-clean : (p : Place) (wanted : Wanted) → faults p wanted (BlockTree sp sts e) ≡ [] → statements_faults (inside p) sts ≡ []
-      statements-clean p wanted none = none-before (statements_faults (inside p) sts) (faults (with_vars (vars_behind p.known p.vars sts) p) anything e ++ node_faults p wanted (BlockTree sp sts e)) none
+      statements-clean p wanted none = none-left (statements_faults (inside p) sts) (faults (with_vars (vars_behind p.known p.vars sts) p) anything e ++ node_faults p wanted (BlockTree sp sts e)) none
 
       last-clean : (p : Place) (wanted : Wanted) → faults p wanted (BlockTree sp sts e) ≡ [] → faults (with_vars (vars_behind p.known p.vars sts) p) anything e ≡ []
       last-clean p wanted none =
-          none-before (faults (with_vars (vars_behind p.known p.vars sts) p) anything e) (node_faults p wanted (BlockTree sp sts e))
-          (none-behind (statements_faults (inside p) sts) (faults (with_vars (vars_behind p.known p.vars sts) p) anything e ++ node_faults p wanted (BlockTree sp sts e)) none)
+          none-left (faults (with_vars (vars_behind p.known p.vars sts) p) anything e) (node_faults p wanted (BlockTree sp sts e))
+          (none-right (statements_faults (inside p) sts) (faults (with_vars (vars_behind p.known p.vars sts) p) anything e ++ node_faults p wanted (BlockTree sp sts e)) none)
 
       stands-behind : (own : ℕ) (p : Place) (wanted : Wanted) → Stands w own scope p → faults p wanted (BlockTree sp sts e) ≡ [] → Stands w own inner (with_vars (vars_behind p.known p.vars sts) p)
       stands-behind own p wanted stands none = record { part = stands.part; vars = v.formed own (inside p) (stands-inside w own scope p stands) (statements-clean p wanted none) }

@@ -1,9 +1,9 @@
 -- Conditions: steps and a comparison that is a condition's truth.
-use Rattle.std.proofs.Common.{◌≡◌, ◌∙◌, refl, ap, sym, subst, ℕ, ◌≤◌, ◌==◌, nat_eq, Bool, true, false, not, if◌then◌else◌, List, [], ◌∷◌, ◌++◌, Option, Some, None}
+use Rattle.std.proofs.Common.{◌≡◌, ◌∙◌, refl, ap, sym, subst, ℕ, ◌≤◌, Bool, true, false, not, if◌then◌else◌, List, [], ◌++◌, Option, Some, None}
 use Rattle.std.specs.Prelude.{⊤}
 use Rattle.std.proofs.lemmas.List.Elements.{All-head}
 use Rattle.nv_base.specs.declared.term.Atom.{Atom}
-use Rattle.nv_base.specs.declared.term.Atom.TheVariants.{Var, Lit}
+use Rattle.nv_base.specs.declared.term.Atom.TheVariants.{Lit}
 use Rattle.nv_base.specs.declared.term.Cmp.{Cmp}
 use Rattle.nv_base.specs.declared.term.Cmp.TheVariants as cmp
 use Rattle.nv_base.specs.Words.{Env, atom_word, compares}
@@ -24,7 +24,6 @@ use Rattle.flat_ir.specs.Spine.{Act, steps_do}
 use Rattle.flat_ir.specs.declared.spine.Step.{Step}
 use Rattle.nv_flatten.specs.Symbols.{Symbol, Word, Truth, Tuple, Record, SymbolScope, operands, form, value_in, scope_in, Fits, IsOlder, AreOlder, ScopeOlder, word_operand, truth_operand}
 use Rattle.nv_flatten.specs.Code.{comparison_of}
-use Rattle.nv_flatten.specs.View.{Named, scope_of}
 use Rattle.nv_flatten.specs.Runs.{flat_run, onward}
 use Rattle.nv_flatten.specs.Whole.{Whole, Stands}
 use Rattle.nv_flatten.specs.Simulation.{Names, Extends, Setting, Begins, Done, IsValue, IsTest}
@@ -188,28 +187,3 @@ compare-test w names later low mid high scope a b ss ts s u va vb more le le' sp
           let right = word-older high u (vb.older (scope-later low mid scope le o)) in
           (picked-older high swapped (word_operand u) (word_operand s) right left, picked-older high swapped (word_operand s) (word_operand u) left right);
     }
-
--- ---- as the code has them: the scope is a list, and the parts are equal to these
-pub test-as : (w : Whole) (names : Names) (low high : ℕ) (scope : SymbolScope) (e : Tree) (steps steps' : List Step) (c : Cmp) (a a' b b' : Atom) → steps' ≡ steps → a' ≡ a → b' ≡ b
-    → IsTest w names low high scope e steps c a b → IsTest w names low high scope e steps' c a' b'
-test-as w names low high scope e steps steps' c a a' b b' p q r v =
-    subst (λ l. IsTest w names low high scope e l c a' b') (sym p) (subst (λ x. IsTest w names low high scope e steps c x b') (sym q) (subst (λ x. IsTest w names low high scope e steps c a x) (sym r) v))
-
-pub compare-code : (w : Whole) (names later : Names) (low mid high : ℕ) (xs ys : List Named) (a b : Tree) (ss ts steps : List Step) (s u : Symbol)
-    → IsValue w names low mid (scope_of xs []) a ss s → IsValue w later mid high (scope_of ys []) b ts u → ys ≡ xs → Extends names later → low ≤ mid → mid ≤ high → steps ≡ ss ++ ts
-    → (c : Cmp) (swapped : Bool) (x y : Atom) → x ≡ word_operand s → y ≡ word_operand u → (pair : Atom × Atom) (way : Bool) → swapped ≡ way → pair ≡ (if way then (y, x) else (x, y))
-    → (sp : Span) (op : Op) → comparison_of op ≡ Some (c, swapped) → IsTest w later low high (scope_of xs []) (BinaryTree sp op a b) steps c pair.0 pair.1
-compare-code w names later low mid high xs ys a b ss ts steps s u va vb same more le le' joined c swapped x y ex ey pair true way is sp op found =
-    subst (λ (q : Atom × Atom). IsTest w later low high (scope_of xs []) (BinaryTree sp op a b) steps c q.0 q.1) (sym is)
-    (test-as w later low high (scope_of xs []) (BinaryTree sp op a b) (ss ++ ts) steps c (word_operand u) y (word_operand s) x joined ey ex
-    (compare-test w names later low mid high (scope_of xs []) a b ss ts s u va (subst (λ l. IsValue w later mid high (scope_of l []) b ts u) same vb) more le le' sp op c true (found ∙ ap (λ z. Some (c, z)) way)))
-compare-code w names later low mid high xs ys a b ss ts steps s u va vb same more le le' joined c swapped x y ex ey pair false way is sp op found =
-    subst (λ (q : Atom × Atom). IsTest w later low high (scope_of xs []) (BinaryTree sp op a b) steps c q.0 q.1) (sym is)
-    (test-as w later low high (scope_of xs []) (BinaryTree sp op a b) (ss ++ ts) steps c (word_operand s) x (word_operand u) y joined ex ey
-    (compare-test w names later low mid high (scope_of xs []) a b ss ts s u va (subst (λ l. IsValue w later mid high (scope_of l []) b ts u) same vb) more le le' sp op c false (found ∙ ap (λ z. Some (c, z)) way)))
-
-pub test-of : (w : Whole) (names : Names) (low high : ℕ) (scope : SymbolScope) (e e' : Tree) (steps : List Step) (c : Cmp) (a b : Atom) → e' ≡ e → IsTest w names low high scope e steps c a b → IsTest w names low high scope e' steps c a b
-test-of w names low high scope e e' steps c a b p v = subst (λ t. IsTest w names low high scope t steps c a b) (sym p) v
-
-pub test-in : (w : Whole) (names : Names) (low high : ℕ) (xs ys : List Named) (e : Tree) (steps : List Step) (c : Cmp) (a b : Atom) → xs ≡ ys → IsTest w names low high (scope_of xs []) e steps c a b → IsTest w names low high (scope_of ys []) e steps c a b
-test-in w names low high xs ys e steps c a b p v = subst (λ l. IsTest w names low high (scope_of l []) e steps c a b) p v

@@ -1,41 +1,33 @@
 -- One lemma for each expression whose value needs no words in memory: its steps and its symbolic value.
-use Rattle.std.proofs.Common.{◌≡◌, ◌∙◌, refl, ap, sym, subst, ℕ, zero, suc, ◌+◌, ◌-◌, ◌<◌, ◌≤◌, ◌^◌, ◌==◌, Bool, true, false, not, if◌then◌else◌, List, [], ◌∷◌, ◌++◌, append_assoc, Option, Some, None, option_map, bytes_eq, nat_lt, bit_xor, All, arith, rules, tests}
-use Rattle.std.proofs.lemmas.List.Elements.{All-nil, All-cons}
-use Rattle.nv_base.specs.declared.term.Atom.{Atom}
+use Rattle.std.proofs.Common.{◌≡◌, ◌∙◌, refl, ap, sym, subst, ℕ, zero, suc, ◌+◌, ◌<◌, ◌≤◌, ◌^◌, ◌==◌, Bool, true, false, not, if◌then◌else◌, List, [], ◌∷◌, ◌++◌, Option, Some, None, bytes_eq, bit_xor, arith}
 use Rattle.nv_base.specs.declared.term.Atom.TheVariants.{Var, Lit}
-use Rattle.nv_base.specs.declared.term.Bin.{Bin}
 use Rattle.nv_base.specs.declared.term.Bin.TheVariants as bin
 use Rattle.nv_base.specs.declared.term.Una.TheVariants as una
-use Rattle.nv_base.specs.declared.term.Primitive.{Primitive}
 use Rattle.nv_base.specs.declared.term.Primitive.TheVariants.{Una as UnaOf, Bin as BinOf}
-use Rattle.nv_base.specs.Words.{Env, word, atom_word, assigned, prim_word, bin_word, word_not}
-use Rattle.nv_base.specs.Memories.{HasSizes}
+use Rattle.nv_base.specs.Words.{Env, word, atom_word, word_not}
 use Rattle.nv_ast.specs.declared.token.Span.{Span}
-use Rattle.nv_ast.specs.declared.tree.Op.{Op}
-use Rattle.nv_ast.specs.declared.tree.Op.TheVariants.{Add, Sub, And, Or, Xor, Eq, Ne, Lt, Le, Gt, Ge, Both, Either}
-use Rattle.nv_ast.specs.Tree.{Tree, NumberTree, TruthTree, VarTree, ParenTree, DotTree, InvertTree, NegateTree, BinaryTree}
+use Rattle.nv_ast.specs.Tree.{Tree, NumberTree, TruthTree, VarTree, ParenTree, DotTree, InvertTree, NegateTree}
 use Rattle.nv_ast.specs.Tests.{look_up}
-use Rattle.nv_ast.specs.Types.{Ty, WordTy, BoolTy, TupleTy, RecordTy, NamedTys, no_named_tys, named_ty_and}
-use Rattle.nv_ast.specs.Scope.{Place, Vars, inside}
-use Rattle.nv_ast.specs.Typing.{type_at, field_ty, fields_of as fields_of_ty, operand_ty, result_ty}
+use Rattle.nv_ast.specs.Types.{Ty, WordTy, BoolTy}
+use Rattle.nv_ast.specs.Scope.{Place, inside}
+use Rattle.nv_ast.specs.Typing.{type_at, field_ty, fields_of as fields_of_ty}
 use Rattle.nv_ast.specs.Faults.{Wanted, faults, node_faults, a_value, of_type}
 use Rattle.nv_meaning.specs.Values.{Value, word_of, truth_of, variable_in}
 use Rattle.nv_meaning.specs.Values as meaning
 use Rattle.nv_meaning.specs.Running.{Running, Result, Gives, and_then}
-use Rattle.nv_meaning.specs.Meaning.{Declared, Calls, eval, binary, combined}
+use Rattle.nv_meaning.specs.Meaning.{Calls, eval}
 use Rattle.flat_ir.specs.Running as flat
 use Rattle.flat_ir.specs.Meaning as code
 use Rattle.flat_ir.specs.Spine.{Act, steps_do}
 use Rattle.flat_ir.specs.declared.spine.Step.{Step}
 use Rattle.flat_ir.specs.declared.spine.Step.TheVariants.{Let}
-use Rattle.nv_flatten.specs.Code.{arithmetic_of}
 use Rattle.nv_flatten.specs.Symbols.{Symbol, Word, Truth, Tuple, Record, NamedSymbols, no_named_symbols, named_symbol_and, SymbolScope, operands, named_operands, form, named_forms, value_in, named_values_in, Fits, NamedFit, AreOlder, word_operand, truth_operand, fields_of, field_named, symbol_in, ScopeFits, ScopeOlder, scope_in, vars_of}
 use Rattle.nv_flatten.specs.Runs.{flat_run, onward}
 use Rattle.nv_flatten.specs.Whole.{Whole, Stands}
-use Rattle.nv_flatten.specs.Simulation.{Names, Extends, Setting, Begins, Done, Simulates, HasForm, IsValue}
-use Rattle.nv_flatten.proofs.Keeping.{older-left, older-right, older-later, scope-later, keeps-value, keeps-fit, keeps-scope, begins-then, begins-done, done-then}
-use Rattle.nv_flatten.proofs.Faultless.{none-before, none-behind, some-same, none-some}
-use Rattle.nv_flatten.proofs.Following.{onward-then, steps-then, stands-inside, value-more, word-of, word-fits, truth-of, truth-fits, one-older, assigned-here, defined}
+use Rattle.nv_flatten.specs.Simulation.{Names, Done, HasForm, IsValue}
+use Rattle.nv_flatten.proofs.Keeping.{older-left, older-right, older-later, begins-done}
+use Rattle.nv_flatten.proofs.NoFaults.{none-left, some-same, none-some}
+use Rattle.nv_flatten.proofs.Following.{onward-then, steps-then, stands-inside, word-of, truth-of, truth-fits, one-older, assigned-here, defined}
 
 word-same : (n : ℕ) → n < 2 ^ 32 → word n ≡ n
 word-same n h = omega arith
@@ -118,8 +110,8 @@ module _ (w : Whole) (names : Names) (low high : ℕ) (scope : SymbolScope) wher
   -- ---- parentheses
   pub paren-value : (sp : Span) (a : Tree) (steps : List Step) (s : Symbol) → IsValue w names low high scope a steps s → IsValue w names low high scope (ParenTree sp a) steps s
   paren-value sp a steps s v = record {
-    simulates = record { by = λ own p wanted stands none. v.simulates.by own p a_value stands (none-before (faults p a_value a) (node_faults p wanted (ParenTree sp a)) none) };
-    formed = record { by = λ own p wanted stands none. v.formed.by own p a_value stands (none-before (faults p a_value a) (node_faults p wanted (ParenTree sp a)) none) };
+    simulates = record { by = λ own p wanted stands none. v.simulates.by own p a_value stands (none-left (faults p a_value a) (node_faults p wanted (ParenTree sp a)) none) };
+    formed = record { by = λ own p wanted stands none. v.formed.by own p a_value stands (none-left (faults p a_value a) (node_faults p wanted (ParenTree sp a)) none) };
     older = v.older;
   }
 
@@ -140,7 +132,7 @@ module _ (w : Whole) (names : Names) (low mid high : ℕ) (scope : SymbolScope) 
   unary v means parts makes formed older = record {
     simulates = record {
       by = λ own p wanted stands none o c env now begins rest next same.
-          let clean = none-before (faults (inside p) (of p) a) (node_faults p wanted e) (sym (parts p wanted) ∙ none) in
+          let clean = none-left (faults (inside p) (of p) a) (node_faults p wanted e) (sym (parts p wanted) ∙ none) in
           let made = makes own p wanted stands none o in
           steps-then c.fcall ss ts rest env (flat_run now)
           ∙ v.simulates.by own (inside p) (of p) (stands-inside w own scope p stands) clean o c env now begins (steps_do c.fcall ts rest) (λ x last. onward (k x last) next) (λ new last done. made c.fcall env new last done rest next same)
@@ -218,7 +210,7 @@ module _ (w : Whole) (names : Names) (low high : ℕ) (scope : SymbolScope) wher
   dot-value sp a x ss s v = record {
     simulates = record {
       by = λ own p wanted stands none o c env now begins rest next same.
-          let clean = none-before (faults (inside p) a_value a) (node_faults p wanted (DotTree sp a x)) none in
+          let clean = none-left (faults (inside p) a_value a) (node_faults p wanted (DotTree sp a x)) none in
           let k : Value → Running → Result = λ y last. Gives (meaning.field_named x (meaning.fields_of y)) last in
           v.simulates.by own (inside p) a_value (stands-inside w own scope p stands) clean o c env now begins rest (λ y last. onward (k y last) next)
           (λ new last done. same new last (record { sizes = done.sizes; keeps = done.keeps; fits = field-fits new x s done.fits }) ∙ ap (λ z. next z last) (field-value new x s))
@@ -226,7 +218,7 @@ module _ (w : Whole) (names : Names) (low high : ℕ) (scope : SymbolScope) wher
     };
     formed = record {
       by = λ own p wanted stands none t is.
-          let clean = none-before (faults (inside p) a_value a) (node_faults p wanted (DotTree sp a x)) none in
+          let clean = none-left (faults (inside p) a_value a) (node_faults p wanted (DotTree sp a x)) none in
           field-typed x s (type_at p.known p.vars a) t (λ u e. v.formed.by own (inside p) a_value (stands-inside w own scope p stands) clean u e) is;
     };
     older = λ o. field-older high x s (v.older o);

@@ -1,15 +1,15 @@
 -- The arms as the functions of the walk have them: equal steps, symbolic values, scopes and numbers.
-use Rattle.std.proofs.Common.{◌≡◌, ◌∙◌, refl, ap, sym, subst, inl, inr, ◌⊎◌, ⊎_elim, ℕ, zero, suc, ◌+◌, ◌<◌, ◌≤◌, List, [], ◌∷◌, ◌++◌, length, take, append-nil, All, arith}
+use Rattle.std.proofs.Common.{◌≡◌, ◌∙◌, refl, ap, sym, subst, inl, inr, ◌⊎◌, ⊎_elim, ℕ, zero, suc, ◌+◌, ◌<◌, ◌≤◌, List, [], ◌∷◌, ◌++◌, length, take, append-nil, arith}
 use Rattle.std.proofs.Math.Seq.{take-append_seam}
 use Rattle.std.proofs.lemmas.Bool.{cases_lt}
 use Rattle.nv_base.specs.declared.term.Atom.{Atom}
-use Rattle.nv_base.specs.declared.term.Atom.TheVariants.{Var, Lit}
+use Rattle.nv_base.specs.declared.term.Atom.TheVariants.{Var}
 use Rattle.nv_base.specs.Words.{Env, atom_words}
 use Rattle.nv_ast.specs.declared.token.Span.{Span}
 use Rattle.nv_ast.specs.declared.tree.ShiftOp.{ShiftOp}
 use Rattle.nv_ast.specs.Bits.{packed}
 use Rattle.nv_ast.specs.Outline.{outline, IsSound}
-use Rattle.nv_ast.specs.Tree.{Tree, ShiftTree, UnpackTree, NamedLayout, StatementTrees}
+use Rattle.nv_ast.specs.Tree.{Tree, ShiftTree, UnpackTree, NamedLayout}
 use Rattle.nv_ast.specs.Types.{packed_words, unpacked_ty}
 use Rattle.nv_meaning.specs.Packing.{value_at}
 use Rattle.flat_ir.specs.declared.spine.Step.{Step}
@@ -19,8 +19,7 @@ use Rattle.nv_flatten.specs.Symbols.{Symbol, Word, SymbolScope, operands, form, 
 use Rattle.nv_flatten.specs.Soundness.{AreWords}
 use Rattle.nv_flatten.specs.View.{Named, scope_of}
 use Rattle.nv_flatten.specs.Whole.{Whole}
-use Rattle.nv_flatten.specs.Simulation.{Names, Extends, IsValue, IsStated}
-use Rattle.nv_flatten.proofs.Keeping.{extends-then}
+use Rattle.nv_flatten.specs.Simulation.{Names, Extends, IsValue}
 use Rattle.nv_flatten.proofs.WordArms.{shift-same, shift-value}
 use Rattle.nv_flatten.proofs.AccessArms.{unpack-value}
 
@@ -31,10 +30,6 @@ value-as w names low high high' scope e steps steps' s s' n ss is v =
 
 pub value-in-scope : (w : Whole) (names : Names) (low high : ℕ) (xs ys : List Named) (e : Tree) (steps : List Step) (s : Symbol) → xs ≡ ys → IsValue w names low high (scope_of xs []) e steps s → IsValue w names low high (scope_of ys []) e steps s
 value-in-scope w names low high xs ys e steps s is v = subst (λ x. IsValue w names low high (scope_of x []) e steps s) is v
-
-pub stated-as : (w : Whole) (names : Names) (low high : ℕ) (scope : SymbolScope) (sts : StatementTrees) (steps steps' : List Step) (inner inner' : SymbolScope)
-    → steps' ≡ steps → inner' ≡ inner → IsStated w names low high scope sts steps inner → IsStated w names low high scope sts steps' inner'
-stated-as w names low high scope sts steps steps' inner inner' ss is v = subst (λ x. IsStated w names low high scope sts steps' x) (sym is) (subst (λ x. IsStated w names low high scope sts x inner) (sym ss) v)
 
 -- ---- a shift, whatever the count
 count-cases : (n : ℕ) → (n ≡ 0) ⊎ (1 ≤ n)

@@ -1,46 +1,40 @@
 -- The value of each kind of expression is well formed where its parts are.
-use Rattle.std.proofs.Common.{◌≡◌, ℕ, zero, suc, ◌+◌, ◌<◌, ◌≤◌, Bool, true, false, not, nat_le, nat_lt, ◌&&◌, ◌||◌, List, [], ◌∷◌, ◌++◌, refl, sym, ap, subst, ◌∙◌, append_assoc, Option, Some, None, is_none, option_map, length, slice_get, if◌then◌else◌, bytes_eq, ◌⊎◌, ⊎_elim, inl, inr, arith}
-use Rattle.std.proofs.lemmas.Bool.{and_parts, and_from, not-false, ltb-false, le-leb, false≢true, cases_order}
+use Rattle.std.proofs.Common.{◌≡◌, ℕ, zero, suc, ◌+◌, ◌≤◌, Bool, true, false, not, nat_le, nat_lt, ◌&&◌, ◌||◌, List, [], ◌∷◌, ◌++◌, refl, sym, ap, subst, ◌∙◌, Option, Some, length, if◌then◌else◌, bytes_eq, ◌⊎◌, inl, inr, arith}
+use Rattle.std.proofs.lemmas.Bool.{and_from, not-false, ltb-false, le-leb}
 use Rattle.nv_base.specs.declared.term.Mem.{Mem}
 use Rattle.nv_base.specs.declared.term.Atom.{Atom}
 use Rattle.nv_base.specs.declared.term.Atom.TheVariants.{Var, Lit}
 use Rattle.nv_base.specs.declared.term.Bin.{Bin}
 use Rattle.nv_base.specs.declared.term.Bin.TheVariants.{Xor}
-use Rattle.nv_base.specs.declared.term.Una.TheVariants.{Not, Shl, Shr, Rol}
+use Rattle.nv_base.specs.declared.term.Una.TheVariants.{Not}
 use Rattle.nv_base.specs.declared.term.Primitive.{Primitive}
 use Rattle.nv_base.specs.declared.term.Primitive.TheVariants.{Una as UnaOf, Bin as BinOf}
 use Rattle.nv_ast.specs.declared.token.Span.{Span}
 use Rattle.nv_ast.specs.declared.tree.Op.{Op}
 use Rattle.nv_ast.specs.declared.tree.ShiftOp.{ShiftOp}
 use Rattle.nv_ast.specs.declared.tree.ShiftOp.TheVariants.{Left, Right, Rotate}
-use Rattle.nv_ast.specs.Outline.{OutlineTree, outline, IsSound}
+use Rattle.nv_ast.specs.Outline.{outline, IsSound}
 use Rattle.nv_ast.specs.Tree.{NamedLayout, Tree, NumberTree, TruthTree, VarTree, ParenTree, TupleTree, FieldsTree, DotTree, InvertTree, NegateTree, BinaryTree, ShiftTree, UnpackTree, PackTree, FetchTree, BlockTree, Trees, NamedTrees, StatementTrees}
 use Rattle.nv_ast.specs.Tests.{is_among, names_of, look_up}
-use Rattle.nv_ast.specs.Types.{Ty, WordTy, BoolTy, words, packed_words, packed_ty, can_pack, form_of}
+use Rattle.nv_ast.specs.Types.{WordTy, BoolTy, words, packed_words, packed_ty, can_pack, form_of}
 use Rattle.nv_ast.specs.Scope.{Place, inside, with_vars}
-use Rattle.nv_ast.specs.Typing.{type_at, vars_behind, operand_ty}
-use Rattle.nv_ast.specs.Faults.{Wanted, a_value, of_type, anything, wanted_packed, wanted_unpacked, faults, list_faults, named_faults, statements_faults, wrong_access, wrong_scratch, can_move}
+use Rattle.nv_ast.specs.Typing.{vars_behind, operand_ty}
+use Rattle.nv_ast.specs.Faults.{a_value, of_type, anything, wanted_packed, wanted_unpacked, faults, list_faults, named_faults, statements_faults, wrong_access, wrong_scratch, can_move}
 use Rattle.flat_ir.specs.declared.spine.Step.{Step}
 use Rattle.flat_ir.specs.declared.spine.Step.TheVariants.{Let, Fetch}
 use Rattle.flat_ir.specs.Formed as flat
 use Rattle.flat_ir.specs.Formed.{is_known, all_known, is_primitive}
 use Rattle.nv_flatten.specs.Code.{shift_of, variables}
-use Rattle.nv_flatten.specs.Symbols.{Symbol, Symbols, NamedSymbols, SymbolScope, Word, Truth, Tuple, Record, operands, all_operands, named_operands, form, forms, word_operand, truth_operand, fields_of, field_named, symbol_in, numbers_from, words_symbol, vars_of}
+use Rattle.nv_flatten.specs.Symbols.{Symbol, Symbols, NamedSymbols, SymbolScope, Word, Truth, Tuple, Record, operands, form, word_operand, truth_operand, fields_of, field_named, symbol_in, numbers_from, words_symbol, vars_of}
 use Rattle.nv_flatten.specs.Simulation.{Names, Extends, HasForm}
 use Rattle.nv_flatten.specs.Whole.{Whole, Stands}
-use Rattle.nv_flatten.specs.Well.{Linked, ScopeKnown, Rises, WellSteps, Knows, IsLiteral, IsWellValue, AreWellValues, AreWellFields, IsWellStated, AreWellLets}
+use Rattle.nv_flatten.specs.Well.{ScopeKnown, Rises, WellSteps, Knows, IsWellValue, AreWellValues, AreWellFields, IsWellStated, AreWellLets}
 use Rattle.nv_flatten.proofs.Sound.{wanted-type, value-has-type}
-use Rattle.nv_flatten.proofs.WellBasics.{nil-left, nil-right, knows-both, knows-left, knows-right, knows-one, knows-first, knows-new, knows-variables, knows-word, knows-truth, knows-field, knows-in, atoms-more, words-operands, operands-words, numbers-length, words-ty-words, rises-numbers}
+use Rattle.nv_flatten.proofs.WellBasics.{nil-left, nil-right, knows-both, knows-left, knows-right, knows-one, knows-new, knows-variables, knows-word, knows-truth, knows-field, knows-in, atoms-more, words-operands, operands-words, numbers-length, words-ty-words, rises-numbers}
 use Rattle.nv_flatten.proofs.WellTypes.{not-where, low-of, middle-of, right-of, stands-inside, move-same, address-formed}
 use Rattle.nv_flatten.specs.Well.{steps_calls, AreCalled}
 use Rattle.nv_flatten.proofs.WellNames.{called-none, steps-called-more, steps-called-then}
 use Rattle.nv_flatten.proofs.WellSteps.{steps-none, steps-names, steps-knowing, steps-then, steps-last, steps-compute}
-
--- ---- the same at equal steps, numbers and values
-pub value-at : (w : Whole) (old names : Names) (low high high' : ℕ) (scope : SymbolScope) (e : Tree) (ss ss' : List Step) (v v' : Symbol) → high' ≡ high → ss' ≡ ss → v' ≡ v
-    → IsWellValue w old names low high scope e ss v → IsWellValue w old names low high' scope e ss' v'
-value-at w old names low high high' scope e ss ss' v v' n s x a =
-    subst (λ k. IsWellValue w old names low k scope e ss' v') (sym n) (subst (λ k. IsWellValue w old names low high scope e k v') (sym s) (subst (λ k. IsWellValue w old names low high scope e ss k) (sym x) a))
 
 -- ---- without steps
 pub number-well : (w : Whole) (names : Names) (low : ℕ) (scope : SymbolScope) (sp : Span) (n : ℕ) → IsWellValue w names names low low scope (NumberTree sp n) [] (Word (Lit n))

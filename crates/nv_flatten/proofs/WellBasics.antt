@@ -1,9 +1,9 @@
 -- Known variables, rising numbers and raised exceptions along lists.
-use Rattle.std.proofs.Common.{◌≡◌, ℕ, zero, suc, ◌+◌, ◌<◌, ◌≤◌, Bool, true, false, not, nat_eq, ◌&&◌, ◌||◌, List, [], ◌∷◌, ◌++◌, refl, sym, ap, subst, ◌∙◌, Option, Some, None, length, slice_get, bytes_eq, if◌then◌else◌, ◌==◌, arith}
+use Rattle.std.proofs.Common.{◌≡◌, ℕ, zero, suc, ◌+◌, ◌<◌, ◌≤◌, Bool, true, false, not, nat_eq, ◌&&◌, ◌||◌, List, [], ◌∷◌, ◌++◌, refl, sym, ap, ◌∙◌, length, bytes_eq, if◌then◌else◌, ◌==◌, arith}
 use Rattle.std.proofs.lemmas.Bool.{and_parts, and_from, or_right, or_from, eqb-true, eq-eqb, false_from_ne_true, not_from_false}
 use Rattle.nv_base.specs.declared.term.Atom.{Atom}
 use Rattle.nv_base.specs.declared.term.Atom.TheVariants.{Var, Lit}
-use Rattle.nv_ast.specs.Types.{Ty, Tys, WordTy, TupleTy, words, total_words, total_named_words, word_parts, words_ty}
+use Rattle.nv_ast.specs.Types.{WordTy, TupleTy, words, total_words, total_named_words, word_parts, words_ty}
 use Rattle.flat_ir.specs.declared.spine.Step.{Step}
 use Rattle.flat_ir.specs.Formed.{is_in, all_different, is_known, all_known}
 use Rattle.flat_ir.specs.Pieces.{new_vars, known_behind}
@@ -12,7 +12,7 @@ use Rattle.nv_flatten.specs.Code.{variables}
 use Rattle.nv_flatten.specs.Symbols.{Symbol, Symbols, NamedSymbols, Word, Truth, Tuple, Record, no_symbols, symbol_and, no_named_symbols, named_symbol_and, SymbolScope, operands, all_operands, named_operands, form, forms, named_forms, numbers_from, word_operand, truth_operand, fields_of, field_named, symbol_in, words_symbol, word_symbols, bound, all_bound}
 use Rattle.nv_ast.specs.Tree.{PatternTree, NamePattern, AnyPattern, TuplePattern, PatternTrees, no_patterns, pattern_and}
 use Rattle.nv_flatten.specs.Whole.{Whole}
-use Rattle.nv_flatten.specs.Well.{ScopeKnown, Rises, IsRaised, RaisedMatch}
+use Rattle.nv_flatten.specs.Well.{ScopeKnown, Rises, RaisedMatch}
 
 -- ---- lists of nothing
 pub nil-left : {A : Type 0} (xs ys : List A) → xs ++ ys ≡ [] → xs ≡ []

@@ -1,18 +1,16 @@
 -- Calls, raises, blocks and named values are well formed where the parts are.
 use Rattle.std.proofs.Common.{◌≡◌, ℕ, zero, suc, ◌+◌, ◌<◌, ◌≤◌, ◌==◌, Bool, true, false, not, nat_le, nat_lt, ◌&&◌, List, [], ◌∷◌, ◌++◌, refl, sym, ap, subst, ◌∙◌, Option, Some, None, option_map, length, slice_get, if◌then◌else◌, arith}
 use Rattle.std.proofs.lemmas.Bool.{and_from, eq-eqb, le-leb, ltb-true}
-use Rattle.nv_base.specs.declared.term.Atom.{Atom}
 use Rattle.nv_ast.specs.declared.token.Span.{Span}
 use Rattle.nv_ast.specs.Tree.{Tree, ParenTree, CallTree, RaiseTree, BlockTree, StatementTrees, Trees}
 use Rattle.nv_ast.specs.Tests.{is_among, names_of, look_up}
-use Rattle.nv_ast.specs.Types.{Ty, Tys, words, total_words, total_named_words}
+use Rattle.nv_ast.specs.Types.{Tys, words, total_words, total_named_words}
 use Rattle.nv_ast.specs.Scope.{Place, inside, with_vars, callable, plain_tys, Signature}
 use Rattle.nv_ast.specs.Typing.{type_at, types_at, vars_behind}
-use Rattle.nv_ast.specs.Faults.{Wanted, a_value, anything, wanted_arguments, params_of, faults, list_faults, statements_faults, unknown_function, not_in_tail, wrong_number, unknown_exception}
+use Rattle.nv_ast.specs.Faults.{Wanted, a_value, anything, wanted_arguments, params_of, faults, list_faults, statements_faults, unknown_function, not_in_tail, wrong_number}
 use Rattle.nv_meaning.specs.Running.{exception_number}
 use Rattle.flat_ir.specs.declared.flat.Flat.{Flat}
 use Rattle.flat_ir.specs.declared.flat.Flat.TheVariants.{Call, Raise}
-use Rattle.flat_ir.specs.declared.flat.FlatFun.{FlatFun}
 use Rattle.flat_ir.specs.declared.spine.Step.{Step}
 use Rattle.flat_ir.specs.declared.spine.Step.TheVariants.{Bind}
 use Rattle.flat_ir.specs.Spine.{AreNodes}
@@ -20,11 +18,11 @@ use Rattle.flat_ir.specs.Formed.{all_known, may_stand, can_call, is_formed, defi
 use Rattle.nv_flatten.specs.Code.{form_or_unit, variables}
 use Rattle.nv_flatten.specs.Symbols.{Symbol, Symbols, SymbolScope, operands, all_operands, form, forms, fresh, numbers_from, vars_of}
 use Rattle.nv_flatten.specs.Simulation.{Names, Extends}
-use Rattle.nv_flatten.specs.Whole.{Whole, Stands, IsCallable, raised_tys}
-use Rattle.nv_flatten.specs.Well.{FunsMatch, IsFunAt, Linked, ScopeKnown, Rises, RaisedMatch, WellSteps, Knows, GivesWords, WellCode, IsLiteral, IsWellValue, AreWellValues, IsWellStated, IsWellEnd}
+use Rattle.nv_flatten.specs.Whole.{Whole, Stands, raised_tys}
+use Rattle.nv_flatten.specs.Well.{ScopeKnown, Rises, WellSteps, Knows, GivesWords, IsLiteral, IsWellValue, AreWellValues, IsWellStated, IsWellEnd}
 use Rattle.nv_flatten.proofs.Fresh.{fresh-operands}
 use Rattle.nv_flatten.proofs.Sound.{arguments-typed}
-use Rattle.nv_flatten.proofs.WellBasics.{nil-left, nil-right, knows-variables, all-operands-words, numbers-length, rises-append, rises-later, rises-numbers, raised-both}
+use Rattle.nv_flatten.proofs.WellBasics.{nil-left, nil-right, knows-variables, all-operands-words, numbers-length, rises-append, rises-numbers, raised-both}
 use Rattle.nv_flatten.proofs.WellTypes.{not-where, some-where, low-of, middle-of, plain-words, stands-inside}
 use Rattle.nv_flatten.specs.Flattened.{calls}
 use Rattle.nv_flatten.specs.Well.{steps_calls, AreCalled}

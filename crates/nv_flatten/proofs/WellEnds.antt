@@ -1,42 +1,39 @@
 -- Code that ends with an expression's words is well formed where the parts are.
-use Rattle.std.proofs.Common.{◌≡◌, ℕ, zero, suc, ◌+◌, ◌<◌, ◌≤◌, ◌==◌, Bool, true, false, not, nat_le, nat_lt, ◌&&◌, List, [], ◌∷◌, ◌++◌, refl, sym, ap, subst, ◌∙◌, Option, Some, None, option_map, unwrap_or, length, slice_get, if◌then◌else◌, arith}
-use Rattle.std.proofs.lemmas.Bool.{and_parts, and_from, eq-eqb, le-leb, leb-true, ltb-true, lt-ltb, not-false, cases_Bool, or_right}
+use Rattle.std.proofs.Common.{◌≡◌, ℕ, zero, suc, ◌+◌, ◌<◌, ◌≤◌, ◌==◌, Bool, true, false, nat_le, nat_lt, ◌&&◌, List, [], ◌∷◌, ◌++◌, refl, sym, ap, subst, ◌∙◌, Option, Some, None, unwrap_or, length, slice_get, arith}
+use Rattle.std.proofs.lemmas.Bool.{and_parts, and_from, eq-eqb, le-leb, ltb-true, or_right}
 use Rattle.nv_base.specs.declared.term.Atom.{Atom}
-use Rattle.nv_base.specs.declared.term.Atom.TheVariants.{Var, Lit}
 use Rattle.nv_base.specs.declared.term.Cmp.{Cmp}
 use Rattle.nv_ast.specs.declared.token.Span.{Span}
 use Rattle.nv_ast.specs.declared.tree.Op.{Op}
 use Rattle.nv_ast.specs.declared.tree.Op.TheVariants.{Add, Sub, And, Or, Xor, Eq, Ne, Lt, Le, Gt, Ge, Both, Either}
-use Rattle.nv_ast.specs.Tree.{Tree, NumberTree, TruthTree, VarTree, ParenTree, TupleTree, FieldsTree, DotTree, InvertTree, NegateTree, BinaryTree, ShiftTree, CallTree, UnpackTree, PackTree, RaiseTree, IfTree, TryTree, FetchTree, BlockTree, StatementTrees, Trees, PatternTrees, FunTree}
-use Rattle.nv_ast.specs.Tests.{is_among, names_of, look_up}
-use Rattle.nv_ast.specs.Types.{Ty, BoolTy, WordTy, TupleTy, Tys, no_tys, words, total_words, total_named_words, same_type, type_of, named_types_of}
-use Rattle.nv_ast.specs.Scope.{names_in_all, Place, inside, with_vars, bind_raised, bind_all, callable, plain_tys, Signature, signature, Known, Vars}
-use Rattle.nv_ast.specs.Typing.{type_at, types_at, vars_behind, operand_ty, or_ty}
-use Rattle.nv_ast.specs.Faults.{Wanted, a_value, of_type, anything, same_as, wanted_arguments, params_of, faults, list_faults, statements_faults, unknown_function, not_in_tail, wrong_number, unknown_exception, variable_twice, wrong_number_of_patterns, not_all_fitting, raised_kinds, at_span, low_kinds, middle_kinds}
+use Rattle.nv_ast.specs.Tree.{Tree, NumberTree, TruthTree, VarTree, ParenTree, TupleTree, FieldsTree, DotTree, InvertTree, NegateTree, BinaryTree, ShiftTree, CallTree, UnpackTree, PackTree, RaiseTree, IfTree, TryTree, FetchTree, BlockTree, PatternTrees}
+use Rattle.nv_ast.specs.Tests.{look_up}
+use Rattle.nv_ast.specs.Types.{Ty, BoolTy, TupleTy, Tys, no_tys, words, total_words}
+use Rattle.nv_ast.specs.Scope.{names_in_all, Place, inside, with_vars, bind_raised, bind_all, Known, Vars}
+use Rattle.nv_ast.specs.Typing.{type_at, or_ty}
+use Rattle.nv_ast.specs.Faults.{of_type, anything, same_as, faults, unknown_exception, variable_twice, wrong_number_of_patterns, not_all_fitting, raised_kinds, at_span}
 use Rattle.nv_meaning.specs.Running.{exception_number}
 use Rattle.flat_ir.specs.declared.flat.Flat.{Flat}
 use Rattle.flat_ir.specs.declared.flat.Flat.TheVariants.{Let', Fetch', Store', If', Bind', Call, Raise, Try', Give}
 use Rattle.flat_ir.specs.declared.flat.FlatFun.{FlatFun}
 use Rattle.flat_ir.specs.declared.spine.Step.{Step}
-use Rattle.flat_ir.specs.declared.spine.Step.TheVariants.{Bind}
 use Rattle.flat_ir.specs.Spine.{AreNodes}
-use Rattle.flat_ir.specs.Formed.{is_known, all_known, is_primitive, can_move, is_address, may_stand, can_call, is_formed, defined, raised}
+use Rattle.flat_ir.specs.Formed.{is_known, all_known, is_primitive, can_move, is_address, can_call, is_formed, defined, raised}
 use Rattle.flat_ir.specs.Formed.{is_in}
 use Rattle.flat_ir.proofs.Sets.{in-append}
-use Rattle.nv_flatten.specs.Code.{is_given, is_comparison, form_or_unit, variables}
-use Rattle.nv_flatten.specs.Symbols.{Symbol, Symbols, SymbolScope, Word, Truth, operands, all_operands, form, forms, fresh, all_fresh, numbers_from, truth_operand, word_operand, vars_of, all_bound}
+use Rattle.nv_flatten.specs.Code.{is_given, is_comparison, variables}
+use Rattle.nv_flatten.specs.Symbols.{Symbol, SymbolScope, operands, all_operands, form, all_fresh, numbers_from, vars_of, all_bound}
 use Rattle.nv_flatten.specs.Simulation.{Names, Extends, HasForm}
-use Rattle.nv_flatten.specs.Whole.{Whole, Stands, IsPart, IsCallable, raised_tys, raised_or_none, group_of}
-use Rattle.nv_flatten.specs.Well.{FunsMatch, IsFunAt, AreShort, Linked, ScopeKnown, Rises, IsRaised, RaisedMatch, WellSteps, Knows, GivesWords, WellCode, IsLiteral, IsWellValue, AreWellValues, IsWellStated, IsWellTest, IsWellEnd, GivesLiteral, IsChoice}
+use Rattle.nv_flatten.specs.Whole.{Whole, Stands, raised_tys, raised_or_none}
+use Rattle.nv_flatten.specs.Well.{ScopeKnown, Rises, Knows, GivesWords, WellCode, IsWellValue, IsWellTest, IsWellEnd, GivesLiteral, IsChoice}
 use Rattle.nv_flatten.proofs.Fresh.{fresh-forms, fresh-operands, all-bound-types}
-use Rattle.nv_flatten.proofs.Sound.{wanted-type, value-has-type, given-has-type, arguments-typed}
-use Rattle.nv_flatten.proofs.WellBasics.{nil-left, nil-right, knows-both, knows-left, knows-right, knows-one, knows-two, knows-first, knows-variables, knows-word, knows-truth, atoms-more, operands-words, all-operands-words, numbers-length, rises-append, rises-from, rises-bound, rises-numbers, raised-both, all-bound-known, scope-more}
-use Rattle.nv_flatten.proofs.WellTypes.{no-kinds, not-where, some-where, low-of, middle-of, right-of, same-words, plain-words, stands-inside, given-inside, comparison-inside}
+use Rattle.nv_flatten.proofs.Sound.{wanted-type, given-has-type}
+use Rattle.nv_flatten.proofs.WellBasics.{nil-left, nil-right, knows-variables, operands-words, numbers-length, rises-append, rises-numbers, raised-both, all-bound-known, scope-more}
+use Rattle.nv_flatten.proofs.WellTypes.{no-kinds, some-where, right-of, same-words, stands-inside, given-inside, comparison-inside}
 use Rattle.nv_flatten.specs.Flattened.{calls}
 use Rattle.nv_flatten.specs.Well.{AreCalled}
 use Rattle.nv_flatten.proofs.WellNames.{called-none, called-then, code-called-more, choice-called}
-use Rattle.nv_flatten.proofs.WellSteps.{steps-none, steps-names, code-names, steps-knowing, code-behind, code-inner, code-choice}
-use Rattle.nv_flatten.proofs.WellArms.{stands-behind, two-values}
+use Rattle.nv_flatten.proofs.WellSteps.{steps-names, code-names, code-behind, code-choice}
 
 -- ---- how many words
 pub gives-words : (n : ℕ) (o : Option Ty) (t : Ty) → o ≡ Some t → GivesWords n o → words t ≡ n

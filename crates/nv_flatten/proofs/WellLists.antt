@@ -1,20 +1,20 @@
 -- Expressions one after another, statements and conditions.
-use Rattle.std.proofs.Common.{◌≡◌, ℕ, zero, suc, ◌+◌, ◌<◌, ◌≤◌, Bool, true, false, not, ◌&&◌, List, [], ◌∷◌, ◌++◌, refl, sym, ap, subst, ◌∙◌, append_assoc, append-nil, Option, Some, None, length, take, get_or, if◌then◌else◌, arith}
-use Rattle.std.proofs.lemmas.Bool.{and_parts, and_from, not-false}
+use Rattle.std.proofs.Common.{◌≡◌, ℕ, ◌+◌, ◌<◌, ◌≤◌, Bool, true, false, not, ◌&&◌, List, [], ◌∷◌, ◌++◌, refl, sym, ap, subst, ◌∙◌, append_assoc, append-nil, Option, Some, length, take, get_or, if◌then◌else◌, arith}
+use Rattle.std.proofs.lemmas.Bool.{and_from, not-false}
 use Rattle.std.proofs.lemmas.List.{take_more}
 use Rattle.nv_base.specs.declared.term.Mem.{Mem}
 use Rattle.nv_base.specs.declared.term.Atom.{Atom}
-use Rattle.nv_base.specs.declared.term.Atom.TheVariants.{Var, Lit}
+use Rattle.nv_base.specs.declared.term.Atom.TheVariants.{Lit}
 use Rattle.nv_ast.specs.declared.token.Span.{Span}
 use Rattle.nv_ast.specs.declared.tree.Op.{Op}
 use Rattle.nv_ast.specs.declared.tree.Expr.{Expr}
 use Rattle.nv_ast.specs.declared.tree.Stmt.{Stmt}
 use Rattle.nv_ast.specs.ExprView.{tree_of, list_trees, list_named_trees, statement_tree, list_statements}
-use Rattle.nv_ast.specs.Tree.{Tree, ParenTree, NegateTree, BinaryTree, Trees, NamedTrees, PatternTree, StatementTree, LetStatement, StoreStatement, StatementTrees, no_statements, statement_and}
+use Rattle.nv_ast.specs.Tree.{Tree, ParenTree, NegateTree, BinaryTree, Trees, NamedTrees, PatternTree, LetStatement, StoreStatement, StatementTrees, no_statements, statement_and}
 use Rattle.nv_ast.specs.Types.{Ty, WordTy, BoolTy, words, words_of_value}
 use Rattle.nv_ast.specs.Scope.{Known, Vars, Place, inside, with_vars, bind_value, bind}
 use Rattle.nv_ast.specs.Typing.{type_at, vars_after, vars_behind, operand_ty}
-use Rattle.nv_ast.specs.Faults.{Wanted, a_value, of_type, wanted_stored, faults, list_faults, named_faults, statement_faults, statements_faults, at_span, wrong_access, wrong_scratch, can_move}
+use Rattle.nv_ast.specs.Faults.{Wanted, a_value, of_type, wanted_stored, faults, list_faults, named_faults, statement_faults, statements_faults, wrong_access, wrong_scratch, can_move}
 use Rattle.flat_ir.specs.declared.spine.Step.{Step}
 use Rattle.flat_ir.specs.declared.spine.Step.TheVariants.{Store}
 use Rattle.flat_ir.specs.Formed as flat
@@ -22,9 +22,9 @@ use Rattle.flat_ir.specs.Formed.{is_known, all_known}
 use Rattle.nv_flatten.specs.Symbols.{Symbol, Symbols, NamedSymbols, SymbolScope, no_symbols, symbol_and, no_named_symbols, named_symbol_and, operands, all_operands, named_operands, form, word_operand, truth_operand, vars_of, bound}
 use Rattle.nv_flatten.specs.Simulation.{Names, Extends, HasForm}
 use Rattle.nv_flatten.specs.Whole.{Whole, Stands}
-use Rattle.nv_flatten.specs.Well.{Linked, ScopeKnown, WellSteps, Knows, IsWellValue, AreWellValues, AreWellFields, IsWellStated, IsWellTest}
+use Rattle.nv_flatten.specs.Well.{ScopeKnown, WellSteps, Knows, IsWellValue, AreWellValues, AreWellFields, IsWellStated, IsWellTest}
 use Rattle.nv_flatten.proofs.Sound.{value-has-type}
-use Rattle.nv_flatten.proofs.WellBasics.{nil-left, nil-right, knows-both, knows-left, knows-right, knows-two, knows-word, knows-truth, atoms-more, operands-words, bound-known, scope-more}
+use Rattle.nv_flatten.proofs.WellBasics.{nil-left, nil-right, knows-left, knows-right, knows-two, knows-word, knows-truth, operands-words, bound-known}
 use Rattle.nv_flatten.proofs.WellTypes.{no-kinds, not-where, stands-inside, move-same, address-formed}
 use Rattle.nv_flatten.specs.Well.{steps_calls, AreCalled}
 use Rattle.nv_flatten.proofs.WellNames.{called-none, steps-called-more, steps-called-then}

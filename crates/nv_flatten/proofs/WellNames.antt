@@ -1,5 +1,5 @@
 -- The names that are added are those of functions that the code calls.
-use Rattle.std.proofs.Common.{◌≡◌, ℕ, suc, ◌+◌, ◌<◌, ◌≤◌, Bool, true, false, not, nat_eq, ◌||◌, if◌then◌else◌, cond, List, [], ◌∷◌, ◌++◌, refl, sym, ap, subst, ◌∙◌, append_assoc, append-nil, ◌⊎◌, ⊎_elim, length, arith}
+use Rattle.std.proofs.Common.{◌≡◌, ℕ, suc, ◌+◌, ◌<◌, ◌≤◌, Bool, true, false, not, nat_eq, if◌then◌else◌, cond, List, [], ◌∷◌, ◌++◌, refl, sym, ap, subst, ◌∙◌, append_assoc, ⊎_elim, length, arith}
 use Rattle.std.proofs.lemmas.Bool.{or_left, or_right, or_parts, eq-eqb, false≢true, cases_lt}
 use Rattle.std.specs.List.{list_any, position_or_len}
 use Rattle.nv_base.specs.declared.term.Atom.{Atom}
@@ -10,7 +10,7 @@ use Rattle.flat_ir.specs.declared.spine.Step.TheVariants.{Let, Fetch, Store, Bin
 use Rattle.flat_ir.specs.Spine.{IsNode, AreNodes}
 use Rattle.flat_ir.specs.Formed.{is_in}
 use Rattle.flat_ir.proofs.Sets.{in-append}
-use Rattle.nv_flatten.specs.Simulation.{Names, Extends}
+use Rattle.nv_flatten.specs.Simulation.{Names}
 use Rattle.nv_flatten.specs.Flattened.{calls}
 use Rattle.nv_flatten.specs.Well.{step_calls, steps_calls, AreCalled, IsChoice}
 

@@ -1,5 +1,5 @@
 -- A program is well formed where its functions are, and each of them is called from main on.
-use Rattle.std.proofs.Common.{◌≡◌, ℕ, zero, suc, ◌+◌, ◌<◌, ◌≤◌, ◌==◌, Bool, true, false, not, nat_eq, nat_le, nat_lt, ◌&&◌, ◌||◌, List, [], ◌∷◌, ◌++◌, refl, sym, ap, subst, ◌∙◌, append-nil, ⊎_elim, Option, Some, None, length, slice_get, if◌then◌else◌, arith}
+use Rattle.std.proofs.Common.{◌≡◌, ℕ, zero, suc, ◌<◌, ◌≤◌, ◌==◌, Bool, true, false, nat_eq, nat_le, ◌&&◌, List, [], ◌∷◌, ◌++◌, refl, sym, ap, subst, ◌∙◌, append-nil, ⊎_elim, Option, Some, length, slice_get, if◌then◌else◌, arith}
 use Rattle.std.specs.List.{list_all}
 use Rattle.std.proofs.lemmas.Bool.{and_parts, and_from, or_cases, eq-eqb, eqb-true, le-leb, leb-true, ltb-true, false≢true, cases_lt}
 use Rattle.std.proofs.lemmas.Option.{slice_get_within}
@@ -62,7 +62,7 @@ may-parts true own group e = (leb-true group own e, λ h. refl)
 may-parts false own group e = let lt : group < own = ltb-true group own e in (omega arith, λ h. absurd (omega arith))
 
 -- the function is of an earlier group, or this is tail position and it gives so many words
-abbrev IsCalled : ℕ → Bool → ℕ → FlatFun → Type 0
+abbrev pub IsCalled : ℕ → Bool → ℕ → FlatFun → Type 0
 IsCalled own tail n g = (g.group ≤ own) × (g.group ≡ own → (tail ≡ true) × (g.results ≡ n))
 
 not-tail : (own : ℕ) (tail : Bool) (m n : ℕ) (g : FlatFun) → IsCalled own false m g → IsCalled own tail n g
@@ -79,7 +79,7 @@ called-at own tail given n o g at e =
 only-one : (j f : ℕ) → is_in j (f ∷ []) ≡ true → j ≡ f
 only-one j f e = ⊎_elim (λ (p : nat_eq j f ≡ true). eqb-true j f p) (λ (p : false ≡ true). absurd (false≢true p)) (or_cases (nat_eq j f) false e)
 
-calls-formed : (funs : List FlatFun) (own : ℕ) (tail : Bool) (n : ℕ) (known : List ℕ) (t : Flat) (j : ℕ) (g : FlatFun) → slice_get funs j ≡ Some g → is_formed funs own tail n known t ≡ true → is_in j (calls t) ≡ true → IsCalled own tail n g
+pub calls-formed : (funs : List FlatFun) (own : ℕ) (tail : Bool) (n : ℕ) (known : List ℕ) (t : Flat) (j : ℕ) (g : FlatFun) → slice_get funs j ≡ Some g → is_formed funs own tail n known t ≡ true → is_in j (calls t) ≡ true → IsCalled own tail n g
 calls-formed funs own tail n known (Let' x a q t) j g at e i = calls-formed funs own tail n (x ∷ known) t j g at (and_parts (is_primitive known a) (is_formed funs own tail n (x ∷ known) t) e).1 i
 calls-formed funs own tail n known (Fetch' m xs a q t) j g at e i =
     let move = can_move m (length xs.items) in

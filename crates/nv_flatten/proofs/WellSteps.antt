@@ -1,17 +1,14 @@
 -- Well formed steps and code, put together.
-use Rattle.std.proofs.Common.{◌≡◌, ℕ, zero, suc, ◌+◌, ◌<◌, ◌≤◌, Bool, true, false, ◌&&◌, List, [], ◌∷◌, ◌++◌, refl, sym, ap, subst, ◌∙◌, append_assoc, Option, Some, None, length, slice_get, arith}
+use Rattle.std.proofs.Common.{◌≡◌, ℕ, ◌≤◌, Bool, true, ◌&&◌, List, [], ◌∷◌, ◌++◌, refl, sym, ap, subst, ◌∙◌, append_assoc, Option, arith}
 use Rattle.std.proofs.lemmas.Bool.{and_parts, and_from}
 use Rattle.nv_base.specs.declared.term.Atom.{Atom}
 use Rattle.nv_base.specs.declared.term.Cmp.{Cmp}
-use Rattle.nv_base.specs.declared.term.Primitive.{Primitive}
 use Rattle.nv_ast.specs.Types.{Ty}
 use Rattle.flat_ir.specs.declared.flat.Flat.{Flat}
 use Rattle.flat_ir.specs.declared.flat.Flat.TheVariants.{If'}
-use Rattle.flat_ir.specs.declared.flat.FlatFun.{FlatFun}
 use Rattle.flat_ir.specs.declared.spine.Step.{Step}
-use Rattle.flat_ir.specs.declared.spine.Step.TheVariants.{Let}
 use Rattle.flat_ir.specs.Spine.{AreNodes}
-use Rattle.flat_ir.specs.Formed.{is_known, all_known, is_primitive, is_formed, defined, raised}
+use Rattle.flat_ir.specs.Formed.{is_known, is_formed, defined, raised}
 use Rattle.flat_ir.specs.Pieces.{new_vars, known_behind, step_formed, steps_formed, step_defined, steps_defined, step_raised, steps_raised}
 use Rattle.flat_ir.proofs.Sets.{Within}
 use Rattle.flat_ir.proofs.Parts.{nodes-formed, nodes-defined, nodes-raised}
@@ -20,7 +17,7 @@ use Rattle.nv_flatten.specs.Symbols.{SymbolScope}
 use Rattle.nv_flatten.specs.Simulation.{Names, Extends}
 use Rattle.nv_flatten.specs.Whole.{Whole}
 use Rattle.nv_flatten.specs.Well.{Linked, ScopeKnown, Rises, RaisedMatch, WellSteps, Knows, GivesWords, WellCode, IsChoice, AreWellLets}
-use Rattle.nv_flatten.proofs.WellBasics.{known-more, scope-more, rises-append, rises-from, rises-later, rises-bound, raised-both, knows-first}
+use Rattle.nv_flatten.proofs.WellBasics.{known-more, scope-more, rises-append, rises-later, raised-both}
 
 -- ---- further names
 pub extends-both : {A : Type 0} (xs ys zs : List A) → Extends xs ys → Extends ys zs → Extends xs zs

@@ -1,64 +1,25 @@
 -- The lemmas on well formed code, at the values that the functions have.
-use Rattle.std.proofs.Common.{◌≡◌, ℕ, ◌+◌, ◌<◌, ◌≤◌, arith, length, take, get_or, List, [], ◌∷◌, ◌++◌, refl, sym, ap, subst, ◌∙◌}
+use Rattle.std.proofs.Common.{◌≡◌, ℕ, ◌+◌, ◌<◌, arith, length, take, get_or, List, [], ◌∷◌, ◌++◌, refl, sym, ap, subst, ◌∙◌}
 use Rattle.nv_base.specs.declared.term.Atom.{Atom}
 use Rattle.nv_ast.specs.declared.tree.Expr.{Expr}
 use Rattle.nv_ast.specs.declared.tree.Stmt.{Stmt}
 use Rattle.nv_ast.specs.ExprView.{tree_of, list_trees, list_named_trees, statement_tree, list_statements}
-use Rattle.nv_ast.specs.Tree.{Tree, no_trees, no_named_trees, StatementTrees, no_statements, statement_and}
-use Rattle.flat_ir.specs.declared.flat.Flat.{Flat}
+use Rattle.nv_ast.specs.Tree.{Tree, no_trees, no_named_trees, no_statements, statement_and}
 use Rattle.flat_ir.specs.declared.spine.Step.{Step}
 use Rattle.nv_flatten.specs.declared.symbol.Symbol.{Symbol as CodeSymbol}
 use Rattle.nv_flatten.specs.Symbols.{Symbol, Symbols, NamedSymbols, SymbolScope, symbol_and, named_symbol_and}
-use Rattle.nv_flatten.specs.Simulation.{Names, Extends, HasForm}
+use Rattle.nv_flatten.specs.Simulation.{Names, Extends}
 use Rattle.nv_flatten.specs.View.{view, list_symbols, list_named_symbols, scope_of, Named}
 use Rattle.nv_flatten.specs.Whole.{Whole}
-use Rattle.nv_flatten.specs.Well.{IsLiteral, AreWellLets, IsWellValue, AreWellValues, AreWellFields, IsWellEnd, IsWellTest, IsWellStated}
+use Rattle.nv_flatten.specs.Well.{AreWellLets, IsWellValue, AreWellValues, AreWellFields, IsWellStated}
 use Rattle.nv_flatten.proofs.WellLists.{and_last, and_last_named, take-one, each-none, each-more, fields-none, fields-more, AreTyped, typed-more, statements-none, statements-more}
 
 -- ---- at an equal scope, an equal tree and equal operands
 pub value-in : (w : Whole) (old names : Names) (low high : ℕ) (l l' : List Named) (e : Tree) (ss : List Step) (v : Symbol) → l ≡ l' → IsWellValue w old names low high (scope_of l []) e ss v → IsWellValue w old names low high (scope_of l' []) e ss v
 value-in w old names low high l l' e ss v same a = subst (λ k. IsWellValue w old names low high (scope_of k []) e ss v) same a
 
-pub end-in : (w : Whole) (old names : Names) (low high : ℕ) (l l' : List Named) (e : Tree) (t : Flat) → l ≡ l' → IsWellEnd w old names low high (scope_of l []) e t → IsWellEnd w old names low high (scope_of l' []) e t
-end-in w old names low high l l' e t same a = subst (λ k. IsWellEnd w old names low high (scope_of k []) e t) same a
-
-pub end-code : (w : Whole) (old names : Names) (low high : ℕ) (scope : SymbolScope) (e : Tree) (t t' : Flat) → t' ≡ t → IsWellEnd w old names low high scope e t → IsWellEnd w old names low high scope e t'
-end-code w old names low high scope e t t' same a = subst (λ k. IsWellEnd w old names low high scope e k) (sym same) a
-
-pub end-from : (w : Whole) (old names : Names) (low low' high : ℕ) (scope : SymbolScope) (e : Tree) (t : Flat) → low ≡ low' → IsWellEnd w old names low high scope e t → IsWellEnd w old names low' high scope e t
-end-from w old names low low' high scope e t same a = subst (λ k. IsWellEnd w old names k high scope e t) same a
-
-pub value-of : (w : Whole) (old names : Names) (low high : ℕ) (scope : SymbolScope) (e e' : Tree) (ss ss' : List Step) (v v' : Symbol) → e' ≡ e → ss' ≡ ss → v' ≡ v → IsWellValue w old names low high scope e ss v → IsWellValue w old names low high scope e' ss' v'
-value-of w old names low high scope e e' ss ss' v v' et es ev a =
-    subst (λ k. IsWellValue w old names low high scope k ss' v') (sym et) (subst (λ k. IsWellValue w old names low high scope e k v') (sym es) (subst (λ k. IsWellValue w old names low high scope e ss k) (sym ev) a))
-
-pub test-at : (w : Whole) (old names : Names) (low high : ℕ) (scope : SymbolScope) (e : Tree) (ss ss' : List Step) (x x' y y' : Atom) → ss' ≡ ss → x' ≡ x → y' ≡ y → IsWellTest w old names low high scope e ss x y → IsWellTest w old names low high scope e ss' x' y'
-test-at w old names low high scope e ss ss' x x' y y' es ex ey a =
-    subst (λ k. IsWellTest w old names low high scope e k x' y') (sym es) (subst (λ k. IsWellTest w old names low high scope e ss k y') (sym ex) (subst (λ k. IsWellTest w old names low high scope e ss x k) (sym ey) a))
-
-pub stated-at : (w : Whole) (old names : Names) (low high : ℕ) (scope : SymbolScope) (sts : StatementTrees) (ss : List Step) (inner inner' : SymbolScope) → inner' ≡ inner → IsWellStated w old names low high scope sts ss inner → IsWellStated w old names low high scope sts ss inner'
-stated-at w old names low high scope sts ss inner inner' same a = subst (λ k. IsWellStated w old names low high scope sts ss k) (sym same) a
-
-pub value-tree : (w : Whole) (old names : Names) (low high : ℕ) (scope : SymbolScope) (e e' : Tree) (ss : List Step) (v : Symbol) → e' ≡ e → IsWellValue w old names low high scope e ss v → IsWellValue w old names low high scope e' ss v
-value-tree w old names low high scope e e' ss v same a = subst (λ k. IsWellValue w old names low high scope k ss v) (sym same) a
-
-pub end-tree : (w : Whole) (old names : Names) (low high : ℕ) (scope : SymbolScope) (e e' : Tree) (t : Flat) → e' ≡ e → IsWellEnd w old names low high scope e t → IsWellEnd w old names low high scope e' t
-end-tree w old names low high scope e e' t same a = subst (λ k. IsWellEnd w old names low high scope k t) (sym same) a
-
-pub test-tree : (w : Whole) (old names : Names) (low high : ℕ) (scope : SymbolScope) (e e' : Tree) (ss : List Step) (x y : Atom) → e' ≡ e → IsWellTest w old names low high scope e ss x y → IsWellTest w old names low high scope e' ss x y
-test-tree w old names low high scope e e' ss x y same a = subst (λ k. IsWellTest w old names low high scope k ss x y) (sym same) a
-
-pub stated-tree : (w : Whole) (old names : Names) (low high : ℕ) (scope : SymbolScope) (sts sts' : StatementTrees) (ss : List Step) (inner : SymbolScope) → sts' ≡ sts → IsWellStated w old names low high scope sts ss inner → IsWellStated w old names low high scope sts' ss inner
-stated-tree w old names low high scope sts sts' ss inner same a = subst (λ k. IsWellStated w old names low high scope k ss inner) (sym same) a
-
-pub literal-of : (e e' : Tree) (v : Symbol) → e' ≡ e → IsLiteral e v → IsLiteral e' v
-literal-of e e' v same h = subst (λ k. IsLiteral k v) (sym same) h
-
 pub lets-given : (low high : ℕ) (given given' : List Atom) (ss : List Step) (found : List Atom) → given ≡ given' → AreWellLets low high given ss found → AreWellLets low high given' ss found
 lets-given low high given given' ss found same a = subst (λ k. AreWellLets low high k ss found) same a
-
-pub form-in : (w : Whole) (l l' : List Named) (e : Tree) (v : Symbol) → l ≡ l' → HasForm w (scope_of l []) e v → HasForm w (scope_of l' []) e v
-form-in w l l' e v same a = subst (λ k. HasForm w (scope_of k []) e v) same a
 
 -- ---- the begin and the end of a loop
 pub each-init : (w : Whole) (names : Names) (low : ℕ) (scope : SymbolScope) (ss : List Step) (vs : List CodeSymbol) → ss ≡ [] → vs ≡ [] → AreWellValues w names names low low scope no_trees ss (list_symbols vs)

@@ -1,12 +1,12 @@
 -- Shifts, and operators on two words.
-use Rattle.std.proofs.Common.{◌≡◌, ◌∙◌, refl, ap, sym, subst, ℕ, zero, suc, ◌+◌, ◌<◌, ◌≤◌, ◌^◌, Bool, true, false, List, [], ◌∷◌, ◌++◌, append_assoc, Option, Some, None, nat_lt, arith, rules, tests}
+use Rattle.std.proofs.Common.{◌≡◌, ◌∙◌, refl, ap, sym, subst, ℕ, zero, suc, ◌+◌, ◌<◌, ◌≤◌, ◌^◌, false, List, [], ◌∷◌, ◌++◌, append_assoc, Some, nat_lt, arith, rules, tests}
 use Rattle.nv_base.specs.declared.term.Atom.{Atom}
 use Rattle.nv_base.specs.declared.term.Atom.TheVariants.{Var, Lit}
 use Rattle.nv_base.specs.declared.term.Bin.{Bin}
 use Rattle.nv_base.specs.declared.term.Bin.TheVariants as bin
 use Rattle.nv_base.specs.declared.term.Una.TheVariants as una
-use Rattle.nv_base.specs.declared.term.Primitive.TheVariants.{Una as UnaOf, Bin as BinOf}
-use Rattle.nv_base.specs.Words.{Env, atom_word, assigned, prim_word, bin_word}
+use Rattle.nv_base.specs.declared.term.Primitive.TheVariants.{Bin as BinOf}
+use Rattle.nv_base.specs.Words.{Env, atom_word, prim_word, bin_word}
 use Rattle.nv_base.proofs.WordLemmas.{una-fits, bin-fits}
 use Rattle.nv_ast.specs.declared.token.Span.{Span}
 use Rattle.nv_ast.specs.declared.tree.Op.{Op}
@@ -14,25 +14,24 @@ use Rattle.nv_ast.specs.declared.tree.Op.TheVariants.{Add, Sub, And, Or, Xor, Eq
 use Rattle.nv_ast.specs.declared.tree.ShiftOp.{ShiftOp}
 use Rattle.nv_ast.specs.declared.tree.ShiftOp.TheVariants.{Left, Right, Rotate}
 use Rattle.nv_ast.specs.Tree.{Tree, BinaryTree, ShiftTree}
-use Rattle.nv_ast.specs.Types.{Ty, WordTy}
+use Rattle.nv_ast.specs.Types.{WordTy}
 use Rattle.nv_ast.specs.Scope.{Place, inside}
-use Rattle.nv_ast.specs.Typing.{type_at, operand_ty, result_ty}
+use Rattle.nv_ast.specs.Typing.{operand_ty, result_ty}
 use Rattle.nv_ast.specs.Faults.{Wanted, faults, node_faults, of_type}
 use Rattle.nv_meaning.specs.Values.{Value, word_of}
 use Rattle.nv_meaning.specs.Values as meaning
 use Rattle.nv_meaning.specs.Running.{Running, Result, Gives, and_then}
-use Rattle.nv_meaning.specs.Meaning.{Calls, eval, binary, shifted}
-use Rattle.flat_ir.specs.Running as flat
-use Rattle.flat_ir.specs.Spine.{Act, steps_do}
+use Rattle.nv_meaning.specs.Meaning.{eval, binary, shifted}
+use Rattle.flat_ir.specs.Spine.{steps_do}
 use Rattle.flat_ir.specs.declared.spine.Step.{Step}
 use Rattle.flat_ir.specs.declared.spine.Step.TheVariants.{Let}
 use Rattle.nv_flatten.specs.Code.{arithmetic_of, shift_of}
-use Rattle.nv_flatten.specs.Symbols.{Symbol, Word, Truth, Tuple, Record, SymbolScope, operands, value_in, Fits, AreOlder, word_operand, ScopeOlder, scope_in}
+use Rattle.nv_flatten.specs.Symbols.{Symbol, Word, Truth, Tuple, Record, SymbolScope, operands, value_in, Fits, AreOlder, word_operand, scope_in}
 use Rattle.nv_flatten.specs.Runs.{flat_run, onward}
-use Rattle.nv_flatten.specs.Whole.{Whole, Stands}
-use Rattle.nv_flatten.specs.Simulation.{Names, Extends, Setting, Begins, Done, IsValue}
+use Rattle.nv_flatten.specs.Whole.{Whole}
+use Rattle.nv_flatten.specs.Simulation.{Names, Extends, IsValue}
 use Rattle.nv_flatten.proofs.Keeping.{scope-later, keeps-value, keeps-fit, keeps-scope, begins-then, done-then}
-use Rattle.nv_flatten.proofs.Faultless.{none-before, none-behind, not-where, some-same, none-some, middle-none}
+use Rattle.nv_flatten.proofs.NoFaults.{none-left, none-right, unset, some-same, none-some, clean as is-clean}
 use Rattle.nv_flatten.proofs.Following.{onward-then, steps-then, stands-inside, fewer, word-of, word-fits, one-older, assigned-here, defined}
 use Rattle.nv_flatten.proofs.ValueArms.{unary}
 
@@ -64,14 +63,14 @@ operand-older n (Record fs) o = one-older n (Lit 0) tt
 module _ (w : Whole) (names : Names) (low high : ℕ) (scope : SymbolScope) (sp : Span) (op : ShiftOp) (a : Tree) (n : ℕ) (ss : List Step) (s : Symbol) where
   -- at most 31 places in a typed program
   few : (p : Place) (wanted : Wanted) → faults p wanted (ShiftTree sp op a n) ≡ [] → n ≤ 31
-  few p wanted none = count-fits n (not-where {A = ℕ} (nat_lt 31 n) 21 (middle-none p wanted (ShiftTree sp op a n) none))
+  few p wanted none = count-fits n (unset (nat_lt 31 n) 21 (is-clean p wanted (ShiftTree sp op a n) none).middle)
 
   -- by no place, the word itself; what isn't typed has no simulation
   pub shift-same : (1 ≤ n → n ≤ 31 → ⊥) → IsValue w names low high scope a ss s → IsValue w names low high scope (ShiftTree sp op a n) ss (Word (word_operand s))
   shift-same none_of v = record {
     simulates = record {
       by = λ own p wanted stands none o c env now begins rest next same.
-          let clean = none-before (faults (inside p) (of_type WordTy) a) (node_faults p wanted (ShiftTree sp op a n)) none in
+          let clean = none-left (faults (inside p) (of_type WordTy) a) (node_faults p wanted (ShiftTree sp op a n)) none in
           let k : Value → Running → Result = λ y last. Gives (meaning.Word (shifted op n (word_of y))) last in
           let nothing : n ≡ 0 = no-places n none_of (few p wanted none) in
           v.simulates.by own (inside p) (of_type WordTy) (stands-inside w own scope p stands) clean o c env now begins rest (λ y last. onward (k y last) next)
@@ -147,8 +146,8 @@ module _ (w : Whole) (names more : Names) (low mid high : ℕ) (scope : SymbolSc
           let f = faults (inside p) (of_type (operand_ty op)) x in
           let g = faults (inside p) (of_type (operand_ty op)) y in
           let own_faults = node_faults p wanted (BinaryTree sp op x y) in
-          let first = none-before f (g ++ own_faults) none in
-          let second = none-before g own_faults (none-behind f (g ++ own_faults) none) in
+          let first = none-left f (g ++ own_faults) none in
+          let second = none-left g own_faults (none-right f (g ++ own_faults) none) in
           let inner = stands-inside w own scope p stands in
           let m = scope_in env scope in
           let right : Running → Result = λ now'. eval w.declared c.call y m now' in

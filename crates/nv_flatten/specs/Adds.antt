@@ -1,9 +1,14 @@
 -- Steps that were added behind others and only compute.
-use Rattle.std.specs.Prelude.{◌≡◌, ℕ, List, ◌++◌}
+use Rattle.std.specs.Prelude.{◌≡◌, ℕ, ◌+◌, List, [], ◌++◌, length}
 use Rattle.nv_base.specs.declared.term.Atom.{Atom}
+use Rattle.nv_base.specs.Words.{atom_vars}
+use Rattle.flat_ir.specs.declared.flat.FlatFun.{FlatFun}
 use Rattle.flat_ir.specs.declared.spine.Step.{Step}
+use Rattle.flat_ir.specs.Wide.{Widths, all_vars}
 use Rattle.nv_flatten.specs.Symbols.{Symbol, NamedSymbols, operands, named_operands}
 use Rattle.nv_flatten.specs.Well.{AreWellLets}
+use Rattle.nv_flatten.specs.Narrow.{IsWithin, NarrowSteps}
+use Rattle.nv_flatten.specs.Small.{AreFewLets}
 
 -- steps were added, from these operands to those
 pub record AddsLets (low high : ℕ) (given : List Atom) (old new : List Step) (found : List Atom) : Type 0 where
@@ -18,3 +23,10 @@ AddsFields low high words old new before after = AddsLets low high (words ++ nam
 -- and words took the place of others, from a symbolic value
 abbrev pub AddsWords : ℕ → ℕ → Symbol → List Step → List Step → List Atom → List Atom → Type 0
 AddsWords low high s old new before after = AddsLets low high (operands s ++ before) old new after
+
+-- steps were added that make an operand of others: at most so many steps, and no place wider than so many words more than what is kept
+pub record AddsWord (needs : List Atom) (old new : List Step) (a : Atom) (more most : ℕ) : Type 0 where
+  pub steps : List Step
+  pub added : new ≡ old ++ steps
+  pub narrow : (funs : List FlatFun) (widths : Widths) (own : ℕ) (kept : List ℕ) → IsWithin (all_vars needs) kept → NarrowSteps funs widths own steps kept [] (kept ++ atom_vars a) (length kept + more)
+  pub few : AreFewLets steps most

@@ -12,3 +12,11 @@ pub mod Flattened
 pub mod Fields
 pub mod Made
 pub mod Reads
+pub mod FewReads
+pub mod Narrow
+pub mod Small
+pub mod Bounded
+pub mod Arms
+pub mod Flat
+pub mod Written
+pub mod Equal

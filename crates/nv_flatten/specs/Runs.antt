@@ -1,5 +1,4 @@
 -- A run of a program and the run of its flat code side by side.
-use Rattle.std.specs.Prelude.{ℕ, List}
 use Rattle.nv_meaning.specs.Values.{Value, words_of, all_words}
 use Rattle.nv_meaning.specs.Running.{Running, Result, Gives, Raises, Stops}
 use Rattle.flat_ir.specs.Running as flat

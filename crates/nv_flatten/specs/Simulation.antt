@@ -1,16 +1,16 @@
 -- What the flat code of an expression has to do.
-use Rattle.std.specs.Prelude.{◌≡◌, ℕ, List, [], ◌∷◌, ◌++◌, Option, Some, None, option_map, slice_get, ⊤}
+use Rattle.std.specs.Prelude.{◌≡◌, ℕ, List, [], ◌++◌, Option, Some, option_map, slice_get, ⊤}
 use Rattle.nv_base.specs.declared.term.Atom.{Atom}
 use Rattle.nv_base.specs.declared.term.Cmp.{Cmp}
 use Rattle.nv_base.specs.Words.{Env, atom_word, compares}
 use Rattle.nv_base.specs.Memories.{HasSizes}
-use Rattle.nv_ast.specs.Tree.{Tree, Trees, NamedTrees, StatementTree, StatementTrees, FunTree}
+use Rattle.nv_ast.specs.Tree.{Tree, Trees, NamedTrees, StatementTrees, FunTree}
 use Rattle.nv_ast.specs.Types.{Ty, Tys, BoolTy, named_types_of}
 use Rattle.nv_ast.specs.Scope.{Place, plain_tys}
 use Rattle.nv_ast.specs.Typing.{type_at, types_at, named_types_at, vars_behind}
 use Rattle.nv_ast.specs.Faults.{Wanted, faults, list_faults, named_faults, statements_faults}
 use Rattle.nv_meaning.specs.Values.{Value, Truth, Values, NamedValues, Scope, all_words}
-use Rattle.nv_meaning.specs.Running.{Running, Result, and_all, and_named, and_stated, Results, GiveAll, Breaks, NamedResults, GiveNamed, BreaksNamed, Stated, GoesOn, StopsAt}
+use Rattle.nv_meaning.specs.Running.{Running, Results, GiveAll, Breaks, NamedResults, GiveNamed, BreaksNamed, Stated, GoesOn, StopsAt}
 use Rattle.nv_meaning.specs.Meaning.{Calls, eval, eval_all, eval_named, run_all, function_in}
 use Rattle.flat_ir.specs.Running as flat
 use Rattle.flat_ir.specs.Meaning as code
@@ -18,7 +18,6 @@ use Rattle.flat_ir.specs.Spine.{Act, steps_do}
 use Rattle.flat_ir.specs.declared.flat.Flat.{Flat}
 use Rattle.flat_ir.specs.declared.spine.Step.{Step}
 use Rattle.nv_flatten.specs.Symbols.{Symbol, Symbols, NamedSymbols, SymbolScope, value_in, values_in, named_values_in, Fits, AllFit, NamedFit, Keeps, ScopeFits, ScopeOlder, AreOlder, IsOlder, operands, all_operands, named_operands, scope_in, vars_of, form, forms, named_forms}
-use Rattle.nv_flatten.specs.Code.{chosen}
 use Rattle.nv_flatten.specs.Runs.{flat_run, onward, ended}
 use Rattle.nv_flatten.specs.Whole.{Whole, Stands}
 use Rattle.nv_flatten.specs.Soundness.{value_tys, AreWords, CallsTyped}

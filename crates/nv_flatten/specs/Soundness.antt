@@ -1,5 +1,5 @@
 -- Values, calls and runs that have the types which the program's text gives them.
-use Rattle.std.specs.Prelude.{◌≡◌, ℕ, ◌<◌, ◌^◌, Bool, List, [], ◌∷◌, ◌++◌, All, Option, Some, None, ⊤}
+use Rattle.std.specs.Prelude.{◌≡◌, ℕ, ◌<◌, ◌^◌, List, [], ◌∷◌, All, Option, Some, ⊤}
 use Rattle.nv_base.specs.Memories.{HasSizes}
 use Rattle.nv_ast.specs.Types.{Ty, WordTy, BoolTy, TupleTy, RecordTy, Tys, no_tys, ty_and, NamedTys, no_named_tys, named_ty_and, type_of, named_types_of}
 use Rattle.nv_ast.specs.Tree.{FunTree}

@@ -5,7 +5,7 @@ use Rattle.nv_base.specs.declared.term.Atom.TheVariants.{Var, Lit}
 use Rattle.nv_base.specs.Words.{Env, atom_word}
 use Rattle.nv_ast.specs.Types.{Ty, WordTy, BoolTy, TupleTy, RecordTy, Tys, no_tys, ty_and, NamedTys, no_named_tys, named_ty_and, words}
 use Rattle.nv_ast.specs.Scope.{Vars}
-use Rattle.nv_ast.specs.Tree.{PatternTree, NamePattern, AnyPattern, TuplePattern, PatternTrees, pattern_and, NamedTypes, named_type_and}
+use Rattle.nv_ast.specs.Tree.{PatternTree, NamePattern, AnyPattern, TuplePattern, PatternTrees, pattern_and}
 use Rattle.nv_meaning.specs.Values as meaning
 
 mutual

@@ -1,7 +1,7 @@
 -- What makes the flat code of typed expressions well formed.
 use Rattle.std.specs.Prelude.{◌≡◌, ℕ, suc, ◌<◌, ◌≤◌, Bool, true, false, List, [], ◌∷◌, ◌++◌, Option, Some, None, slice_get, length, ⊤}
 use Rattle.nv_base.specs.declared.term.Atom.{Atom}
-use Rattle.nv_base.specs.declared.term.Atom.TheVariants.{Var, Lit}
+use Rattle.nv_base.specs.declared.term.Atom.TheVariants.{Lit}
 use Rattle.nv_base.specs.declared.term.Cmp.{Cmp}
 use Rattle.nv_ast.specs.Tree.{Tree, NumberTree, Trees, NamedTrees, StatementTrees, FunTree}
 use Rattle.nv_ast.specs.Types.{Ty, Tys, words, total_words, total_named_words, type_of, named_types_of}

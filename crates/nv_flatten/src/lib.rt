@@ -1,16 +1,17 @@
 //! Flattening: bools, tuples, records, packed values, patterns and blocks become words.
 #![tactic(auto)]
 
+mod arms;
+mod endings;
 mod forms;
 mod names;
 mod pack;
 mod parts;
 mod program;
 mod scope;
-mod sizes;
 mod source;
 mod symbol;
 mod unpack;
-mod walk;
+mod values;
 
 pub use program::flatten;

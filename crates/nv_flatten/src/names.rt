@@ -1,6 +1,7 @@
 // The functions that are called, by number.
 
 ghost use Rattle.std.specs.Prelude.{◌≡◌, ◌∷◌, ◌++◌, ◌⊎◌, [], Some, slice_get, IfOk, MatchOption, None};
+ghost use Rattle.nv_flatten.specs.Bounded.{AreOnce};
 ghost use Rattle.nv_flatten.specs.Simulation.{Extends};
 ghost use Rattle.nv_flatten.specs.Well.{AreCalled};
 
@@ -58,10 +59,11 @@ impl<'a> Names<'a> {
         Ok(number)
     }
 
-    /// The name of a number.
+    /// The name of a number. No name has two numbers.
     pub fn get(&self, i: usize) -> Option<&'a Name>
-        ensures { MatchOption result (slice_get self.now i ≡ None) (λ x. slice_get self.now i ≡ Some x.now) }
+        ensures found { MatchOption result (slice_get self.now i ≡ None) (λ x. slice_get self.now i ≡ Some x.now) }
+        ensures once { AreOnce self.now }
     {
-        self.entries.get_index(i).copied()
+        self.entries.as_slice().get(i).copied()
     }
 }

@@ -16,10 +16,12 @@ ghost use Rattle.nv_flatten.specs.Reads.{Makes, Writes, Packs, has_symbol};
 ghost use Rattle.nv_flatten.specs.Symbols.{Word, form, operands, value_in, Fits, AreOlder, fields_of, field_named};
 ghost use Rattle.nv_flatten.specs.View.{view, list_named_symbols};
 ghost use Rattle.nv_flatten.specs.Well.{AreWellLets};
-ghost use Rattle.nv_flatten.specs.Adds.{AddsLets, AddsWords};
+ghost use Rattle.nv_flatten.specs.Adds.{AddsLets, AddsWord, AddsWords};
+ghost use Rattle.nv_flatten.specs.Narrow.{AreNarrowLets};
+ghost use Rattle.nv_flatten.specs.Small.{PacksFew};
+ghost use Rattle.nv_flatten.specs.Written.{packed_fields, packed_layout, packed_parts, packed_chosen, packed_joined, WritesFew};
 
 use crate::parts::{define, shifted};
-use crate::sizes::size;
 use crate::symbol::{Field, Symbol, Valued, symbol_of_words, word_in};
 use crate::unpack::between;
 use flat_ir::Step;
@@ -43,11 +45,13 @@ pub fn packed<'a>(
     ensures formed { IfOk result (λ r. form (view r.symbol) ≡ packed_ty (outline (declared_in t.now).layouts (NamedLayout l.now))) }
     ensures older { IfOk result (λ r. AreOlder next.old (operands (view s.now)) → AreOlder next.new (operands (view r.symbol))) }
     ensures well { IfOk result (λ r. IsSound (outline (declared_in t.now).layouts (NamedLayout l.now)) → can_pack (form_of (outline (declared_in t.now).layouts (NamedLayout l.now))) (form (view s.now)) ≡ true → AreWellLets next.old next.new (operands (view s.now)) r.steps.items (operands (view r.symbol))) }
+    ensures narrow { IfOk result (λ r. AreNarrowLets (operands (view s.now)) r.steps.items (operands (view r.symbol))) }
+    ensures small { IfOk result (λ r. IsSound (outline (declared_in t.now).layouts (NamedLayout l.now)) → can_pack (form_of (outline (declared_in t.now).layouts (NamedLayout l.now))) (form (view s.now)) ≡ true → PacksFew (outline (declared_in t.now).layouts (NamedLayout l.now)) (operands (view s.now)) r.steps.items) }
     ensures later { next.old ≤ next.new }
 {
     match t.layout(l, t.layouts.len()) {
         Some((text, limit)) => {
-            let bits = size(t, text, limit);
+            let bits = t.size_of(l);
             written(alloc, t, text, limit, bits, s, next)
         }
         None => {
@@ -73,6 +77,8 @@ fn written<'a>(
     requires { bits ≡ min (bit_size (outline (take limit (declared_in t.now).layouts) (layout_tree l.now))) u64.MAX }
     ensures packs { IfOk result (λ r. Packs (outline (take limit (declared_in t.now).layouts) (layout_tree l.now)) next.old next.new (view s.now) r.steps.items (view r.symbol)) }
     ensures well { IfOk result (λ r. AreWellLets next.old next.new (operands (view s.now)) r.steps.items (operands (view r.symbol))) }
+    ensures narrow { IfOk result (λ r. AreNarrowLets (operands (view s.now)) r.steps.items (operands (view r.symbol))) }
+    ensures small { IfOk result (λ r. IsSound (outline (take limit (declared_in t.now).layouts) (layout_tree l.now)) → can_pack (form_of (outline (take limit (declared_in t.now).layouts) (layout_tree l.now))) (form (view s.now)) ≡ true → PacksFew (outline (take limit (declared_in t.now).layouts) (layout_tree l.now)) (operands (view s.now)) r.steps.items) }
     ensures later { next.old ≤ next.new }
 {
     if bits > MOST_BITS {
@@ -110,6 +116,7 @@ fn write_layout<'a>(
     ensures writes { OnOk result (Writes (IsSound (outline (take limit (declared_in t.now).layouts) (layout_tree l.now))) next.old next.new (view s.now) steps.old.items steps.new.items words.old words.new at (λ v. bits_of (outline (take limit (declared_in t.now).layouts) (layout_tree l.now)) v)) }
     ensures behind { IfOk result (λ i. (env : Env) → i ≡ at + length (bits_of (outline (take limit (declared_in t.now).layouts) (layout_tree l.now)) (value_in env (view s.now)))) }
     ensures well { OnOk result (AddsWords next.old next.new (view s.now) steps.old.items steps.new.items words.old words.new) }
+    ensures bounds { IfOk result (λ i. WritesFew (packed_layout (outline (take limit (declared_in t.now).layouts) (layout_tree l.now)) (view s.now)) (view s.now) steps.old.items steps.new.items words.old words.new at i) }
     ensures later { next.old ≤ next.new }
 {
     match l {
@@ -139,6 +146,7 @@ fn write_joined<'a>(
     ensures writes { OnOk result (Writes (AllSound (outlines (take limit (declared_in t.now).layouts) (list_layouts ls.now))) next.old next.new (view s.now) steps.old.items steps.new.items words.old words.new first (λ v. joined_bits (outlines (take limit (declared_in t.now).layouts) (list_layouts ls.now)) v)) }
     ensures behind { IfOk result (λ i. (env : Env) → i ≡ first + length (joined_bits (outlines (take limit (declared_in t.now).layouts) (list_layouts ls.now)) (value_in env (view s.now)))) }
     ensures well { OnOk result (AddsWords next.old next.new (view s.now) steps.old.items steps.new.items words.old words.new) }
+    ensures bounds { IfOk result (λ i. WritesFew (packed_joined (outlines (take limit (declared_in t.now).layouts) (list_layouts ls.now)) (view s.now)) (view s.now) steps.old.items steps.new.items words.old words.new first i) }
     ensures later { next.old ≤ next.new }
 {
     let mut at = first;
@@ -164,6 +172,7 @@ fn write_parts<'a>(
     ensures writes { OnOk result (Writes (AllNamedSound (field_outlines (take limit (declared_in t.now).layouts) (list_fields fs.now))) next.old next.new (view s.now) steps.old.items steps.new.items words.old words.new first (λ v. parts_bits (field_outlines (take limit (declared_in t.now).layouts) (list_fields fs.now)) (value_fields v))) }
     ensures behind { IfOk result (λ i. (env : Env) → i ≡ first + length (parts_bits (field_outlines (take limit (declared_in t.now).layouts) (list_fields fs.now)) (value_fields (value_in env (view s.now))))) }
     ensures well { OnOk result (AddsWords next.old next.new (view s.now) steps.old.items steps.new.items words.old words.new) }
+    ensures bounds { IfOk result (λ i. WritesFew (packed_parts (field_outlines (take limit (declared_in t.now).layouts) (list_fields fs.now)) (fields_of (view s.now))) (view s.now) steps.old.items steps.new.items words.old words.new first i) }
     ensures later { next.old ≤ next.new }
 {
     let mut at = first;
@@ -190,6 +199,7 @@ fn write_part<'a>(
     ensures writes { OnOk result (Writes (IsSound (field_outline (take limit (declared_in t.now).layouts) (field_tree f.now.1))) next.old next.new (view s.now) steps.old.items steps.new.items words.old words.new at (λ v. bits_of (field_outline (take limit (declared_in t.now).layouts) (field_tree f.now.1)) (value_named f.now.0 (value_fields v)))) }
     ensures behind { IfOk result (λ i. (env : Env) → i ≡ at + length (bits_of (field_outline (take limit (declared_in t.now).layouts) (field_tree f.now.1)) (value_named f.now.0 (value_fields (value_in env (view s.now)))))) }
     ensures well { OnOk result (AddsWords next.old next.new (view s.now) steps.old.items steps.new.items words.old words.new) }
+    ensures bounds { IfOk result (λ i. WritesFew (packed_fields (field_outline (take limit (declared_in t.now).layouts) (field_tree f.now.1)) (field_named f.now.0 (fields_of (view s.now)))) (view s.now) steps.old.items steps.new.items words.old words.new at i) }
     ensures later { next.old ≤ next.new }
 {
     match part(s, &f.0) {
@@ -218,6 +228,7 @@ fn write_chosen<'a>(
     ensures writes { OnOk result (Writes (AllNamedSound (field_outlines (take limit (declared_in t.now).layouts) (list_fields fs.now))) next.old next.new (view s.now) steps.old.items steps.new.items words.old words.new at (λ v. chosen_bits (field_outlines (take limit (declared_in t.now).layouts) (list_fields fs.now)) (value_fields v))) }
     ensures behind { IfOk result (λ i. (env : Env) → i ≡ at + length (chosen_bits (field_outlines (take limit (declared_in t.now).layouts) (list_fields fs.now)) (value_fields (value_in env (view s.now))))) }
     ensures well { OnOk result (AddsWords next.old next.new (view s.now) steps.old.items steps.new.items words.old words.new) }
+    ensures bounds { IfOk result (λ i. WritesFew (packed_chosen (field_outlines (take limit (declared_in t.now).layouts) (list_fields fs.now)) (fields_of (view s.now))) (view s.now) steps.old.items steps.new.items words.old words.new at i) }
     ensures later { next.old ≤ next.new }
 {
     for f in fs {
@@ -245,6 +256,7 @@ fn write_field<'a>(
     ensures writes { OnOk result (Writes (IsSound (field_outline (take limit (declared_in t.now).layouts) (field_tree f.now))) next.old next.new (view s.now) steps.old.items steps.new.items words.old words.new at (λ v. bits_of (field_outline (take limit (declared_in t.now).layouts) (field_tree f.now)) v)) }
     ensures behind { IfOk result (λ i. (env : Env) → i ≡ at + length (bits_of (field_outline (take limit (declared_in t.now).layouts) (field_tree f.now)) (value_in env (view s.now)))) }
     ensures well { OnOk result (AddsWords next.old next.new (view s.now) steps.old.items steps.new.items words.old words.new) }
+    ensures bounds { IfOk result (λ i. WritesFew (packed_fields (field_outline (take limit (declared_in t.now).layouts) (field_tree f.now)) (view s.now)) (view s.now) steps.old.items steps.new.items words.old words.new at i) }
     ensures later { next.old ≤ next.new }
 {
     match f {
@@ -265,7 +277,7 @@ fn part<'b, 'a>(s: &'b Symbol<'a>, x: &Name) -> Option<&'b Symbol<'a>>
 }
 
 // The fields of a record, none of anything else.
-#[tactic(auto, using(crate::proofs::SymbolRows::tuple_view, crate::proofs::SymbolRows::record_view))]
+#[tactic(auto, using(crate::proofs::Rows::tuple_view, crate::proofs::Rows::record_view))]
 fn fields_in<'b, 'a>(s: &'b Symbol<'a>) -> &'b [Field<'a>]
     ensures { list_named_symbols result.now ≡ fields_of (view s.now) }
 {
@@ -301,6 +313,7 @@ fn write_bits(
     requires few { length words.old ≤ 2 ^ 33 }
     ensures writes { OnOk result (Writes ((1 ≤ n) × (n ≤ 32)) next.old next.new (Word word) steps.old.items steps.new.items words.old words.new at (λ v. bits_in n (word_of v))) }
     ensures well { OnOk result (AddsLets next.old next.new (word ∷ words.old) steps.old.items steps.new.items words.new) }
+    ensures bounds { OnOk result (WritesFew 1 (Word word) steps.old.items steps.new.items words.old words.new at (at + n)) }
     ensures later { next.old ≤ next.new }
 {
     if n == 0 || n > 32 {
@@ -324,6 +337,7 @@ fn write_bits(
 fn joined(so_far: Atom, more: Atom, steps: &mut Vec<Step>, next: &mut u32) -> Result<Atom, NoMemory>
     ensures makes { IfOk result (λ a. Makes (1 ≤ 1) next.old next.new (so_far ∷ more ∷ []) steps.old.items steps.new.items a (λ ws. bit_or (slice_index ws 0) (slice_index ws 1))) }
     ensures well { IfOk result (λ a. AddsLets next.old next.new (so_far ∷ more ∷ []) steps.old.items steps.new.items (a ∷ [])) }
+    ensures bounds { IfOk result (λ a. AddsWord (so_far ∷ more ∷ []) steps.old.items steps.new.items a 3 1) }
     ensures later { next.old ≤ next.new }
 {
     match so_far {

@@ -12,8 +12,8 @@ ghost use Rattle.nv_flatten.specs.Symbols.{numbers_from};
 ghost use Rattle.nv_flatten.specs.Simulation.{Extends};
 ghost use Rattle.nv_flatten.specs.Well.{GivesLiteral, IsChoice};
 
+use crate::endings::Test;
 use crate::symbol::new_variable;
-use crate::walk::Test;
 use flat_ir::{Flat, Step, join};
 use nv_ast::{Op, ShiftOp};
 use nv_base::{Args, Atom, Bin, Cmp, NoMemory, Prim, Una, Vars};

@@ -1,38 +1,50 @@
 // Whole programs.
 
-ghost use Rattle.std.specs.Prelude.{◌≡◌, ◌≤◌, ◌+◌, ◌++◌, [], Some, IfOk, OnOk};
+ghost use Rattle.std.specs.Prelude.{◌≡◌, ◌≤◌, ◌+◌, ◌++◌, ℕ, List, [], Some, IfOk, OnOk};
 ghost use Rattle.nv_base.specs.Meanings.{KeepsOutcomes};
 ghost use Rattle.nv_ast.specs.ProgramView.{fun_tree};
-ghost use Rattle.nv_ast.specs.Sizes.{main_words};
+ghost use Rattle.nv_ast.specs.Sizes.{main_words, room, expanded_size};
 ghost use Rattle.nv_ast.specs.Tree.{FunTree};
 ghost use Rattle.nv_ast.specs.TypedView.{typed_program};
 ghost use Rattle.nv_ast.specs.Types.{named_types_of, total_named_words};
 ghost use Rattle.nv_ast.specs.TypeView.{list_named_types};
 ghost use Rattle.nv_meaning.specs.Meaning.{source, function_in};
+ghost use Rattle.flat_ir.specs.Bulk.{bulk, of_size, IsAtMost};
 ghost use Rattle.flat_ir.specs.Meaning.{flat_meaning};
+ghost use Rattle.flat_ir.specs.Wide.{wide};
+ghost use Rattle.nv_flatten.specs.Bounded.{IsBounded};
+ghost use Rattle.nv_flatten.specs.Equal.{AreEqual};
 ghost use Rattle.nv_flatten.specs.Flattened.{params_in, calls, AreReached};
-ghost use Rattle.nv_flatten.specs.Made.{IsMade, IsPlaced, IsComplete};
+ghost use Rattle.nv_flatten.specs.Made.{IsMade, IsPlaced};
+ghost use Rattle.nv_flatten.specs.Narrow.{IsNarrowFun, IsNarrowOf};
 ghost use Rattle.nv_flatten.specs.Simulation.{Extends};
+ghost use Rattle.nv_flatten.specs.Small.{IsSmallFun};
 ghost use Rattle.nv_flatten.specs.Symbols.{named_fresh, numbers_from, params_bound};
 ghost use Rattle.nv_flatten.specs.View.{scope_of};
 ghost use Rattle.nv_flatten.specs.Well.{AreCalled};
+ghost use Rattle.nv_flatten.specs.Whole.{group_of};
 ghost use Rattle.nv_flatten.specs.WholeView.{whole_in};
 
+use crate::endings::ending;
 use crate::forms::of_type;
 use crate::names::Names;
 use crate::scope::Scope;
 use crate::source::Source;
-use crate::walk::ending;
 use flat_ir::{Flat, FlatFun, FlatProgram};
 use nv_ast::{Fun, Name, TyText, Typed};
 use nv_base::NoMemory;
 use std::alloc::Global;
 
-/// The flat program of a typed one, which has its outcomes. Functions that `main` doesn't reach by
-/// calls are left out. `main` is number 0, and the others are numbered as they are first called.
+/// The flat program of a typed one, which has its outcomes, within each number of calls. Functions
+/// that `main` doesn't reach by calls are left out. `main` is number 0, and the others are numbered as
+/// they are first called. It is at most as wide as the program's room, and at most as large as its
+/// expanded size says.
 pub fn flatten(alloc: Global, t: &Typed) -> Result<FlatProgram, NoMemory>
     ensures kept { IfOk result (λ f. KeepsOutcomes (main_words (typed_program t.now)) (params_in f.funs.items f.main) (source (typed_program t.now)) (flat_meaning f.funs.items f.main)) }
+    ensures equal { IfOk result (λ f. AreEqual (main_words (typed_program t.now)) (source (typed_program t.now)) (flat_meaning f.funs.items f.main)) }
     ensures reached { IfOk result (λ f. AreReached f.funs.items f.main) }
+    ensures wide { IfOk result (λ f. wide f.funs.items f.main ≤ room (typed_program t.now)) }
+    ensures bulk { IfOk result (λ f. IsAtMost (bulk f.funs.items f.main) (of_size (expanded_size (typed_program t.now)))) }
 {
     let source = Source::of(alloc, t.program())?;
     let main = Name::new(alloc, b"main")?;
@@ -43,7 +55,7 @@ pub fn flatten(alloc: Global, t: &Typed) -> Result<FlatProgram, NoMemory>
 // The function of a name, and behind it those that are called, in the order in which they are first
 // met; none where there is no such function.
 fn functions<'a>(alloc: Global, t: &Source<'a>, main: &Name) -> Result<Vec<FlatFun>, NoMemory>
-    ensures { IfOk result (λ funs. (g : FunTree) → function_in (whole_in t.now).declared.functions main.now ≡ Some g → IsComplete (whole_in t.now) main.now funs.items) }
+    ensures { IfOk result (λ funs. (g : FunTree) → function_in (whole_in t.now).declared.functions main.now ≡ Some g → IsBounded (whole_in t.now) main.now funs.items) }
 {
     match t.function(main) {
         Some((f, _)) => called_from(alloc, t, &f.name),
@@ -53,7 +65,7 @@ fn functions<'a>(alloc: Global, t: &Source<'a>, main: &Name) -> Result<Vec<FlatF
 
 // The functions that are called from one on, which is the first of them.
 fn called_from<'a>(alloc: Global, t: &Source<'a>, first: &'a Name) -> Result<Vec<FlatFun>, NoMemory>
-    ensures { IfOk result (λ funs. IsComplete (whole_in t.now) first.now funs.items) }
+    ensures { IfOk result (λ funs. IsBounded (whole_in t.now) first.now funs.items) }
 {
     let mut names = Names::new(alloc);
     let mut funs = Vec::new(alloc);
@@ -74,6 +86,8 @@ fn function<'a>(
     ensures made { IfOk result (λ fun. (g : FunTree) → function_in (whole_in t.now).declared.functions name.now ≡ Some g → IsMade (whole_in t.now) names.new g fun) }
     ensures placed { IfOk result (λ fun. IsPlaced (whole_in t.now) name.now fun) }
     ensures called { IfOk result (λ fun. AreCalled names.old names.new (calls fun.body)) }
+    ensures narrow { IfOk result (λ fun. IsNarrowOf (whole_in t.now) names.new name.now (function_in (whole_in t.now).declared.functions name.now) fun) }
+    ensures small { IfOk result (λ fun. (g : FunTree) → function_in (whole_in t.now).declared.functions name.now ≡ Some g → IsSmallFun (whole_in t.now) names.new name.now g fun) }
     ensures names { Extends names.old names.new }
 {
     match t.function(name) {
@@ -98,6 +112,8 @@ fn flat_function<'a>(
     ensures made { IfOk result (λ fun. IsMade (whole_in t.now) names.new (fun_tree f.now) fun) }
     ensures group { IfOk result (λ fun. fun.group ≡ group) }
     ensures called { IfOk result (λ fun. AreCalled names.old names.new (calls fun.body)) }
+    ensures narrow { IfOk result (λ fun. (x : List ℕ) → group_of (whole_in t.now) x ≡ Some group → IsNarrowFun (whole_in t.now) names.new x (fun_tree f.now) fun) }
+    ensures small { IfOk result (λ fun. (x : List ℕ) → group_of (whole_in t.now) x ≡ Some group → IsSmallFun (whole_in t.now) names.new x (fun_tree f.now) fun) }
     ensures names { Extends names.old names.new }
 {
     let mut next = 0;

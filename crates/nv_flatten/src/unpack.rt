@@ -4,7 +4,7 @@ ghost use Rattle.std.specs.Prelude.{◌≡◌, ◌≤◌, ◌+◌, ◌*◌, ◌^
 ghost use Rattle.nv_base.specs.Words.{Env, atom_words, shifted_left, shifted_right};
 ghost use Rattle.nv_ast.specs.Bits.{number, slice, packed as packed_bits};
 ghost use Rattle.nv_ast.specs.LayoutView.{layout_tree, field_tree, list_fields, list_layouts};
-ghost use Rattle.nv_ast.specs.Outline.{outline, outlines, field_outline, field_outlines, size as bit_size, total_size, total_named_size, longest, IsSound};
+ghost use Rattle.nv_ast.specs.Outline.{outline, outlines, field_outline, field_outlines, size as bit_size, total_size, total_named_size, longest, bit_fields, part_fields, alternative_fields, joined_fields, IsSound};
 ghost use Rattle.nv_ast.specs.Tree.{NamedLayout};
 ghost use Rattle.nv_ast.specs.Types.{packed_words, unpacked_ty};
 ghost use Rattle.nv_meaning.specs.Packing.{value_at};
@@ -15,7 +15,10 @@ ghost use Rattle.nv_flatten.specs.Soundness.{AreWords};
 ghost use Rattle.nv_flatten.specs.Symbols.{form, operands, value_in, Fits, AreOlder};
 ghost use Rattle.nv_flatten.specs.View.{view, list_named_symbols};
 ghost use Rattle.nv_flatten.specs.Well.{AreWellLets};
-ghost use Rattle.nv_flatten.specs.Adds.{AddsLets, AddsFields};
+ghost use Rattle.nv_flatten.specs.Adds.{AddsLets, AddsFields, AddsWord};
+ghost use Rattle.nv_flatten.specs.FewReads.{ReadsFew};
+ghost use Rattle.nv_flatten.specs.Narrow.{AreNarrowLets};
+ghost use Rattle.nv_flatten.specs.Small.{AreFewLets};
 
 use crate::parts::{define, shifted};
 use crate::symbol::{Field, Symbol, Valued};
@@ -41,6 +44,8 @@ pub fn unpacked<'a>(
     ensures older { IfOk result (λ r. AreOlder next.old words.now → AreOlder next.new (operands (view r.symbol))) }
     ensures well { IfOk result (λ r. IsSound (outline (declared_in t.now).layouts (NamedLayout l.now)) → length words.now ≡ packed_words (outline (declared_in t.now).layouts (NamedLayout l.now)) → AreWellLets next.old next.new words.now r.steps.items (operands (view r.symbol))) }
     ensures later { next.old ≤ next.new }
+    ensures narrow { IfOk result (λ r. AreNarrowLets words.now r.steps.items (operands (view r.symbol))) }
+    ensures small { IfOk result (λ r. AreFewLets r.steps.items (4 * length (bit_fields 0 (outline (declared_in t.now).layouts (NamedLayout l.now))))) }
 {
     if words.len() > MOST_WORDS {
         return Err(NoMemory);
@@ -67,6 +72,8 @@ fn record<'a>(
     ensures unpacks { IfOk result (λ r. Unpacks (outline (take limit (declared_in t.now).layouts) (layout_tree l.now)) next.old next.new words.now r.steps.items (view r.symbol)) }
     ensures well { IfOk result (λ r. AreWellLets next.old next.new words.now r.steps.items (operands (view r.symbol))) }
     ensures later { next.old ≤ next.new }
+    ensures narrow { IfOk result (λ r. AreNarrowLets words.now r.steps.items (operands (view r.symbol))) }
+    ensures small { IfOk result (λ r. AreFewLets r.steps.items (4 * length (bit_fields 0 (outline (take limit (declared_in t.now).layouts) (layout_tree l.now))))) }
 {
     let mut steps = Vec::new(alloc);
     let mut fields = Vec::new(alloc);
@@ -96,6 +103,7 @@ fn add_fields<'a>(
     ensures behind { IfOk result (λ i. i ≡ min (at + bit_size (outline (take limit (declared_in t.now).layouts) (layout_tree l.now))) u64.MAX) }
     ensures well { OnOk result (AddsFields next.old next.new words.now steps.old.items steps.new.items (list_named_symbols fields.old.items) (list_named_symbols fields.new.items)) }
     ensures later { next.old ≤ next.new }
+    ensures bounds { OnOk result (ReadsFew words.now steps.old.items steps.new.items (list_named_symbols fields.old.items) (list_named_symbols fields.new.items) (length (bit_fields 0 (outline (take limit (declared_in t.now).layouts) (layout_tree l.now))))) }
 {
     match l {
         LayoutText::Named(x) => match t.layout(x, limit) {
@@ -127,6 +135,7 @@ fn add_joined<'a>(
     ensures behind { IfOk result (λ i. i ≡ min (first + total_size (outlines (take limit (declared_in t.now).layouts) (list_layouts ls.now))) u64.MAX) }
     ensures well { OnOk result (AddsFields next.old next.new words.now steps.old.items steps.new.items (list_named_symbols fields.old.items) (list_named_symbols fields.new.items)) }
     ensures later { next.old ≤ next.new }
+    ensures bounds { OnOk result (ReadsFew words.now steps.old.items steps.new.items (list_named_symbols fields.old.items) (list_named_symbols fields.new.items) (length (joined_fields 0 (outlines (take limit (declared_in t.now).layouts) (list_layouts ls.now))))) }
 {
     let mut at = first;
     for l in ls {
@@ -152,6 +161,7 @@ fn add_parts<'a>(
     ensures behind { IfOk result (λ i. i ≡ min (first + total_named_size (field_outlines (take limit (declared_in t.now).layouts) (list_fields fs.now))) u64.MAX) }
     ensures well { OnOk result (AddsFields next.old next.new words.now steps.old.items steps.new.items (list_named_symbols fields.old.items) (list_named_symbols fields.new.items)) }
     ensures later { next.old ≤ next.new }
+    ensures bounds { OnOk result (ReadsFew words.now steps.old.items steps.new.items (list_named_symbols fields.old.items) (list_named_symbols fields.new.items) (length (part_fields 0 (field_outlines (take limit (declared_in t.now).layouts) (list_fields fs.now))))) }
 {
     let mut at = first;
     for f in fs {
@@ -177,6 +187,7 @@ fn add_alternatives<'a>(
     ensures behind { IfOk result (λ i. i ≡ min (at + longest (field_outlines (take limit (declared_in t.now).layouts) (list_fields fs.now))) u64.MAX) }
     ensures well { OnOk result (AddsFields next.old next.new words.now steps.old.items steps.new.items (list_named_symbols fields.old.items) (list_named_symbols fields.new.items)) }
     ensures later { next.old ≤ next.new }
+    ensures bounds { OnOk result (ReadsFew words.now steps.old.items steps.new.items (list_named_symbols fields.old.items) (list_named_symbols fields.new.items) (length (alternative_fields 0 (field_outlines (take limit (declared_in t.now).layouts) (list_fields fs.now))))) }
 {
     let mut last = at;
     for f in fs {
@@ -204,6 +215,7 @@ fn add_field<'a>(
     ensures behind { IfOk result (λ i. i ≡ min (at + bit_size (field_outline (take limit (declared_in t.now).layouts) (field_tree f.now.1))) u64.MAX) }
     ensures well { OnOk result (AddsFields next.old next.new words.now steps.old.items steps.new.items (list_named_symbols fields.old.items) (list_named_symbols fields.new.items)) }
     ensures later { next.old ≤ next.new }
+    ensures bounds { OnOk result (ReadsFew words.now steps.old.items steps.new.items (list_named_symbols fields.old.items) (list_named_symbols fields.new.items) (length (bit_fields 0 (field_outline (take limit (declared_in t.now).layouts) (field_tree f.now.1))))) }
 {
     match &f.1 {
         FieldText::Bits(n) => {
@@ -238,6 +250,7 @@ fn word_at(
     ensures makes { IfOk result (λ a. Makes ((1 ≤ n) × (n ≤ 32) × (at + n ≤ 32 * length words.now)) next.old next.new words.now steps.old.items steps.new.items a (λ ws. number (slice at n (packed_bits ws)))) }
     ensures well { IfOk result (λ a. AddsLets next.old next.new words.now steps.old.items steps.new.items (a ∷ [])) }
     ensures later { next.old ≤ next.new }
+    ensures bounds { IfOk result (λ a. AddsWord words.now steps.old.items steps.new.items a 5 4) }
 {
     let behind = at.saturating_add(n as u64);
     if n == 0 || n > 32 || behind > words.len() as u64 * 32 {
@@ -265,6 +278,7 @@ pub fn between(
     ensures makes { IfOk result (λ a. Makes (1 ≤ 1) next.old next.new (word ∷ []) steps.old.items steps.new.items a (λ ws. shifted_right right (shifted_left left (slice_index ws 0)))) }
     ensures well { IfOk result (λ a. AddsLets next.old next.new (word ∷ []) steps.old.items steps.new.items (a ∷ [])) }
     ensures later { next.old ≤ next.new }
+    ensures bounds { IfOk result (λ a. AddsWord (word ∷ []) steps.old.items steps.new.items a 4 2) }
 {
     let raised = shifted(ShiftOp::Left, word, left, steps, next)?;
     let lowered = shifted(ShiftOp::Right, raised, right, steps, next)?;
@@ -287,6 +301,7 @@ fn across(
     ensures makes { IfOk result (λ a. Makes (1 ≤ 1) next.old next.new (word ∷ following ∷ []) steps.old.items steps.new.items a (λ ws. number (slice first n (packed_bits ws)))) }
     ensures well { IfOk result (λ a. AddsLets next.old next.new (word ∷ following ∷ []) steps.old.items steps.new.items (a ∷ [])) }
     ensures later { next.old ≤ next.new }
+    ensures bounds { IfOk result (λ a. AddsWord (word ∷ following ∷ []) steps.old.items steps.new.items a 5 4) }
 {
     let high = between(word, first, 32 - n, steps, next)?;
     let low = shifted(ShiftOp::Right, following, 64 - first - n, steps, next)?;

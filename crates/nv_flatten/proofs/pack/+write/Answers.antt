@@ -18,13 +18,16 @@ use Rattle.nv_meaning.proofs.Writing.{parts_bits-more, joined_bits-more, chosen-
 use Rattle.nv_meaning.proofs.Lists.{dropped-all}
 use Rattle.nv_meaning.proofs.Bindings.{if-true, if-false}
 use Rattle.flat_ir.specs.declared.spine.Step.{Step}
-use Rattle.nv_flatten.specs.Symbols.{Symbol, Word, operands, value_in, word_operand}
+use Rattle.nv_flatten.specs.Symbols.{Symbol, Word, operands, value_in, word_operand, fields_of as symbols_of, field_named as symbol_named}
 use Rattle.nv_flatten.specs.View.{view}
 use Rattle.nv_flatten.specs.Reads.{Writes}
+use Rattle.nv_flatten.specs.Written.{packed_fields, packed_layout, packed_parts, packed_chosen, packed_joined, WritesFew}
 use Rattle.nv_flatten.proofs.Reading.{sound-named, sound-joined}
 use Rattle.nv_flatten.proofs.Writing.{part-value, part-there, word-value, word-older, word-fits, writes-none, writes-of, writes-then, part-writes}
 use Rattle.nv_flatten.proofs.Lets.{adds-turn}
 use Rattle.nv_flatten.proofs.WordLets.{words-none, words-of-word, words-of-part, words-of-zero, words-from}
+use Rattle.nv_flatten.proofs.PackedFields.{layout-fields, parts-more, joined-more, chosen-turn as chosen-fields}
+use Rattle.nv_flatten.proofs.PackedSteps.{writes-none as few-none, writes-then as few-then, writes-at-most as few-at-most, writes-word as few-word, writes-part as few-part, writes-zero as few-zero, writes-from as few-from}
 use Rattle.nv_flatten.proofs.pack.+write.Goals as goal
 
 pub write_layout-write_layout-requires : goal.write_layout-write_layout-requires
@@ -140,6 +143,7 @@ write_joined-loop-l-init t c =
       later = omega arith;
       writes = writes-none (AllSound (outlines (take c.args.limit (declared_in c.args.t.now).layouts) (list_layouts c.args.ls.now))) c.args.next.now (view c.args.s.now) c.args.steps.now.items c.args.words.now c.args.first 0 (λ v. []) (omega (arith, c.requires.inside)) (λ v. refl);
       well = words-none c.args.next.now (view c.args.s.now) c.args.steps.now.items c.args.words.now;
+      bounds = few-none 0 (view c.args.s.now) c.args.steps.now.items c.args.words.now c.args.first c.args.first (omega arith);
     }
 
 pub write_joined-loop-l-preserved : goal.write_joined-loop-l-preserved
@@ -154,6 +158,9 @@ write_joined-loop-l-preserved t c =
           c.loop-l.invariant.writes c.in_ok-at.ensures.writes (λ q. q) (λ q. sound-joined (take c.args.limit (declared_in c.args.t.now).layouts) c.args.ls.now c.loop-l.l-index c.l-item.result c.loop-l-test.true c.l-item.is q)
           c.loop-l.invariant.behind (λ env. (let short = joined-within (outlines (take c.args.limit (declared_in c.args.t.now).layouts) (list_layouts (take c.loop-l.l-index c.args.ls.now))) (value_in env (view c.args.s.now)) in omega (arith, c.requires.inside))) more';
       well = adds-turn c.args.next.now c.loop-l.next c.write_layout.new.next (operands (view c.args.s.now)) c.args.words.now c.loop-l.words c.write_layout.new.words c.args.steps.now.items c.loop-l.steps.items c.write_layout.new.steps.items c.loop-l.invariant.well c.in_ok-at.ensures.well;
+      bounds = few-then (packed_joined (outlines (take c.args.limit (declared_in c.args.t.now).layouts) (list_layouts (take c.loop-l.l-index c.args.ls.now))) (view c.args.s.now)) (packed_layout (outline (take c.args.limit (declared_in c.args.t.now).layouts) (layout_tree c.l-item.result)) (view c.args.s.now)) (packed_joined (outlines (take c.args.limit (declared_in c.args.t.now).layouts) (list_layouts (take (c.loop-l.l-index + 1) c.args.ls.now))) (view c.args.s.now))
+          (view c.args.s.now) c.args.steps.now.items c.loop-l.steps.items c.write_layout.new.steps.items c.args.words.now c.loop-l.words c.write_layout.new.words c.args.first c.loop-l.at c.in_ok-at.at c.loop-l.invariant.bounds c.in_ok-at.ensures.bounds
+          (joined-more (take c.args.limit (declared_in c.args.t.now).layouts) c.args.ls.now c.loop-l.l-index c.l-item.result (view c.args.s.now) c.loop-l-test.true c.l-item.is);
     }
 
 pub write_joined-returns-clause-writes : goal.write_joined-returns-clause-writes
@@ -172,6 +179,7 @@ write_parts-loop-f-init t c =
       later = omega arith;
       writes = writes-none (AllNamedSound (field_outlines (take c.args.limit (declared_in c.args.t.now).layouts) (list_fields c.args.fs.now))) c.args.next.now (view c.args.s.now) c.args.steps.now.items c.args.words.now c.args.first 0 (λ v. []) (omega (arith, c.requires.inside)) (λ v. refl);
       well = words-none c.args.next.now (view c.args.s.now) c.args.steps.now.items c.args.words.now;
+      bounds = few-none 0 (view c.args.s.now) c.args.steps.now.items c.args.words.now c.args.first c.args.first (omega arith);
     }
 
 pub write_parts-loop-f-preserved : goal.write_parts-loop-f-preserved
@@ -186,6 +194,10 @@ write_parts-loop-f-preserved t c =
           c.loop-f.invariant.writes c.in_ok-at.ensures.writes (λ q. q) (λ q. sound-named (take c.args.limit (declared_in c.args.t.now).layouts) c.args.fs.now c.loop-f.f-index c.f-item.result c.loop-f-test.true c.f-item.is q)
           c.loop-f.invariant.behind (λ env. (let short = parts-within (field_outlines (take c.args.limit (declared_in c.args.t.now).layouts) (list_fields (take c.loop-f.f-index c.args.fs.now))) (fields_of (value_in env (view c.args.s.now))) in omega (arith, c.requires.inside))) more';
       well = adds-turn c.args.next.now c.loop-f.next c.write_part.new.next (operands (view c.args.s.now)) c.args.words.now c.loop-f.words c.write_part.new.words c.args.steps.now.items c.loop-f.steps.items c.write_part.new.steps.items c.loop-f.invariant.well c.in_ok-at.ensures.well;
+      bounds = few-then (packed_parts (field_outlines (take c.args.limit (declared_in c.args.t.now).layouts) (list_fields (take c.loop-f.f-index c.args.fs.now))) (symbols_of (view c.args.s.now))) (packed_fields (field_outline (take c.args.limit (declared_in c.args.t.now).layouts) (field_tree c.f-item.result.1)) (symbol_named c.f-item.result.0 (symbols_of (view c.args.s.now))))
+          (packed_parts (field_outlines (take c.args.limit (declared_in c.args.t.now).layouts) (list_fields (take (c.loop-f.f-index + 1) c.args.fs.now))) (symbols_of (view c.args.s.now)))
+          (view c.args.s.now) c.args.steps.now.items c.loop-f.steps.items c.write_part.new.steps.items c.args.words.now c.loop-f.words c.write_part.new.words c.args.first c.loop-f.at c.in_ok-at.at c.loop-f.invariant.bounds c.in_ok-at.ensures.bounds
+          (parts-more (take c.args.limit (declared_in c.args.t.now).layouts) c.args.fs.now c.loop-f.f-index c.f-item.result (symbols_of (view c.args.s.now)) c.loop-f-test.true c.f-item.is);
     }
 
 pub write_parts-returns-clause-writes : goal.write_parts-returns-clause-writes
@@ -241,7 +253,7 @@ write_chosen-returns-in-Some-clause-behind t c =
 
 pub write_chosen-loop-f-init : goal.write_chosen-loop-f-init
 write_chosen-loop-f-init t c =
-    record { bits = λ env. refl; words = refl; steps = refl; next = refl }
+    record { bits = λ env. refl; words = refl; steps = refl; next = refl; fields = refl }
 
 pub write_chosen-loop-f-preserved : goal.write_chosen-loop-f-preserved
 write_chosen-loop-f-preserved t c =
@@ -250,6 +262,7 @@ write_chosen-loop-f-preserved t c =
       words = c.loop-f.invariant.words;
       steps = c.loop-f.invariant.steps;
       next = c.loop-f.invariant.next;
+      fields = sym (chosen-fields (take c.args.limit (declared_in c.args.t.now).layouts) c.args.fs.now c.loop-f.f-index c.f-item.result (symbols_of (view c.args.s.now)) c.loop-f-test.true c.f-item.is ∙ if-false _ _ _ c.in-None.ensures.0) ∙ c.loop-f.invariant.fields;
     }
 
 pub write_chosen-returns-clause-writes : goal.write_chosen-returns-clause-writes
@@ -337,3 +350,80 @@ write_chosen-returns-clause-well t c =
 pub write_field-returns-in_ok-write_bits-in-Bits-clause-well : goal.write_field-returns-in_ok-write_bits-in-Bits-clause-well
 write_field-returns-in_ok-write_bits-in-Bits-clause-well t c =
     words-of-word c.args.next.now c.write_bits.new.next (view c.args.s.now) c.word_in.result c.args.steps.now.items c.write_bits.new.steps.items c.args.words.now c.write_bits.new.words c.word_in.ensures c.in_ok-write_bits-in-Bits.ensures.well
+
+-- ---- how many and how narrow the steps are
+
+pub write_layout-returns-in-Some-clause-bounds : goal.write_layout-returns-in-Some-clause-bounds
+write_layout-returns-in-Some-clause-bounds t c =
+    subst (λ (o : OutlineTree). IfOk c.write_layout.result (λ i. WritesFew (packed_layout o (view c.args.s.now)) (view c.args.s.now) c.args.steps.now.items c.write_layout.new.steps.items c.args.words.now c.write_layout.new.words c.args.at i)) (sym (ap (λ k. outline (take c.args.limit (declared_in c.args.t.now).layouts) (layout_tree k)) c.in-Named.is ∙ c.in-Some.ensures.outline)) c.write_layout.ensures.bounds
+
+pub write_layout-returns-in-None-clause-bounds : goal.write_layout-returns-in-None-clause-bounds
+write_layout-returns-in-None-clause-bounds t c =
+    few-none (packed_layout (outline (take c.args.limit (declared_in c.args.t.now).layouts) (layout_tree c.args.l.now)) (view c.args.s.now)) (view c.args.s.now) c.args.steps.now.items c.args.words.now c.args.at _ (omega arith)
+
+pub write_layout-returns-in-Gap-clause-bounds : goal.write_layout-returns-in-Gap-clause-bounds
+write_layout-returns-in-Gap-clause-bounds t c =
+    few-none (packed_layout (outline (take c.args.limit (declared_in c.args.t.now).layouts) (layout_tree c.args.l.now)) (view c.args.s.now)) (view c.args.s.now) c.args.steps.now.items c.args.words.now c.args.at _ (omega arith)
+
+pub write_layout-returns-in-Parts-clause-bounds : goal.write_layout-returns-in-Parts-clause-bounds
+write_layout-returns-in-Parts-clause-bounds t c =
+    subst (λ (o : OutlineTree). IfOk c.write_parts.result (λ i. WritesFew (packed_layout o (view c.args.s.now)) (view c.args.s.now) c.args.steps.now.items c.write_parts.new.steps.items c.args.words.now c.write_parts.new.words c.args.at i)) (sym (ap (outline (take c.args.limit (declared_in c.args.t.now).layouts)) (parts_is c.args.l.now c.in-Parts.fs c.in-Parts.is) ∙ ap (λ k. PartsOutline (field_outlines (take c.args.limit (declared_in c.args.t.now).layouts) (list_fields k))) (sym c.deref.ensures.value))) c.write_parts.ensures.bounds
+
+pub write_layout-returns-in-Joined-clause-bounds : goal.write_layout-returns-in-Joined-clause-bounds
+write_layout-returns-in-Joined-clause-bounds t c =
+    subst (λ (o : OutlineTree). IfOk c.write_joined.result (λ i. WritesFew (packed_layout o (view c.args.s.now)) (view c.args.s.now) c.args.steps.now.items c.write_joined.new.steps.items c.args.words.now c.write_joined.new.words c.args.at i)) (sym (ap (outline (take c.args.limit (declared_in c.args.t.now).layouts)) (joined_is c.args.l.now c.in-Joined.ls c.in-Joined.is) ∙ ap (λ k. JoinedOutline (outlines (take c.args.limit (declared_in c.args.t.now).layouts) (list_layouts k))) (sym c.deref-in-Joined.ensures.value))) c.write_joined.ensures.bounds
+
+pub write_joined-returns-clause-bounds : goal.write_joined-returns-clause-bounds
+write_joined-returns-clause-bounds t c =
+    subst (λ (l : List LayoutText). WritesFew (packed_joined (outlines (take c.args.limit (declared_in c.args.t.now).layouts) (list_layouts l)) (view c.args.s.now)) (view c.args.s.now) c.args.steps.now.items c.loop-l.steps.items c.args.words.now c.loop-l.words c.args.first c.loop-l.at)
+    (take_all c.loop-l.l-index c.args.ls.now (omega arith)) c.loop-l.invariant.bounds
+
+pub write_parts-returns-clause-bounds : goal.write_parts-returns-clause-bounds
+write_parts-returns-clause-bounds t c =
+    subst (λ (l : List FieldItem). WritesFew (packed_parts (field_outlines (take c.args.limit (declared_in c.args.t.now).layouts) (list_fields l)) (symbols_of (view c.args.s.now))) (view c.args.s.now) c.args.steps.now.items c.loop-f.steps.items c.args.words.now c.loop-f.words c.args.first c.loop-f.at)
+    (take_all c.loop-f.f-index c.args.fs.now (omega arith)) c.loop-f.invariant.bounds
+
+pub write_part-returns-in-Some-clause-bounds : goal.write_part-returns-in-Some-clause-bounds
+write_part-returns-in-Some-clause-bounds t c =
+    let e = ap (packed_fields (field_outline (take c.args.limit (declared_in c.args.t.now).layouts) (field_tree c.args.f.now.1))) c.in-Some.ensures.1 in
+    IfOk-weaker c.write_field.result _ _
+    (λ i m. few-part (packed_fields (field_outline (take c.args.limit (declared_in c.args.t.now).layouts) (field_tree c.args.f.now.1)) (view c.in-Some.p.now)) (packed_fields (field_outline (take c.args.limit (declared_in c.args.t.now).layouts) (field_tree c.args.f.now.1)) (symbol_named c.args.f.now.0 (symbols_of (view c.args.s.now)))) c.args.f.now.0 (view c.in-Some.p.now) (view c.args.s.now) c.args.steps.now.items c.write_field.new.steps.items c.args.words.now c.write_field.new.words c.args.at i c.in-Some.ensures.1 m (omega arith))
+    c.write_field.ensures.bounds
+
+pub write_part-returns-in-None-clause-bounds : goal.write_part-returns-in-None-clause-bounds
+write_part-returns-in-None-clause-bounds t c =
+    let e = ap (packed_fields (field_outline (take c.args.limit (declared_in c.args.t.now).layouts) (field_tree c.args.f.now.1))) c.in-None.ensures.1 in
+    IfOk-weaker c.write_field-in-None.result _ _
+    (λ i m. few-zero (packed_fields (field_outline (take c.args.limit (declared_in c.args.t.now).layouts) (field_tree c.args.f.now.1)) (Word (Lit 0))) (packed_fields (field_outline (take c.args.limit (declared_in c.args.t.now).layouts) (field_tree c.args.f.now.1)) (symbol_named c.args.f.now.0 (symbols_of (view c.args.s.now)))) (Word (Lit 0)) (view c.args.s.now) c.args.steps.now.items c.write_field-in-None.new.steps.items c.args.words.now c.write_field-in-None.new.words c.args.at i refl m (omega arith))
+    c.write_field-in-None.ensures.bounds
+
+pub write_chosen-returns-in-Some-clause-bounds : goal.write_chosen-returns-in-Some-clause-bounds
+write_chosen-returns-in-Some-clause-bounds t c =
+    let e : (packed_chosen (field_outlines (take c.args.limit (declared_in c.args.t.now).layouts) (list_fields c.args.fs.now)) (symbols_of (view c.args.s.now))) ≡ packed_fields (field_outline (take c.args.limit (declared_in c.args.t.now).layouts) (field_tree c.f-item.result.1)) (view c.in-Some.p.now) =
+    sym c.loop-f.invariant.fields ∙ chosen-fields (take c.args.limit (declared_in c.args.t.now).layouts) c.args.fs.now c.loop-f.f-index c.f-item.result (symbols_of (view c.args.s.now)) c.loop-f-test.true c.f-item.is ∙ if-true _ _ _ c.in-Some.ensures.0 ∙ ap (packed_fields (field_outline (take c.args.limit (declared_in c.args.t.now).layouts) (field_tree c.f-item.result.1))) c.in-Some.ensures.1 in
+    IfOk-weaker c.write_field.result _ _
+    (λ i m. few-from (packed_chosen (field_outlines (take c.args.limit (declared_in c.args.t.now).layouts) (list_fields c.args.fs.now)) (symbols_of (view c.args.s.now))) (view c.args.s.now) c.loop-f.steps.items c.args.steps.now.items c.write_field.new.steps.items c.loop-f.words c.args.words.now c.write_field.new.words c.args.at i c.loop-f.invariant.steps c.loop-f.invariant.words
+    (few-part (packed_fields (field_outline (take c.args.limit (declared_in c.args.t.now).layouts) (field_tree c.f-item.result.1)) (view c.in-Some.p.now)) (packed_chosen (field_outlines (take c.args.limit (declared_in c.args.t.now).layouts) (list_fields c.args.fs.now)) (symbols_of (view c.args.s.now))) c.f-item.result.0 (view c.in-Some.p.now) (view c.args.s.now) c.loop-f.steps.items c.write_field.new.steps.items c.loop-f.words c.write_field.new.words c.args.at i c.in-Some.ensures.1 m (omega arith)))
+    c.write_field.ensures.bounds
+
+pub write_chosen-returns-clause-bounds : goal.write_chosen-returns-clause-bounds
+write_chosen-returns-clause-bounds t c =
+    few-from (packed_chosen (field_outlines (take c.args.limit (declared_in c.args.t.now).layouts) (list_fields c.args.fs.now)) (symbols_of (view c.args.s.now))) (view c.args.s.now) c.loop-f.steps.items c.args.steps.now.items c.loop-f.steps.items c.loop-f.words c.args.words.now c.loop-f.words c.args.at c.args.at c.loop-f.invariant.steps c.loop-f.invariant.words
+    (few-none (packed_chosen (field_outlines (take c.args.limit (declared_in c.args.t.now).layouts) (list_fields c.args.fs.now)) (symbols_of (view c.args.s.now))) (view c.args.s.now) c.loop-f.steps.items c.loop-f.words c.args.at c.args.at (omega arith))
+
+pub write_field-returns-in_ok-write_bits-in-Bits-clause-bounds : goal.write_field-returns-in_ok-write_bits-in-Bits-clause-bounds
+write_field-returns-in_ok-write_bits-in-Bits-clause-bounds t c =
+    let e : (packed_fields (field_outline (take c.args.limit (declared_in c.args.t.now).layouts) (field_tree c.args.f.now)) (view c.args.s.now)) ≡ 1 = ap (λ k. packed_fields (field_outline (take c.args.limit (declared_in c.args.t.now).layouts) (field_tree k)) (view c.args.s.now)) c.in-Bits.is in
+    few-at-most 1 (packed_fields (field_outline (take c.args.limit (declared_in c.args.t.now).layouts) (field_tree c.args.f.now)) (view c.args.s.now)) (view c.args.s.now) c.args.steps.now.items c.write_bits.new.steps.items c.args.words.now c.write_bits.new.words c.args.at _
+    (few-word c.word_in.result (view c.args.s.now) c.args.steps.now.items c.write_bits.new.steps.items c.args.words.now c.write_bits.new.words c.args.at _ c.word_in.ensures c.in_ok-write_bits-in-Bits.ensures.bounds) (omega arith)
+
+pub write_field-returns-in-Inner-clause-bounds : goal.write_field-returns-in-Inner-clause-bounds
+write_field-returns-in-Inner-clause-bounds t c =
+    subst (λ (o : OutlineTree). IfOk c.write_layout.result (λ i. WritesFew (packed_fields o (view c.args.s.now)) (view c.args.s.now) c.args.steps.now.items c.write_layout.new.steps.items c.args.words.now c.write_layout.new.words c.args.at i)) (sym (ap (λ k. field_outline (take c.args.limit (declared_in c.args.t.now).layouts) (field_tree k)) c.in-Inner.is))
+    (IfOk-weaker c.write_layout.result _ _
+    (λ i m. few-at-most (packed_layout (outline (take c.args.limit (declared_in c.args.t.now).layouts) (layout_tree c.in-Inner.l)) (view c.args.s.now)) (packed_fields (outline (take c.args.limit (declared_in c.args.t.now).layouts) (layout_tree c.in-Inner.l)) (view c.args.s.now)) (view c.args.s.now) c.args.steps.now.items c.write_layout.new.steps.items c.args.words.now c.write_layout.new.words c.args.at i m (layout-fields (outline (take c.args.limit (declared_in c.args.t.now).layouts) (layout_tree c.in-Inner.l)) (view c.args.s.now)))
+    c.write_layout.ensures.bounds)
+
+pub write_field-returns-in-Overlay-clause-bounds : goal.write_field-returns-in-Overlay-clause-bounds
+write_field-returns-in-Overlay-clause-bounds t c =
+    subst (λ (o : OutlineTree). IfOk c.write_chosen.result (λ i. WritesFew (packed_fields o (view c.args.s.now)) (view c.args.s.now) c.args.steps.now.items c.write_chosen.new.steps.items c.args.words.now c.write_chosen.new.words c.args.at i)) (sym (ap (field_outline (take c.args.limit (declared_in c.args.t.now).layouts)) (overlay_is c.args.f.now c.in-Overlay.fs c.in-Overlay.is) ∙ ap (λ k. OverlayOutline (field_outlines (take c.args.limit (declared_in c.args.t.now).layouts) (list_fields k))) (sym c.deref.ensures.value))) c.write_chosen.ensures.bounds

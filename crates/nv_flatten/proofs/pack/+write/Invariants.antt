@@ -7,9 +7,10 @@ use Rattle.nv_meaning.specs.Packing.{parts_bits, joined_bits, chosen_bits}
 use Rattle.nv_meaning.specs.TableView.{declared_in}
 use Rattle.nv_meaning.proofs.Unpacking.{alias_rank}
 use Rattle.nv_flatten.specs.Reads.{Writes}
-use Rattle.nv_flatten.specs.Symbols.{value_in}
+use Rattle.nv_flatten.specs.Symbols.{value_in, fields_of as symbols_of}
 use Rattle.nv_flatten.specs.View.{view}
 use Rattle.nv_flatten.specs.Adds.{AddsWords}
+use Rattle.nv_flatten.specs.Written.{packed_parts, packed_chosen, packed_joined, WritesFew}
 use Rattle.nv_flatten.proofs.pack.+write.Given as goal
 
 abbrev pub invariant-write_joined-loop-l : goal.invariant-write_joined-loop-l
@@ -18,6 +19,7 @@ invariant-write_joined-loop-l l = record {
   later : l.fn.next ≤ l.next;
   writes : Writes (AllSound (outlines (take l.limit (declared_in l.t).layouts) (list_layouts l.ls))) l.fn.next l.next (view l.s) l.fn.steps.items l.steps.items l.fn.words l.words l.first (λ v. joined_bits (outlines (take l.limit (declared_in l.t).layouts) (list_layouts (take l.l-index l.ls))) v);
   well : AddsWords l.fn.next l.next (view l.s) l.fn.steps.items l.steps.items l.fn.words l.words;
+  bounds : WritesFew (packed_joined (outlines (take l.limit (declared_in l.t).layouts) (list_layouts (take l.l-index l.ls))) (view l.s)) (view l.s) l.fn.steps.items l.steps.items l.fn.words l.words l.first l.at;
 }
 
 abbrev pub invariant-write_parts-loop-f : goal.invariant-write_parts-loop-f
@@ -26,6 +28,7 @@ invariant-write_parts-loop-f l = record {
   later : l.fn.next ≤ l.next;
   writes : Writes (AllNamedSound (field_outlines (take l.limit (declared_in l.t).layouts) (list_fields l.fs))) l.fn.next l.next (view l.s) l.fn.steps.items l.steps.items l.fn.words l.words l.first (λ v. parts_bits (field_outlines (take l.limit (declared_in l.t).layouts) (list_fields (take l.f-index l.fs))) (fields_of v));
   well : AddsWords l.fn.next l.next (view l.s) l.fn.steps.items l.steps.items l.fn.words l.words;
+  bounds : WritesFew (packed_parts (field_outlines (take l.limit (declared_in l.t).layouts) (list_fields (take l.f-index l.fs))) (symbols_of (view l.s))) (view l.s) l.fn.steps.items l.steps.items l.fn.words l.words l.first l.at;
 }
 
 abbrev pub invariant-write_chosen-loop-f : goal.invariant-write_chosen-loop-f
@@ -34,6 +37,7 @@ invariant-write_chosen-loop-f l = record {
   words : l.words ≡ l.fn.words;
   steps : l.steps.items ≡ l.fn.steps.items;
   next : l.next ≡ l.fn.next;
+  fields : packed_chosen (field_outlines (take l.limit (declared_in l.t).layouts) (list_fields (drop l.f-index l.fs))) (symbols_of (view l.s)) ≡ packed_chosen (field_outlines (take l.limit (declared_in l.t).layouts) (list_fields l.fs)) (symbols_of (view l.s));
 }
 
 abbrev pub decreases-write_layout : goal.decreases-write_layout

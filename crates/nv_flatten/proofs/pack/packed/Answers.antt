@@ -1,17 +1,25 @@
-use Rattle.std.proofs.Common.{◌≡◌, ◌∙◌, [], refl, ap, sym, subst, length, arith, IfOk}
+use Rattle.std.proofs.Common.{◌≡◌, ◌∙◌, [], refl, ap, sym, subst, length, min, true, arith, IfOk}
 use Rattle.std.proofs.lemmas.Result.{IfOk-weaker}
 use Rattle.nv_ast.specs.Tree.{NamedLayout}
-use Rattle.nv_ast.specs.Outline.{OutlineTree, outline}
+use Rattle.nv_ast.specs.Outline.{OutlineTree, outline, size, IsSound}
+use Rattle.nv_ast.specs.Types.{form_of, can_pack}
 use Rattle.nv_meaning.specs.TableView.{declared_in}
 use Rattle.nv_meaning.proofs.Places.{all-laid}
+use Rattle.nv_flatten.specs.Symbols.{form, operands}
 use Rattle.nv_flatten.specs.View.{view}
+use Rattle.nv_flatten.specs.Small.{PacksFew}
 use Rattle.nv_flatten.specs.Reads.{Packs}
 use Rattle.nv_flatten.proofs.PackedWords.{packs-nothing}
 use Rattle.nv_flatten.proofs.WordLets.{lets-empty}
+use Rattle.nv_flatten.proofs.PackedSteps.{narrow-empty, few-empty}
 use Rattle.nv_flatten.proofs.pack.packed.Goals as goal
 
 pub written-requires : goal.written-requires
-written-requires c = c.size-bits.ensures
+written-requires c =
+    let n : c.len.result ≡ length c.args.t.now.layouts.items = omega (arith, c.len.ensures, c.args.t.now.layouts.ok.0) in
+    let all = all-laid c.args.t.now.layouts.items c.len.result n in
+    let e = ap (λ k. outline k (NamedLayout c.args.l.now)) (sym all) ∙ c.in-Some.ensures.outline in
+    c.size_of-bits.ensures ∙ ap (λ o. min (size o) 18446744073709551615) e
 
 pub returns-in-Some-clause-value : goal.returns-in-Some-clause-value
 returns-in-Some-clause-value c =
@@ -61,3 +69,19 @@ returns-in-Some-clause-well c = IfOk-weaker c.written.result _ _ (λ r m sound c
 
 pub returns-in_ok-symbol-in-None-clause-well : goal.returns-in_ok-symbol-in-None-clause-well
 returns-in_ok-symbol-in-None-clause-well c = λ sound can. lets-empty c.args.next.now (view c.args.s.now) (view c.in_ok-symbol-in-None.symbol) c.new.result.items c.new.ensures.items c.in_ok-symbol-in-None.ensures
+
+pub returns-in-Some-clause-narrow : goal.returns-in-Some-clause-narrow
+returns-in-Some-clause-narrow c = c.written.ensures.narrow
+
+pub returns-in-Some-clause-small : goal.returns-in-Some-clause-small
+returns-in-Some-clause-small c =
+    let n : c.len.result ≡ length c.args.t.now.layouts.items = omega (arith, c.len.ensures, c.args.t.now.layouts.ok.0) in
+    let all = all-laid c.args.t.now.layouts.items c.len.result n in
+    let e = ap (λ k. outline k (NamedLayout c.args.l.now)) (sym all) ∙ c.in-Some.ensures.outline in
+    subst (λ (o : OutlineTree). IfOk c.written.result (λ r. IsSound o → can_pack (form_of o) (form (view c.args.s.now)) ≡ true → PacksFew o (operands (view c.args.s.now)) r.steps.items)) (sym e) c.written.ensures.small
+
+pub returns-in_ok-symbol-in-None-clause-narrow : goal.returns-in_ok-symbol-in-None-clause-narrow
+returns-in_ok-symbol-in-None-clause-narrow c = narrow-empty (view c.args.s.now) (view c.in_ok-symbol-in-None.symbol) c.new.result.items c.new.ensures.items c.in_ok-symbol-in-None.ensures
+
+pub returns-in_ok-symbol-in-None-clause-small : goal.returns-in_ok-symbol-in-None-clause-small
+returns-in_ok-symbol-in-None-clause-small c = λ sound can. few-empty (outline (declared_in c.args.t.now).layouts (NamedLayout c.args.l.now)) (view c.args.s.now) c.new.result.items c.new.ensures.items

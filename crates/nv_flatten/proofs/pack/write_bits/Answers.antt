@@ -10,6 +10,8 @@ use Rattle.nv_ast.specs.declared.tree.ShiftOp.TheVariants.{Left}
 use Rattle.nv_flatten.proofs.WellBasics.{knows-rest}
 use Rattle.nv_flatten.proofs.Lets.{adds-none, adds-shift}
 use Rattle.nv_flatten.proofs.WordLets.{adds-joined, adds-into, adds-into-two}
+use Rattle.nv_flatten.proofs.WordSteps.{word-shift}
+use Rattle.nv_flatten.proofs.PackedSteps.{writes-none, writes-one as narrow-one, writes-two as narrow-two}
 use Rattle.nv_flatten.proofs.pack.write_bits.Goals as goal
 use Rattle.nv_flatten.proofs.pack.write_bits.Goals.{then-n-eq0-via-then-n-eq0, then-n-eq0-via-else-n-eq0+then-n-gt32}
 
@@ -65,3 +67,26 @@ returns-else-first-n-gt32-clause-well c =
     adds-into c.args.next.now c.joined.new.next c.args.word c.in_ok-whole.whole c.args.words.now (set c.args.words.now q c.in_ok-whole.whole) c.args.steps.now.items c.joined.new.steps.items q
     (adds-joined c.args.next.now c.between.new.next c.joined.new.next c.args.word _ c.in_ok-high.high c.in_ok-whole.whole c.args.words.now c.args.steps.now.items c.between.new.steps.items c.joined.new.steps.items q (get_or_default c.args.words.now q _ _ here) here c.in_ok-high.ensures.well c.in_ok-whole.ensures.well)
     refl
+
+pub returns-then-n-eq0-clause-bounds : goal.returns-then-n-eq0-clause-bounds
+returns-then-n-eq0-clause-bounds c = writes-none 1 (Word c.args.word) c.args.steps.now.items c.args.words.now c.args.at (c.args.at + c.args.n) (omega arith)
+
+pub returns-in_ok-low-clause-bounds : goal.returns-in_ok-low-clause-bounds
+returns-in_ok-low-clause-bounds c =
+    let q = c.args.at / 32 in
+    let s = c.args.at % 32 in
+    let inside : suc q < length c.args.words.now = omega (arith, c.requires.inside, c.if-first-n-gt32.true) in
+    let here : q < length c.args.words.now = omega arith in
+    narrow-two c.args.word _ c.in_ok-high.high c.in_ok-whole.whole c.in_ok-low.low c.args.words.now (set (set c.args.words.now q c.in_ok-whole.whole) (q + 1) c.in_ok-low.low)
+    c.args.steps.now.items c.between.new.steps.items c.joined.new.steps.items c.shifted.new.steps.items c.args.at (c.args.at + c.args.n) q (q + 1) (get_or_default c.args.words.now q _ _ here) here
+    c.in_ok-high.ensures.bounds c.in_ok-whole.ensures.bounds
+    (word-shift Left (64 - s - c.args.n) c.args.word c.in_ok-low.low c.joined.new.next c.shifted.new.next c.joined.new.steps.items c.shifted.new.steps.items (omega (arith, c.if-first-n-gt32.true)) c.in_ok-low.ensures.none c.in_ok-low.ensures.some)
+    refl (omega (arith, c.if-first-n-gt32.true))
+
+pub returns-else-first-n-gt32-clause-bounds : goal.returns-else-first-n-gt32-clause-bounds
+returns-else-first-n-gt32-clause-bounds c =
+    let q = c.args.at / 32 in
+    let here : q < length c.args.words.now = omega (arith, c.requires.inside, c.if-n-eq0.false) in
+    narrow-one c.args.word _ c.in_ok-high.high c.in_ok-whole.whole c.args.words.now (set c.args.words.now q c.in_ok-whole.whole)
+    c.args.steps.now.items c.between.new.steps.items c.joined.new.steps.items c.args.at (c.args.at + c.args.n) q (get_or_default c.args.words.now q _ _ here) here
+    c.in_ok-high.ensures.bounds c.in_ok-whole.ensures.bounds refl (omega arith)

@@ -5,11 +5,13 @@ use Rattle.nv_ast.specs.LayoutView.{layout_tree}
 use Rattle.nv_ast.specs.Outline.{outline}
 use Rattle.nv_ast.specs.Types.{packed_words}
 use Rattle.nv_meaning.specs.TableView.{declared_in}
-use Rattle.nv_meaning.proofs.Writing.{back-all}
-use Rattle.nv_flatten.specs.Symbols.{words_symbol}
+use Rattle.nv_meaning.proofs.Writing.{back-all, bits-within}
+use Rattle.nv_flatten.specs.Symbols.{words_symbol, value_in}
 use Rattle.nv_flatten.specs.View.{view}
+use Rattle.nv_flatten.specs.Written.{packed_layout}
 use Rattle.nv_flatten.proofs.PackedWords.{packs}
 use Rattle.nv_flatten.proofs.WordLets.{lets-written}
+use Rattle.nv_flatten.proofs.PackedSteps.{narrow-written, few-written}
 use Rattle.nv_flatten.proofs.pack.written.Goals as goal
 
 pub write_layout-requires-clause-inside : goal.write_layout-requires-clause-inside
@@ -45,3 +47,22 @@ returns-clause-well c =
     lets-written c.args.next.now c.write_layout.new.next n (view c.args.s.now) (view c.in_ok-symbol.symbol) c.new-steps.result.items c.write_layout.new.steps.items c.deref_mut.result.now c.write_layout.new.words
     c.in_ok-write_layout.ensures.well c.new-steps.ensures.items (c.deref_mut.ensures.value ∙ c.in_ok-words.ensures)
     (c.in_ok-symbol.ensures ∙ ap words_symbol (c.deref.ensures.value ∙ back-all c.write_layout.new.words c.in_ok-words.words.items c.in_ok-words.words.len new all))
+
+pub returns-clause-narrow : goal.returns-clause-narrow
+returns-clause-narrow c =
+    let n = (c.args.bits + 31) / 32 in
+    let same = ap length c.deref_mut.ensures.value in
+    let long = c.in_ok-write_layout.ensures.writes.long in
+    let new : length c.write_layout.new.words ≡ length c.in_ok-words.words.items = long ∙ same in
+    let all : c.in_ok-words.words.len ≡ length c.in_ok-words.words.items = omega (arith, c.in_ok-words.words.ok.0) in
+    narrow-written (packed_layout (outline (take c.args.limit (declared_in c.args.t.now).layouts) (layout_tree c.args.l.now)) (view c.args.s.now)) n (view c.args.s.now) (view c.in_ok-symbol.symbol) c.new-steps.result.items c.write_layout.new.steps.items c.deref_mut.result.now c.write_layout.new.words 0 _
+    c.in_ok-write_layout.ensures.bounds c.new-steps.ensures.items (c.deref_mut.ensures.value ∙ c.in_ok-words.ensures)
+    (c.in_ok-symbol.ensures ∙ ap words_symbol (c.deref.ensures.value ∙ back-all c.write_layout.new.words c.in_ok-words.words.items c.in_ok-words.words.len new all))
+
+pub returns-clause-small : goal.returns-clause-small
+returns-clause-small c =
+    let place = c.in_ok-write_layout.ensures.behind (λ x. 0) in
+    let inside = bits-within (outline (take c.args.limit (declared_in c.args.t.now).layouts) (layout_tree c.args.l.now)) (value_in (λ x. 0) (view c.args.s.now)) in
+    (λ sound can.
+    few-written (outline (take c.args.limit (declared_in c.args.t.now).layouts) (layout_tree c.args.l.now)) (view c.args.s.now) c.new-steps.result.items c.write_layout.new.steps.items c.deref_mut.result.now c.write_layout.new.words _
+    c.in_ok-write_layout.ensures.bounds c.new-steps.ensures.items (omega arith) sound can)

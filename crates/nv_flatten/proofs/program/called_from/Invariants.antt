@@ -1,11 +1,11 @@
 use Rattle.std.proofs.Common.{◌-◌, length}
 use Rattle.std.below.core.specs.declared.int.usize.TheConstants.{MAX}
 use Rattle.nv_flatten.specs.WholeView.{whole_in}
-use Rattle.nv_flatten.proofs.Naming.{MadeSoFar}
+use Rattle.nv_flatten.proofs.Bounding.{BoundedSoFar}
 use Rattle.nv_flatten.proofs.program.called_from.Given as goal
 
 abbrev pub invariant-loop-name : goal.invariant-loop-name
-invariant-loop-name l = MadeSoFar (whole_in l.t) l.first l.names l.funs.items
+invariant-loop-name l = BoundedSoFar (whole_in l.t) l.first l.names l.funs.items
 
 abbrev pub decreases-loop-name : goal.decreases-loop-name
 decreases-loop-name l = MAX - length l.funs.items

@@ -1,22 +1,26 @@
-use Rattle.std.proofs.Common.{◌∙◌, ap}
+use Rattle.std.proofs.Common.{◌∙◌, ◌≤◌, ap, subst}
 use Rattle.nv_ast.specs.TypedView.{typed_program}
 use Rattle.nv_flatten.specs.Whole.{whole_of}
 use Rattle.nv_flatten.specs.WholeView.{whole_in}
-use Rattle.nv_flatten.proofs.Lockstep.{keeps}
-use Rattle.nv_flatten.proofs.Making.{complete-main}
+use Rattle.nv_flatten.proofs.Lockstep.{keeps, equal}
 use Rattle.nv_flatten.proofs.FormedProgram.{formed, all-reached}
+use Rattle.nv_flatten.proofs.Bounding.{bounded-main, wide-of}
+use Rattle.nv_flatten.proofs.SmallMain.{bulk-of}
 use Rattle.nv_flatten.proofs.program.flatten.Goals as goal
 
 pub invariant_of-result : goal.invariant_of-result
 invariant_of-result c = record {
   formed = formed (typed_program c.args.t.now) c.program.ensures.typed c.in_ok-funs.funs.items
-      (complete-main (whole_in c.in_ok-source.source) (whole_of (typed_program c.args.t.now)) c.in_ok-main.main c.in_ok-funs.funs.items (c.in_ok-source.ensures ∙ ap whole_of c.program.ensures.same) c.in_ok-main.ensures c.in_ok-funs.ensures);
+      (λ g e. (bounded-main (whole_in c.in_ok-source.source) (whole_of (typed_program c.args.t.now)) c.in_ok-main.main c.in_ok-funs.funs.items (c.in_ok-source.ensures ∙ ap whole_of c.program.ensures.same) c.in_ok-main.ensures c.in_ok-funs.ensures g e).complete);
 }
 
 pub returns : goal.returns
 returns c =
-    let complete = complete-main (whole_in c.in_ok-source.source) (whole_of (typed_program c.args.t.now)) c.in_ok-main.main c.in_ok-funs.funs.items (c.in_ok-source.ensures ∙ ap whole_of c.program.ensures.same) c.in_ok-main.ensures c.in_ok-funs.ensures in
+    let bounded = bounded-main (whole_in c.in_ok-source.source) (whole_of (typed_program c.args.t.now)) c.in_ok-main.main c.in_ok-funs.funs.items (c.in_ok-source.ensures ∙ ap whole_of c.program.ensures.same) c.in_ok-main.ensures c.in_ok-funs.ensures in
     record {
-      kept = keeps (typed_program c.args.t.now) c.program.ensures.typed c.in_ok-funs.funs.items complete;
-      reached = all-reached (typed_program c.args.t.now) c.program.ensures.typed c.in_ok-funs.funs.items complete;
+      kept = keeps (typed_program c.args.t.now) c.program.ensures.typed c.in_ok-funs.funs.items (λ g e. (bounded g e).complete);
+      equal = equal (typed_program c.args.t.now) c.program.ensures.typed c.in_ok-funs.funs.items (λ g e. (bounded g e).complete);
+      reached = all-reached (typed_program c.args.t.now) c.program.ensures.typed c.in_ok-funs.funs.items (λ g e. (bounded g e).complete);
+      wide = wide-of (typed_program c.args.t.now) c.program.ensures.typed c.in_ok-funs.funs.items bounded;
+      bulk = bulk-of (typed_program c.args.t.now) c.program.ensures.typed (subst (λ n. n ≤ 4096) c.args.t.now.sized c.args.t.now.small) c.in_ok-funs.funs.items bounded;
     }

@@ -1,4 +1,4 @@
-use Rattle.std.proofs.Common.{◌≡◌, ◌∙◌, sym}
+use Rattle.std.proofs.Common.{◌∙◌, sym}
 use Rattle.nv_flatten.proofs.Fields.{field-found, field-passed}
 use Rattle.nv_flatten.proofs.symbol.field_among.Goals as goal
 

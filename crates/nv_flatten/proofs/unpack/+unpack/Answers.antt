@@ -5,7 +5,7 @@ use Rattle.std.below.core.specs.declared.int.u64.TheConstants.{MAX}
 use Rattle.nv_ast.specs.Bits.{number, packed, slice}
 use Rattle.nv_ast.specs.declared.tree.LayoutText.{LayoutText}
 use Rattle.nv_ast.specs.LayoutView.{layout_tree, field_tree, list_fields, list_layouts}
-use Rattle.nv_ast.specs.Outline.{OutlineTree, BitsOutline, PartsOutline, JoinedOutline, OverlayOutline, outline, outlines, field_outline, field_outlines, size, longest, outline_height, IsSound}
+use Rattle.nv_ast.specs.Outline.{OutlineTree, BitsOutline, PartsOutline, JoinedOutline, OverlayOutline, outline, outlines, field_outline, field_outlines, size, longest, outline_height, bit_fields, part_fields, alternative_fields, joined_fields, IsSound}
 use Rattle.nv_ast.specs.Types.{form_of, forms_of, joined_forms, record_forms}
 use Rattle.nv_ast.proofs.Reading.{parts_is, joined_is, overlay_is}
 use Rattle.nv_meaning.specs.Values.{Word, fields_of, named_value_and, no_named_values}
@@ -19,9 +19,12 @@ use Rattle.nv_flatten.specs.View.{list_named_symbols}
 use Rattle.nv_flatten.specs.Reads.{◌++_symbols◌, Reads, ReadsRecord, ReadsField}
 use Rattle.nv_flatten.proofs.Reading.{PartsFit, AlternativesFit, JoinedFit, symbols-append, reads-none, reads-weaker, reads-word, reads-record, parts-turn, alternatives-turn, joined-turn}
 use Rattle.nv_flatten.proofs.RecordForms.{layout-form}
-use Rattle.nv_flatten.proofs.SymbolRows.{record_view}
+use Rattle.nv_flatten.proofs.Rows.{record_view}
 use Rattle.nv_flatten.specs.Symbols as symbols
 use Rattle.nv_flatten.proofs.Lets.{fields-none, adds-field, adds-inner, adds-turn}
+use Rattle.nv_flatten.specs.FewReads.{ReadsFew}
+use Rattle.nv_flatten.proofs.FieldCounts.{parts-count, alternatives-count, joined-count}
+use Rattle.nv_flatten.proofs.FewFields.{reads-few-none, reads-few-turn, reads-few-word, reads-few-inner}
 use Rattle.nv_flatten.proofs.unpack.+unpack.Goals as goal
 
 pub add_fields-add_parts-requires : goal.add_fields-add_parts-requires
@@ -125,6 +128,7 @@ add_joined-loop-l-init t c =
       later = omega arith;
       reads = reads-none (JoinedFit (take c.args.limit (declared_in c.args.t.now).layouts) c.args.ls.now c.args.first c.args.words.now) c.args.next.now c.args.words.now c.args.steps.now.items (list_named_symbols c.args.fields.now.items) (λ xs. no_named_values) (λ xs. refl);
       well = fields-none c.args.next.now c.args.words.now c.args.steps.now.items (list_named_symbols c.args.fields.now.items);
+      bounds = reads-few-none c.args.words.now c.args.steps.now.items (list_named_symbols c.args.fields.now.items) _;
     }
 
 pub add_joined-loop-l-preserved : goal.add_joined-loop-l-preserved
@@ -137,6 +141,9 @@ add_joined-loop-l-preserved t c =
           c.loop-l-test.true c.l-item.is few c.loop-l.invariant.behind c.loop-l.invariant.reads c.in_ok-at.ensures.reads;
       well = adds-turn c.args.next.now c.loop-l.next c.add_fields.new.next c.args.words.now (named_operands (list_named_symbols c.args.fields.now.items)) (named_operands (list_named_symbols c.loop-l.fields.items)) (named_operands (list_named_symbols c.add_fields.new.fields.items)) c.args.steps.now.items c.loop-l.steps.items c.add_fields.new.steps.items
           c.loop-l.invariant.well c.in_ok-at.ensures.well;
+      bounds = reads-few-turn c.args.words.now c.args.steps.now.items c.loop-l.steps.items c.add_fields.new.steps.items (list_named_symbols c.args.fields.now.items) (list_named_symbols c.loop-l.fields.items) (list_named_symbols c.add_fields.new.fields.items)
+          (length (joined_fields 0 (outlines (take c.args.limit (declared_in c.args.t.now).layouts) (list_layouts (take c.loop-l.l-index c.args.ls.now))))) (length (bit_fields 0 (outline (take c.args.limit (declared_in c.args.t.now).layouts) (layout_tree c.l-item.result)))) (length (joined_fields 0 (outlines (take c.args.limit (declared_in c.args.t.now).layouts) (list_layouts (take (c.loop-l.l-index + 1) c.args.ls.now)))))
+          c.loop-l.invariant.bounds c.in_ok-at.ensures.bounds (joined-count (take c.args.limit (declared_in c.args.t.now).layouts) c.args.ls.now c.loop-l.l-index c.l-item.result c.loop-l-test.true c.l-item.is);
     }
 
 pub add_joined-returns-clause-reads : goal.add_joined-returns-clause-reads
@@ -151,6 +158,7 @@ add_parts-loop-f-init t c =
       later = omega arith;
       reads = reads-none (PartsFit (take c.args.limit (declared_in c.args.t.now).layouts) c.args.fs.now c.args.first c.args.words.now) c.args.next.now c.args.words.now c.args.steps.now.items (list_named_symbols c.args.fields.now.items) (λ xs. no_named_values) (λ xs. refl);
       well = fields-none c.args.next.now c.args.words.now c.args.steps.now.items (list_named_symbols c.args.fields.now.items);
+      bounds = reads-few-none c.args.words.now c.args.steps.now.items (list_named_symbols c.args.fields.now.items) _;
     }
 
 pub add_parts-loop-f-preserved : goal.add_parts-loop-f-preserved
@@ -163,6 +171,9 @@ add_parts-loop-f-preserved t c =
           c.loop-f-test.true c.f-item.is few c.loop-f.invariant.behind c.loop-f.invariant.reads c.in_ok-at.ensures.reads;
       well = adds-turn c.args.next.now c.loop-f.next c.add_field.new.next c.args.words.now (named_operands (list_named_symbols c.args.fields.now.items)) (named_operands (list_named_symbols c.loop-f.fields.items)) (named_operands (list_named_symbols c.add_field.new.fields.items)) c.args.steps.now.items c.loop-f.steps.items c.add_field.new.steps.items
           c.loop-f.invariant.well c.in_ok-at.ensures.well;
+      bounds = reads-few-turn c.args.words.now c.args.steps.now.items c.loop-f.steps.items c.add_field.new.steps.items (list_named_symbols c.args.fields.now.items) (list_named_symbols c.loop-f.fields.items) (list_named_symbols c.add_field.new.fields.items)
+          (length (part_fields 0 (field_outlines (take c.args.limit (declared_in c.args.t.now).layouts) (list_fields (take c.loop-f.f-index c.args.fs.now))))) (length (bit_fields 0 (field_outline (take c.args.limit (declared_in c.args.t.now).layouts) (field_tree c.f-item.result.1)))) (length (part_fields 0 (field_outlines (take c.args.limit (declared_in c.args.t.now).layouts) (list_fields (take (c.loop-f.f-index + 1) c.args.fs.now)))))
+          c.loop-f.invariant.bounds c.in_ok-at.ensures.bounds (parts-count (take c.args.limit (declared_in c.args.t.now).layouts) c.args.fs.now c.loop-f.f-index c.f-item.result c.loop-f-test.true c.f-item.is);
     }
 
 pub add_parts-returns-clause-reads : goal.add_parts-returns-clause-reads
@@ -177,6 +188,7 @@ add_alternatives-loop-f-init t c =
       later = omega arith;
       reads = reads-none (AlternativesFit (take c.args.limit (declared_in c.args.t.now).layouts) c.args.fs.now c.args.at c.args.words.now) c.args.next.now c.args.words.now c.args.steps.now.items (list_named_symbols c.args.fields.now.items) (λ xs. no_named_values) (λ xs. refl);
       well = fields-none c.args.next.now c.args.words.now c.args.steps.now.items (list_named_symbols c.args.fields.now.items);
+      bounds = reads-few-none c.args.words.now c.args.steps.now.items (list_named_symbols c.args.fields.now.items) _;
     }
 
 pub add_alternatives-loop-f-preserved : goal.add_alternatives-loop-f-preserved
@@ -188,6 +200,9 @@ add_alternatives-loop-f-preserved t c =
           c.loop-f-test.true c.f-item.is c.loop-f.invariant.reads c.in_ok-behind.ensures.reads;
       well = adds-turn c.args.next.now c.loop-f.next c.add_field.new.next c.args.words.now (named_operands (list_named_symbols c.args.fields.now.items)) (named_operands (list_named_symbols c.loop-f.fields.items)) (named_operands (list_named_symbols c.add_field.new.fields.items)) c.args.steps.now.items c.loop-f.steps.items c.add_field.new.steps.items
           c.loop-f.invariant.well c.in_ok-behind.ensures.well;
+      bounds = reads-few-turn c.args.words.now c.args.steps.now.items c.loop-f.steps.items c.add_field.new.steps.items (list_named_symbols c.args.fields.now.items) (list_named_symbols c.loop-f.fields.items) (list_named_symbols c.add_field.new.fields.items)
+          (length (alternative_fields 0 (field_outlines (take c.args.limit (declared_in c.args.t.now).layouts) (list_fields (take c.loop-f.f-index c.args.fs.now))))) (length (bit_fields 0 (field_outline (take c.args.limit (declared_in c.args.t.now).layouts) (field_tree c.f-item.result.1)))) (length (alternative_fields 0 (field_outlines (take c.args.limit (declared_in c.args.t.now).layouts) (list_fields (take (c.loop-f.f-index + 1) c.args.fs.now)))))
+          c.loop-f.invariant.bounds c.in_ok-behind.ensures.bounds (alternatives-count (take c.args.limit (declared_in c.args.t.now).layouts) c.args.fs.now c.loop-f.f-index c.f-item.result c.loop-f-test.true c.f-item.is);
     }
 
 pub add_alternatives-returns-clause-reads : goal.add_alternatives-returns-clause-reads
@@ -217,3 +232,63 @@ add_field-returns-in_ok-push-in-Overlay-clause-well t c =
     adds-inner c.args.next.now c.add_alternatives.new.next c.args.words.now c.args.f.now.0 c.args.steps.now.items c.add_alternatives.new.steps.items (list_named_symbols c.new-inner-in-Overlay.result.items) (list_named_symbols c.add_alternatives.new.fields.items) (list_named_symbols c.args.fields.now.items) (list_named_symbols c.push-in-Overlay.new.self.items)
     c.in_ok-behind-in-Overlay.ensures.well (ap list_named_symbols c.new-inner-in-Overlay.ensures.items)
     (ap list_named_symbols c.in_ok-push-in-Overlay.ensures.items ∙ symbols-append c.args.fields.now.items _ ∙ ap (λ s. (list_named_symbols c.args.fields.now.items) ++_symbols named_symbol_and c.args.f.now.0 s no_named_symbols) (record_view c.add_alternatives.new.fields))
+
+pub add_joined-returns-clause-bounds : goal.add_joined-returns-clause-bounds
+add_joined-returns-clause-bounds t c =
+    subst (λ (l : List LayoutText). ReadsFew c.args.words.now c.args.steps.now.items c.loop-l.steps.items (list_named_symbols c.args.fields.now.items) (list_named_symbols c.loop-l.fields.items) (length (joined_fields 0 (outlines (take c.args.limit (declared_in c.args.t.now).layouts) (list_layouts l)))))
+    (take_all c.loop-l.l-index c.args.ls.now (omega arith)) c.loop-l.invariant.bounds
+
+pub add_parts-returns-clause-bounds : goal.add_parts-returns-clause-bounds
+add_parts-returns-clause-bounds t c =
+    subst (λ (l : List FieldItem). ReadsFew c.args.words.now c.args.steps.now.items c.loop-f.steps.items (list_named_symbols c.args.fields.now.items) (list_named_symbols c.loop-f.fields.items) (length (part_fields 0 (field_outlines (take c.args.limit (declared_in c.args.t.now).layouts) (list_fields l)))))
+    (take_all c.loop-f.f-index c.args.fs.now (omega arith)) c.loop-f.invariant.bounds
+
+pub add_alternatives-returns-clause-bounds : goal.add_alternatives-returns-clause-bounds
+add_alternatives-returns-clause-bounds t c =
+    subst (λ (l : List FieldItem). ReadsFew c.args.words.now c.args.steps.now.items c.loop-f.steps.items (list_named_symbols c.args.fields.now.items) (list_named_symbols c.loop-f.fields.items) (length (alternative_fields 0 (field_outlines (take c.args.limit (declared_in c.args.t.now).layouts) (list_fields l)))))
+    (take_all c.loop-f.f-index c.args.fs.now (omega arith)) c.loop-f.invariant.bounds
+
+pub add_fields-returns-in-None-clause-bounds : goal.add_fields-returns-in-None-clause-bounds
+add_fields-returns-in-None-clause-bounds t c = reads-few-none c.args.words.now c.args.steps.now.items (list_named_symbols c.args.fields.now.items) _
+
+pub add_fields-returns-in-Gap-clause-bounds : goal.add_fields-returns-in-Gap-clause-bounds
+add_fields-returns-in-Gap-clause-bounds t c = reads-few-none c.args.words.now c.args.steps.now.items (list_named_symbols c.args.fields.now.items) _
+
+pub add_fields-returns-in-Parts-clause-bounds : goal.add_fields-returns-in-Parts-clause-bounds
+add_fields-returns-in-Parts-clause-bounds t c =
+    IfOk-weaker c.add_parts.result _ _
+    (λ i m. subst (λ (o : OutlineTree). ReadsFew c.args.words.now c.args.steps.now.items c.add_parts.new.steps.items (list_named_symbols c.args.fields.now.items) (list_named_symbols c.add_parts.new.fields.items) (length (bit_fields 0 o)))
+    (sym (ap (outline (take c.args.limit (declared_in c.args.t.now).layouts)) (parts_is c.args.l.now c.in-Parts.fs c.in-Parts.is) ∙ ap (λ k. PartsOutline (field_outlines (take c.args.limit (declared_in c.args.t.now).layouts) (list_fields k))) (sym c.deref.ensures.value))) m)
+    c.add_parts.ensures.bounds
+
+pub add_fields-returns-in-Joined-clause-bounds : goal.add_fields-returns-in-Joined-clause-bounds
+add_fields-returns-in-Joined-clause-bounds t c =
+    IfOk-weaker c.add_joined.result _ _
+    (λ i m. subst (λ (o : OutlineTree). ReadsFew c.args.words.now c.args.steps.now.items c.add_joined.new.steps.items (list_named_symbols c.args.fields.now.items) (list_named_symbols c.add_joined.new.fields.items) (length (bit_fields 0 o)))
+    (sym (ap (outline (take c.args.limit (declared_in c.args.t.now).layouts)) (joined_is c.args.l.now c.in-Joined.ls c.in-Joined.is) ∙ ap (λ k. JoinedOutline (outlines (take c.args.limit (declared_in c.args.t.now).layouts) (list_layouts k))) (sym c.deref-in-Joined.ensures.value))) m)
+    c.add_joined.ensures.bounds
+
+pub add_field-returns-in_ok-push-in-Bits-clause-bounds : goal.add_field-returns-in_ok-push-in-Bits-clause-bounds
+add_field-returns-in_ok-push-in-Bits-clause-bounds t c =
+    subst (λ (o : OutlineTree). ReadsFew c.args.words.now c.args.steps.now.items c.word_at.new.steps.items (list_named_symbols c.args.fields.now.items) (list_named_symbols c.push.new.self.items) (length (bit_fields 0 o)))
+    (sym (ap (λ k. field_outline (take c.args.limit (declared_in c.args.t.now).layouts) (field_tree k)) c.in-Bits.is))
+    (reads-few-word c.args.words.now c.args.f.now.0 c.in_ok-word-in-Bits.word c.args.steps.now.items c.word_at.new.steps.items (list_named_symbols c.args.fields.now.items) (list_named_symbols c.push.new.self.items)
+    c.in_ok-word-in-Bits.ensures.bounds (ap list_named_symbols c.in_ok-push-in-Bits.ensures.items ∙ symbols-append c.args.fields.now.items _))
+
+pub add_field-returns-in_ok-push-in-Inner-clause-bounds : goal.add_field-returns-in_ok-push-in-Inner-clause-bounds
+add_field-returns-in_ok-push-in-Inner-clause-bounds t c =
+    subst (λ (o : OutlineTree). ReadsFew c.args.words.now c.args.steps.now.items c.add_fields.new.steps.items (list_named_symbols c.args.fields.now.items) (list_named_symbols c.push-in-Inner.new.self.items) (length (bit_fields 0 o)))
+    (sym (ap (λ k. field_outline (take c.args.limit (declared_in c.args.t.now).layouts) (field_tree k)) c.in-Inner.is))
+    (reads-few-inner c.args.words.now c.args.f.now.0 c.args.steps.now.items c.add_fields.new.steps.items (list_named_symbols c.new-inner.result.items) (list_named_symbols c.add_fields.new.fields.items) (list_named_symbols c.args.fields.now.items) (list_named_symbols c.push-in-Inner.new.self.items)
+    (length (bit_fields 0 (outline (take c.args.limit (declared_in c.args.t.now).layouts) (layout_tree c.in-Inner.l))))
+    c.in_ok-behind-in-Inner.ensures.bounds (ap list_named_symbols c.new-inner.ensures.items)
+    (ap list_named_symbols c.in_ok-push-in-Inner.ensures.items ∙ symbols-append c.args.fields.now.items _ ∙ ap (λ s. (list_named_symbols c.args.fields.now.items) ++_symbols named_symbol_and c.args.f.now.0 s no_named_symbols) (record_view c.add_fields.new.fields)))
+
+pub add_field-returns-in_ok-push-in-Overlay-clause-bounds : goal.add_field-returns-in_ok-push-in-Overlay-clause-bounds
+add_field-returns-in_ok-push-in-Overlay-clause-bounds t c =
+    subst (λ (o : OutlineTree). ReadsFew c.args.words.now c.args.steps.now.items c.add_alternatives.new.steps.items (list_named_symbols c.args.fields.now.items) (list_named_symbols c.push-in-Overlay.new.self.items) (length (bit_fields 0 o)))
+    (sym (ap (field_outline (take c.args.limit (declared_in c.args.t.now).layouts)) (overlay_is c.args.f.now.1 c.in-Overlay.fs c.in-Overlay.is) ∙ ap (λ k. OverlayOutline (field_outlines (take c.args.limit (declared_in c.args.t.now).layouts) (list_fields k))) (sym c.deref.ensures.value)))
+    (reads-few-inner c.args.words.now c.args.f.now.0 c.args.steps.now.items c.add_alternatives.new.steps.items (list_named_symbols c.new-inner-in-Overlay.result.items) (list_named_symbols c.add_alternatives.new.fields.items) (list_named_symbols c.args.fields.now.items) (list_named_symbols c.push-in-Overlay.new.self.items)
+    (length (alternative_fields 0 (field_outlines (take c.args.limit (declared_in c.args.t.now).layouts) (list_fields c.deref.result.now))))
+    c.in_ok-behind-in-Overlay.ensures.bounds (ap list_named_symbols c.new-inner-in-Overlay.ensures.items)
+    (ap list_named_symbols c.in_ok-push-in-Overlay.ensures.items ∙ symbols-append c.args.fields.now.items _ ∙ ap (λ s. (list_named_symbols c.args.fields.now.items) ++_symbols named_symbol_and c.args.f.now.0 s no_named_symbols) (record_view c.add_alternatives.new.fields)))

@@ -1,8 +1,8 @@
-use Rattle.std.proofs.Common.{◌≡◌, ◌+◌, ◌*◌, ◌≤◌, min, take, drop}
+use Rattle.std.proofs.Common.{◌≡◌, ◌+◌, ◌*◌, ◌≤◌, min, take, drop, length}
 use Rattle.std.below.core.specs.declared.int.u64.TheConstants.{MAX}
 use Rattle.nv_ast.specs.Bits.{packed}
 use Rattle.nv_ast.specs.LayoutView.{layout_tree, field_tree, list_fields, list_layouts}
-use Rattle.nv_ast.specs.Outline.{outline, outlines, field_outline, field_outlines, total_size, total_named_size, longest, outline_height, highest_outline, highest_named_outline}
+use Rattle.nv_ast.specs.Outline.{outline, outlines, field_outline, field_outlines, total_size, total_named_size, longest, part_fields, alternative_fields, joined_fields, outline_height, highest_outline, highest_named_outline}
 use Rattle.nv_ast.specs.Types.{forms_of, joined_forms}
 use Rattle.nv_meaning.specs.Packing.{parts_at, alternatives_at, joined_at}
 use Rattle.nv_meaning.specs.TableView.{declared_in}
@@ -10,6 +10,7 @@ use Rattle.nv_meaning.proofs.Unpacking.{alias_rank}
 use Rattle.nv_flatten.specs.Reads.{Reads}
 use Rattle.nv_flatten.specs.View.{list_named_symbols}
 use Rattle.nv_flatten.specs.Adds.{AddsFields}
+use Rattle.nv_flatten.specs.FewReads.{ReadsFew}
 use Rattle.nv_flatten.proofs.Reading.{PartsFit, AlternativesFit, JoinedFit}
 use Rattle.nv_flatten.proofs.unpack.+unpack.Given as goal
 
@@ -19,6 +20,7 @@ invariant-add_joined-loop-l l = record {
   later : l.fn.next ≤ l.next;
   reads : Reads (JoinedFit (take l.limit (declared_in l.t).layouts) l.ls l.first l.words) l.fn.next l.next l.words l.fn.steps.items l.steps.items (list_named_symbols l.fn.fields.items) (list_named_symbols l.fields.items) (joined_forms (outlines (take l.limit (declared_in l.t).layouts) (list_layouts (take l.l-index l.ls)))) (λ xs. joined_at (outlines (take l.limit (declared_in l.t).layouts) (list_layouts (take l.l-index l.ls))) (drop l.first (packed xs)));
   well : AddsFields l.fn.next l.next l.words l.fn.steps.items l.steps.items (list_named_symbols l.fn.fields.items) (list_named_symbols l.fields.items);
+  bounds : ReadsFew l.words l.fn.steps.items l.steps.items (list_named_symbols l.fn.fields.items) (list_named_symbols l.fields.items) (length (joined_fields 0 (outlines (take l.limit (declared_in l.t).layouts) (list_layouts (take l.l-index l.ls)))));
 }
 
 abbrev pub invariant-add_parts-loop-f : goal.invariant-add_parts-loop-f
@@ -27,6 +29,7 @@ invariant-add_parts-loop-f l = record {
   later : l.fn.next ≤ l.next;
   reads : Reads (PartsFit (take l.limit (declared_in l.t).layouts) l.fs l.first l.words) l.fn.next l.next l.words l.fn.steps.items l.steps.items (list_named_symbols l.fn.fields.items) (list_named_symbols l.fields.items) (forms_of (field_outlines (take l.limit (declared_in l.t).layouts) (list_fields (take l.f-index l.fs)))) (λ xs. parts_at (field_outlines (take l.limit (declared_in l.t).layouts) (list_fields (take l.f-index l.fs))) (drop l.first (packed xs)));
   well : AddsFields l.fn.next l.next l.words l.fn.steps.items l.steps.items (list_named_symbols l.fn.fields.items) (list_named_symbols l.fields.items);
+  bounds : ReadsFew l.words l.fn.steps.items l.steps.items (list_named_symbols l.fn.fields.items) (list_named_symbols l.fields.items) (length (part_fields 0 (field_outlines (take l.limit (declared_in l.t).layouts) (list_fields (take l.f-index l.fs)))));
 }
 
 abbrev pub invariant-add_alternatives-loop-f : goal.invariant-add_alternatives-loop-f
@@ -35,6 +38,7 @@ invariant-add_alternatives-loop-f l = record {
   later : l.fn.next ≤ l.next;
   reads : Reads (AlternativesFit (take l.limit (declared_in l.t).layouts) l.fs l.at l.words) l.fn.next l.next l.words l.fn.steps.items l.steps.items (list_named_symbols l.fn.fields.items) (list_named_symbols l.fields.items) (forms_of (field_outlines (take l.limit (declared_in l.t).layouts) (list_fields (take l.f-index l.fs)))) (λ xs. alternatives_at (field_outlines (take l.limit (declared_in l.t).layouts) (list_fields (take l.f-index l.fs))) (drop l.at (packed xs)));
   well : AddsFields l.fn.next l.next l.words l.fn.steps.items l.steps.items (list_named_symbols l.fn.fields.items) (list_named_symbols l.fields.items);
+  bounds : ReadsFew l.words l.fn.steps.items l.steps.items (list_named_symbols l.fn.fields.items) (list_named_symbols l.fields.items) (length (alternative_fields 0 (field_outlines (take l.limit (declared_in l.t).layouts) (list_fields (take l.f-index l.fs)))));
 }
 
 abbrev pub decreases-add_fields : goal.decreases-add_fields

@@ -1,6 +1,6 @@
-use Rattle.std.proofs.Common.{ap, take}
+use Rattle.std.proofs.Common.{ap, take, length}
 use Rattle.nv_ast.specs.LayoutView.{layout_tree}
-use Rattle.nv_ast.specs.Outline.{outline}
+use Rattle.nv_ast.specs.Outline.{outline, bit_fields}
 use Rattle.nv_meaning.specs.Tables.{layout_pairs}
 use Rattle.nv_meaning.specs.TableView.{declared_in}
 use Rattle.nv_meaning.proofs.Records.{layout-record}
@@ -8,8 +8,9 @@ use Rattle.nv_flatten.specs.View.{view, list_named_symbols}
 use Rattle.nv_flatten.specs.declared.symbol.Symbol as code
 use Rattle.nv_flatten.proofs.Reading.{unpacks}
 use Rattle.nv_flatten.proofs.RecordForms.{layout-form}
-use Rattle.nv_flatten.proofs.SymbolRows.{record_view}
+use Rattle.nv_flatten.proofs.Rows.{record_view}
 use Rattle.nv_flatten.proofs.Lets.{lets-record}
+use Rattle.nv_flatten.proofs.FewFields.{few-record, narrow-record}
 use Rattle.nv_flatten.proofs.unpack.record.Goals as goal
 
 pub returns-clause-unpacks : goal.returns-clause-unpacks
@@ -24,3 +25,14 @@ pub returns-clause-well : goal.returns-clause-well
 returns-clause-well c =
     lets-record c.args.next.now c.add_fields.new.next c.args.words.now c.new-steps.result.items c.add_fields.new.steps.items (list_named_symbols c.new-fields.result.items) (list_named_symbols c.add_fields.new.fields.items) (view (code.Record c.add_fields.new.fields))
     c.in_ok-add_fields.ensures.well c.new-steps.ensures.items (ap list_named_symbols c.new-fields.ensures.items) (record_view c.add_fields.new.fields)
+
+pub returns-clause-narrow : goal.returns-clause-narrow
+returns-clause-narrow c =
+    let o = outline (take c.args.limit (declared_in c.args.t.now).layouts) (layout_tree c.args.l.now) in
+    narrow-record c.args.words.now c.new-steps.result.items c.add_fields.new.steps.items (list_named_symbols c.new-fields.result.items) (list_named_symbols c.add_fields.new.fields.items) (view (code.Record c.add_fields.new.fields)) (length (bit_fields 0 o))
+    c.in_ok-add_fields.ensures.bounds c.new-steps.ensures.items (ap list_named_symbols c.new-fields.ensures.items) (record_view c.add_fields.new.fields)
+
+pub returns-clause-small : goal.returns-clause-small
+returns-clause-small c =
+    let o = outline (take c.args.limit (declared_in c.args.t.now).layouts) (layout_tree c.args.l.now) in
+    few-record c.args.words.now c.new-steps.result.items c.add_fields.new.steps.items (list_named_symbols c.new-fields.result.items) (list_named_symbols c.add_fields.new.fields.items) (length (bit_fields 0 o)) c.in_ok-add_fields.ensures.bounds c.new-steps.ensures.items

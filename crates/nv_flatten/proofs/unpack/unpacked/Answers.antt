@@ -1,15 +1,17 @@
-use Rattle.std.proofs.Common.{◌≡◌, ◌∙◌, ap, sym, subst, length, arith, IfOk}
+use Rattle.std.proofs.Common.{◌≡◌, ◌∙◌, ◌*◌, ap, sym, subst, length, arith, IfOk}
 use Rattle.std.proofs.lemmas.Result.{IfOk-weaker}
 use Rattle.nv_ast.specs.Tree.{NamedLayout}
-use Rattle.nv_ast.specs.Outline.{OutlineTree, outline}
+use Rattle.nv_ast.specs.Outline.{OutlineTree, outline, bit_fields}
 use Rattle.nv_meaning.specs.TableView.{declared_in}
 use Rattle.nv_meaning.proofs.Places.{all-laid}
 use Rattle.nv_flatten.specs.View.{view}
 use Rattle.nv_flatten.specs.declared.symbol.Symbol as code
 use Rattle.nv_flatten.specs.Reads.{Unpacks}
 use Rattle.nv_flatten.proofs.Reading.{unpacks-nothing}
-use Rattle.nv_flatten.proofs.SymbolRows.{record_view}
+use Rattle.nv_flatten.proofs.Rows.{record_view}
 use Rattle.nv_flatten.proofs.Lets.{lets-nothing}
+use Rattle.nv_flatten.specs.Small.{AreFewLets}
+use Rattle.nv_flatten.proofs.FewFields.{few-nothing, narrow-nothing}
 use Rattle.nv_flatten.proofs.unpack.unpacked.Goals as goal
 
 pub returns-in-Some-clause-value : goal.returns-in-Some-clause-value
@@ -57,3 +59,17 @@ returns-in-Some-clause-well c = IfOk-weaker c.record.result _ _ (λ r m sound lo
 
 pub returns-in-None-clause-well : goal.returns-in-None-clause-well
 returns-in-None-clause-well c = λ sound long. lets-nothing c.args.next.now c.args.words.now c.new.result.items c.new-in-None.result.items (view (code.Record c.new-in-None.result)) c.new.ensures.items c.new-in-None.ensures.items (record_view c.new-in-None.result)
+
+pub returns-in-Some-clause-small : goal.returns-in-Some-clause-small
+returns-in-Some-clause-small c =
+    let n : c.len.result ≡ length c.args.t.now.layouts.items = omega (arith, c.len.ensures, c.args.t.now.layouts.ok.0) in
+    let all = all-laid c.args.t.now.layouts.items c.len.result n in
+    let e = ap (λ k. outline k (NamedLayout c.args.l.now)) (sym all) ∙ c.in-Some.ensures.outline in
+    subst (λ (o : OutlineTree). IfOk c.record.result (λ r. AreFewLets r.steps.items (4 * length (bit_fields 0 o)))) (sym e) c.record.ensures.small
+
+pub returns-in-None-clause-narrow : goal.returns-in-None-clause-narrow
+returns-in-None-clause-narrow c =
+    narrow-nothing c.args.words.now c.new.result.items c.new-in-None.result.items (view (code.Record c.new-in-None.result)) c.new.ensures.items c.new-in-None.ensures.items (record_view c.new-in-None.result)
+
+pub returns-in-None-clause-small : goal.returns-in-None-clause-small
+returns-in-None-clause-small c = few-nothing c.new.result.items _ c.new.ensures.items

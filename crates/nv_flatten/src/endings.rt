@@ -1,0 +1,400 @@
+// Conditions, and code that ends with an expression's words.
+
+ghost use Rattle.std.specs.Prelude.{◌≡◌, ◌≤◌, [], Some, true, false, IfOk, OnOk, option_map};
+ghost use Rattle.nv_ast.specs.declared.token.Span.{Span};
+ghost use Rattle.nv_ast.specs.declared.tree.Op.TheVariants.{Both, Either};
+ghost use Rattle.nv_ast.specs.ExprView.{tree_of, list_trees, list_statements};
+ghost use Rattle.nv_ast.specs.PatternView.{list_patterns};
+ghost use Rattle.nv_ast.specs.Tree.{BinaryTree, CallTree, RaiseTree, IfTree, TryTree, BlockTree};
+ghost use Rattle.nv_flatten.specs.Code.{comparison_of, is_given, is_comparison};
+ghost use Rattle.nv_flatten.specs.Flat.{IsFlatTest, IsFlatEnd};
+ghost use Rattle.nv_flatten.specs.Simulation.{Extends};
+ghost use Rattle.nv_flatten.specs.View.{view, scope_of};
+ghost use Rattle.nv_flatten.specs.WholeView.{whole_in};
+
+use crate::arms::{EndArm, TestArm, end_arm, test_arm};
+use crate::names::Names;
+use crate::parts::{add_steps, branch, give_truth, short, short_vars, turned};
+use crate::scope::{Scope, bind_all};
+use crate::source::Source;
+use crate::symbol::{Symbol, all_operands_in, operands_in, truth_in, word_in};
+use crate::values::{each, statements, value};
+use flat_ir::{Flat, Step, join};
+use nv_ast::{Expr, Name, Op, Pat, Stmt};
+use nv_base::{Atom, Cmp, NoMemory};
+use std::alloc::Global;
+
+/// Code that ends with an expression's words, and the form of its value, if it has one.
+#[derive(Drop)]
+pub struct Tail<'a> {
+    pub code: Flat,
+    pub form: Option<Symbol<'a>>,
+}
+
+/// Steps, and a comparison that behind them is a condition's truth.
+#[derive(Drop)]
+pub struct Test {
+    pub steps: Vec<Step>,
+    pub cmp: Cmp,
+    pub left: Atom,
+    pub right: Atom,
+}
+
+// ---- conditions
+
+/// A comparison that is a condition's truth. `!` turns the comparison over.
+#[cycle(walk)]
+fn condition<'a>(
+    alloc: Global,
+    t: &Source<'a>,
+    e: &'a Expr,
+    scope: &mut Scope<'a>,
+    names: &mut Names<'a>,
+    next: &mut u32,
+) -> Result<Test, NoMemory>
+    ensures flat { IfOk result (λ r. IsFlatTest (whole_in t.now) names.old names.new next.old next.new (scope_of scope.old.items []) (tree_of e.now) r.steps.items r.cmp r.left r.right) }
+    ensures scope { OnOk result (scope.new.items ≡ scope.old.items) }
+    ensures names { Extends names.old names.new }
+    ensures later { next.old ≤ next.new }
+{
+    match test_arm(e) {
+        TestArm::Paren(a) => condition(alloc, t, a, scope, names, next),
+        TestArm::Negate(a) => {
+            let test = condition(alloc, t, a, scope, names, next)?;
+            Ok(Test {
+                cmp: turned(test.cmp),
+                ..test
+            })
+        }
+        TestArm::Compare(cmp, swapped, a, b) => {
+            compare(alloc, t, cmp, swapped, a, b, scope, names, next)
+        }
+        TestArm::Truth => truth(alloc, t, e, scope, names, next),
+    }
+}
+
+#[cycle(walk)]
+#[inline(never)]
+fn compare<'a>(
+    alloc: Global,
+    t: &Source<'a>,
+    cmp: Cmp,
+    swapped: bool,
+    a: &'a Expr,
+    b: &'a Expr,
+    scope: &mut Scope<'a>,
+    names: &mut Names<'a>,
+    next: &mut u32,
+) -> Result<Test, NoMemory>
+    ensures flat { IfOk result (λ r. (s : Span) (op : Op) → comparison_of op ≡ Some (cmp, swapped) → IsFlatTest (whole_in t.now) names.old names.new next.old next.new (scope_of scope.old.items []) (BinaryTree s op (tree_of a.now) (tree_of b.now)) r.steps.items r.cmp r.left r.right) }
+    ensures scope { OnOk result (scope.new.items ≡ scope.old.items) }
+    ensures names { Extends names.old names.new }
+    ensures later { next.old ≤ next.new }
+{
+    let left = value(alloc, t, a, scope, names, next)?;
+    let right = value(alloc, t, b, scope, names, next)?;
+    let mut steps = left.steps;
+    add_steps(right.steps, &mut steps)?;
+    let x = word_in(&left.symbol);
+    let y = word_in(&right.symbol);
+    let (left, right) = if swapped { (y, x) } else { (x, y) };
+    Ok(Test {
+        steps,
+        cmp,
+        left,
+        right,
+    })
+}
+
+// A truth is compared with 0.
+#[cycle(walk)]
+#[inline(never)]
+fn truth<'a>(
+    alloc: Global,
+    t: &Source<'a>,
+    e: &'a Expr,
+    scope: &mut Scope<'a>,
+    names: &mut Names<'a>,
+    next: &mut u32,
+) -> Result<Test, NoMemory>
+    ensures flat { is_comparison (tree_of e.now) ≡ false → IfOk result (λ r. IsFlatTest (whole_in t.now) names.old names.new next.old next.new (scope_of scope.old.items []) (tree_of e.now) r.steps.items r.cmp r.left r.right) }
+    ensures scope { OnOk result (scope.new.items ≡ scope.old.items) }
+    ensures names { Extends names.old names.new }
+    ensures later { next.old ≤ next.new }
+{
+    let v = value(alloc, t, e, scope, names, next)?;
+    Ok(Test {
+        steps: v.steps,
+        cmp: Cmp::Ne,
+        left: truth_in(&v.symbol),
+        right: Atom::Lit(0),
+    })
+}
+
+// ---- code that ends with an expression's words
+
+/// Code that ends with the words of an expression.
+#[cycle(walk)]
+pub fn ending<'a>(
+    alloc: Global,
+    t: &Source<'a>,
+    e: &'a Expr,
+    scope: &mut Scope<'a>,
+    names: &mut Names<'a>,
+    next: &mut u32,
+) -> Result<Tail<'a>, NoMemory>
+    ensures flat { IfOk result (λ r. IsFlatEnd (whole_in t.now) names.old names.new next.old next.new (scope_of scope.old.items []) (tree_of e.now) r.code (option_map view r.form)) }
+    ensures scope { OnOk result (scope.new.items ≡ scope.old.items) }
+    ensures names { Extends names.old names.new }
+    ensures later { next.old ≤ next.new }
+{
+    match end_arm(e) {
+        EndArm::Paren(a) => ending(alloc, t, a, scope, names, next),
+        EndArm::Given => given(alloc, t, e, scope, names, next),
+        EndArm::Decided => decided(alloc, t, e, scope, names, next),
+        EndArm::Both(a, b) => both(alloc, t, a, b, scope, names, next),
+        EndArm::Either(a, b) => either(alloc, t, a, b, scope, names, next),
+        EndArm::Call(f, es) => call(alloc, t, f, es, scope, names, next),
+        EndArm::Raise(x, es) => raise(alloc, t, x, es, scope, names, next),
+        EndArm::Choose(c, a, b) => choose(alloc, t, c, a, b, scope, names, next),
+        EndArm::Try(a, x, ps, h) => try_(alloc, t, a, x, ps, h, scope, names, next),
+        EndArm::Block(sts, a) => ending_block(alloc, t, sts, a, scope, names, next),
+    }
+}
+
+// An expression whose value its steps give.
+#[cycle(walk)]
+#[inline(never)]
+fn given<'a>(
+    alloc: Global,
+    t: &Source<'a>,
+    e: &'a Expr,
+    scope: &mut Scope<'a>,
+    names: &mut Names<'a>,
+    next: &mut u32,
+) -> Result<Tail<'a>, NoMemory>
+    ensures flat { is_given (tree_of e.now) ≡ true → IfOk result (λ r. IsFlatEnd (whole_in t.now) names.old names.new next.old next.new (scope_of scope.old.items []) (tree_of e.now) r.code (option_map view r.form)) }
+    ensures scope { OnOk result (scope.new.items ≡ scope.old.items) }
+    ensures names { Extends names.old names.new }
+    ensures later { next.old ≤ next.new }
+{
+    let v = value(alloc, t, e, scope, names, next)?;
+    let words = operands_in(alloc, &v.symbol)?;
+    Ok(Tail {
+        code: join(alloc, v.steps, Flat::Give(words))?,
+        form: Some(v.symbol),
+    })
+}
+
+// A comparison: 1 where it holds, else 0.
+#[cycle(walk)]
+#[inline(never)]
+fn decided<'a>(
+    alloc: Global,
+    t: &Source<'a>,
+    e: &'a Expr,
+    scope: &mut Scope<'a>,
+    names: &mut Names<'a>,
+    next: &mut u32,
+) -> Result<Tail<'a>, NoMemory>
+    ensures flat { is_comparison (tree_of e.now) ≡ true → IfOk result (λ r. IsFlatEnd (whole_in t.now) names.old names.new next.old next.new (scope_of scope.old.items []) (tree_of e.now) r.code (option_map view r.form)) }
+    ensures scope { OnOk result (scope.new.items ≡ scope.old.items) }
+    ensures names { Extends names.old names.new }
+    ensures later { next.old ≤ next.new }
+{
+    let test = condition(alloc, t, e, scope, names, next)?;
+    let holds = give_truth(alloc, true)?;
+    let fails = give_truth(alloc, false)?;
+    Ok(Tail {
+        code: branch(alloc, test, holds, fails)?,
+        form: Some(Symbol::Truth(Atom::Lit(0))),
+    })
+}
+
+// The right operand where the left one holds, else 0.
+#[cycle(walk)]
+#[inline(never)]
+fn both<'a>(
+    alloc: Global,
+    t: &Source<'a>,
+    a: &'a Expr,
+    b: &'a Expr,
+    scope: &mut Scope<'a>,
+    names: &mut Names<'a>,
+    next: &mut u32,
+) -> Result<Tail<'a>, NoMemory>
+    ensures flat { IfOk result (λ r. (s : Span) → IsFlatEnd (whole_in t.now) names.old names.new next.old next.new (scope_of scope.old.items []) (BinaryTree s Both (tree_of a.now) (tree_of b.now)) r.code (option_map view r.form)) }
+    ensures scope { OnOk result (scope.new.items ≡ scope.old.items) }
+    ensures names { Extends names.old names.new }
+    ensures later { next.old ≤ next.new }
+{
+    let test = condition(alloc, t, a, scope, names, next)?;
+    let right = ending(alloc, t, b, scope, names, next)?;
+    let fails = give_truth(alloc, false)?;
+    Ok(Tail {
+        code: branch(alloc, test, right.code, fails)?,
+        form: Some(Symbol::Truth(Atom::Lit(0))),
+    })
+}
+
+// 1 where the left operand holds, else the right one.
+#[cycle(walk)]
+#[inline(never)]
+fn either<'a>(
+    alloc: Global,
+    t: &Source<'a>,
+    a: &'a Expr,
+    b: &'a Expr,
+    scope: &mut Scope<'a>,
+    names: &mut Names<'a>,
+    next: &mut u32,
+) -> Result<Tail<'a>, NoMemory>
+    ensures flat { IfOk result (λ r. (s : Span) → IsFlatEnd (whole_in t.now) names.old names.new next.old next.new (scope_of scope.old.items []) (BinaryTree s Either (tree_of a.now) (tree_of b.now)) r.code (option_map view r.form)) }
+    ensures scope { OnOk result (scope.new.items ≡ scope.old.items) }
+    ensures names { Extends names.old names.new }
+    ensures later { next.old ≤ next.new }
+{
+    let test = condition(alloc, t, a, scope, names, next)?;
+    let holds = give_truth(alloc, true)?;
+    let right = ending(alloc, t, b, scope, names, next)?;
+    Ok(Tail {
+        code: branch(alloc, test, holds, right.code)?,
+        form: Some(Symbol::Truth(Atom::Lit(0))),
+    })
+}
+
+#[cycle(walk)]
+#[inline(never)]
+fn choose<'a>(
+    alloc: Global,
+    t: &Source<'a>,
+    c: &'a Expr,
+    a: &'a Expr,
+    b: &'a Expr,
+    scope: &mut Scope<'a>,
+    names: &mut Names<'a>,
+    next: &mut u32,
+) -> Result<Tail<'a>, NoMemory>
+    ensures flat { IfOk result (λ r. (s : Span) → IsFlatEnd (whole_in t.now) names.old names.new next.old next.new (scope_of scope.old.items []) (IfTree s (tree_of c.now) (tree_of a.now) (tree_of b.now)) r.code (option_map view r.form)) }
+    ensures scope { OnOk result (scope.new.items ≡ scope.old.items) }
+    ensures names { Extends names.old names.new }
+    ensures later { next.old ≤ next.new }
+{
+    let test = condition(alloc, t, c, scope, names, next)?;
+    let first = ending(alloc, t, a, scope, names, next)?;
+    let second = ending(alloc, t, b, scope, names, next)?;
+    Ok(Tail {
+        code: branch(alloc, test, first.code, second.code)?,
+        form: first.form.or(second.form),
+    })
+}
+
+// A body with a handler, whose variables have the words of the exception.
+#[cycle(walk)]
+#[inline(never)]
+fn try_<'a>(
+    alloc: Global,
+    t: &Source<'a>,
+    a: &'a Expr,
+    x: &'a Name,
+    ps: &'a [Pat],
+    h: &'a Expr,
+    scope: &mut Scope<'a>,
+    names: &mut Names<'a>,
+    next: &mut u32,
+) -> Result<Tail<'a>, NoMemory>
+    ensures flat { IfOk result (λ r. (s : Span) → IsFlatEnd (whole_in t.now) names.old names.new next.old next.new (scope_of scope.old.items []) (TryTree s (tree_of a.now) x.now (list_patterns ps.now) (tree_of h.now)) r.code (option_map view r.form)) }
+    ensures scope { OnOk result (scope.new.items ≡ scope.old.items) }
+    ensures names { Extends names.old names.new }
+    ensures later { next.old ≤ next.new }
+{
+    let body = ending(alloc, t, a, scope, names, next)?;
+    let outside = scope.len();
+    let number = t.table.exception(x);
+    let mut vars = Vec::new(alloc);
+    let values = t.raised_values(alloc, number, next, &mut vars)?;
+    bind_all(ps, values, scope)?;
+    let handler = ending(alloc, t, h, scope, names, next)?;
+    scope.truncate(outside);
+    let first = Box::new(alloc, body.code)?;
+    let second = Box::new(alloc, handler.code)?;
+    Ok(Tail {
+        code: Flat::Try(first, number, short_vars(alloc, &vars)?, second),
+        form: body.form.or(handler.form),
+    })
+}
+
+#[cycle(walk)]
+#[inline(never)]
+fn call<'a>(
+    alloc: Global,
+    t: &Source<'a>,
+    f: &'a Name,
+    es: &'a [Expr],
+    scope: &mut Scope<'a>,
+    names: &mut Names<'a>,
+    next: &mut u32,
+) -> Result<Tail<'a>, NoMemory>
+    ensures flat { IfOk result (λ r. (s : Span) → IsFlatEnd (whole_in t.now) names.old names.new next.old next.new (scope_of scope.old.items []) (CallTree s f.now (list_trees es.now)) r.code (option_map view r.form)) }
+    ensures scope { OnOk result (scope.new.items ≡ scope.old.items) }
+    ensures names { Extends names.old names.new }
+    ensures later { next.old ≤ next.new }
+{
+    let args = each(alloc, t, es, scope, names, next)?;
+    let words = all_operands_in(alloc, &args.symbols)?;
+    let number = names.number(f)?;
+    Ok(Tail {
+        code: join(alloc, args.steps, Flat::Call(number, words))?,
+        form: t.result_form(alloc, f)?,
+    })
+}
+
+#[cycle(walk)]
+#[inline(never)]
+fn raise<'a>(
+    alloc: Global,
+    t: &Source<'a>,
+    x: &'a Name,
+    es: &'a [Expr],
+    scope: &mut Scope<'a>,
+    names: &mut Names<'a>,
+    next: &mut u32,
+) -> Result<Tail<'a>, NoMemory>
+    ensures flat { IfOk result (λ r. (s : Span) → IsFlatEnd (whole_in t.now) names.old names.new next.old next.new (scope_of scope.old.items []) (RaiseTree s x.now (list_trees es.now)) r.code (option_map view r.form)) }
+    ensures scope { OnOk result (scope.new.items ≡ scope.old.items) }
+    ensures names { Extends names.old names.new }
+    ensures later { next.old ≤ next.new }
+{
+    let args = each(alloc, t, es, scope, names, next)?;
+    let words = short(alloc, &all_operands_in(alloc, &args.symbols)?)?;
+    Ok(Tail {
+        code: join(alloc, args.steps, Flat::Raise(t.table.exception(x), words))?,
+        form: None,
+    })
+}
+
+#[cycle(walk)]
+#[inline(never)]
+fn ending_block<'a>(
+    alloc: Global,
+    t: &Source<'a>,
+    sts: &'a [Stmt],
+    a: &'a Expr,
+    scope: &mut Scope<'a>,
+    names: &mut Names<'a>,
+    next: &mut u32,
+) -> Result<Tail<'a>, NoMemory>
+    ensures flat { IfOk result (λ r. (s : Span) → IsFlatEnd (whole_in t.now) names.old names.new next.old next.new (scope_of scope.old.items []) (BlockTree s (list_statements sts.now) (tree_of a.now)) r.code (option_map view r.form)) }
+    ensures scope { OnOk result (scope.new.items ≡ scope.old.items) }
+    ensures names { Extends names.old names.new }
+    ensures later { next.old ≤ next.new }
+{
+    let outside = scope.len();
+    let steps = statements(alloc, t, sts, scope, names, next)?;
+    let last = ending(alloc, t, a, scope, names, next)?;
+    scope.truncate(outside);
+    Ok(Tail {
+        code: join(alloc, steps, last.code)?,
+        form: last.form,
+    })
+}
