@@ -1,6 +1,6 @@
 // Texts through the front end.
 use crate::error::FrontError;
-use crate::texts::{front, typed};
+use crate::texts::front;
 use nv_ast::Span;
 use nv_base::NoMemory;
 use nv_text::TextError;
@@ -28,9 +28,9 @@ fn functions_that_main_does_not_reach_are_left_out(rt: HostRuntime) -> Result<()
 
 #[test]
 fn each_refusal_has_its_cause(rt: HostRuntime) {
-    let wide = b"layout l = {a: 1}; fun main[]: word { 1".as_slice();
+    let unclosed = b"layout l = {a: 1}; fun main[]: word { 1".as_slice();
     let cases = [
-        (FrontError::Text(TextError::Syntax(39)), wide),
+        (FrontError::Text(TextError::Syntax(39)), unclosed),
         (
             FrontError::Text(TextError::Char(19)),
             b"fun main[]: word { @ }",
@@ -60,6 +60,14 @@ fn straight(alloc: Global, lets: usize) -> Result<Vec<u8>, NoMemory> {
     }
     text.extend_from_slice(b" x }")?;
     Ok(text)
+}
+
+// 1 for the function, 2 for its block, 3 for the first let, 7 for each further one and 2 for the value.
+#[test]
+fn a_longer_line_is_too_large(rt: HostRuntime) -> Result<(), FrontError> {
+    let text = straight(rt.alloc(), 600)?;
+    assert_eq!(rt; answer(rt.alloc(), &text), Err(FrontError::TooLarge(4208)));
+    Ok(())
 }
 
 #[test]

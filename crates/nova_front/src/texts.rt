@@ -2,12 +2,15 @@
 
 ghost use Rattle.std.specs.Prelude.{◌≡◌, ◌≤◌, ◌⊎◌, length, IfOk, IfErr, MatchResult};
 ghost use Rattle.nv_base.specs.Meanings.{KeepsOutcomes};
-ghost use Rattle.nv_ast.specs.Sizes.{main_words};
+ghost use Rattle.nv_ast.specs.Sizes.{expanded_size, main_words, room};
 ghost use Rattle.nv_ast.specs.Tree.{ProgramTree};
 ghost use Rattle.nv_ast.specs.TypedView.{typed_program};
 ghost use Rattle.nv_meaning.specs.Meaning.{source};
+ghost use Rattle.flat_ir.specs.Bulk.{bulk, IsAtMost, of_size};
 ghost use Rattle.flat_ir.specs.Meaning.{flat_meaning};
-ghost use Rattle.nv_flatten.specs.Flattened.{params_in};
+ghost use Rattle.flat_ir.specs.Wide.{wide};
+ghost use Rattle.nv_flatten.specs.Equal.{AreEqual};
+ghost use Rattle.nv_flatten.specs.Flattened.{params_in, AreReached};
 ghost use Rattle.nova_front.specs.Sources.{IsTypedSource, IsCause};
 
 use crate::error::FrontError;
@@ -41,12 +44,16 @@ pub fn typed(alloc: Global, bytes: &[u8]) -> Result<Typed, FrontError>
     }
 }
 
-/// The typed program of a text of at most 262,144 bytes, and its flat program, which has the same
-/// outcomes. The refusals are those of [`typed`].
+/// The typed program of a text of at most 262,144 bytes, and its flat program, with all that
+/// `flatten` promises of it. The refusals are those of [`typed`].
 pub fn front(alloc: Global, bytes: &[u8]) -> Result<(Typed, FlatProgram), FrontError>
     requires { length bytes.now ≤ 262144 }
     ensures program { IfOk result (λ r. IsTypedSource bytes.now (typed_program r.0)) }
     ensures kept { IfOk result (λ r. KeepsOutcomes (main_words (typed_program r.0)) (params_in r.1.funs.items r.1.main) (source (typed_program r.0)) (flat_meaning r.1.funs.items r.1.main)) }
+    ensures equal { IfOk result (λ r. AreEqual (main_words (typed_program r.0)) (source (typed_program r.0)) (flat_meaning r.1.funs.items r.1.main)) }
+    ensures reached { IfOk result (λ r. AreReached r.1.funs.items r.1.main) }
+    ensures wide { IfOk result (λ r. wide r.1.funs.items r.1.main ≤ room (typed_program r.0)) }
+    ensures bulk { IfOk result (λ r. IsAtMost (bulk r.1.funs.items r.1.main) (of_size (expanded_size (typed_program r.0)))) }
     ensures only_program { (p : ProgramTree) → IsTypedSource bytes.now p → MatchResult result (λ r. typed_program r.0 ≡ p) (λ e. e ≡ FrontError.NoMemory) }
     ensures refused { IfErr result (λ e. (e ≡ FrontError.NoMemory) ⊎ IsCause bytes.now e) }
     ensures only_refused { (f : FrontError) → IsCause bytes.now f → MatchResult result (λ _. ⊥) (λ e. (e ≡ FrontError.NoMemory) ⊎ (e ≡ f)) }
