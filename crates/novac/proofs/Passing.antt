@@ -4,7 +4,7 @@ use Rattle.std.specs.Prelude.{Contains}
 use Rattle.nv_outside.specs.Causes.{Rose}
 use Rattle.nv_outside.specs.Holding.{Holding}
 use Rattle.novac.specs.Lines.{IsUncaused, IfReadFault}
-use Rattle.novac.specs.Loading.{IsLoaded, FileRefused}
+use Rattle.novac.specs.Loading.{IsLoaded, IsWithin, FileRefused}
 use Rattle.novac.specs.Machine.{BothRefused, memory_limit}
 use Rattle.novac.specs.declared.refusal.Refusal.{Refusal}
 use Rattle.novac.specs.declared.refusal.Refusal.TheVariants.{ReadFault}
@@ -32,6 +32,33 @@ pass-both held name limit memory P b t b' t' (Err e) eb et lb lt (inr p) =
 -- a count that rose later rose from before on
 pub rose-later : (a b c : ℕ) → a ≤ b → Rose b c → Rose a c
 rose-later a b c h r = omega arith
+
+-- what holds of every file holds of one that couldn't be read
+any-fault : (P : List ℕ → Type 0) (e : Refusal) → ((file : List ℕ) → P file) → IfReadFault e P
+any-fault P (ReadFault name) h = h name.now
+any-fault P _ h = tt
+
+pub any-faults : {T : Type 0} (P : List ℕ → Type 0) (r : Result T Refusal) → ((file : List ℕ) → P file) → IfErr r (λ e. IfReadFault e P)
+any-faults P (Ok x) h = tt
+any-faults P (Err e) h = any-fault P e h
+
+-- two facts about it are one
+pub both-faults : (P Q : List ℕ → Type 0) (e : Refusal) → IfReadFault e P → IfReadFault e Q → IfReadFault e (λ file. P file × Q file)
+both-faults P Q (ReadFault name) h k = (h, k)
+both-faults P Q _ h k = tt
+
+-- a fault of the first of two loads is in its turn, and behind that load each is
+pub first-turn : (held : Holding) (first : List ℕ) (limit : ℕ) (before after : List ℕ → ℕ) (e : Refusal)
+    → IfReadFault e (λ file. (file ≡ first) × Rose (before file) (after file)) → IfReadFault e (λ file. (file ≡ first) ⊎ IsWithin held first limit)
+first-turn held first limit before after (ReadFault name) h = inl h.0
+first-turn held first limit before after _ h = tt
+
+pub second-turn : (held : Holding) (first : List ℕ) (limit : ℕ) (b : List ℕ) (e : Refusal) → IsLoaded held first limit b → IfReadFault e (λ file. (file ≡ first) ⊎ IsWithin held first limit)
+second-turn held first limit b e l = any-fault (λ (file : List ℕ). (file ≡ first) ⊎ IsWithin held first limit) e (λ file. inr (b, l))
+
+pub later-turn : {T : Type 0} (held : Holding) (first : List ℕ) (limit : ℕ) (b : List ℕ) (r : Result T Refusal) → IsLoaded held first limit b
+    → IfErr r (λ e. IfReadFault e (λ file. (file ≡ first) ⊎ IsWithin held first limit))
+later-turn held first limit b r l = any-faults (λ (file : List ℕ). (file ≡ first) ⊎ IsWithin held first limit) r (λ file. inr (b, l))
 
 -- a fault of the second of two loads
 pub second-fault : (first second : List ℕ) (before mid after : List ℕ → ℕ) (e : Refusal) → ((q : List ℕ) → before q ≤ mid q)

@@ -3,9 +3,9 @@ use Rattle.std.proofs.Common.{◌≡◌, ◌≢◌, ℕ, ◌⊎◌, inl, inr, Li
 use Rattle.std.proofs.lemmas.List.{append-nil}
 use Rattle.nv_outside.specs.Holding.{Holding, AppendsFront}
 use Rattle.novac.specs.Answers.{Shows, Refuses, Answers, IsPrinted, IsBegun, IsFree, IsOnly}
-use Rattle.novac.specs.Command.{Command, Compile, Run, Exec, Asm, Dis, Lint, Check, IfCommand, IfCompile, ForCommand, SomeFile, outputs_of}
+use Rattle.novac.specs.Command.{Command, Compile, Run, Exec, Asm, Dis, Lint, Check, IfCommand, IfCompile, ForCommand, SomeFile, inputs_of, outputs_of}
 use Rattle.novac.specs.Headline.{IsCompiled}
-use Rattle.novac.specs.Lines.{refusal_status, refusal_text, cannot_write}
+use Rattle.novac.specs.Lines.{refusal_status, refusal_text, cannot_read, cannot_write}
 use Rattle.novac.specs.declared.refusal.Refusal.{Refusal}
 use Rattle.novac.specs.declared.refusal.Refusal.TheVariants.{NoMemory, ReadFault, TooLarge, SourceChar, SourceNumber, SourceName, SourceSyntax, SourceDeep, SourceType, SourceLarge, Syntax, Label, BadObject, BadMemoryText, BadReport, FalseReport, Unlawful, UnlawfulLine, Unbuilt}
 use Rattle.novac.specs.declared.status.Status.{Status}
@@ -40,6 +40,9 @@ IsTold s r text before after T Failed = ((r ≡ status.WriteFault) × Failed) �
 done-not_fault : (r : Status) → r ≡ status.Done → r ≡ status.WriteFault → ⊥
 done-not_fault r d w = let e : status.Done ≡ status.WriteFault = sym d ∙ w in cc
 
+read-not_write : (r : Status) → r ≡ status.ReadFault → r ≡ status.WriteFault → ⊥
+read-not_write r d w = let e : status.ReadFault ≡ status.WriteFault = sym d ∙ w in cc
+
 done-compiled : (old new : Holding) (s r : Status) (text before after : List ℕ) (T : Type 0) → (r ≡ s) → (T → after ≡ before ++ text) → (source object : List ℕ) → Answers (Compile source object) old new s text → r ≡ status.Done
     → (line : List ℕ) × IsCompiled old new source object line × (T → after ≡ before ++ line)
 done-compiled old new s r text before after T same written source object (inl a) d = absurd a
@@ -66,10 +69,49 @@ printed old new s r text before after T Failed told None a ne = tt
 printed old new s r text before after T Failed (inl w) (Some c) a ne = absurd (ne w.0)
 printed old new s r text before after T Failed (inr h) (Some c) a ne = (text, subst (λ (x : Status). Answers c old new x text) (sym h.0) a, h.1)
 
-pub begun : (old new : Holding) (s : Status) (text before after : List ℕ) (T : Type 0) → (T → AppendsFront before after text)
-    → (o : Option Command) → IfCommand o (λ c. Answers c old new s text) → IfCommand o (λ c. IsBegun c old new T before after)
-begun old new s text before after T front None a = tt
-begun old new s text before after T front (Some c) a = (s, text, a, front)
+-- a write fault, or done, or nothing changed
+left : (s : Status) (old new : Holding) → (s ≢ status.Done → s ≢ status.WriteFault → new ≡ old) → (s ≡ status.WriteFault) ⊎ (s ≡ status.Done) ⊎ (new ≡ old)
+left status.Done old new kept = inr (inl refl)
+left status.WriteFault old new kept = inl refl
+left status.Usage old new kept = inr (inr (kept (λ e. cc) (λ e. cc)))
+left status.ReadFault old new kept = inr (inr (kept (λ e. cc) (λ e. cc)))
+left status.NoMemory old new kept = inr (inr (kept (λ e. cc) (λ e. cc)))
+left status.Syntax old new kept = inr (inr (kept (λ e. cc) (λ e. cc)))
+left status.TypeFault old new kept = inr (inr (kept (λ e. cc) (λ e. cc)))
+left status.TooLarge old new kept = inr (inr (kept (λ e. cc) (λ e. cc)))
+left status.BadObject old new kept = inr (inr (kept (λ e. cc) (λ e. cc)))
+left status.BadMemoryText old new kept = inr (inr (kept (λ e. cc) (λ e. cc)))
+left status.Raised old new kept = inr (inr (kept (λ e. cc) (λ e. cc)))
+left status.Fault old new kept = inr (inr (kept (λ e. cc) (λ e. cc)))
+left status.StepsSpent old new kept = inr (inr (kept (λ e. cc) (λ e. cc)))
+left status.CertificateRefused old new kept = inr (inr (kept (λ e. cc) (λ e. cc)))
+left status.Unlawful old new kept = inr (inr (kept (λ e. cc) (λ e. cc)))
+left status.Unbuilt old new kept = inr (inr (kept (λ e. cc) (λ e. cc)))
+
+-- the cause of a write fault
+begun-cause : (old new : Holding) (s r : Status) (text before after : List ℕ) (T Failed : Type 0) (Rises : List ℕ → Type 0) (files : List (List ℕ)) → IsTold s r text before after T Failed
+    → (s ≡ status.WriteFault → SomeFile files (λ file. Rises file × (text ≡ cannot_write file))) → (s ≢ status.Done → s ≢ status.WriteFault → new ≡ old) → r ≡ status.WriteFault
+    → ((s ≡ status.WriteFault) × SomeFile files Rises) ⊎ (Failed × ((s ≡ status.Done) ⊎ (new ≡ old)))
+begun-cause old new s r text before after T Failed Rises files (inl w) saves kept is = elim (left s old new kept) [
+  | inl f ↦ let some = saves f in inl (f, (some.0, some.1, some.2.0))
+  | inr k ↦ inr (w.1, k)
+]
+begun-cause old new s r text before after T Failed Rises files (inr h) saves kept is =
+    let f : s ≡ status.WriteFault = sym h.0 ∙ is in
+    let some = saves f in
+    inl (f, (some.0, some.1, some.2.0))
+
+pub begun : (old new : Holding) (s r : Status) (text before after : List ℕ) (T Failed : Type 0) (Rises : List ℕ → Type 0) → IsTold s r text before after T Failed → (T → AppendsFront before after text)
+    → (o : Option Command) → IfCommand o (λ c. Answers c old new s text) → (s ≡ status.WriteFault → ForCommand o (λ c. SomeFile (outputs_of c) (λ file. Rises file × (text ≡ cannot_write file))))
+    → (s ≢ status.Done → s ≢ status.WriteFault → new ≡ old) → r ≡ status.WriteFault → IfCommand o (λ c. IsBegun c old new Rises Failed T before after)
+begun old new s r text before after T Failed Rises told front None a saves kept is = tt
+begun old new s r text before after T Failed Rises told front (Some c) a saves kept is = record {
+  status = s;
+  text = text;
+  answers = a;
+  cause = begun-cause old new s r text before after T Failed Rises (outputs_of c) told saves kept is;
+  front = front;
+}
 
 -- the status and the text, from what they must be where they aren't free
 only : (s r want : Status) (text line before after : List ℕ) (T Failed : Type 0) → IsTold s r text before after T Failed
@@ -92,6 +134,15 @@ only-shown old new s r text before after T Failed told None a = tt
 only-shown old new s r text before after T Failed told (Some c) a = λ s' t' k.
     only s r s' text t' before after T Failed told (shown-only c old new s s' text t' a k)
 
+pub read-fault : (s r : Status) (text before after : List ℕ) (T Failed : Type 0) (Turns : Command → List ℕ → Type 0) (Rises : List ℕ → Type 0) → IsTold s r text before after T Failed
+    → (o : Option Command) → (s ≡ status.ReadFault → ForCommand o (λ c. SomeFile (inputs_of c) (λ file. Rises file × Turns c file × (text ≡ cannot_read file))))
+    → r ≡ status.ReadFault → ForCommand o (λ c. SomeFile (inputs_of c) (λ file. Rises file × Turns c file × (T → after ≡ before ++ cannot_read file)))
+read-fault s r text before after T Failed Turns Rises (inl w) o reads is = absurd (read-not_write r is w.0)
+read-fault s r text before after T Failed Turns Rises (inr h) None reads is = absurd (reads (sym h.0 ∙ is))
+read-fault s r text before after T Failed Turns Rises (inr h) (Some c) reads is =
+    let some = reads (sym h.0 ∙ is) in
+    (some.0, some.1, (some.2.0, some.2.1, λ t. h.1 t ∙ ap (λ (x : List ℕ). before ++ x) some.2.2))
+
 pub write-fault : (s r : Status) (text before after : List ℕ) (T Failed : Type 0) (Rises : List ℕ → Type 0) → IsTold s r text before after T Failed
     → (o : Option Command) → (s ≡ status.WriteFault → ForCommand o (λ c. SomeFile (outputs_of c) (λ file. Rises file × (text ≡ cannot_write file))))
     → r ≡ status.WriteFault → Failed ⊎ ForCommand o (λ c. SomeFile (outputs_of c) (λ file. Rises file × (T → after ≡ before ++ cannot_write file)))
@@ -105,4 +156,4 @@ write-fault s r text before after T Failed Rises (inr h) (Some c) saves is =
 pub memory-printed : (old new : Holding) (before : List ℕ) (T : Type 0) (o : Option Command) → IfCommand o (λ c. IsPrinted c old new status.NoMemory T before before)
 memory-printed old new before T None = tt
 memory-printed old new before T (Some c) =
-    ([], inr (inr (record { why = NoMemory; cause = inl tt; status_is = refl; text_is = refl })), λ t. sym (append-nil before))
+    ([], inr (inr (record { why = NoMemory; cause = inl tt; in_turn = tt; status_is = refl; text_is = refl })), λ t. sym (append-nil before))

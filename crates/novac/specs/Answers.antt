@@ -1,13 +1,13 @@
 -- The answers of the program.
-use Rattle.std.specs.Prelude.{◌≡◌, ◌⊎◌, ◌++◌, ℕ, List}
+use Rattle.std.specs.Prelude.{◌≡◌, ◌⊎◌, ◌++◌, ℕ, List, Contains, ⊤}
 use Rattle.nv_outside.specs.Holding.{Holding, AppendsFront}
 use Rattle.novac.specs.Assembly.{AsmRefuses, HasAssembly, IsAssembled, IsListed, assembly_limit}
-use Rattle.novac.specs.Command.{Command, Compile, Run, Exec, Asm, Dis, Lint, Check}
+use Rattle.novac.specs.Command.{Command, Compile, Run, Exec, Asm, Dis, Lint, Check, inputs_of, outputs_of, SomeFile}
 use Rattle.novac.specs.Checking.{CheckRefuses, IsChecked, report_limit}
 use Rattle.novac.specs.Executing.{ExecRefuses, IsExecuted}
 use Rattle.novac.specs.Headline.{CompileRefuses, HasProgram, IsCompiled}
-use Rattle.novac.specs.Lines.{IsUncaused, refusal_status, refusal_text, cannot_write}
-use Rattle.novac.specs.Loading.{FileHas, FileRefused}
+use Rattle.novac.specs.Lines.{IsUncaused, IfReadFault, refusal_status, refusal_text, cannot_write}
+use Rattle.novac.specs.Loading.{IsWithin, FileHas, FileRefused}
 use Rattle.novac.specs.Machine.{IsBadObjectFor, LintRefuses, IsLinted, RunRefuses, IsRun, BothHave, BothRefused, object_limit}
 use Rattle.novac.specs.Reading.{source_limit}
 use Rattle.novac.specs.declared.refusal.Refusal.{Refusal}
@@ -44,11 +44,19 @@ Refuses (Dis object) held e = FileRefused held object object_limit IsBadObjectFo
 Refuses (Lint object) held e = FileRefused held object object_limit LintRefuses e
 Refuses (Check report) held e = FileRefused held report report_limit CheckRefuses e
 
--- a command is refused with this status and text, for what the files hold, or since one couldn't be read or memory
--- ran out
+-- an input is read in its turn, which is the order of the words: the second one only where the first is held, with at
+-- most as many bytes as it may have
+abbrev pub IsInTurn : Command → Holding → List ℕ → Type 0
+IsInTurn (Run object memory steps) held file = (file ≡ object) ⊎ IsWithin held object object_limit
+IsInTurn (Exec source memory calls) held file = (file ≡ source) ⊎ IsWithin held source source_limit
+IsInTurn _ held file = ⊤
+
+-- a command is refused with this status and text, for what the files hold, or since an input couldn't be read in its
+-- turn or memory ran out
 pub record IsRefused (command : Command) (held : Holding) (status : Status) (text : List ℕ) : Type 0 where
   pub why : Refusal
   pub cause : IsUncaused why ⊎ Refuses command held why
+  pub in_turn : IfReadFault why (λ file. Contains (inputs_of command) file × IsInTurn command held file)
   pub status_is : status ≡ refusal_status why
   pub text_is : text ≡ refusal_text why
 
@@ -62,10 +70,14 @@ abbrev pub IsPrinted : Command → Holding → Holding → Status → Type 0 →
 IsPrinted command old new status Tells before after =
     (text : List ℕ) × Answers command old new status text × (Tells → after ≡ before ++ text)
 
--- a file or the sink failed: a front of the text was printed
-abbrev pub IsBegun : Command → Holding → Holding → Type 0 → List ℕ → List ℕ → Type 0
-IsBegun command old new Tells before after =
-    (status : Status) × (text : List ℕ) × Answers command old new status text × (Tells → AppendsFront before after text)
+-- a save failed, or the print, of a command that was done or that left the files as they were; a front of the text
+-- was printed
+pub record IsBegun (command : Command) (old new : Holding) (SaveFailed : List ℕ → Type 0) (PutFailed Tells : Type 0) (before after : List ℕ) : Type 0 where
+  pub status : Status
+  pub text : List ℕ
+  pub answers : Answers command old new status text
+  pub cause : ((status ≡ WriteFault) × SomeFile (outputs_of command) SaveFailed) ⊎ (PutFailed × ((status ≡ Done) ⊎ (new ≡ old)))
+  pub front : Tells → AppendsFront before after text
 
 -- a fault of the files or the sink, or want of memory
 abbrev pub IsFree : Status → Type 0

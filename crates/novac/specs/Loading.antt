@@ -9,6 +9,10 @@ pub record IsLoaded (held : Holding) (name : List ℕ) (limit : ℕ) (bytes : Li
   pub here : held name ≡ Some bytes
   pub short : length bytes ≤ limit
 
+-- a file is held, with at most so many bytes
+abbrev pub IsWithin : Holding → List ℕ → ℕ → Type 0
+IsWithin held name limit = (bytes : List ℕ) × IsLoaded held name limit bytes
+
 -- a file has bytes, at most so many, of which this holds
 abbrev pub FileHas : Holding → List ℕ → ℕ → (List ℕ → Type 0) → Type 0
 FileHas held name limit P = (bytes : List ℕ) × IsLoaded held name limit bytes × P bytes

@@ -56,7 +56,7 @@ fn add_all(list: &mut Vec<Instr>, params: u8, terms: &[Term]) -> Result<(), Allo
     requires terms { All (IsTermOf params) terms.now }
     ensures { OnOk result (list.new.items ≡ list.old.items ++ plus_code terms.now) }
 {
-    // As above.
+    // The check has to be told of each type that an instruction may hold.
     let _none: Option<Gpr> = None;
     for next in terms {
         list.push(term(Dst::B(NEXT), params, next))?;

@@ -3,7 +3,7 @@ use crate::tests::printed;
 use nv_outside::{MemFiles, Saved};
 use std::test::Fail;
 
-const TTL: &str =
+pub(crate) const TTL: &str =
     "// Counts down the time to live of an IPv4 header in SDRAM, and gives the address that it goes to.
 layout ipv4 = { version: 4, ihl: 4, tos: 8, length: 16, ident: 16, flags: 3, frag: 13,
   ttl: 8, protocol: 8, checksum: 16, src: 32, dst: 32 };

@@ -3,7 +3,7 @@ ghost use Rattle.std.specs.Prelude.{◌≡◌, ◌≤◌, ◌⊎◌, length, Con
 ghost use Rattle.nv_outside.specs.Causes.{Rose};
 ghost use Rattle.nv_ast.specs.TypedView.{typed_program};
 ghost use Rattle.nv_meaning.specs.Meaning.{source as meaning};
-ghost use Rattle.novac.specs.Answers.{Shows, Refuses};
+ghost use Rattle.novac.specs.Answers.{IsInTurn, Shows, Refuses};
 ghost use Rattle.novac.specs.Command.{Exec, inputs_of};
 ghost use Rattle.novac.specs.Executing.{ExecRefuses, IsExecuted};
 ghost use Rattle.novac.specs.Lines.{IsUncaused, IfReadFault};
@@ -37,6 +37,7 @@ pub fn exec_files<'a, F: Files>(
     ensures refused { F.tells → IfErr result (λ e. IsUncaused e ⊎ Refuses (Exec source.now memory.now calls) (F.held files.old) e) }
     ensures end { IfOk result (λ r. IsOutcome r.status) }
     ensures read_fault { IfErr result (λ e. IfReadFault e (λ file. Contains (inputs_of (Exec source.now memory.now calls)) file × Rose (F.load_faults files.old file) (F.load_faults files.new file))) }
+    ensures in_turn { F.tells → IfErr result (λ e. IfReadFault e (IsInTurn (Exec source.now memory.now calls) (F.held files.old))) }
     ensures held { F.held files.new ≡ F.held files.old }
 {
     let bytes = load(alloc, source, SOURCE_LIMIT, files)?;

@@ -8,11 +8,15 @@ mod compile;
 mod emit;
 #[cfg(test)]
 mod example_tests;
+#[cfg(test)]
+mod exec_tests;
 mod execute;
 mod form;
 mod lint;
 mod list;
 mod load;
+#[cfg(test)]
+mod load_tests;
 mod refusal;
 mod reply;
 mod report;
@@ -23,6 +27,8 @@ mod sum;
 #[cfg(test)]
 mod tests;
 mod top;
+#[cfg(test)]
+mod type_tests;
 
 pub use build::{First, FirstError, compile_first};
 use nv_base::NoMemory;

@@ -15,7 +15,8 @@ pub enum Refusal<'a> {
     NoMemory,
     /// The file with this name couldn't be read.
     ReadFault(&'a str),
-    /// A file has more bytes than this limit, or a memory is to have this size, which is above its limit.
+    /// A file has more bytes than this limit, or a memory text asks for a memory of this size, above 65,536: of words of SRAM
+    /// or quadwords of SDRAM.
     TooLarge(u64),
     /// A byte of a source that begins no token; places are counted from 0.
     SourceChar(u32),

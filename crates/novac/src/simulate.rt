@@ -4,7 +4,7 @@ ghost use Rattle.nv_outside.specs.Causes.{Rose};
 ghost use Rattle.nv_memtext.specs.MemoryText.{Gives};
 ghost use Rattle.uc_isa.specs.Engine.{engine};
 ghost use Rattle.uc_isa.specs.Lawful.{IsLawful};
-ghost use Rattle.novac.specs.Answers.{Shows, Refuses};
+ghost use Rattle.novac.specs.Answers.{IsInTurn, Shows, Refuses};
 ghost use Rattle.novac.specs.Command.{Run, inputs_of};
 ghost use Rattle.novac.specs.Lines.{IsUncaused, IfReadFault};
 ghost use Rattle.novac.specs.Machine.{RunRefuses, IsMemoryRefusedFor, IsRun, object_limit, memory_limit, spill_base, full_text};
@@ -43,6 +43,7 @@ pub fn run_files<'a, F: Files>(
     ensures refused { F.tells → IfErr result (λ e. IsUncaused e ⊎ Refuses (Run object.now memory.now steps) (F.held files.old) e) }
     ensures end { IfOk result (λ r. IsOutcome r.status) }
     ensures read_fault { IfErr result (λ e. IfReadFault e (λ file. Contains (inputs_of (Run object.now memory.now steps)) file × Rose (F.load_faults files.old file) (F.load_faults files.new file))) }
+    ensures in_turn { F.tells → IfErr result (λ e. IfReadFault e (IsInTurn (Run object.now memory.now steps) (F.held files.old))) }
     ensures held { F.held files.new ≡ F.held files.old }
 {
     let bytes = load(alloc, object, OBJECT_LIMIT, files)?;
@@ -89,6 +90,7 @@ fn run_job(alloc: Global, code: &Code, job: Job, steps: u64) -> Result<Reply, No
     ensures end { IfOk result (λ r. IsOutcome r.status) }
     ensures prints { IfOk result (λ r. r.text.items ≡ full_text (engine code.now job.args spill_base job.packet steps)) }
 {
+    // The check has to be told that the code has an instruction, which `list` promises.
     let _list = code.list();
     let mut engine = Engine::start(job.args.list(), SPILL_BASE);
     let mut packet = job.packet;

@@ -285,6 +285,7 @@ fn faults_of_a_source_have_their_places(rt: HostRuntime) -> Result<(), Fail> {
             b"syntax name at 0\n",
         ),
         (b"fun main[]: word { 1 +", b"syntax syntax at 22\n"),
+        (b"fun main[]: word {", b"syntax syntax at 18\n"),
         (
             b"fun main[]: word { ((((((((((((((((((((((((((((((((((((((((((((((((((\
             ((((((((((((((((((((((((((((((((((((((((((((((((((1",
@@ -301,7 +302,7 @@ fn faults_of_a_source_have_their_places(rt: HostRuntime) -> Result<(), Fail> {
     Ok(())
 }
 
-// The shortest source of each kind of fault.
+// A short source of each kind of fault.
 #[test]
 fn each_kind_of_type_fault_prints_its_line(rt: HostRuntime) -> Result<(), Fail> {
     let alloc = rt.alloc();

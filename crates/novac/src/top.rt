@@ -1,7 +1,8 @@
 //! The top call.
 ghost use Rattle.std.specs.Prelude.{◌≡◌, ◌≢◌, ◌⊎◌, ◌++◌, ℕ, List, Contains, None, IfOk, IfErr, OnErr};
 ghost use Rattle.nv_outside.specs.Causes.{Rose};
-ghost use Rattle.novac.specs.Answers.{Shows, Makes, Refuses, Answers, IsPrinted, IsBegun, IsOnly};
+ghost use Rattle.nv_outside.specs.Holding.{AppendsFront};
+ghost use Rattle.novac.specs.Answers.{Shows, Makes, Refuses, Answers, IsInTurn, IsPrinted, IsBegun, IsOnly};
 ghost use Rattle.novac.specs.Command.{command_of, command_as, texts_of, inputs_of, outputs_of, SomeFile, IfCommand, IfCompile, ForCommand, HasSteps};
 ghost use Rattle.novac.specs.Headline.{IsCompiled};
 ghost use Rattle.novac.specs.Lines.{IsUncaused, IfReadFault, usage_text, cannot_read, cannot_write, refusal_status, refusal_text};
@@ -48,9 +49,10 @@ pub fn run<F: Files, K: Sink>(
     // The headline: what `compile` saved is lawful code that does what the source says.
     ensures compiled { F.tells → result ≡ Status.Done → IfCompile (command_of (texts_of words.now)) (λ source object. (line : List ℕ) × IsCompiled (F.held files.old) (F.held files.new) source object line × (K.tells → K.written out.new ≡ K.written out.old ++ line)) }
 
-    // What the command did, or why it is refused, and the text that was printed.
+    // What the command did, or why it is refused, and the text that was printed. With a write fault, a save failed, or the
+    // print did: then what the command saves has its whole bytes, or no file changed.
     ensures answered { F.tells → result ≢ Status.WriteFault → IfCommand (command_of (texts_of words.now)) (λ c. IsPrinted c (F.held files.old) (F.held files.new) result K.tells (K.written out.old) (K.written out.new)) }
-    ensures begun { F.tells → result ≡ Status.WriteFault → IfCommand (command_of (texts_of words.now)) (λ c. IsBegun c (F.held files.old) (F.held files.new) K.tells (K.written out.old) (K.written out.new)) }
+    ensures begun { F.tells → result ≡ Status.WriteFault → IfCommand (command_of (texts_of words.now)) (λ c. IsBegun c (F.held files.old) (F.held files.new) (λ file. Rose (F.save_faults files.old file) (F.save_faults files.new file)) (Rose (K.faults out.old) (K.faults out.new)) K.tells (K.written out.old) (K.written out.new)) }
 
     // The other way: what the files hold decides the status and the text.
     ensures only_refused { F.tells → IfCommand (command_of (texts_of words.now)) (λ c. (e : Refusal) → Refuses c (F.held files.old) e → IsOnly result (refusal_status e) K.tells (K.written out.old) (K.written out.new) (refusal_text e)) }
@@ -59,9 +61,11 @@ pub fn run<F: Files, K: Sink>(
     ensures usage { result ≡ Status.Usage → command_of (texts_of words.now) ≡ None }
     ensures only_usage { command_of (texts_of words.now) ≡ None → (result ≡ Status.Usage) ⊎ (result ≡ Status.WriteFault) ⊎ (result ≡ Status.NoMemory) }
     ensures usage_line { K.tells → result ≡ Status.Usage → K.written out.new ≡ K.written out.old ++ usage_text }
+    ensures usage_begun { K.tells → result ≡ Status.WriteFault → command_of (texts_of words.now) ≡ None → AppendsFront (K.written out.old) (K.written out.new) usage_text }
 
-    // A fault has the file whose count of faults rose, and names it, or the sink's count rose.
-    ensures read_fault { result ≡ Status.ReadFault → ForCommand (command_of (texts_of words.now)) (λ c. SomeFile (inputs_of c) (λ file. Rose (F.load_faults files.old file) (F.load_faults files.new file) × (K.tells → K.written out.new ≡ K.written out.old ++ cannot_read file))) }
+    // A fault has the file whose count of faults rose, and names it, or the sink's count rose. Inputs are read in the order
+    // of the words.
+    ensures read_fault { result ≡ Status.ReadFault → ForCommand (command_of (texts_of words.now)) (λ c. SomeFile (inputs_of c) (λ file. Rose (F.load_faults files.old file) (F.load_faults files.new file) × (F.tells → IsInTurn c (F.held files.old) file) × (K.tells → K.written out.new ≡ K.written out.old ++ cannot_read file))) }
     ensures write_fault { result ≡ Status.WriteFault → Rose (K.faults out.old) (K.faults out.new) ⊎ ForCommand (command_of (texts_of words.now)) (λ c. SomeFile (outputs_of c) (λ file. Rose (F.save_faults files.old file) (F.save_faults files.new file) × (K.tells → K.written out.new ≡ K.written out.old ++ cannot_write file))) }
 
     // What stays as it was.
@@ -81,7 +85,7 @@ fn reply<F: Files>(alloc: Global, words: &Vec<String>, files: &mut F) -> Result<
     ensures answered { F.tells → IfOk result (λ r. IfCommand (command_of (texts_of words.now)) (λ c. Answers c (F.held files.old) (F.held files.new) r.status r.text.items)) }
     ensures usage { IfOk result (λ r. r.status ≡ Status.Usage → (command_of (texts_of words.now) ≡ None) × (r.text.items ≡ usage_text)) }
     ensures only_usage { command_of (texts_of words.now) ≡ None → IfOk result (λ r. r.status ≡ Status.Usage) }
-    ensures read_fault { IfOk result (λ r. r.status ≡ Status.ReadFault → ForCommand (command_of (texts_of words.now)) (λ c. SomeFile (inputs_of c) (λ file. Rose (F.load_faults files.old file) (F.load_faults files.new file) × (r.text.items ≡ cannot_read file)))) }
+    ensures read_fault { IfOk result (λ r. r.status ≡ Status.ReadFault → ForCommand (command_of (texts_of words.now)) (λ c. SomeFile (inputs_of c) (λ file. Rose (F.load_faults files.old file) (F.load_faults files.new file) × (F.tells → IsInTurn c (F.held files.old) file) × (r.text.items ≡ cannot_read file)))) }
     ensures write_fault { IfOk result (λ r. r.status ≡ Status.WriteFault → ForCommand (command_of (texts_of words.now)) (λ c. SomeFile (outputs_of c) (λ file. Rose (F.save_faults files.old file) (F.save_faults files.new file) × (r.text.items ≡ cannot_write file)))) }
     ensures memory { IfOk result (λ r. r.status ≢ Status.NoMemory) }
     ensures unchanged { IfOk result (λ r. r.status ≢ Status.Done → r.status ≢ Status.WriteFault → F.held files.new ≡ F.held files.old) }
@@ -134,6 +138,7 @@ fn perform<'a, F: Files>(
     ensures refused { F.tells → IfErr result (λ e. IsUncaused e ⊎ Refuses (command_as command.entry) (F.held files.old) e) }
     ensures end { IfOk result (λ r. IsEnd r.status) }
     ensures read_fault { IfErr result (λ e. IfReadFault e (λ file. Contains (inputs_of (command_as command.entry)) file × Rose (F.load_faults files.old file) (F.load_faults files.new file))) }
+    ensures in_turn { F.tells → IfErr result (λ e. IfReadFault e (IsInTurn (command_as command.entry) (F.held files.old))) }
     ensures write_fault { IfOk result (λ r. r.status ≡ Status.WriteFault → SomeFile (outputs_of (command_as command.entry)) (λ file. Rose (F.save_faults files.old file) (F.save_faults files.new file) × (r.text.items ≡ cannot_write file))) }
     ensures unchanged { IfOk result (λ r. r.status ≢ Status.Done → r.status ≢ Status.WriteFault → F.held files.new ≡ F.held files.old) }
     ensures unchanged_too { OnErr result (F.held files.new ≡ F.held files.old) }

@@ -5,7 +5,7 @@ use Rattle.novac.specs.Loading.{IsLoaded}
 use Rattle.novac.specs.Executing.{ExecRefuses}
 use Rattle.novac.specs.Machine.{memory_limit}
 use Rattle.novac.specs.Reading.{source_limit}
-use Rattle.novac.proofs.Passing.{pass-both, second-fault}
+use Rattle.novac.proofs.Passing.{pass-both, first-turn, second-turn, later-turn, second-fault}
 use Rattle.novac.proofs.execute.exec_files.Goals as goal
 
 pub returns-clause-refused : goal.returns-clause-refused
@@ -18,3 +18,16 @@ pub returns-in_err-text-clause-read_fault : goal.returns-in_err-text-clause-read
 returns-in_err-text-clause-read_fault g c =
     let p = err_from_is_err_and c.from_residual-in_err-text.result c.from_residual-in_err-text.ensures.1 in
     rw (p.1, p.2) (second-fault c.args.source.now c.args.memory.now (g.F.Files.load_faults c.args.files.now) (g.F.Files.load_faults c.load.new.files) (g.F.Files.load_faults c.load-2.new.files) _ c.load.ensures.load_faults c.in_err-text.ensures.read_fault)
+
+pub returns-in_err-bytes-clause-in_turn : goal.returns-in_err-bytes-clause-in_turn
+returns-in_err-bytes-clause-in_turn g c = λ t.
+    let p = err_from_is_err_and c.from_residual.result c.from_residual.ensures.1 in
+    rw (p.1, p.2) (first-turn (g.F.Files.held c.args.files.now) c.args.source.now source_limit (g.F.Files.load_faults c.args.files.now) (g.F.Files.load_faults c.load.new.files) _ c.in_err-bytes.ensures.read_fault)
+
+pub returns-in_err-text-clause-in_turn : goal.returns-in_err-text-clause-in_turn
+returns-in_err-text-clause-in_turn g c = λ t.
+    let p = err_from_is_err_and c.from_residual-in_err-text.result c.from_residual-in_err-text.ensures.1 in
+    rw (p.1, p.2) (second-turn (g.F.Files.held c.args.files.now) c.args.source.now source_limit c.in_ok-bytes.bytes.items _ (c.in_ok-bytes.ensures.loaded t))
+
+pub returns-clause-in_turn : goal.returns-clause-in_turn
+returns-clause-in_turn g c = λ t. later-turn (g.F.Files.held c.args.files.now) c.args.source.now source_limit c.in_ok-bytes.bytes.items c.exec_bytes.result (c.in_ok-bytes.ensures.loaded t)
