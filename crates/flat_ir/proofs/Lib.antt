@@ -9,3 +9,6 @@ pub mod Widths
 pub mod Bulks
 pub mod Appended
 pub mod Weaker
+pub mod Following
+pub mod FormedParts
+pub mod WordsStay
