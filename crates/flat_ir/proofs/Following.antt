@@ -1,14 +1,12 @@
 -- The memories of a run follow its writes.
 use Rattle.std.proofs.Common.{◌≡◌, ℕ, zero, suc, ◌==◌, Bool, true, false, List, [], ◌∷◌, ◌++◌, refl, sym, ap, ◌∙◌, if◌then◌else◌, Option, Some, None, length, slice_get}
-use Rattle.std.specs.Prelude.{unwrap_or}
-use Rattle.nv_base.specs.declared.outcome.Write.{Write}
 use Rattle.nv_base.specs.declared.term.Mem.{Mem}
 use Rattle.nv_base.specs.Memories.{Memories, fetched, stored}
-use Rattle.nv_base.specs.Meanings.{applied, left_by}
+use Rattle.nv_base.specs.Meanings.{left_by}
 use Rattle.nv_base.specs.Progress.{FollowsAll}
 use Rattle.nv_base.specs.Running.{Running}
 use Rattle.nv_base.specs.Words.{Env, assigned, assigned_all, atom_word, atom_words, prim_word, compares}
-use Rattle.nv_base.proofs.MemoryLemmas.{left-last}
+use Rattle.nv_base.proofs.Accesses.{with_store, store-follows}
 use Rattle.flat_ir.specs.declared.flat.Flat.{Flat}
 use Rattle.flat_ir.specs.declared.flat.Flat.TheVariants.{Let', Fetch', Store', If', Bind', Call, Raise, Try', Give}
 use Rattle.flat_ir.specs.declared.flat.FlatFun.{FlatFun}
@@ -47,10 +45,7 @@ follow-fetch m at p None now next g h = g
 follow-store : (m : Mem) (at : ℕ) (p : Memories) (ws : List ℕ) (found : Option Memories) (now : Running) (next : Running → Result) → stored m at ws now.packet ≡ found → Follows p now
     → ((last : Running) → Follows p last → FollowsIn p (next last)) → FollowsIn p (after_store m at ws found now next)
 follow-store m at p ws (Some q) now next e g h =
-    let w : Write = record { mem = m; at = at; words = ws } in
-    let new : q ≡ left_by (now.writes ++ w ∷ []) p =
-    sym (ap (λ o. unwrap_or o now.packet) e) ∙ ap (applied w) g ∙ sym (left-last now.writes w p) in
-    h (record { calls = now.calls; packet = q; writes = now.writes ++ w ∷ [] }) new
+    h (with_store m at ws q now) (store-follows m at ws q now p e g)
 follow-store m at p ws None now next e g h = g
 
 pub does-follows : (p : Memories) (call : Calls) → Following p call → (t : Flat) (env : Env) (now : Running) → Follows p now → FollowsIn p (does call t env now)

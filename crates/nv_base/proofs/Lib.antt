@@ -11,3 +11,4 @@ pub mod Operands
 pub mod Measures
 pub mod Frames
 pub mod Environments
+pub mod Accesses

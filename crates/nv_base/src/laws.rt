@@ -1,11 +1,12 @@
 //! Laws of the definitions in specs/: each is the contract of a function that does nothing.
-ghost use Rattle.std.specs.Prelude.{◌≡◌, ◌≤◌, ◌+◌, ◌↔◌, ℕ, suc, Bool, true, List, ◌++◌, All, None, Some, length, take};
+ghost use Rattle.std.specs.Prelude.{◌≡◌, ◌≤◌, ◌+◌, ◌↔◌, ℕ, suc, Bool, true, List, [], ◌∷◌, ◌++◌, All, None, Some, length, take};
 ghost use Rattle.nv_base.specs.Log.{Log, empty_log, noted_all};
 ghost use Rattle.nv_base.specs.Measures.{Bulk, operands_wide, let_wide, entry_wide, nothing, both, IsAtMost};
 ghost use Rattle.nv_base.specs.Memories.{Memories, HasSizes, IsAccess, AreApart, IsSourceStretch, words_at, fetched, stored};
-ghost use Rattle.nv_base.specs.Meanings.{Meaning, Same, KeepsOutcomes, AreEqual, AreArguments, seen, applied, source_memories};
+ghost use Rattle.nv_base.specs.Meanings.{Meaning, Same, KeepsOutcomes, AreEqual, AreArguments, seen, applied, left_by, source_memories};
 ghost use Rattle.nv_base.specs.Progress.{Before, Reaches, Grows, Lands, IsStepwise, FollowsAll, FollowsWrites};
 ghost use Rattle.nv_base.specs.Access.{can_move, has_count, is_primitive, is_address};
+ghost use Rattle.nv_base.specs.Running.{Running};
 ghost use Rattle.nv_base.specs.Sets.{Within, is_in, all_different, different};
 ghost use Rattle.nv_base.specs.Words.{IsWord, HasCount, HasPrimCount, una_word, bin_word, Env, IsEnv, assigned, assigned_all, atom_word, atom_words, prim_word, prim_vars};
 ghost use Rattle.nv_base.specs.declared.outcome.Outcome.{Outcome};
@@ -141,6 +142,11 @@ pub fn sources_see_enough()
 pub fn equal_meanings_keep()
     ensures outcomes { (params : ℕ) (m n : List ℕ → Memories → Meaning) → AreEqual params m n → KeepsOutcomes params params m n }
     ensures memories { (params : ℕ) (m n : List ℕ → Memories → Meaning) (args : List ℕ) (p : Memories) → AreEqual params m n → AreArguments params args → HasSizes p → FollowsAll p (n args p) → FollowsAll p (m args p) }
+{}
+
+/// Where the memories of a run are the first ones after its writes, they are so behind a store.
+pub fn stores_are_followed()
+    ensures { (m : Mem) (at : ℕ) (ws : List ℕ) (q : Memories) (now : Running) (p : Memories) → stored m at ws now.packet ≡ Some q → now.packet ≡ left_by now.writes p → q ≡ left_by (now.writes ++ record { mem = m; at = at; words = ws } ∷ []) p }
 {}
 
 /// Widths grow with the variables that are live, and bulks are ordered in each of their numbers.
