@@ -6,3 +6,4 @@ pub mod LogLemmas
 pub mod Rotation
 pub mod Blank
 pub mod WordLemmas
+pub mod Kept

@@ -3,3 +3,4 @@ pub mod Memories
 pub mod Log
 pub mod Meanings
 pub mod Progress
+pub mod World
