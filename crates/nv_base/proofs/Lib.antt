@@ -7,3 +7,6 @@ pub mod Rotation
 pub mod Blank
 pub mod WordLemmas
 pub mod Kept
+pub mod Sets
+pub mod Operands
+pub mod Measures

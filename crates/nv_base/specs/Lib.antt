@@ -4,3 +4,7 @@ pub mod Log
 pub mod Meanings
 pub mod Progress
 pub mod World
+pub mod Sets
+pub mod Access
+pub mod Measures
+pub mod Running
