@@ -9,9 +9,9 @@ abbrev pub call_bulk : Bulks → ℕ → Option Fun → Bulk
 call_bulk w own (Some f) = if nat_lt f.group own then w f.group else nothing
 call_bulk w own None = nothing
 
-mutual
+abbrev mutual
   -- of a term in a function of this group. A `Let` counts two operands, since it may get another primitive.
-  abbrev pub term_bulk : List Fun → Bulks → ℕ → Term → Bulk
+  pub term_bulk : List Fun → Bulks → ℕ → Term → Bulk
   term_bulk funs w own (Let x a t) = both (a_node 1 2) (term_bulk funs w own t)
   term_bulk funs w own (Read m xs a t) = both (a_node (length xs) 1) (term_bulk funs w own t)
   term_bulk funs w own (Write m a bs t) = both (a_node 0 (1 + length bs)) (term_bulk funs w own t)
@@ -23,7 +23,7 @@ mutual
   term_bulk funs w own (Jump l bs) = a_jump
   term_bulk funs w own (Halt e bs) = a_jump
 
-  abbrev pub labels_bulk : List Fun → Bulks → ℕ → Labels → Bulk
+  pub labels_bulk : List Fun → Bulks → ℕ → Labels → Bulk
   labels_bulk funs w own none = nothing
   labels_bulk funs w own (label l xs t ls) = both (both a_label (term_bulk funs w own t)) (labels_bulk funs w own ls)
 

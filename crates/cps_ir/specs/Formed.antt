@@ -1,45 +1,45 @@
 -- Which programs are well formed: what a pass over them may rest on.
-use Rattle.std.specs.Prelude.{ℕ, ◌×◌, ◌==◌, nat_le, nat_lt, Bool, true, false, ◌&&◌, if◌then◌else◌, List, [], ◌∷◌, ◌++◌, Option, Some, None, slice_get, length}
+use Rattle.std.specs.Prelude.{ℕ, ◌==◌, nat_le, nat_lt, Bool, true, false, ◌&&◌, if◌then◌else◌, List, [], ◌∷◌, ◌++◌, Option, Some, None, slice_get, length}
 use Rattle.std.specs.List.{list_all}
 use Rattle.nv_base.specs.Access.{is_known, all_known, is_primitive, can_move, is_address}
 use Rattle.nv_base.specs.Sets.{all_different}
 use Rattle.cps_ir.specs.Term.{Handler, Term, Let, Read, Write, If, Fix, Call, Return, Throw, Jump, Halt, Labels, none, label, Fun}
 
--- ---- what code defines, in the order of the text
+-- ---- what code defines
 
-mutual
+abbrev mutual
   -- its variables
-  abbrev pub defined : Term → List ℕ
+  pub defined : Term → List ℕ
   defined (Let x a t) = x ∷ defined t
   defined (Read m xs a t) = xs ++ defined t
   defined (Write m a bs t) = defined t
   defined (If c a b t u) = defined t ++ defined u
-  defined (Fix ls t) = labels_defined ls ++ defined t
+  defined (Fix ls t) = defined t ++ labels_defined ls
   defined (Call f bs k hs) = []
   defined (Return bs) = []
   defined (Throw e bs) = []
   defined (Jump l bs) = []
   defined (Halt e bs) = []
 
-  abbrev pub labels_defined : Labels → List ℕ
+  pub labels_defined : Labels → List ℕ
   labels_defined none = []
   labels_defined (label l xs t ls) = (xs ++ defined t) ++ labels_defined ls
 
-mutual
+abbrev mutual
   -- its labels
-  abbrev pub made : Term → List ℕ
+  pub made : Term → List ℕ
   made (Let x a t) = made t
   made (Read m xs a t) = made t
   made (Write m a bs t) = made t
   made (If c a b t u) = made t ++ made u
-  made (Fix ls t) = labels_made ls ++ made t
+  made (Fix ls t) = made t ++ labels_made ls
   made (Call f bs k hs) = []
   made (Return bs) = []
   made (Throw e bs) = []
   made (Jump l bs) = []
   made (Halt e bs) = []
 
-  abbrev pub labels_made : Labels → List ℕ
+  pub labels_made : Labels → List ℕ
   labels_made none = []
   labels_made (label l xs t ls) = (l ∷ made t) ++ labels_made ls
 
@@ -92,8 +92,8 @@ is_call funs own n ss f given None (h ∷ hs) = false
 
 -- ---- a term in a function of a group, which returns n words, where these labels are in scope and these variables are known
 
-mutual
-  abbrev pub is_formed : List Fun → ℕ → ℕ → Scoped → List ℕ → Term → Bool
+abbrev mutual
+  pub is_formed : List Fun → ℕ → ℕ → Scoped → List ℕ → Term → Bool
   is_formed funs own n ss known (Let x a t) = is_primitive known a && is_formed funs own n ss (x ∷ known) t
   is_formed funs own n ss known (Read m xs a t) = is_known known a && (can_move m (length xs) && (is_address m a (length xs) && is_formed funs own n ss (xs ++ known) t))
   is_formed funs own n ss known (Write m a bs t) = is_known known a && (all_known known bs && (can_move m (length bs) && (is_address m a (length bs) && is_formed funs own n ss known t)))
@@ -106,7 +106,7 @@ mutual
   is_formed funs own n ss known (Halt e bs) = all_known known bs && nat_le (length bs) 8
 
   -- the bodies of labels, which are in scope already
-  abbrev pub are_formed : List Fun → ℕ → ℕ → Scoped → List ℕ → Labels → Bool
+  pub are_formed : List Fun → ℕ → ℕ → Scoped → List ℕ → Labels → Bool
   are_formed funs own n ss known none = true
   are_formed funs own n ss known (label l xs t ls) = is_formed funs own n ss (xs ++ known) t && are_formed funs own n ss known ls
 
@@ -121,9 +121,9 @@ abbrev pub handled : Scoped → List Handler → List (ℕ × ℕ)
 handled ss [] = []
 handled ss (h ∷ hs) = handled_words h.0 (arity h.1 ss) ++ handled ss hs
 
-mutual
+abbrev mutual
   -- each throw and each handler: its exception's number, and its words
-  abbrev pub raised : Scoped → Term → List (ℕ × ℕ)
+  pub raised : Scoped → Term → List (ℕ × ℕ)
   raised ss (Let x a t) = raised ss t
   raised ss (Read m xs a t) = raised ss t
   raised ss (Write m a bs t) = raised ss t
@@ -135,7 +135,7 @@ mutual
   raised ss (Jump l bs) = []
   raised ss (Halt e bs) = []
 
-  abbrev pub labels_raised : Scoped → Labels → List (ℕ × ℕ)
+  pub labels_raised : Scoped → Labels → List (ℕ × ℕ)
   labels_raised ss none = []
   labels_raised ss (label l xs t ls) = raised ss t ++ labels_raised ss ls
 

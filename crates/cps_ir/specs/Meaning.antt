@@ -1,5 +1,5 @@
 -- What terms and programs mean: by recursion on the term and on the number of jumps, calls and returns, over words.
-use Rattle.std.specs.Prelude.{ℕ, zero, suc, ◌×◌, nat_eq, List, [], ◌∷◌, Option, Some, None, slice_get, length, if◌then◌else◌}
+use Rattle.std.specs.Prelude.{ℕ, zero, suc, nat_eq, List, [], ◌∷◌, Option, Some, None, slice_get, length, if◌then◌else◌}
 use Rattle.nv_base.specs.declared.outcome.Outcome.TheVariants as outcome
 use Rattle.nv_base.specs.Memories.{Memories}
 use Rattle.nv_base.specs.Meanings.{FullOutcome, Meaning}

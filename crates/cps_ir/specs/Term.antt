@@ -1,5 +1,5 @@
 -- Terms, labels and functions as pure data.
-use Rattle.std.specs.Prelude.{ℕ, ◌×◌, List, Option}
+use Rattle.std.specs.Prelude.{ℕ, List, Option}
 use Rattle.nv_base.specs.declared.term.Mem.{Mem}
 use Rattle.nv_base.specs.declared.term.Atom.{Atom}
 use Rattle.nv_base.specs.declared.term.Primitive.{Primitive}

@@ -30,9 +30,9 @@ handlers_want phi (h ∷ hs) = phi h.1 ++ handlers_want phi hs
 abbrev pub kept : Wants → Option ℕ → List Handler → List ℕ
 kept phi k hs = to_wants phi k ++ handlers_want phi hs
 
-mutual
+abbrev mutual
   -- what a term wants: its free variables, and what the labels want that it goes to
-  abbrev pub wants : Wants → Term → List ℕ
+  pub wants : Wants → Term → List ℕ
   wants phi (Let x a t) = prim_vars a ++ without (wants phi t) (x ∷ [])
   wants phi (Read m xs a t) = atom_vars a ++ without (wants phi t) xs
   wants phi (Write m a bs t) = all_vars (a ∷ bs) ++ wants phi t
@@ -45,7 +45,7 @@ mutual
   wants phi (Halt e bs) = all_vars bs
 
   -- what labels want together, where they want nothing of one another
-  abbrev pub labels_want : Wants → Labels → List ℕ
+  pub labels_want : Wants → Labels → List ℕ
   labels_want phi none = []
   labels_want phi (label l xs t ls) = without (wants phi t) xs ++ labels_want phi ls
 
@@ -61,9 +61,9 @@ abbrev pub call_wide : Widths → ℕ → ℕ → Option Fun → ℕ
 call_wide w own held (Some f) = if nat_lt f.group own then held + w f.group else 0
 call_wide w own held None = 0
 
-mutual
+abbrev mutual
   -- the greatest width of a place of a term in a function of this group
-  abbrev pub term_wide : List Fun → Widths → ℕ → Wants → Term → ℕ
+  pub term_wide : List Fun → Widths → ℕ → Wants → Term → ℕ
   term_wide funs w own phi (Let x a t) = max (let_wide (prim_vars a ++ without (wants phi t) (x ∷ []))) (term_wide funs w own phi t)
   term_wide funs w own phi (Read m xs a t) =
       max (max (operands_wide (without (wants phi t) xs) (a ∷ [])) (different (xs ++ wants phi t))) (term_wide funs w own phi t)
@@ -79,7 +79,7 @@ mutual
   term_wide funs w own phi (Halt e bs) = operands_wide [] bs
 
   -- of labels that want these variables: where one begins with its parameters, and in its body
-  abbrev pub labels_wide : List Fun → Widths → ℕ → Wants → List ℕ → Labels → ℕ
+  pub labels_wide : List Fun → Widths → ℕ → Wants → List ℕ → Labels → ℕ
   labels_wide funs w own phi held none = 0
   labels_wide funs w own phi held (label l xs t ls) =
       max (max (entry_wide held (length xs)) (term_wide funs w own phi t)) (labels_wide funs w own phi held ls)
