@@ -2,13 +2,10 @@
 -- words that the other nodes define and use.
 use Rattle.std.specs.Prelude.{ℕ, zero, suc, ◌+◌, ◌*◌, ◌≤◌, Bool, true, false, nat_lt, ◌==◌, if◌then◌else◌, List, [], ◌∷◌, Option, Some, None, slice_get, length}
 use Rattle.nv_base.specs.Measures.{Bulk, nothing, a_label, a_jump, a_node, both, IsAtMost}
+pub use Rattle.nv_base.specs.Measures.{Bulks}
 use Rattle.flat_ir.specs.declared.flat.Flat.{Flat}
 use Rattle.flat_ir.specs.declared.flat.Flat.TheVariants.{Let', Fetch', Store', If', Bind', Call, Raise, Try', Give}
 use Rattle.flat_ir.specs.declared.flat.FlatFun.{FlatFun}
-
--- a bulk for each group of functions
-abbrev pub Bulks : Type 0
-Bulks = ℕ → Bulk
 
 -- where the words of a call are those of the function, they come back at a label that hands them on
 abbrev pub return_bulk : Bool → Bulk

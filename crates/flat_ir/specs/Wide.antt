@@ -5,6 +5,7 @@ use Rattle.std.specs.Prelude.{◌≡◌, ℕ, zero, suc, ◌+◌, ◌≤◌, max
 use Rattle.nv_base.specs.declared.term.Atom.{Atom}
 use Rattle.nv_base.specs.Words.{atom_vars, prim_vars}
 use Rattle.nv_base.specs.Measures.{operands_wide, let_wide, entry_wide}
+pub use Rattle.nv_base.specs.Measures.{Widths}
 use Rattle.flat_ir.specs.declared.flat.Flat.{Flat}
 use Rattle.flat_ir.specs.declared.flat.Flat.TheVariants.{Let', Fetch', Store', If', Bind', Call, Raise, Try', Give}
 use Rattle.flat_ir.specs.declared.flat.FlatFun.{FlatFun}
@@ -23,10 +24,6 @@ live (Try' q t k xs r u) = live t ++ without (live u) xs.items
 live (Give bs) = all_vars bs.items
 
 -- ---- widths of places
-
--- a number for each group of functions
-abbrev pub Widths : Type 0
-Widths = ℕ → ℕ
 
 -- of a call beside its operands, where so many variables are held outside: a function of an earlier group is held with them, and then its
 -- results are. The functions of the own group take over, since nothing is held outside there.

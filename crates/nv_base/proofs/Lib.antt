@@ -6,6 +6,7 @@ pub mod LogLemmas
 pub mod Rotation
 pub mod Blank
 pub mod WordLemmas
+pub mod Kept
 pub mod Sets
 pub mod Operands
 pub mod Measures

@@ -3,6 +3,7 @@ pub mod Memories
 pub mod Log
 pub mod Meanings
 pub mod Progress
+pub mod World
 pub mod Sets
 pub mod Access
 pub mod Measures

@@ -19,6 +19,10 @@ let_wide held = different held + 3
 abbrev pub entry_wide : List ℕ → ℕ → ℕ
 entry_wide held n = different held + (n + 1)
 
+-- a number for each group of functions
+abbrev pub Widths : Type 0
+Widths = ℕ → ℕ
+
 -- ---- bulk: labels, jumps, other nodes, and the words that the other nodes define and use
 
 pub record Bulk : Type 0 where
@@ -43,6 +47,10 @@ a_node defined used = record { labels = 0; jumps = 0; nodes = 1; defined = defin
 
 abbrev pub both : Bulk → Bulk → Bulk
 both a b = record { labels = a.labels + b.labels; jumps = a.jumps + b.jumps; nodes = a.nodes + b.nodes; defined = a.defined + b.defined; used = a.used + b.used }
+
+-- a bulk for each group of functions
+abbrev pub Bulks : Type 0
+Bulks = ℕ → Bulk
 
 -- each number of the first is at most that of the second
 pub record IsAtMost (a b : Bulk) : Type 0 where

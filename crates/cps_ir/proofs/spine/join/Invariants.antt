@@ -1,0 +1,10 @@
+use Rattle.std.proofs.Common.{◌≡◌, vec_len}
+use Rattle.cps_ir.specs.View.{term_view}
+use Rattle.cps_ir.specs.Spine.{put_all}
+use Rattle.cps_ir.proofs.spine.join.Given as goal
+
+abbrev pub invariant-loop-s : goal.invariant-loop-s
+invariant-loop-s l = put_all l.steps.items (term_view l.t) ≡ put_all l.initial.steps.items (term_view l.initial.t)
+
+abbrev pub decreases-loop-s : goal.decreases-loop-s
+decreases-loop-s l = vec_len l.steps

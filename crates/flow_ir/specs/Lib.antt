@@ -1,0 +1,7 @@
+pub mod Tree
+pub mod View
+pub mod Spine
+pub mod Meaning
+pub mod Formed
+pub mod Wide
+pub mod Bulk
