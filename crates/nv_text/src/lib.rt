@@ -6,7 +6,7 @@ mod cursor;
 mod declarations;
 mod error;
 mod expressions;
-mod laws;
+pub mod laws;
 mod layouts;
 mod nodes;
 mod operands;
@@ -22,7 +22,6 @@ mod tests;
 mod types;
 
 pub use error::TextError;
-pub use laws::{one_fault, one_program};
 pub use nv_ast::{Sort, Token};
 pub use program::parse;
 pub use scan::tokens;
