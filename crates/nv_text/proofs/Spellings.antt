@@ -29,25 +29,147 @@ spelt_key w k e f = (tested_word w e, f)
 
 pub keywords_spelt : AreSpelt spelt_keywords
 unfolding keyword_of
-keywords_spelt =
-    (λ s. spelt_key (codes "layout") 0 refl refl, (λ s. spelt_key (codes "exception") 1 refl refl, (λ s. spelt_key (codes "fun") 2 refl refl,
-    (λ s. spelt_key (codes "and") 3 refl refl, (λ s. spelt_key (codes "let") 4 refl refl, (λ s. spelt_key (codes "if") 5 refl refl,
-    (λ s. spelt_key (codes "else") 6 refl refl, (λ s. spelt_key (codes "unpack") 7 refl refl, (λ s. spelt_key (codes "pack") 8 refl refl,
-    (λ s. spelt_key (codes "raise") 9 refl refl, (λ s. spelt_key (codes "try") 10 refl refl, (λ s. spelt_key (codes "handle") 11 refl refl,
-    (λ s. spelt_key (codes "sram") 12 refl refl, (λ s. spelt_key (codes "sdram") 13 refl refl, (λ s. spelt_key (codes "scratch") 14 refl refl,
-    (λ s. spelt_key (codes "word") 15 refl refl, (λ s. spelt_key (codes "bool") 16 refl refl, (λ s. spelt_key (codes "packed") 17 refl refl,
-    (λ s. spelt_key (codes "unpacked") 18 refl refl, (λ s. spelt_key (codes "overlay") 19 refl refl, (λ s. spelt_key (codes "true") 20 refl refl,
-    (λ s. spelt_key (codes "false") 21 refl refl, (λ s. spelt_key (codes "_") 22 refl refl, tt)))))))))))))))))))))))
+keywords_spelt = (
+  λ s. spelt_key (codes "layout") 0 refl refl,
+  (
+    λ s. spelt_key (codes "exception") 1 refl refl,
+    (
+      λ s. spelt_key (codes "fun") 2 refl refl,
+      (
+        λ s. spelt_key (codes "and") 3 refl refl,
+        (
+          λ s. spelt_key (codes "let") 4 refl refl,
+          (
+            λ s. spelt_key (codes "if") 5 refl refl,
+            (
+              λ s. spelt_key (codes "else") 6 refl refl,
+              (
+                λ s. spelt_key (codes "unpack") 7 refl refl,
+                (
+                  λ s. spelt_key (codes "pack") 8 refl refl,
+                  (
+                    λ s. spelt_key (codes "raise") 9 refl refl,
+                    (
+                      λ s. spelt_key (codes "try") 10 refl refl,
+                      (
+                        λ s. spelt_key (codes "handle") 11 refl refl,
+                        (
+                          λ s. spelt_key (codes "sram") 12 refl refl,
+                          (
+                            λ s. spelt_key (codes "sdram") 13 refl refl,
+                            (
+                              λ s. spelt_key (codes "scratch") 14 refl refl,
+                              (
+                                λ s. spelt_key (codes "word") 15 refl refl,
+                                (
+                                  λ s. spelt_key (codes "bool") 16 refl refl,
+                                  (
+                                    λ s. spelt_key (codes "packed") 17 refl refl,
+                                    (
+                                      λ s. spelt_key (codes "unpacked") 18 refl refl,
+                                      (
+                                        λ s. spelt_key (codes "overlay") 19 refl refl,
+                                        (
+                                          λ s. spelt_key (codes "true") 20 refl refl,
+                                          (λ s. spelt_key (codes "false") 21 refl refl, (λ s. spelt_key (codes "_") 22 refl refl, tt)),
+                                        ),
+                                      ),
+                                    ),
+                                  ),
+                                ),
+                              ),
+                            ),
+                          ),
+                        ),
+                      ),
+                    ),
+                  ),
+                ),
+              ),
+            ),
+          ),
+        ),
+      ),
+    ),
+  ),
+)
 
 pub signs_spelt : AreSpelt spelt_signs
 unfolding sign_of
-signs_spelt =
-    (λ s. refl, (λ s. refl, (λ s. refl, (λ s. refl, (λ s. refl, (λ s. refl, (λ s. refl, (λ s. refl,
-    (λ s. refl, (λ s. refl, (λ s. refl, (λ s. refl, (λ s. refl, (λ s. refl, (λ s. refl, (λ s. refl, tt))))))))))))))))
+signs_spelt = (
+  λ s. refl,
+  (
+    λ s. refl,
+    (
+      λ s. refl,
+      (
+        λ s. refl,
+        (
+          λ s. refl,
+          (
+            λ s. refl,
+            (
+              λ s. refl,
+              (
+                λ s. refl,
+                (λ s. refl, (λ s. refl, (λ s. refl, (λ s. refl, (λ s. refl, (λ s. refl, (λ s. refl, (λ s. refl, tt)))))))),
+              ),
+            ),
+          ),
+        ),
+      ),
+    ),
+  ),
+)
 
 pub operators_spelt : AreSpelt spelt_operators
 unfolding keyword_of sign_of
-operators_spelt =
-    (λ s. refl, (λ s. refl, (λ s. refl, (λ s. refl, (λ s. refl, (λ s. refl, (λ s. refl, (λ s. refl,
-    (λ s. refl, (λ s. refl, (λ s. refl, (λ s. refl, (λ s. refl, (λ s. refl, (λ s. refl, (λ s. refl,
-    (λ s. spelt_key (codes "sram") 12 refl refl, (λ s. spelt_key (codes "sdram") 13 refl refl, (λ s. spelt_key (codes "scratch") 14 refl refl, tt)))))))))))))))))))
+operators_spelt = (
+  λ s. refl,
+  (
+    λ s. refl,
+    (
+      λ s. refl,
+      (
+        λ s. refl,
+        (
+          λ s. refl,
+          (
+            λ s. refl,
+            (
+              λ s. refl,
+              (
+                λ s. refl,
+                (
+                  λ s. refl,
+                  (
+                    λ s. refl,
+                    (
+                      λ s. refl,
+                      (
+                        λ s. refl,
+                        (
+                          λ s. refl,
+                          (
+                            λ s. refl,
+                            (
+                              λ s. refl,
+                              (
+                                λ s. refl,
+                                (λ s. spelt_key (codes "sram") 12 refl refl, (λ s. spelt_key (codes "sdram") 13 refl refl, (λ s. spelt_key (codes "scratch") 14 refl refl, tt))),
+                              ),
+                            ),
+                          ),
+                        ),
+                      ),
+                    ),
+                  ),
+                ),
+              ),
+            ),
+          ),
+        ),
+      ),
+    ),
+  ),
+)

@@ -17,8 +17,6 @@ mod scan;
 mod spelling;
 mod starts;
 mod tables;
-#[cfg(test)]
-mod tests;
 mod types;
 
 pub use error::TextError;

@@ -1,11 +1,19 @@
 // The tokens and the program of a short text, and each fault. Whole tables of texts are run on the built program.
-use crate::{Sort, TextError, parse, tokens};
+use nv_text::{Sort, TextError, Token, parse, tokens};
 
 #[test]
 fn tokens_of_a_call(rt: HostRuntime) {
     let found = tokens(rt.alloc(), b"f[07]").expect(&rt, "tokens");
     assert_eq!(rt; found.len(), 4);
-    assert!(rt; matches!(found[2].sort, Sort::Number(7)));
+    assert!(rt;
+        matches!(
+            found.get(2),
+            Some(Token {
+                sort: Sort::Number(7),
+                ..
+            })
+        )
+    );
 }
 
 #[test]
@@ -27,7 +35,15 @@ fn a_number_that_is_too_large(rt: HostRuntime) {
 
 #[test]
 fn a_word_that_is_too_long(rt: HostRuntime) {
-    assert!(rt; matches!(tokens(rt.alloc(), b"abcdefghijklmnopqrstuvwxyzABCDEFGHIJKLMNOPQRSTUVWXYZ0123456789_ab"), Err(TextError::Name(0))));
+    assert!(rt;
+        matches!(
+            tokens(
+                rt.alloc(),
+                b"abcdefghijklmnopqrstuvwxyzABCDEFGHIJKLMNOPQRSTUVWXYZ0123456789_ab"
+            ),
+            Err(TextError::Name(0))
+        )
+    );
 }
 
 #[test]
@@ -37,6 +53,7 @@ fn a_token_that_fits_no_program(rt: HostRuntime) {
 
 #[test]
 fn an_expression_that_is_too_high(rt: HostRuntime) {
-    let text = b"fun f[]: word { ~~~~~~~~~~~~~~~~~~~~~~~~~~~~~~~~~~~~~~~~~~~~~~~~~~~~~~~~~~~~~~~~~~~~~~~~~~~~~~~~~~~~~~~~~~~~~~~~~~~~1 }";
+    let text =
+        b"fun f[]: word { ~~~~~~~~~~~~~~~~~~~~~~~~~~~~~~~~~~~~~~~~~~~~~~~~~~~~~~~~~~~~~~~~~~~~~~~~~~~~~~~~~~~~~~~~~~~~~~~~~~~~1 }";
     assert!(rt; matches!(parse(rt.alloc(), text), Err(TextError::Deep(115))));
 }
