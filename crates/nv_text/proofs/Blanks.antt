@@ -3,7 +3,7 @@ use Rattle.std.proofs.Common.{◌≡◌, ◌≢◌, ℕ, ◌+◌, ◌≤◌, Boo
 use Rattle.std.specs.List.{prefix_len}
 use Rattle.std.proofs.lemmas.Bool.Decides.{nat_tests}
 use Rattle.nv_text.specs.declared.spelling.Class.TheVariants.{Line}
-use Rattle.nv_text.specs.Classes.{in_class}
+use Rattle.nv_text.specs.inner.Classes.{in_class}
 use Rattle.nv_text.specs.Spelling.{Every}
 use Rattle.nv_text.specs.Tokens.{is_space, OneLine, EndsLine, Blank, space, comment}
 use Rattle.nv_text.proofs.Runs.{prefix_every, prefix_within, prefix_cons}

@@ -4,11 +4,12 @@ use Rattle.std.specs.Prelude.{Some, None, nat_lt, ◌==◌, ◌||◌, ◌&&◌, 
 use Rattle.std.specs.List.{prefix_len, position_or_len}
 use Rattle.std.proofs.lemmas.Slice.Eq.{bytes_eq-Decides}
 use Rattle.std.proofs.lemmas.List.Sums.{passes_at_first}
+use Rattle.std.proofs.lemmas.Bool.{and_parts}
 use Rattle.std.proofs.lemmas.Bool.Decides.{nat_tests}
 use Rattle.nv_ast.specs.Name.{IsLetter, IsDigit, Letters, IsWord}
 use Rattle.nv_text.specs.declared.spelling.Class.TheVariants.{Word as WordClass}
 use Rattle.nv_text.specs.Tables.{keywords, signs}
-use Rattle.nv_text.specs.Classes.{in_class, starts_word}
+use Rattle.nv_text.specs.inner.Classes.{in_class, starts_word}
 use Rattle.nv_text.specs.Spelling.{Every, is_digit, SpellsNumber, decimal, hexadecimal, keyword_of, sign_of}
 use Rattle.nv_text.specs.Tokens.{is_space}
 use Rattle.nv_text.proofs.Runs.{prefix_every, prefix_cons}
@@ -19,7 +20,7 @@ in_word b = starts_word b || is_digit b
 pub letter_passes : (b : ℕ) → IsLetter b → starts_word b ≡ true
 letter_passes b h = grind (arith, nat_tests)
 
-passes_letter : (b : ℕ) → starts_word b ≡ true → IsLetter b
+pub passes_letter : (b : ℕ) → starts_word b ≡ true → IsLetter b
 passes_letter b h = grind (arith, nat_tests)
 
 in_word_passes : (b : ℕ) → IsLetter b ⊎ IsDigit b → in_word b ≡ true
@@ -32,7 +33,7 @@ letters_pass : (w : List ℕ) → Letters w → Every in_word w
 letters_pass [] h = tt
 letters_pass (b ∷ w) h = (in_word_passes b h.0, letters_pass w h.1)
 
-pass_letters : (w : List ℕ) → Every in_word w → Letters w
+pub pass_letters : (w : List ℕ) → Every in_word w → Letters w
 pass_letters [] h = tt
 pass_letters (b ∷ w) h = (passes_in_word b h.0, pass_letters w h.1)
 
@@ -69,10 +70,6 @@ abbrev pub sign_shape : List ℕ → Bool
 sign_shape [] = false
 sign_shape (b ∷ bs) = sign_byte b && nat_lt (length bs) 3
 
-pub both_pass : (a b : Bool) → (a && b) ≡ true → (a ≡ true) × (b ≡ true)
-both_pass true b e = (refl, e)
-both_pass false b e = let h : ⊥ = cc in absurd h
-
 -- each of these lists passes the test
 abbrev every_entry : (List ℕ → Bool) → List (List ℕ) → Bool
 every_entry q [] = true
@@ -80,8 +77,8 @@ every_entry q (x ∷ xs) = q x && every_entry q xs
 
 entry_passes : (q : List ℕ → Bool) (xs : List (List ℕ)) (k : ℕ) → every_entry q xs ≡ true → k < length xs → q (get_or xs k []) ≡ true
 entry_passes q [] k f h = absurd (omega arith)
-entry_passes q (x ∷ xs) zero f h = (both_pass (q x) (every_entry q xs) f).0
-entry_passes q (x ∷ xs) (suc k) f h = entry_passes q xs k (both_pass (q x) (every_entry q xs) f).1 (omega arith)
+entry_passes q (x ∷ xs) zero f h = (and_parts (q x) (every_entry q xs) f).0
+entry_passes q (x ∷ xs) (suc k) f h = entry_passes q xs k (and_parts (q x) (every_entry q xs) f).1 (omega arith)
 
 -- the first entry that passes lies in the list
 position_some : (p : List ℕ → Bool) (xs : List (List ℕ)) (k : ℕ) → position p xs ≡ Some k → (k < length xs) × (p (get_or xs k []) ≡ true)
@@ -117,13 +114,13 @@ pub sign_first : (w rest us : List ℕ) (b k : ℕ) → b ∷ us ≡ w ++ rest �
 sign_first [] rest us b k e f = let h : false ≡ true = (sign_is [] k f).1 in let i : ⊥ = cc in absurd i
 sign_first (c ∷ w) rest us b k e f =
     let g : b ≡ c = cc in
-    ap sign_byte g ∙ (both_pass (sign_byte c) (nat_lt (length w) 3) (sign_is (c ∷ w) k f).1).0
+    ap sign_byte g ∙ (and_parts (sign_byte c) (nat_lt (length w) 3) (sign_is (c ∷ w) k f).1).0
 
 -- a sign has one to three bytes
 pub sign_size : (w : List ℕ) (k : ℕ) → sign_of w ≡ Some k → (1 ≤ length w) × (length w ≤ 3)
 sign_size [] k f = let h : false ≡ true = (sign_is [] k f).1 in let i : ⊥ = cc in absurd i
 sign_size (c ∷ w) k f =
-    let g : nat_lt (length w) 3 ≡ true = (both_pass (sign_byte c) (nat_lt (length w) 3) (sign_is (c ∷ w) k f).1).1 in
+    let g : nat_lt (length w) 3 ≡ true = (and_parts (sign_byte c) (nat_lt (length w) 3) (sign_is (c ∷ w) k f).1).1 in
     let h : length w < 3 = grind (arith, nat_tests) in
     (omega arith, omega arith)
 

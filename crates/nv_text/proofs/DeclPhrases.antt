@@ -9,10 +9,10 @@ use Rattle.nv_ast.specs.Tree.{Tree, NumberTree, TypeTree, BoolType, TypeTrees, n
 use Rattle.nv_ast.specs.Height.{height, pattern_inside, type_height, highest_named_type, highest_type, layout_height, fun_height, highest_fun, decl_height, highest_decl}
 use Rattle.nv_ast.specs.Grammar.{IsLayout, one_layout, named_layout, IsTypes, empty_types, IsType, bool_type, IsParams, empty_params, IsExpr, tail_alone, operators, una, chain, no_operator, post, no_dot, number, IsLevel, IsFun, function, IsMoreFuns, no_fun, next_fun, IsDecl, layout_decl, exception_decl, group, IsDecls, no_decl, next_decl}
 use Rattle.nv_text.specs.declared.cursor.Failure.{Failure}
-use Rattle.nv_text.specs.Cursor.{Front, NotSign, NotKey, NotName, IsSyntax}
-use Rattle.nv_text.specs.Failing.{Bound, NoBound, AtMost, Within, HasRoom, Same, Alone, part_of, bound_of, Phrases, Follow, Anything, Ahead, Phrase, One, ASign, AKey, AName, Then, Many, none, next, Behind, SameFront, Completes, Starts, StartsNone, Reads, FailsAs}
-use Rattle.nv_text.specs.Phrases.{AType, SomeTypes, SomeParams, ALayout, AFun, ADecl, NextFun, AtEnd}
-use Rattle.nv_text.specs.ExprPhrases.{AnExpr, IsLow}
+use Rattle.nv_text.specs.inner.Cursor.{Front, NotSign, NotKey, NotName, IsSyntax}
+use Rattle.nv_text.specs.inner.Failing.{Bound, NoBound, AtMost, Within, HasRoom, Same, Alone, part_of, bound_of, Phrases, Follow, Anything, Ahead, Phrase, One, ASign, AKey, AName, Then, Many, none, next, Behind, SameFront, Completes, Starts, StartsNone, Reads, FailsAs}
+use Rattle.nv_text.specs.inner.Phrases.{AType, SomeTypes, SomeParams, ALayout, AFun, ADecl, NextFun, AtEnd}
+use Rattle.nv_text.specs.inner.ExprPhrases.{AnExpr, IsLow}
 use Rattle.nv_text.proofs.Bounds.{within_max, max_left, max_right, within_zero}
 use Rattle.nv_text.proofs.Follow.{Above, rank}
 use Rattle.nv_text.proofs.Sequence.{front_same, same_first, same_front, Fills, Carries, Rule, Listed, one_none, one_fills, one_carries, then_fills, many_fills, then_carries, carries_anything, sign_ahead, not_sort}

@@ -12,7 +12,7 @@ use Rattle.nv_ast.specs.Height.{fun_height, highest_fun, decl_height, highest_de
 use Rattle.nv_ast.specs.ProgramView.{fun_tree, decl_tree}
 use Rattle.nv_ast.specs.Exceptions.{exceptions}
 use Rattle.nv_ast.specs.Grammar.{IsParams, IsType, IsTypes, IsExpr, IsLayout, IsFun, function, IsMoreFuns, no_fun, next_fun, IsDecl, layout_decl, exception_decl, group, IsDecls, no_decl, next_decl, IsProgram}
-use Rattle.nv_text.specs.Lists.{FunsBehind}
+use Rattle.nv_text.specs.inner.Lists.{FunsBehind}
 use Rattle.nv_text.specs.Tokens.{Reads, stop, skip, take_token, IsTokens, Longest, TokenFault}
 use Rattle.nv_text.specs.declared.error.TextError.{TextError}
 use Rattle.nv_text.specs.declared.error.TextError.TheVariants.{NoMemory}

@@ -12,10 +12,10 @@ use Rattle.nv_ast.specs.Tree.{Tree, NumberTree, FetchTree, BlockTree, StatementT
 use Rattle.nv_ast.specs.Height.{height, pattern_inside, statement_height, pattern_inside_statement, highest_statement, pattern_inside_statements}
 use Rattle.nv_ast.specs.Grammar.{IsExpr, IsStatements, IsStatement, IsTail, IsLevel, IsUna, IsAtom, tail_alone, block, no_statement, next_statement, let_statement, store_sram, store_sdram, store_scratch, operators, una, chain, invert, negate, post, number, if_else, raise, try_handle, fetch_sram, fetch_sdram, fetch_scratch}
 use Rattle.nv_text.specs.declared.cursor.Failure.{Failure}
-use Rattle.nv_text.specs.Cursor.{Front, NotSign}
-use Rattle.nv_text.specs.Follow.{Above}
-use Rattle.nv_text.specs.Failing.{Bound, NoBound, AtMost, bound_of, Phrases, Follow, Anything, Phrase, Then, Many, none, next, Behind, SameFront, Completes, Starts, Reads, Fails, FailsAs, no_memory, syntax, deep}
-use Rattle.nv_text.specs.ExprPhrases.{IsLow, LowExpr, LowStatement, LowStatements, AnExpr, ATail, AStatement, ABody, StartsStatement, starts_let, starts_store, NoStatement, NotMem, Onward}
+use Rattle.nv_text.specs.inner.Cursor.{Front, NotSign}
+use Rattle.nv_text.specs.inner.Follow.{Above}
+use Rattle.nv_text.specs.inner.Failing.{Bound, NoBound, AtMost, bound_of, Phrases, Follow, Anything, Phrase, Then, Many, none, next, Behind, SameFront, Completes, Starts, Reads, Fails, FailsAs, no_memory, syntax, deep}
+use Rattle.nv_text.specs.inner.ExprPhrases.{IsLow, LowExpr, LowStatement, LowStatements, AnExpr, ATail, AStatement, ABody, StartsStatement, starts_let, starts_store, NoStatement, NotMem, Onward}
 use Rattle.nv_text.proofs.Follow.{level_first, tail_no_statement}
 use Rattle.nv_text.proofs.Sequence.{same_front}
 use Rattle.nv_text.proofs.ExprLow.{low_of, free_low, low_one, low_max, low_left, low_right, low_node, low_child, low_none, height_pos, statement_two, rest_tall, dots_tall}

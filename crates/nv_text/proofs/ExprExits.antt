@@ -16,12 +16,12 @@ use Rattle.nv_ast.specs.Height.{height, pattern_inside, highest}
 use Rattle.nv_ast.specs.Grammar.{IsExpr, IsStatement, IsTail, IsArgs, IsLevel, IsRest, IsUna, IsDots, IsAtom, let_statement, store_sram, store_sdram, store_scratch, empty_args, some_args, no_expr, no_operator, operator, comparison, shift, no_dot, dot, number, truth, falsehood, variable, call, unit, paren, tuple, fields, unpack, pack, fetch_sram, fetch_sdram, fetch_scratch}
 use Rattle.nv_text.specs.declared.cursor.Failure.{Failure}
 use Rattle.nv_text.specs.declared.cursor.Failure.TheVariants.{NoMemory, Syntax, Deep}
-use Rattle.nv_text.specs.Cursor.{Front, NotSign, NotKey, NotName, NotNumber, IsSyntax, IsSyntaxOrMemory}
-use Rattle.nv_text.specs.Operators.{StartsOperator, StartsShift, NoOperator, NoShift}
-use Rattle.nv_text.specs.Follow.{Above, rank, sign_rank}
-use Rattle.nv_text.specs.Starts.{sort_starts, starts_expr}
-use Rattle.nv_text.specs.Failing.{Bound, NoBound, AtMost, bound_of, Phrases, Follow, Anything, Ahead, Phrase, One, ASign, AKey, AName, ANumber, Then, Many, none, next, SameFront, Completes, Starts, Reads, Fails, FailsAs, no_memory, syntax, deep}
-use Rattle.nv_text.specs.ExprPhrases.{IsLow, LowExpr, LowExprs, AnExpr, ATail, AStatement, ALevel, ARest, AnUna, SomeDots, AnAtom, SomeArgs, NextExpr, NextMember, NotMem, NoPlainAtom, BeginsName, begins_name, LayoutInBrackets, Onward}
+use Rattle.nv_text.specs.inner.Cursor.{Front, NotSign, NotKey, NotName, NotNumber, IsSyntax, IsSyntaxOrMemory}
+use Rattle.nv_text.specs.inner.Operators.{StartsOperator, StartsShift, NoOperator, NoShift}
+use Rattle.nv_text.specs.inner.Follow.{Above, rank, sign_rank}
+use Rattle.nv_text.specs.inner.Starts.{sort_starts, starts_expr}
+use Rattle.nv_text.specs.inner.Failing.{Bound, NoBound, AtMost, bound_of, Phrases, Follow, Anything, Ahead, Phrase, One, ASign, AKey, AName, ANumber, Then, Many, none, next, SameFront, Completes, Starts, Reads, Fails, FailsAs, no_memory, syntax, deep}
+use Rattle.nv_text.specs.inner.ExprPhrases.{IsLow, LowExpr, LowExprs, AnExpr, ATail, AStatement, ALevel, ARest, AnUna, SomeDots, AnAtom, SomeArgs, NextExpr, NextMember, NotMem, NoPlainAtom, BeginsName, begins_name, LayoutInBrackets, Onward}
 use Rattle.nv_text.proofs.Follow.{rank_of, shift_rank, same_op, same_shift, no_shift, level_not_one, close_starts_no_expr}
 use Rattle.nv_text.proofs.Sequence.{front_same, Carries, carries_anything, then_carries, one_carries, Fills, then_fills, one_fills, first_fails, many_carries, then_reads, one_reads, one_then, sign_fails, key_fails, name_fails, number_fails, sign_listed, Listed}
 use Rattle.nv_text.proofs.ExprLow.{low_of, free_low, low_none, low_one, low_node, low_max, low_under, low_child, lows, no_room, height_pos, rest_tall, dots_tall}

@@ -4,8 +4,8 @@ use Rattle.nv_ast.specs.declared.token.Token.{Token}
 use Rattle.nv_ast.specs.Tree.{Tree, NumberTree, TruthTree, VarTree, ParenTree, TupleTree, FieldsTree, DotTree, InvertTree, NegateTree, BinaryTree, ShiftTree, CallTree, UnpackTree, PackTree, RaiseTree, IfTree, TryTree, FetchTree, BlockTree, StatementTree, LetStatement, StoreStatement}
 use Rattle.nv_ast.specs.Height.{height, pattern_inside, statement_height}
 use Rattle.nv_ast.specs.Grammar.{IsRest, no_operator, operator, comparison, shift, IsDots, no_dot, dot}
-use Rattle.nv_text.specs.Failing.{Bound, NoBound, AtMost, Within, Alone, part_of, bound_of, Phrase}
-use Rattle.nv_text.specs.ExprPhrases.{IsLow, LowExpr, rebound}
+use Rattle.nv_text.specs.inner.Failing.{Bound, NoBound, AtMost, Within, Alone, part_of, bound_of, Phrase}
+use Rattle.nv_text.specs.inner.ExprPhrases.{IsLow, LowExpr, rebound}
 
 pub free_low : (tall inside : ℕ) → IsLow NoBound tall inside
 free_low tall inside = record { height = tt; patterns = tt }

@@ -10,9 +10,9 @@ use Rattle.nv_ast.specs.declared.tree.ShiftOp.{ShiftOp}
 use Rattle.nv_ast.specs.Tokens.{at, to, a_name, a_number, mem_key, key_let, key_if, key_else, key_raise, key_try, key_handle, key_unpack, key_pack, sign_is, sign_arrow, sign_semicolon, sign_comma, sign_open, sign_close, sign_open_brace, sign_close_brace, sign_open_bracket, sign_close_bracket}
 use Rattle.nv_ast.specs.Tree.{Tree, Trees, tree_and, NamedTrees, PatternTree, PatternTrees, ParenTree, TupleTree, FieldsTree, BinaryTree, ShiftTree, IfTree, RaiseTree, TryTree, FetchTree, BlockTree, UnpackTree, PackTree, CallTree, StatementTree, StatementTrees, LetStatement, StoreStatement, statement_and, span_of, statement_span}
 use Rattle.nv_ast.specs.Grammar.{IsExpr, block, IsStatements, IsStatement, let_statement, store_sram, store_sdram, store_scratch, IsTail, if_else, raise, try_handle, IsArgs, some_args, IsMoreExprs, no_expr, next_expr, IsLevel, chain, IsRest, no_operator, operator, comparison, shift, IsAtom, tuple, paren, fields, fetch_sram, fetch_sdram, fetch_scratch, IsMoreMembers, IsPattern, IsPatterns, next_statement, unpack, pack, call}
-use Rattle.nv_text.specs.Lists.{ExprsBehind, MembersBehind, StatementsBehind}
-use Rattle.nv_text.specs.ExprPhrases.{EnclosedBy, NameInSquare}
-use Rattle.nv_text.specs.Operators.{StartsOperator, StartsShift}
+use Rattle.nv_text.specs.inner.Lists.{ExprsBehind, MembersBehind, StatementsBehind}
+use Rattle.nv_text.specs.inner.ExprPhrases.{EnclosedBy, NameInSquare}
+use Rattle.nv_text.specs.inner.Operators.{StartsOperator, StartsShift}
 use Rattle.nv_text.proofs.Follow.{first_rank}
 
 -- statements and a tail

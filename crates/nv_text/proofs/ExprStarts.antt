@@ -13,12 +13,12 @@ use Rattle.nv_ast.specs.Tokens.{at, to, a_name, a_number, mem_key, key_let, key_
 use Rattle.nv_ast.specs.Tree.{Tree, NumberTree, TruthTree, VarTree, TupleTree, BlockTree, Trees, no_trees, StatementTree, no_statements, statement_and, AnyPattern, no_patterns, span_of, statement_span}
 use Rattle.nv_ast.specs.Height.{height, pattern_inside}
 use Rattle.nv_ast.specs.Grammar.{IsExpr, IsStatements, IsStatement, IsTail, IsArgs, IsLevel, IsRest, IsUna, IsDots, IsAtom, IsPattern, IsPatterns, any_pattern, empty_patterns, tail_alone, block, no_statement, next_statement, let_statement, store_sram, store_sdram, store_scratch, if_else, raise, operators, try_handle, empty_args, some_args, una, chain, no_operator, invert, negate, post, no_dot, number, truth, falsehood, variable, call, unit, paren, tuple, fields, unpack, pack, fetch_sram, fetch_sdram, fetch_scratch}
-use Rattle.nv_text.specs.Cursor.{Front, NotSign, NotKey, NotName, NotNumber}
-use Rattle.nv_text.specs.Follow.{Above}
-use Rattle.nv_text.specs.Failing.{Bound, NoBound, AtMost, bound_of, Phrases, Follow, Anything, Ahead, Phrase, One, ASign, AKey, AName, ANumber, Then, Many, none, next, SameFront, Completes, Starts, StartsNone}
-use Rattle.nv_text.specs.Phrases.{APattern, SomePatterns}
-use Rattle.nv_text.specs.Starts.{sort_starts, starts_expr}
-use Rattle.nv_text.specs.ExprPhrases.{IsLow, LowExpr, AnExpr, ATail, AStatement, ABody, ALevel, AnUna, AnAtom, SomeArgs, NextExpr, NextMember, Enclosed, LayoutInBrackets, At, rebound}
+use Rattle.nv_text.specs.inner.Cursor.{Front, NotSign, NotKey, NotName, NotNumber}
+use Rattle.nv_text.specs.inner.Follow.{Above}
+use Rattle.nv_text.specs.inner.Failing.{Bound, NoBound, AtMost, bound_of, Phrases, Follow, Anything, Ahead, Phrase, One, ASign, AKey, AName, ANumber, Then, Many, none, next, SameFront, Completes, Starts, StartsNone}
+use Rattle.nv_text.specs.inner.Phrases.{APattern, SomePatterns}
+use Rattle.nv_text.specs.inner.Starts.{sort_starts, starts_expr}
+use Rattle.nv_text.specs.inner.ExprPhrases.{IsLow, LowExpr, AnExpr, ATail, AStatement, ABody, ALevel, AnUna, AnAtom, SomeArgs, NextExpr, NextMember, Enclosed, LayoutInBrackets, At, rebound}
 use Rattle.nv_text.proofs.Sequence.{Fills, then_fills, one_fills, many_fills}
 use Rattle.nv_text.proofs.ExprLow.{free_low, low_none, low_one}
 use Rattle.nv_text.proofs.Steps.{Step, step_completes}

@@ -12,11 +12,11 @@ use Rattle.nv_ast.specs.Tokens.{at, to, a_name, a_number, sign_of, level_of, shi
 use Rattle.nv_ast.specs.Tree.{Tree, NumberTree, VarTree, ParenTree, TupleTree, FieldsTree, DotTree, InvertTree, NegateTree, BinaryTree, ShiftTree, CallTree, UnpackTree, PackTree, RaiseTree, IfTree, TryTree, FetchTree, BlockTree, Trees, no_trees, tree_and, NamedTrees, no_named_trees, named_tree_and, StatementTree, LetStatement, StoreStatement, StatementTrees, no_statements, statement_and, PatternTree, PatternTrees, span_of, statement_span}
 use Rattle.nv_ast.specs.Height.{height, pattern_inside, highest, pattern_inside_all, highest_named, pattern_inside_named, statement_height, pattern_inside_statement, highest_statement, pattern_inside_statements, pattern_height, highest_pattern}
 use Rattle.nv_ast.specs.Grammar.{IsExpr, IsStatements, IsStatement, IsTail, IsArgs, IsMoreExprs, IsLevel, IsRest, IsUna, IsDots, IsAtom, IsMoreMembers, IsPattern, IsPatterns, tail_alone, block, no_statement, next_statement, let_statement, store_sram, store_sdram, store_scratch, if_else, raise, operators, try_handle, empty_args, some_args, no_expr, next_expr, una, chain, no_operator, operator, comparison, shift, invert, negate, post, no_dot, dot, number, truth, falsehood, variable, call, unit, paren, tuple, fields, unpack, pack, fetch_sram, fetch_sdram, fetch_scratch, no_member, next_member}
-use Rattle.nv_text.specs.Cursor.{Front, NotSign, NotKey, NotName, NotNumber}
-use Rattle.nv_text.specs.Follow.{Above, rank, sign_rank}
-use Rattle.nv_text.specs.Failing.{Bound, NoBound, AtMost, bound_of, Phrases, Follow, Anything, Ahead, Phrase, One, ASign, AKey, AName, ANumber, Then, Many, none, next, SameFront}
-use Rattle.nv_text.specs.Phrases.{APattern, SomePatterns}
-use Rattle.nv_text.specs.ExprPhrases.{IsLow, LowExpr, LowExprs, LowMembers, LowStatement, AnExpr, ATail, AStatement, ABody, ALevel, ARest, AnUna, SomeDots, AnAtom, SomeArgs, NextExpr, NextMember, Enclosed, LayoutInBrackets, At, rebound, NotMem}
+use Rattle.nv_text.specs.inner.Cursor.{Front, NotSign, NotKey, NotName, NotNumber}
+use Rattle.nv_text.specs.inner.Follow.{Above, rank, sign_rank}
+use Rattle.nv_text.specs.inner.Failing.{Bound, NoBound, AtMost, bound_of, Phrases, Follow, Anything, Ahead, Phrase, One, ASign, AKey, AName, ANumber, Then, Many, none, next, SameFront}
+use Rattle.nv_text.specs.inner.Phrases.{APattern, SomePatterns}
+use Rattle.nv_text.specs.inner.ExprPhrases.{IsLow, LowExpr, LowExprs, LowMembers, LowStatement, AnExpr, ATail, AStatement, ABody, ALevel, ARest, AnUna, SomeDots, AnAtom, SomeArgs, NextExpr, NextMember, Enclosed, LayoutInBrackets, At, rebound, NotMem}
 use Rattle.nv_text.proofs.Follow.{above_weaken, first_rank, rank_of, shift_rank, same_op, same_shift, no_shift, rest_above, front_rest, front_dots, level_first, expr_first, close_starts_no_expr, tilde_no_atom, bang_no_atom}
 use Rattle.nv_text.proofs.Frames.{frame_level, frame_atom}
 use Rattle.nv_text.proofs.OneExpression.{det_level, det_atom}

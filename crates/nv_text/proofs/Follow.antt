@@ -18,7 +18,7 @@ use Rattle.nv_ast.specs.Tree.{FunTree, DeclTree, LayoutDecl, ExceptionDecl, Grou
 use Rattle.nv_ast.specs.Grammar.{IsLayout, IsMoreLayouts, IsLayoutAtom, IsMoreFields, IsField, IsAlternative, IsMoreAlternatives, IsType, IsMoreTypes, IsMoreNamedTypes, IsTypes, IsParams, IsPattern, IsMorePatterns, IsPatterns, IsExpr, IsStatements, IsStatement, IsTail, IsArgs, IsMoreExprs, IsLevel, IsRest, IsUna, IsDots, IsAtom, IsMoreMembers, IsFun, IsMoreFuns, IsDecl, IsDecls}
 use Rattle.nv_ast.specs.Grammar.{one_layout, joined_layouts, no_layout, next_layout, named_layout, gap_layout, parts_layout, no_field, next_field, plain_field, overlay_field, bits_field, inner_field, no_alternative, next_alternative, word_type, words_type, bool_type, packed_type, unpacked_type, unit_type, tuple_type, record_type, no_type, next_type, no_named_type, next_named_type, empty_types, some_types, empty_params, some_params, name_pattern, any_pattern, unit_pattern, tuple_pattern, no_pattern, next_pattern, empty_patterns, some_patterns, tail_alone, block, no_statement, next_statement, let_statement, store_sram, store_sdram, store_scratch, if_else, raise, operators, try_handle, empty_args, some_args, no_expr, next_expr, una, chain, no_operator, operator, comparison, shift, invert, negate, post, no_dot, dot, number, truth, falsehood, variable, call, unit, paren, tuple, fields, unpack, pack, fetch_sram, fetch_sdram, fetch_scratch, no_member, next_member, function, no_fun, next_fun, layout_decl, exception_decl, group, no_decl, next_decl}
 use Rattle.std.proofs.Common.{get_or}
-pub use Rattle.nv_text.specs.Follow.{key_rank, sign_rank, rank, Above}
+pub use Rattle.nv_text.specs.inner.Follow.{key_rank, sign_rank, rank, Above}
 use Rattle.nv_ast.specs.declared.tree.Op.TheVariants.{Add, Sub, And, Or, Xor, Eq, Ne, Lt, Le, Gt, Ge, Both, Either}
 use Rattle.nv_ast.specs.declared.tree.ShiftOp.TheVariants.{Left, Right, Rotate}
 

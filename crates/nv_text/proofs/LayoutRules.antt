@@ -8,9 +8,9 @@ use Rattle.nv_ast.specs.Tree.{LayoutTree, NamedLayout, GapLayout, PartsLayout, J
 use Rattle.nv_ast.specs.Height.{layout_height, highest_layout, field_height, highest_field}
 use Rattle.nv_ast.specs.Grammar.{IsLayout, one_layout, joined_layouts, IsMoreLayouts, no_layout, next_layout, IsLayoutAtom, named_layout, gap_layout, parts_layout, IsMoreFields, no_field, next_field, IsField, plain_field, overlay_field, IsAlternative, bits_field, inner_field, IsMoreAlternatives, no_alternative, next_alternative}
 use Rattle.nv_text.specs.declared.cursor.Failure.{Failure}
-use Rattle.nv_text.specs.Cursor.{Front, NotSign, NotKey, NotName, NotNumber, IsSyntax}
-use Rattle.nv_text.specs.Failing.{Bound, NoBound, AtMost, Within, HasRoom, Same, Inside, part_of, bound_of, Phrases, Anything, Phrase, One, ASign, AKey, AName, ANumber, Then, Many, none, next, Behind, SameFront, Completes, Starts, StartsNone, Reads, FailsAs}
-use Rattle.nv_text.specs.Phrases.{LowLayouts, LowFields, ALayout, ALayoutAtom, AField, AnAlternative, NextLayout, NamedField, NextField, NamedAlternative, NextAlternative}
+use Rattle.nv_text.specs.inner.Cursor.{Front, NotSign, NotKey, NotName, NotNumber, IsSyntax}
+use Rattle.nv_text.specs.inner.Failing.{Bound, NoBound, AtMost, Within, HasRoom, Same, Inside, part_of, bound_of, Phrases, Anything, Phrase, One, ASign, AKey, AName, ANumber, Then, Many, none, next, Behind, SameFront, Completes, Starts, StartsNone, Reads, FailsAs}
+use Rattle.nv_text.specs.inner.Phrases.{LowLayouts, LowFields, ALayout, ALayoutAtom, AField, AnAlternative, NextLayout, NamedField, NextField, NamedAlternative, NextAlternative}
 use Rattle.nv_text.proofs.Bounds.{within_one, within_node, node_within, within_max, max_left, max_right, within_zero, room_here, within_more}
 use Rattle.nv_text.proofs.Follow.{Above, overlay_no_alternative, number_no_layout}
 use Rattle.nv_text.proofs.OneReading.{det_layout_atom}

@@ -27,3 +27,4 @@ pub mod LayoutFrames
 pub mod LayoutRules
 pub mod DeclPhrases
 pub mod ProgramRules
+pub mod Spellings

@@ -17,7 +17,7 @@ use Rattle.nv_ast.specs.TypeView.{type_tree, list_types, list_named_types}
 use Rattle.nv_ast.specs.PatternView.{pattern_tree, list_patterns}
 use Rattle.nv_ast.specs.ExprView.{tree_of, statement_tree, list_statements, list_trees, list_named_trees}
 use Rattle.nv_ast.specs.Height.{layout_height, highest_layout, field_height, highest_field, type_height, highest_type, highest_named_type, pattern_height, highest_pattern, height, highest, highest_named, pattern_inside, pattern_inside_all, pattern_inside_named, statement_height, highest_statement, pattern_inside_statement, pattern_inside_statements}
-use Rattle.nv_text.specs.Lists.{LayoutsBehind, FieldsBehind, AlternativesBehind, TypesBehind, NamedTypesBehind, PatternsBehind, ExprsBehind, MembersBehind, StatementsBehind, FunsBehind}
+use Rattle.nv_text.specs.inner.Lists.{LayoutsBehind, FieldsBehind, AlternativesBehind, TypesBehind, NamedTypesBehind, PatternsBehind, ExprsBehind, MembersBehind, StatementsBehind, FunsBehind}
 
 -- ---- layouts
 abbrev pub snoc_layouttrees : LayoutTrees → LayoutTree → LayoutTrees

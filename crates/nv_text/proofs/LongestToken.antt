@@ -6,10 +6,10 @@ use Rattle.nv_ast.specs.Name.{IsWord}
 use Rattle.nv_ast.specs.declared.token.Sort.{Sort}
 use Rattle.nv_ast.specs.declared.token.Sort.TheVariants.{Word, Number, Key, Sign}
 use Rattle.nv_text.specs.declared.spelling.Class.TheVariants.{Word as WordClass}
-use Rattle.nv_text.specs.Classes.{in_class, starts_word}
+use Rattle.nv_text.specs.inner.Classes.{in_class, starts_word}
 use Rattle.nv_text.specs.Spelling.{is_digit, is_hexadecimal, number_after, SpellsNumber, decimal, hexadecimal, keyword_of, sign_of, Spells}
 use Rattle.nv_text.specs.Tokens.{Longest}
-use Rattle.nv_text.specs.Front.{LongestSign, NoSign, NoSignOf, First}
+use Rattle.nv_text.specs.inner.Front.{LongestSign, NoSign, NoSignOf, First}
 use Rattle.nv_text.proofs.Runs.{prefix_every, prefix_bound, prefix_within, prefix_cons}
 use Rattle.nv_text.proofs.Bytes.{in_word, word_passes, word_first, digit_no_letter, number_first, sign_first, sign_size, sign_no_letter, sign_no_digit, run_is_word}
 

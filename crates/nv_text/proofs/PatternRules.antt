@@ -8,9 +8,9 @@ use Rattle.nv_ast.specs.Tree.{PatternTree, NamePattern, AnyPattern, TuplePattern
 use Rattle.nv_ast.specs.Height.{pattern_height, highest_pattern}
 use Rattle.nv_ast.specs.Grammar.{IsPattern, name_pattern, any_pattern, unit_pattern, tuple_pattern, IsMorePatterns, no_pattern, next_pattern, IsPatterns, empty_patterns, some_patterns}
 use Rattle.nv_text.specs.declared.cursor.Failure.{Failure}
-use Rattle.nv_text.specs.Cursor.{Front, NotSign, NotKey, NotName, IsSyntax}
-use Rattle.nv_text.specs.Failing.{Bound, NoBound, AtMost, Within, HasRoom, Same, Inside, part_of, bound_of, Phrases, Anything, Ahead, Phrase, One, ASign, AKey, AName, Then, Many, none, next, Behind, SameFront, Completes, Starts, StartsNone, Reads, FailsAs}
-use Rattle.nv_text.specs.Phrases.{LowPatterns, APattern, SomePatterns, NextPattern}
+use Rattle.nv_text.specs.inner.Cursor.{Front, NotSign, NotKey, NotName, IsSyntax}
+use Rattle.nv_text.specs.inner.Failing.{Bound, NoBound, AtMost, Within, HasRoom, Same, Inside, part_of, bound_of, Phrases, Anything, Ahead, Phrase, One, ASign, AKey, AName, Then, Many, none, next, Behind, SameFront, Completes, Starts, StartsNone, Reads, FailsAs}
+use Rattle.nv_text.specs.inner.Phrases.{LowPatterns, APattern, SomePatterns, NextPattern}
 use Rattle.nv_text.proofs.Bounds.{within_one, within_node, node_within, within_max, max_left, max_right, within_zero, room_here}
 use Rattle.nv_text.proofs.Follow.{Above, close_starts_no_pattern, pattern_first, first_rank}
 use Rattle.nv_text.proofs.Sequence.{front_same, same_first, Fills, Rule, Listed, sign_listed, ahead_above, not_ahead, one_none, one_fills, then_fills, many_fills, first_fails, then_fails, then_reads, some_fails, some_reads, sign_fails, one_carries, carries_anything}

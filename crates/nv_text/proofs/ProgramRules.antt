@@ -9,9 +9,10 @@ use Rattle.nv_text.specs.declared.error.TextError.{TextError}
 use Rattle.nv_text.specs.declared.error.TextError.TheVariants.{NoMemory, Char, Number, Name, Syntax, Deep}
 use Rattle.nv_text.specs.Tokens.{IsTokens, TokenFault}
 use Rattle.nv_text.specs.declared.cursor.Failure.{Failure}
-use Rattle.nv_text.specs.Program.{IsTextOf, SyntaxText, DeepText, FaultOf, Says}
-use Rattle.nv_text.specs.Failing.{Bound, NoBound, AtMost, Many, Behind, SameFront, Completes, Starts, Fails, FailsAs, no_memory, syntax, deep}
-use Rattle.nv_text.specs.Phrases.{ADecl, AtEnd}
+use Rattle.nv_text.specs.Program.{IsTextOf, SyntaxText, DeepText, FaultOf}
+use Rattle.nv_text.specs.inner.Placing.{Says}
+use Rattle.nv_text.specs.inner.Failing.{Bound, NoBound, AtMost, Many, Behind, SameFront, Completes, Starts, Fails, FailsAs, no_memory, syntax, deep}
+use Rattle.nv_text.specs.inner.Phrases.{ADecl, AtEnd}
 use Rattle.nv_text.proofs.Reading.{tokens_one, fault_no_tokens, fault_one}
 use Rattle.nv_text.proofs.DeclPhrases.{to_decls, of_decls}
 

@@ -7,10 +7,10 @@ use Rattle.nv_ast.specs.declared.token.Sort.TheVariants.{Word, Number as NumberS
 use Rattle.nv_ast.specs.declared.token.Token.{Token}
 use Rattle.nv_text.specs.declared.error.TextError.{TextError}
 use Rattle.nv_text.specs.declared.error.TextError.TheVariants.{NoMemory, Char, Number, Name, Syntax, Deep}
-use Rattle.nv_text.specs.Classes.{starts_word}
+use Rattle.nv_text.specs.inner.Classes.{starts_word}
 use Rattle.nv_text.specs.Spelling.{is_digit, SpellsNumber, decimal, hexadecimal, sign_of, Spells, Fits}
 use Rattle.nv_text.specs.Tokens.{is_space, Blank, space, comment, Longest, Reads, stop, skip, take_token, IsTokens, NoToken, LargeNumber, LongWord, FaultHere, TokenFault}
-use Rattle.nv_text.specs.Front.{ReadTo, MayFail}
+use Rattle.nv_text.specs.inner.Front.{ReadTo, MayFail}
 use Rattle.nv_text.proofs.Blanks.{blank_one, no_blank_left}
 use Rattle.nv_text.proofs.Bytes.{word_first, number_first, sign_first, digit_no_letter, sign_no_letter, sign_no_digit, sign_byte}
 

@@ -6,8 +6,8 @@ use Rattle.nv_ast.specs.Tokens.{at, a_name, key_overlay, sign_join, sign_bar, si
 use Rattle.nv_ast.specs.Tree.{LayoutTree, JoinedLayout, PartsLayout, LayoutTrees, no_layouts, layout_and, FieldTree, OverlayField, FieldTrees, field_and, TypeTree, TupleType, RecordType, TypeTrees, NamedTypes, PatternTree, TuplePattern, PatternTrees, pattern_and, type_and}
 use Rattle.nv_ast.specs.Grammar.{IsLayout, joined_layouts, IsLayoutAtom, parts_layout, IsMoreLayouts, no_layout, next_layout, IsField, overlay_field, IsAlternative, IsMoreAlternatives, no_alternative, next_alternative, IsType, tuple_type, record_type, IsMoreTypes, no_type, next_type, IsTypes, some_types, IsParams, some_params, IsPattern, tuple_pattern, IsMorePatterns, no_pattern, next_pattern, IsPatterns, some_patterns, IsMoreNamedTypes, IsMoreFields}
 use Rattle.nv_ast.specs.declared.token.Sort.TheVariants.{Sign}
-use Rattle.nv_text.specs.Cursor.{NotSign}
-use Rattle.nv_text.specs.Lists.{LayoutsBehind, FieldsBehind, AlternativesBehind, TypesBehind, NamedTypesBehind, PatternsBehind}
+use Rattle.nv_text.specs.inner.Cursor.{NotSign}
+use Rattle.nv_text.specs.inner.Lists.{LayoutsBehind, FieldsBehind, AlternativesBehind, TypesBehind, NamedTypesBehind, PatternsBehind}
 use Rattle.nv_text.proofs.Follow.{Above, above_weaken, first_rank}
 
 patterns_two : {p : PatternTree} {new : PatternTrees} {s t u : Span} {us vs ws k : List Token} → IsPattern p us vs → IsMorePatterns new vs (sign_close t ∷ k) → vs ≡ sign_comma u ∷ ws → IsPattern (TuplePattern (pattern_and p new)) (sign_open s ∷ us) k

@@ -8,8 +8,8 @@ use Rattle.nv_ast.specs.declared.token.Sort.TheVariants.{Word, Number, Key, Sign
 use Rattle.nv_ast.specs.Tokens.{at}
 use Rattle.nv_text.specs.declared.cursor.Failure.{Failure}
 use Rattle.nv_text.specs.declared.cursor.Failure.TheVariants.{NoMemory, Syntax, Deep}
-use Rattle.nv_text.specs.Cursor.{Front, NotSign, NotKey, NotName, NotNumber, IsSyntax, IsSyntaxOrMemory}
-use Rattle.nv_text.specs.Failing.{Bound, NoBound, AtMost, HasRoom, Part, Same, Inside, Alone, room_of, part_of, bound_of, Phrases, Follow, Anything, Ahead, One, ASign, AKey, AName, ANumber, Then, Many, none, next, Behind, SameFront, Completes, Starts, StartsNone, Reads, GoesOn, ReadMany, read_none, read_next, Fails, FailsAs, no_memory, syntax, deep}
+use Rattle.nv_text.specs.inner.Cursor.{Front, NotSign, NotKey, NotName, NotNumber, IsSyntax, IsSyntaxOrMemory}
+use Rattle.nv_text.specs.inner.Failing.{Bound, NoBound, AtMost, HasRoom, Part, Same, Inside, Alone, room_of, part_of, bound_of, Phrases, Follow, Anything, Ahead, One, ASign, AKey, AName, ANumber, Then, Many, none, next, Behind, SameFront, Completes, Starts, StartsNone, Reads, GoesOn, ReadMany, read_none, read_next, Fails, FailsAs, no_memory, syntax, deep}
 use Rattle.nv_text.proofs.Follow.{Above, above_weaken, rank}
 
 -- ---- the token in front

@@ -5,8 +5,8 @@ use Rattle.nv_ast.specs.declared.token.Token.{Token}
 use Rattle.nv_text.specs.declared.cursor.Failure.{Failure}
 use Rattle.nv_text.specs.declared.cursor.Failure.TheVariants.{NoMemory, Syntax, Deep}
 use Rattle.std.specs.Borrow.{Bor}
-use Rattle.nv_text.specs.Failing.{Bound, NoBound, AtMost, bound_of, Phrases, Follow, Phrase, Behind, SameFront, Completes, Starts, Reads, GoesOn, Fails, FailsAs, no_memory, syntax, deep}
-use Rattle.nv_text.specs.ExprPhrases.{rebound, At, Onward}
+use Rattle.nv_text.specs.inner.Failing.{Bound, NoBound, AtMost, bound_of, Phrases, Follow, Phrase, Behind, SameFront, Completes, Starts, Reads, GoesOn, Fails, FailsAs, no_memory, syntax, deep}
+use Rattle.nv_text.specs.inner.ExprPhrases.{rebound, At, Onward}
 use Rattle.nv_text.proofs.Sequence.{same_front, same_behind, Fills}
 use Rattle.nv_text.proofs.Frames.{Frame}
 

@@ -9,9 +9,9 @@ use Rattle.nv_ast.specs.Tree.{TypeTree, WordType, BoolType, PackedType, Unpacked
 use Rattle.nv_ast.specs.Height.{type_height, highest_type, highest_named_type}
 use Rattle.nv_ast.specs.Grammar.{IsType, word_type, words_type, bool_type, packed_type, unpacked_type, unit_type, tuple_type, record_type, IsMoreTypes, no_type, next_type, IsMoreNamedTypes, no_named_type, next_named_type, IsTypes, empty_types, some_types, IsParams, empty_params, some_params}
 use Rattle.nv_text.specs.declared.cursor.Failure.{Failure}
-use Rattle.nv_text.specs.Cursor.{Front, NotSign, NotKey, NotName, IsSyntax}
-use Rattle.nv_text.specs.Failing.{Bound, NoBound, AtMost, Within, HasRoom, Same, Inside, part_of, bound_of, Phrases, Anything, Ahead, Phrase, One, ASign, AKey, AName, ANumber, Then, Many, none, next, Behind, SameFront, Completes, Starts, StartsNone, Reads, FailsAs}
-use Rattle.nv_text.specs.Phrases.{LowTypes, LowNamedTypes, AType, SomeTypes, SomeParams, NextType, NamedType, NextNamedType, NameInBrackets}
+use Rattle.nv_text.specs.inner.Cursor.{Front, NotSign, NotKey, NotName, IsSyntax}
+use Rattle.nv_text.specs.inner.Failing.{Bound, NoBound, AtMost, Within, HasRoom, Same, Inside, part_of, bound_of, Phrases, Anything, Ahead, Phrase, One, ASign, AKey, AName, ANumber, Then, Many, none, next, Behind, SameFront, Completes, Starts, StartsNone, Reads, FailsAs}
+use Rattle.nv_text.specs.inner.Phrases.{LowTypes, LowNamedTypes, AType, SomeTypes, SomeParams, NextType, NamedType, NextNamedType, NameInBrackets}
 use Rattle.nv_text.proofs.Bounds.{within_one, within_node, node_within, within_max, max_left, max_right, within_zero, room_here}
 use Rattle.nv_text.proofs.Follow.{Above, above_weaken, close_starts_no_type, type_first, first_rank}
 use Rattle.nv_text.proofs.Sequence.{front_same, same_first, Fills, Carries, Rule, Listed, sign_listed, ahead_above, not_ahead, one_none, one_fills, then_fills, many_fills, many_carries, then_carries, first_fails, then_fails, then_reads, some_fails, some_reads, sign_fails, one_carries, carries_anything}

@@ -1,14 +1,6 @@
 pub mod Tables
 pub mod Spelling
 pub mod Tokens
-pub mod Classes
-pub mod Front
-pub mod Cursor
-pub mod Follow
-pub mod Lists
-pub mod Operators
 pub mod Program
-pub mod Failing
-pub mod Phrases
-pub mod ExprPhrases
-pub mod Starts
+pub mod Spelt
+pub mod inner

@@ -1,11 +1,9 @@
 -- Which program a text is.
-use Rattle.std.specs.Prelude.{◌≡◌, ℕ, List, length}
+use Rattle.std.specs.Prelude.{ℕ, List, length}
 use Rattle.nv_ast.specs.declared.token.Token.{Token}
 use Rattle.nv_ast.specs.Tree.{ProgramTree}
 use Rattle.nv_ast.specs.Grammar.{IsProgram}
-use Rattle.nv_ast.specs.Places.{place_of, SyntaxAt, DeepAt}
-use Rattle.nv_text.specs.declared.cursor.Failure.{Failure}
-use Rattle.nv_text.specs.declared.cursor.Failure.TheVariants.{NoMemory as NoRoom, Syntax as Stuck, Deep as High}
+use Rattle.nv_ast.specs.Places.{SyntaxAt, DeepAt}
 use Rattle.nv_text.specs.declared.error.TextError.{TextError}
 use Rattle.nv_text.specs.declared.error.TextError.TheVariants.{NoMemory, Char, Number, Name, Syntax, Deep}
 use Rattle.nv_text.specs.Tokens.{IsTokens, TokenFault}
@@ -36,9 +34,3 @@ FaultOf bytes (Number p) = TokenFault bytes (Number p)
 FaultOf bytes (Name p) = TokenFault bytes (Name p)
 FaultOf bytes (Syntax p) = SyntaxText bytes p
 FaultOf bytes (Deep p) = DeepText bytes p
-
--- the error says in bytes where the parser failed
-abbrev pub Says : Failure → ℕ → TextError → Type 0
-Says NoRoom n e = e ≡ NoMemory
-Says (Stuck left) n e = e ≡ Syntax (place_of left.now n)
-Says (High left) n e = e ≡ Deep (place_of left.now n)

@@ -2,7 +2,7 @@
 ghost use Rattle.std.specs.Prelude.{◌≡◌, ◌∷◌, IfOk, IfErr, IfSome, IfNone, MatchResult, MatchOption};
 ghost use Rattle.nv_ast.specs.Tokens.{a_name, a_number, at, to};
 ghost use Rattle.nv_ast.specs.declared.token.Sort.TheVariants.{Sign, Key};
-ghost use Rattle.nv_text.specs.Cursor.{NotSign, NotKey, NotName, NotNumber, IsSyntax, IsSyntaxOrMemory};
+ghost use Rattle.nv_text.specs.inner.Cursor.{NotSign, NotKey, NotName, NotNumber, IsSyntax, IsSyntaxOrMemory};
 
 use nv_ast::{Name, Sort, Span, Token};
 use std::alloc::Global;

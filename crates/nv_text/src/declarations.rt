@@ -5,10 +5,10 @@ ghost use Rattle.nv_ast.specs.Height.{fun_height, highest_fun, decl_height, high
 ghost use Rattle.nv_ast.specs.ProgramView.{fun_tree, decl_tree};
 ghost use Rattle.nv_ast.specs.Exceptions.{exceptions};
 ghost use Rattle.nv_ast.specs.Grammar.{IsFun, IsDecl, IsDecls};
-ghost use Rattle.nv_text.specs.Lists.{FunsBehind};
-ghost use Rattle.nv_text.specs.Follow.{Above};
-ghost use Rattle.nv_text.specs.Failing.{Anything, Many, Behind, Reads, FailsAs};
-ghost use Rattle.nv_text.specs.Phrases.{AFun, ADecl, NextFun, AtEnd};
+ghost use Rattle.nv_text.specs.inner.Lists.{FunsBehind};
+ghost use Rattle.nv_text.specs.inner.Follow.{Above};
+ghost use Rattle.nv_text.specs.inner.Failing.{Anything, Many, Behind, Reads, FailsAs};
+ghost use Rattle.nv_text.specs.inner.Phrases.{AFun, ADecl, NextFun, AtEnd};
 
 use crate::codes::{key, sign};
 use crate::cursor::{Failure, joined, key_here, read, take_key, take_name, take_sign};

@@ -6,10 +6,10 @@ ghost use Rattle.nv_ast.specs.Tokens.{at, mem_key, key_if, key_raise, key_try};
 ghost use Rattle.nv_ast.specs.Height.{height, highest, highest_statement, statement_height, pattern_inside, pattern_inside_all, pattern_inside_statement, pattern_inside_statements};
 ghost use Rattle.nv_ast.specs.ExprView.{tree_of, statement_tree, list_trees, list_statements};
 ghost use Rattle.nv_ast.specs.Grammar.{IsExpr, IsStatement, IsTail, IsArgs};
-ghost use Rattle.nv_text.specs.Lists.{ExprsBehind, StatementsBehind};
-ghost use Rattle.nv_text.specs.Follow.{Above, sign_rank};
-ghost use Rattle.nv_text.specs.Failing.{Anything, Ahead, Many, Reads, FailsAs, Fails};
-ghost use Rattle.nv_text.specs.ExprPhrases.{AnExpr, ATail, AStatement, ABody, SomeArgs, NextExpr, Enclosed, Onward, EnclosedBy, StartsStatement, NoStatement};
+ghost use Rattle.nv_text.specs.inner.Lists.{ExprsBehind, StatementsBehind};
+ghost use Rattle.nv_text.specs.inner.Follow.{Above, sign_rank};
+ghost use Rattle.nv_text.specs.inner.Failing.{Anything, Ahead, Many, Reads, FailsAs, Fails};
+ghost use Rattle.nv_text.specs.inner.ExprPhrases.{AnExpr, ATail, AStatement, ABody, SomeArgs, NextExpr, Enclosed, Onward, EnclosedBy, StartsStatement, NoStatement};
 
 use crate::codes::{key, sign};
 use crate::cursor::{

@@ -6,6 +6,7 @@ ghost use Rattle.nv_ast.specs.Tree.{DeclTree};
 ghost use Rattle.nv_ast.specs.Grammar.{IsDecls};
 ghost use Rattle.nv_text.specs.declared.error.TextError.{TextError};
 ghost use Rattle.nv_text.specs.Program.{FaultOf};
+ghost use Rattle.nv_text.specs.Spelt.{AreSpelt, spelt_keywords, spelt_signs, spelt_operators};
 
 /// Tokens are one program at most.
 #[tactic(auto, using(crate::proofs::OneExpression::det_decls))]
@@ -17,4 +18,11 @@ pub fn one_program()
 #[tactic(auto, using(crate::proofs::ProgramRules::fault_same))]
 pub fn one_fault()
     ensures { (bytes : List ℕ) (e f : TextError) → FaultOf bytes e → FaultOf bytes f → e ≡ f }
+{}
+
+/// Each keyword and each sign of the grammar is spelled as its name says.
+pub fn tokens_are_spelt()
+    ensures keywords { AreSpelt spelt_keywords }
+    ensures signs { AreSpelt spelt_signs }
+    ensures operators { AreSpelt spelt_operators }
 {}

@@ -6,11 +6,11 @@ ghost use Rattle.nv_ast.specs.Tree.{JoinedLayout, PartsLayout, OverlayField};
 ghost use Rattle.nv_ast.specs.Height.{layout_height, field_height, highest_layout, highest_field};
 ghost use Rattle.nv_ast.specs.LayoutView.{layout_tree, field_tree, list_layouts, list_fields};
 ghost use Rattle.nv_ast.specs.Grammar.{IsLayout, IsLayoutAtom, IsField, IsAlternative};
-ghost use Rattle.nv_text.specs.Cursor.{NotSign, NotKey, NotNumber};
-ghost use Rattle.nv_text.specs.Follow.{Above};
-ghost use Rattle.nv_text.specs.Failing.{Anything, Many, Behind, Reads, FailsAs};
-ghost use Rattle.nv_text.specs.Phrases.{ALayout, ALayoutAtom, AField, AnAlternative, NextLayout, NextField, NextAlternative};
-ghost use Rattle.nv_text.specs.Lists.{LayoutsBehind, FieldsBehind, AlternativesBehind};
+ghost use Rattle.nv_text.specs.inner.Cursor.{NotSign, NotKey, NotNumber};
+ghost use Rattle.nv_text.specs.inner.Follow.{Above};
+ghost use Rattle.nv_text.specs.inner.Failing.{Anything, Many, Behind, Reads, FailsAs};
+ghost use Rattle.nv_text.specs.inner.Phrases.{ALayout, ALayoutAtom, AField, AnAlternative, NextLayout, NextField, NextAlternative};
+ghost use Rattle.nv_text.specs.inner.Lists.{LayoutsBehind, FieldsBehind, AlternativesBehind};
 
 use crate::codes::{key, sign};
 use crate::cursor::{

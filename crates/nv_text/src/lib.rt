@@ -6,7 +6,7 @@ mod cursor;
 mod declarations;
 mod error;
 mod expressions;
-mod laws;
+pub mod laws;
 mod layouts;
 mod nodes;
 mod operands;
@@ -17,12 +17,9 @@ mod scan;
 mod spelling;
 mod starts;
 mod tables;
-#[cfg(test)]
-mod tests;
 mod types;
 
 pub use error::TextError;
-pub use laws::{one_fault, one_program};
 pub use nv_ast::{Sort, Token};
 pub use program::parse;
 pub use scan::tokens;

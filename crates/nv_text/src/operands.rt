@@ -6,10 +6,10 @@ ghost use Rattle.nv_ast.specs.Tokens.{at, mem_key, key_unpack, key_pack, sign_op
 ghost use Rattle.nv_ast.specs.Height.{height, highest, highest_named, pattern_inside, pattern_inside_named};
 ghost use Rattle.nv_ast.specs.ExprView.{tree_of, list_named_trees};
 ghost use Rattle.nv_ast.specs.Grammar.{IsLevel, IsRest, IsUna, IsDots, IsAtom};
-ghost use Rattle.nv_text.specs.Lists.{MembersBehind};
-ghost use Rattle.nv_text.specs.Follow.{Above};
-ghost use Rattle.nv_text.specs.Failing.{Anything, Many, Reads, FailsAs};
-ghost use Rattle.nv_text.specs.ExprPhrases.{ALevel, ARest, AnUna, SomeDots, AnAtom, NextMember, LayoutInBrackets, NameInSquare, NoPlainAtom, BeginsName};
+ghost use Rattle.nv_text.specs.inner.Lists.{MembersBehind};
+ghost use Rattle.nv_text.specs.inner.Follow.{Above};
+ghost use Rattle.nv_text.specs.inner.Failing.{Anything, Many, Reads, FailsAs};
+ghost use Rattle.nv_text.specs.inner.ExprPhrases.{ALevel, ARest, AnUna, SomeDots, AnAtom, NextMember, LayoutInBrackets, NameInSquare, NoPlainAtom, BeginsName};
 
 use crate::codes::{key, sign};
 use crate::cursor::{

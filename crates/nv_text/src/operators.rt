@@ -2,7 +2,7 @@
 ghost use Rattle.std.specs.Prelude.{◌≡◌, ◌∷◌, MatchOption};
 ghost use Rattle.nv_ast.specs.declared.tree.Op.{Op};
 ghost use Rattle.nv_ast.specs.Tokens.{sign_of, level_of, shift_sign_of};
-ghost use Rattle.nv_text.specs.Operators.{StartsOperator, StartsShift, NoOperator, NoShift};
+ghost use Rattle.nv_text.specs.inner.Operators.{StartsOperator, StartsShift, NoOperator, NoShift};
 
 use nv_ast::{Op, ShiftOp, Sort, Token};
 

@@ -6,11 +6,11 @@ ghost use Rattle.nv_ast.specs.Tree.{TuplePattern};
 ghost use Rattle.nv_ast.specs.Height.{pattern_height, highest_pattern};
 ghost use Rattle.nv_ast.specs.PatternView.{pattern_tree, list_patterns};
 ghost use Rattle.nv_ast.specs.Grammar.{IsPattern, IsPatterns};
-ghost use Rattle.nv_text.specs.Cursor.{NotSign};
-ghost use Rattle.nv_text.specs.Lists.{PatternsBehind};
-ghost use Rattle.nv_text.specs.Failing.{Anything, Ahead, Many, Behind, Starts, StartsNone, Reads, FailsAs};
-ghost use Rattle.nv_text.specs.Phrases.{APattern, SomePatterns, NextPattern};
-ghost use Rattle.nv_text.specs.Follow.{Above};
+ghost use Rattle.nv_text.specs.inner.Cursor.{NotSign};
+ghost use Rattle.nv_text.specs.inner.Lists.{PatternsBehind};
+ghost use Rattle.nv_text.specs.inner.Failing.{Anything, Ahead, Many, Behind, Starts, StartsNone, Reads, FailsAs};
+ghost use Rattle.nv_text.specs.inner.Phrases.{APattern, SomePatterns, NextPattern};
+ghost use Rattle.nv_text.specs.inner.Follow.{Above};
 
 use crate::codes::{key, sign};
 use crate::cursor::{Failure, Found, key_here, name_here, read, sign_here, take_name, take_sign};

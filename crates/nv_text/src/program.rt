@@ -4,7 +4,8 @@ ghost use Rattle.nv_ast.specs.Tree.{ProgramTree};
 ghost use Rattle.nv_ast.specs.Height.{highest_decl};
 ghost use Rattle.nv_ast.specs.ProgramView.{program_of};
 ghost use Rattle.nv_ast.specs.Places.{place_of};
-ghost use Rattle.nv_text.specs.Program.{IsTextOf, FaultOf, Says};
+ghost use Rattle.nv_text.specs.Program.{IsTextOf, FaultOf};
+ghost use Rattle.nv_text.specs.inner.Placing.{Says};
 
 use crate::cursor::Failure;
 use crate::declarations::declarations;

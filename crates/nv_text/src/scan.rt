@@ -4,9 +4,9 @@ ghost use Rattle.std.specs.List.{prefix_len};
 ghost use Rattle.nv_ast.specs.declared.token.Token.{Token};
 ghost use Rattle.nv_text.specs.declared.spelling.Class.TheVariants.{Line};
 ghost use Rattle.nv_text.specs.Spelling.{sign_of, Fits, is_digit};
-ghost use Rattle.nv_text.specs.Classes.{in_class, starts_word};
+ghost use Rattle.nv_text.specs.inner.Classes.{in_class, starts_word};
 ghost use Rattle.nv_text.specs.Tokens.{Blank, Longest, IsTokens, TokenFault};
-ghost use Rattle.nv_text.specs.Front.{First, LongestSign, NoSign, NoSignOf, MayFail};
+ghost use Rattle.nv_text.specs.inner.Front.{First, LongestSign, NoSign, NoSignOf, MayFail};
 
 use crate::error::TextError;
 use crate::spelling::{self, Class};

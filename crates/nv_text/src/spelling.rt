@@ -2,7 +2,7 @@
 ghost use Rattle.std.specs.Prelude.{◌≡◌, ℕ, ◌+◌, ◌<◌, ◌≤◌, ◌^◌, ◌∷◌, List, MatchOption, false, drop, length};
 ghost use Rattle.std.specs.List.{prefix_len};
 ghost use Rattle.nv_text.specs.Spelling.{digit_value, number_after, is_hexadecimal};
-ghost use Rattle.nv_text.specs.Classes.{in_class};
+ghost use Rattle.nv_text.specs.inner.Classes.{in_class};
 
 /// A set of bytes that a token is made of.
 #[derive(Clone, Copy)]

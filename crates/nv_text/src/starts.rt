@@ -2,8 +2,8 @@
 ghost use Rattle.std.specs.Prelude.{◌≡◌, ◌∷◌, MatchOption, MatchBool, ⊤};
 ghost use Rattle.nv_ast.specs.Tokens.{at, mem_key};
 ghost use Rattle.nv_ast.specs.declared.token.Sort.TheVariants.{Key};
-ghost use Rattle.nv_text.specs.Starts.{starts_expr};
-ghost use Rattle.nv_text.specs.ExprPhrases.{NotMem, StartsStatement, NoStatement};
+ghost use Rattle.nv_text.specs.inner.Starts.{starts_expr};
+ghost use Rattle.nv_text.specs.inner.ExprPhrases.{NotMem, StartsStatement, NoStatement};
 
 use crate::codes::{key, sign};
 use crate::cursor::{key_here, sign_here};

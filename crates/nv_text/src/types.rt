@@ -6,11 +6,11 @@ ghost use Rattle.nv_ast.specs.Tree.{TupleType, RecordType};
 ghost use Rattle.nv_ast.specs.Height.{type_height, highest_type, highest_named_type};
 ghost use Rattle.nv_ast.specs.TypeView.{type_tree, list_types, list_named_types};
 ghost use Rattle.nv_ast.specs.Grammar.{IsType, IsTypes, IsParams};
-ghost use Rattle.nv_text.specs.Cursor.{NotSign};
-ghost use Rattle.nv_text.specs.Follow.{Above};
-ghost use Rattle.nv_text.specs.Lists.{TypesBehind, NamedTypesBehind, InBrackets};
-ghost use Rattle.nv_text.specs.Failing.{Anything, Ahead, Many, Behind, Starts, StartsNone, Reads, FailsAs};
-ghost use Rattle.nv_text.specs.Phrases.{AType, SomeTypes, SomeParams, NextType, NextNamedType, NameInBrackets};
+ghost use Rattle.nv_text.specs.inner.Cursor.{NotSign};
+ghost use Rattle.nv_text.specs.inner.Follow.{Above};
+ghost use Rattle.nv_text.specs.inner.Lists.{TypesBehind, NamedTypesBehind, InBrackets};
+ghost use Rattle.nv_text.specs.inner.Failing.{Anything, Ahead, Many, Behind, Starts, StartsNone, Reads, FailsAs};
+ghost use Rattle.nv_text.specs.inner.Phrases.{AType, SomeTypes, SomeParams, NextType, NextNamedType, NameInBrackets};
 
 use crate::codes::{key, sign};
 use crate::cursor::{Failure, Found, key_here, read, sign_here, take_name, take_number, take_sign};

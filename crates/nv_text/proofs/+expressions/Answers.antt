@@ -3,8 +3,8 @@ use Rattle.nv_ast.specs.declared.tree.Expr.{Expr}
 use Rattle.nv_ast.specs.declared.tree.Stmt.{Stmt}
 use Rattle.nv_ast.specs.Height.{height}
 use Rattle.nv_ast.specs.Grammar.{tail_alone, operators, empty_args, una, no_operator, post, invert, negate, number, truth, falsehood, variable, unit}
-use Rattle.nv_text.specs.Failing.{no_memory, syntax, deep, read_none, read_next}
-use Rattle.nv_text.specs.ExprPhrases.{begins_name}
+use Rattle.nv_text.specs.inner.Failing.{no_memory, syntax, deep, read_none, read_next}
+use Rattle.nv_text.specs.inner.ExprPhrases.{begins_name}
 use Rattle.nv_text.proofs.Lists.{exprs_start, exprs_step, highest_one, highest_push, pattern_inside_all_one, pattern_inside_all_push, members_start, members_step, highest_named_one, highest_named_push, pattern_inside_named_one, pattern_inside_named_push, statements_start, statements_step, highest_statement_one, highest_statement_push, pattern_inside_statements_one, pattern_inside_statements_push}
 use Rattle.nv_text.proofs.ExprRules.{block_of, let_of, store_of, if_of, raise_of, try_of, args_of, level_of_rest, level_pred, chain_step, comparison_of, tuple_of, paren_of, fields_of, fetch_of, unpack_of, pack_of, call_of, enclosed_of}
 use Rattle.nv_text.proofs.Sequence.{carries_anything, then_fails, first_fails, then_reads, sign_fails, then_fills, many_fills, many_carries, many_ends, item_fails, read_many_reads, read_many_fails}

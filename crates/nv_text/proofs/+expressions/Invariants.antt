@@ -5,10 +5,10 @@ use Rattle.nv_ast.specs.Tree.{Tree}
 use Rattle.nv_ast.specs.Grammar.{IsRest}
 use Rattle.nv_ast.specs.Height.{height, highest, highest_named, highest_statement, pattern_inside, pattern_inside_all, pattern_inside_named, pattern_inside_statements}
 use Rattle.nv_ast.specs.ExprView.{tree_of, statement_tree, list_trees, list_named_trees, list_statements}
-use Rattle.nv_text.specs.Follow.{Above}
-use Rattle.nv_text.specs.Failing.{ReadMany}
-use Rattle.nv_text.specs.ExprPhrases.{NextExpr, NextMember, ABody, ARest, Onward}
-use Rattle.nv_text.specs.Lists.{ExprsBehind, MembersBehind, StatementsBehind}
+use Rattle.nv_text.specs.inner.Follow.{Above}
+use Rattle.nv_text.specs.inner.Failing.{ReadMany}
+use Rattle.nv_text.specs.inner.ExprPhrases.{NextExpr, NextMember, ABody, ARest, Onward}
+use Rattle.nv_text.specs.inner.Lists.{ExprsBehind, MembersBehind, StatementsBehind}
 use Rattle.nv_text.proofs.+expressions.Given as goal
 
 abbrev pub decreases-operands::high_atom : goal.decreases-operands::high_atom

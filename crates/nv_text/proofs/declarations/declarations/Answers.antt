@@ -1,7 +1,7 @@
 use Rattle.std.proofs.Common.{◌≡◌, ◌∷◌, ◌++◌, [], ap, ◌∙◌, arith, length, List}
 use Rattle.nv_ast.specs.Grammar.{no_decl}
 use Rattle.nv_text.proofs.DeclRules.{decls_step, highest_decl_push, exceptions_push}
-use Rattle.nv_text.specs.Failing.{read_none, read_next, no_memory}
+use Rattle.nv_text.specs.inner.Failing.{read_none, read_next, no_memory}
 use Rattle.nv_text.proofs.Sequence.{read_many_fails, item_fails}
 use Rattle.nv_text.proofs.DeclPhrases.{decls_listed, some_left}
 use Rattle.nv_text.proofs.declarations.declarations.Goals as goal

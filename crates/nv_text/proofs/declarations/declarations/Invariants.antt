@@ -4,9 +4,9 @@ use Rattle.nv_ast.specs.Height.{highest_decl}
 use Rattle.nv_ast.specs.ProgramView.{decl_tree}
 use Rattle.nv_ast.specs.Exceptions.{exceptions}
 use Rattle.nv_ast.specs.Grammar.{IsDecls}
-use Rattle.nv_text.specs.Failing.{ReadMany}
-use Rattle.nv_text.specs.Follow.{Above}
-use Rattle.nv_text.specs.Phrases.{ADecl}
+use Rattle.nv_text.specs.inner.Failing.{ReadMany}
+use Rattle.nv_text.specs.inner.Follow.{Above}
+use Rattle.nv_text.specs.inner.Phrases.{ADecl}
 use Rattle.nv_text.proofs.declarations.declarations.Given as goal
 
 abbrev pub invariant-loop-rest : goal.invariant-loop-rest

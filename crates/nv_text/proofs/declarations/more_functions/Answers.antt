@@ -2,7 +2,7 @@ use Rattle.std.proofs.Common.{◌≡◌, ◌∷◌, ◌++◌, [], ap, ◌∙◌,
 use Rattle.nv_ast.specs.declared.tree.Fun.{Fun}
 use Rattle.nv_text.proofs.DeclRules.{funs_start, funs_step, highest_fun_one, highest_fun_push}
 use Rattle.nv_ast.specs.declared.token.Sort.TheVariants.{Key}
-use Rattle.nv_text.specs.Failing.{read_none, read_next, no_memory}
+use Rattle.nv_text.specs.inner.Failing.{read_none, read_next, no_memory}
 use Rattle.nv_text.proofs.Sequence.{carries_anything, one_reads, one_then, then_reads, read_many_reads, read_many_fails, item_fails, many_ends}
 use Rattle.nv_text.proofs.DeclPhrases.{funs_listed, and_goes_on, no_fun_here}
 use Rattle.nv_text.proofs.declarations.more_functions.Goals as goal

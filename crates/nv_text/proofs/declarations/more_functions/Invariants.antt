@@ -2,9 +2,9 @@ use Rattle.std.proofs.Common.{◌≤◌, length}
 use Rattle.std.specs.Prelude.{map}
 use Rattle.nv_ast.specs.Height.{highest_fun}
 use Rattle.nv_ast.specs.ProgramView.{fun_tree}
-use Rattle.nv_text.specs.Failing.{Anything, ReadMany}
-use Rattle.nv_text.specs.Lists.{FunsBehind}
-use Rattle.nv_text.specs.Phrases.{NextFun}
+use Rattle.nv_text.specs.inner.Failing.{Anything, ReadMany}
+use Rattle.nv_text.specs.inner.Lists.{FunsBehind}
+use Rattle.nv_text.specs.inner.Phrases.{NextFun}
 use Rattle.nv_text.proofs.declarations.more_functions.Given as goal
 
 abbrev pub invariant-loop-after : goal.invariant-loop-after

@@ -2,10 +2,10 @@
 use Rattle.std.proofs.Common.{◌≡◌, ◌≤◌, ◌+◌, ◌*◌, length}
 use Rattle.nv_ast.specs.Height.{highest_layout, highest_field}
 use Rattle.nv_ast.specs.LayoutView.{layout_tree, field_tree, list_layouts, list_fields}
-use Rattle.nv_text.specs.Failing.{Anything, ReadMany}
-use Rattle.nv_text.specs.Follow.{Above}
-use Rattle.nv_text.specs.Phrases.{NextLayout, NextField, NextAlternative}
-use Rattle.nv_text.specs.Lists.{LayoutsBehind, FieldsBehind, AlternativesBehind}
+use Rattle.nv_text.specs.inner.Failing.{Anything, ReadMany}
+use Rattle.nv_text.specs.inner.Follow.{Above}
+use Rattle.nv_text.specs.inner.Phrases.{NextLayout, NextField, NextAlternative}
+use Rattle.nv_text.specs.inner.Lists.{LayoutsBehind, FieldsBehind, AlternativesBehind}
 use Rattle.nv_text.proofs.layouts.+layouts.Given as goal
 
 abbrev pub decreases-layout_atom : goal.decreases-layout_atom

@@ -1,5 +1,5 @@
 use Rattle.std.proofs.Common.{◌≡◌, ◌∙◌, sym, refl, ap, arith, length, true}
-use Rattle.nv_text.specs.Failing.{no_memory}
+use Rattle.nv_text.specs.inner.Failing.{no_memory}
 use Rattle.nv_text.proofs.Steps.{onward_start}
 use Rattle.nv_text.proofs.ExprLow.{low_found, not_same}
 use Rattle.nv_text.proofs.ExprExits.{shift_onward, shift_deep, shift_stops, shifts_end}

@@ -4,8 +4,8 @@ use Rattle.nv_ast.specs.Tree.{Tree}
 use Rattle.nv_ast.specs.Grammar.{IsRest}
 use Rattle.nv_ast.specs.Height.{height, pattern_inside}
 use Rattle.nv_ast.specs.ExprView.{tree_of}
-use Rattle.nv_text.specs.Follow.{Above}
-use Rattle.nv_text.specs.ExprPhrases.{ARest, Onward}
+use Rattle.nv_text.specs.inner.Follow.{Above}
+use Rattle.nv_text.specs.inner.ExprPhrases.{ARest, Onward}
 use Rattle.nv_text.proofs.operands.shifts.Given as goal
 
 abbrev pub invariant-loop-op : goal.invariant-loop-op

@@ -3,7 +3,7 @@ use Rattle.nv_ast.specs.declared.tree.Pat.{Pat}
 use Rattle.nv_ast.specs.Grammar.{any_pattern, name_pattern, unit_pattern}
 use Rattle.nv_text.proofs.Lists.{patterns_start, patterns_step, highest_pattern_one, highest_pattern_push}
 use Rattle.nv_ast.specs.declared.token.Sort.TheVariants.{Word, Key, Sign}
-use Rattle.nv_text.specs.Failing.{read_none, read_next, no_memory, syntax, deep}
+use Rattle.nv_text.specs.inner.Failing.{read_none, read_next, no_memory, syntax, deep}
 use Rattle.nv_text.proofs.Rules.{tuple_pattern_of, not_ended}
 use Rattle.nv_text.proofs.Sequence.{carries_anything, one_reads, one_then, then_reads, then_fails, first_fails, sign_fails, name_fails, rule_reads, rule_fails, row_reads, row_fails, behind_reads, behind_fails, part_none_fails, part_deep_fails, read_many_reads, read_many_fails, item_fails, many_ends, no_item, sign_goes_on, each_result}
 use Rattle.nv_text.proofs.PatternRules.{patterns_listed, any_rule, name_rule, unit_rule, tuple_rule, none_low, open_completes, end_fills, comma_fails, parts_fail, close_fails, close_reads}

@@ -2,9 +2,9 @@
 use Rattle.std.proofs.Common.{◌≡◌, ◌≤◌, ◌+◌, ◌*◌, length}
 use Rattle.nv_ast.specs.Height.{highest_pattern}
 use Rattle.nv_ast.specs.PatternView.{pattern_tree, list_patterns}
-use Rattle.nv_text.specs.Failing.{Anything, ReadMany}
-use Rattle.nv_text.specs.Lists.{PatternsBehind}
-use Rattle.nv_text.specs.Phrases.{NextPattern}
+use Rattle.nv_text.specs.inner.Failing.{Anything, ReadMany}
+use Rattle.nv_text.specs.inner.Lists.{PatternsBehind}
+use Rattle.nv_text.specs.inner.Phrases.{NextPattern}
 use Rattle.nv_text.proofs.patterns.+patterns.Given as goal
 
 abbrev pub decreases-pattern : goal.decreases-pattern

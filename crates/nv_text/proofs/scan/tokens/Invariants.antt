@@ -1,5 +1,5 @@
 use Rattle.std.proofs.Common.{◌-◌, ◌≤◌, length}
-use Rattle.nv_text.specs.Front.{ReadTo}
+use Rattle.nv_text.specs.inner.Front.{ReadTo}
 use Rattle.nv_text.proofs.scan.tokens.Given as goal
 
 abbrev pub invariant-loop-at : goal.invariant-loop-at

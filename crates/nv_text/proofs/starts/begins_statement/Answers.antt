@@ -1,4 +1,4 @@
-use Rattle.nv_text.specs.ExprPhrases.{starts_let, starts_store}
+use Rattle.nv_text.specs.inner.ExprPhrases.{starts_let, starts_store}
 use Rattle.nv_text.proofs.starts.begins_statement.Goals as goal
 
 pub returns-in-Some : goal.returns-in-Some

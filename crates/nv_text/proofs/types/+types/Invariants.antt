@@ -2,10 +2,10 @@
 use Rattle.std.proofs.Common.{◌≡◌, ◌≤◌, ◌+◌, ◌*◌, length}
 use Rattle.nv_ast.specs.Height.{highest_type, highest_named_type}
 use Rattle.nv_ast.specs.TypeView.{type_tree, list_types, list_named_types}
-use Rattle.nv_text.specs.Failing.{ReadMany}
-use Rattle.nv_text.specs.Follow.{Above}
-use Rattle.nv_text.specs.Lists.{TypesBehind, NamedTypesBehind}
-use Rattle.nv_text.specs.Phrases.{NextType, NextNamedType}
+use Rattle.nv_text.specs.inner.Failing.{ReadMany}
+use Rattle.nv_text.specs.inner.Follow.{Above}
+use Rattle.nv_text.specs.inner.Lists.{TypesBehind, NamedTypesBehind}
+use Rattle.nv_text.specs.inner.Phrases.{NextType, NextNamedType}
 use Rattle.nv_text.proofs.types.+types.Given as goal
 
 abbrev pub decreases-type_text : goal.decreases-type_text

@@ -5,12 +5,12 @@ use Rattle.nv_ast.specs.declared.token.Span.{Span}
 use Rattle.nv_ast.specs.declared.token.Token.{Token}
 use Rattle.nv_ast.specs.Tokens.{at, a_name, mem_key, key_let, sign_open, sign_open_bracket, sign_close_bracket}
 use Rattle.nv_text.specs.declared.cursor.Failure.{Failure}
-use Rattle.nv_text.specs.Cursor.{Front, NotSign, NotKey, NotName, NotNumber}
+use Rattle.nv_text.specs.inner.Cursor.{Front, NotSign, NotKey, NotName, NotNumber}
 use Rattle.nv_ast.specs.declared.token.Sort.TheVariants.{Key, Sign}
 use Rattle.nv_ast.specs.Tree.{Tree, Trees, NamedTrees, StatementTree, StatementTrees}
 use Rattle.nv_ast.specs.Height.{height, highest, highest_named, highest_statement, statement_height, pattern_inside, pattern_inside_all, pattern_inside_named, pattern_inside_statement, pattern_inside_statements}
 use Rattle.nv_ast.specs.Grammar.{IsExpr, IsStatement, IsStatements, IsTail, IsArgs, IsMoreExprs, IsLevel, IsRest, IsUna, IsDots, IsAtom, IsMoreMembers}
-use Rattle.nv_text.specs.Failing.{Bound, NoBound, AtMost, Within, Alone, part_of, Phrases, Follow, Phrase, Then, Many, ASign, AName, Reads, FailsAs}
+use Rattle.nv_text.specs.inner.Failing.{Bound, NoBound, AtMost, Within, Alone, part_of, Phrases, Follow, Phrase, Then, Many, ASign, AName, Reads, FailsAs}
 
 -- what is so high, with patterns so high in it, is within the bound
 pub record IsLow (b : Bound) (tall inside : ℕ) : Type 0 where

@@ -3,7 +3,7 @@ use Rattle.std.specs.Prelude.{◌≡◌, ℕ, List, [], ◌∷◌}
 use Rattle.nv_ast.specs.Height.{pattern_height, highest_pattern, type_height, highest_type, highest_named_type, layout_height, highest_layout, field_height, highest_field, fun_height, decl_height}
 use Rattle.nv_ast.specs.Tree.{PatternTree, PatternTrees, TypeTree, TypeTrees, NamedTypes, LayoutTree, LayoutTrees, FieldTree, FieldTrees, FunTree, DeclTree}
 use Rattle.nv_ast.specs.Grammar.{IsPattern, IsPatterns, IsType, IsTypes, IsParams, IsLayout, IsLayoutAtom, IsField, IsAlternative, IsFun, IsDecl}
-use Rattle.nv_text.specs.Failing.{Bound, Within, Alone, part_of, Follow, Phrases, Phrase, Then, ASign, AKey, AName}
+use Rattle.nv_text.specs.inner.Failing.{Bound, Within, Alone, part_of, Follow, Phrases, Phrase, Then, ASign, AKey, AName}
 
 -- ---- patterns
 abbrev pub LowPattern : Bound → PatternTree → Type 0

@@ -5,7 +5,7 @@ use Rattle.nv_ast.specs.declared.token.Token.{Token}
 use Rattle.nv_ast.specs.declared.tree.Op.{Op}
 use Rattle.nv_ast.specs.declared.tree.ShiftOp.{ShiftOp}
 use Rattle.nv_ast.specs.Tokens.{sign_of, level_of, shift_sign_of}
-use Rattle.nv_text.specs.Cursor.{Front}
+use Rattle.nv_text.specs.inner.Cursor.{Front}
 
 -- the first token is this operator, whose operands are of this level
 pub record StartsOperator (l : ℕ) (op : Op) (ts k : List Token) : Type 0 where
