@@ -4,3 +4,7 @@ pub mod Worked
 pub mod Names
 pub mod Reading
 pub mod ExceptionCounts
+pub mod Faultless
+pub mod NeedInSize
+pub mod RoomInSize
+pub mod MainWords
