@@ -15,7 +15,7 @@ use Rattle.nv_types.specs.Store.{IsParts}
 use Rattle.nv_types.specs.Standing.{Alike, IsFunction, Holds, Counts}
 use Rattle.nv_types.specs.Declarations.{Between, AreNew, with_own, AreSigned, costing}
 use Rattle.nv_types.proofs.Alikes.{alike_names, alike_append, absent, names_of-append, look_up-append, look_up-here, none_waits}
-use Rattle.nv_types.proofs.Faultless.{no_front, no_rest, no_kinds, not_where}
+use Rattle.nv_ast.proofs.Faultless.{no_front, no_rest, no_kinds, not_where}
 
 -- ---- new names
 last_or_first : (p q : Bool) → (p || q) ≡ (q || (p || false))

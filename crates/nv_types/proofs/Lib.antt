@@ -14,13 +14,11 @@ pub mod BlockStatements
 pub mod BlockWalked
 pub mod BlockWhole
 pub mod Bound
-pub mod Bounded
 pub mod BoundedRoom
 pub mod CellSame
 pub mod DeclWalk
 pub mod Declaring
 pub mod Entries
-pub mod Faultless
 pub mod FieldLists
 pub mod FieldWalks
 pub mod FindingMain

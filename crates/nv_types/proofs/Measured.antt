@@ -18,7 +18,7 @@ use Rattle.nv_types.specs.Answers.{IsSized, FindsMain, Measures}
 use Rattle.nv_types.proofs.Alikes.{alike_nothing}
 use Rattle.nv_types.proofs.Standings.{nothing_seen}
 use Rattle.nv_types.proofs.Firsts.{first_append}
-use Rattle.nv_types.proofs.BoundedRoom.{main_narrow}
+use Rattle.nv_ast.proofs.MainWords.{main_narrow}
 
 behind_more : (k : Known) (done : List DeclTree) (d : DeclTree) → known_behind k (done ++ d ∷ []) ≡ known_after (known_behind k done) d
 behind_more k [] d = refl
