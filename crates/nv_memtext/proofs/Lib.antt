@@ -4,3 +4,4 @@ pub mod TextLemmas
 pub mod FaultLemmas
 pub mod ExactLemmas
 pub mod PrintLemmas
+pub mod Worked

@@ -3,3 +3,4 @@ pub mod MemoryText
 pub mod OutcomeText
 pub mod Answer
 pub mod Reading
+pub mod Worked

@@ -2,6 +2,7 @@
 //! ended, what it wrote and what the memories hold then.
 #![tactic(auto)]
 
+pub mod laws;
 mod line;
 mod print;
 mod read;

@@ -10,3 +10,4 @@ pub mod FirstLemmas
 pub mod MeaningLemmas
 pub mod Exact
 pub mod ListingLemmas
+pub mod Worked

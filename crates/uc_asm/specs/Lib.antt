@@ -6,3 +6,4 @@ pub mod First
 pub mod Resolving
 pub mod Reading
 pub mod Answer
+pub mod Worked

@@ -6,6 +6,7 @@ ghost use Rattle.uc_asm.specs.Answer.{Answers, IsTrueError};
 ghost use Rattle.uc_asm.specs.Labels.{IsCodeOf};
 ghost use Rattle.uc_asm.specs.Text.{listing};
 ghost use Rattle.uc_asm.specs.Words.{InRange};
+ghost use Rattle.uc_asm.specs.Worked.{MovingListing, SumListing};
 ghost use Rattle.uc_asm.specs.declared.error.AsmError.{AsmError};
 
 use crate::{AsmError, assemble, print};
@@ -32,3 +33,10 @@ pub fn assemble_printed(alloc: Global, code: &Code) -> Result<Code, AsmError>
 {
     assemble(alloc, &print(alloc, code)?)
 }
+
+/// The listings of two short codes.
+#[tactic(auto, using(crate::proofs::Worked::sum_listing, crate::proofs::Worked::moving_listing))]
+pub fn short_listings()
+    ensures sum { SumListing }
+    ensures moves { MovingListing }
+{}

@@ -1,6 +1,5 @@
 -- A lawful instruction breaks no rule, and the first that is broken is one.
-use Rattle.std.proofs.Common.{◌≡◌, ℕ, ◌<◌, ◌≤◌, List, Some, length, sym, subst, ◌∙◌, ◌⊎◌, inl, inr, arith}
-use Rattle.std.specs.Prelude.{slice_get}
+use Rattle.std.proofs.Common.{◌≡◌, ℕ, ◌<◌, List, subst, inl, inr, arith}
 use Rattle.uc_isa.specs.Lawful.{IsLawfulAt, IsLawfulPlace, Breaks, IsBroken, IsLeastBroken, IsFirstBroken}
 use Rattle.uc_isa.specs.declared.instruction.Instr.{Instr}
 

@@ -7,3 +7,9 @@ pub mod Places
 pub mod Runs
 pub mod States
 pub mod Steps
+pub mod OwnWrites
+pub mod Leading
+pub mod PieceSteps
+pub mod RegisterLemmas
+pub mod Through
+pub mod Worked

@@ -1,9 +1,8 @@
 -- Where instructions stand in code, and what holds of each.
-use Rattle.std.proofs.Common.{◌≡◌, ◌≢◌, ℕ, zero, suc, ◌+◌, ◌<◌, ◌≤◌, List, [], ◌∷◌, ◌++◌, Some, None, length, refl, ap, sym, ◌∙◌, subst, arith, append_assoc, length-append}
-use Rattle.std.specs.Prelude.{slice_get, Option}
+use Rattle.std.proofs.Common.{◌≡◌, ℕ, zero, suc, ◌+◌, List, [], ◌∷◌, ◌++◌, Some, length, refl, ap, sym, ◌∙◌, subst, arith, append_assoc, length-append}
+use Rattle.std.specs.Prelude.{slice_get}
 use Rattle.uc_isa.specs.declared.instruction.Instr.{Instr}
-use Rattle.uc_isa.specs.declared.instruction.Instr.TheVariants.{Halt}
-use Rattle.uc_isa.specs.Lawful.{IsLawful, IsLawfulAt, Rule1, Rule2, Rule3, Rule4, Rule5, Rule6, IsLast}
+use Rattle.uc_isa.specs.Lawful.{IsLawful, Rule1, Rule2, Rule3, Rule4, Rule5, Rule6, IsLast}
 use Rattle.uc_isa.specs.Straight.{Stands}
 
 pub stands-left : (code : List Instr) (at : ℕ) (is js : List Instr) → Stands code at (is ++ js) → Stands code at is

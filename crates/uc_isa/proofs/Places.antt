@@ -1,11 +1,11 @@
 -- Steps of lawful code stay inside it.
-use Rattle.std.proofs.Common.{◌≡◌, ℕ, ◌+◌, ◌<◌, ◌≤◌, List, length, refl, ap, sym, subst, arith}
-use Rattle.std.specs.Prelude.{Bool, true, false, Option, Some, None, slice_get, if◌then◌else◌}
+use Rattle.std.proofs.Common.{◌≡◌, ℕ, ◌+◌, ◌<◌, List, length, refl, sym, subst, arith}
+use Rattle.std.specs.Prelude.{Bool, true, false, Option, Some, None}
 use Rattle.nv_base.specs.declared.term.Mem.{Mem}
 use Rattle.nv_base.specs.declared.term.Mem.TheVariants.{Sram, Sdram, Scratch}
-use Rattle.nv_base.specs.Memories.{Memories, fetched, stored}
-use Rattle.uc_isa.specs.Lawful.{IsLawfulAt, IsLast, IsLawful}
-use Rattle.uc_isa.specs.Step.{Next, step, step_at, effect, after_read, after_write, with_result, with_read, write_registers, address, holds, branched}
+use Rattle.nv_base.specs.Memories.{Memories}
+use Rattle.uc_isa.specs.Lawful.{IsLawfulAt}
+use Rattle.uc_isa.specs.Step.{effect, after_read, after_write, with_result, with_read, holds, branched}
 use Rattle.uc_isa.specs.declared.instruction.Dst.{Dst}
 use Rattle.uc_isa.specs.declared.instruction.Dst.TheVariants as dst
 use Rattle.uc_isa.specs.declared.instruction.Cond.{Cond}
@@ -22,7 +22,7 @@ place-with_result (dst.S r) v e = refl
 place-with_result (dst.SD r) v e = refl
 place-with_result dst.Nowhere v e = refl
 
-place-with_read : (m : Mem) (r : ℕ) (ws : List ℕ) (e : Engine) → (with_read m r ws e).place ≡ e.place
+pub place-with_read : (m : Mem) (r : ℕ) (ws : List ℕ) (e : Engine) → (with_read m r ws e).place ≡ e.place
 place-with_read Sram r ws e = refl
 place-with_read Sdram r ws e = refl
 place-with_read Scratch r ws e = refl

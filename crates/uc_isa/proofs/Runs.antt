@@ -1,18 +1,15 @@
 -- Runs that go straight to their end.
-use Rattle.std.proofs.Common.{◌≡◌, ◌≢◌, ℕ, zero, suc, ◌+◌, ◌<◌, ◌≤◌, List, [], ◌∷◌, ◌++◌, Some, refl, ap, sym, ◌∙◌, subst, arith, add_assoc}
+use Rattle.std.proofs.Common.{◌≡◌, ℕ, zero, suc, ◌+◌, ◌<◌, ◌≤◌, List, Some, refl, ap, sym, ◌∙◌, subst, arith, add_assoc}
 use Rattle.std.specs.Prelude.{slice_get}
 use Rattle.nv_base.specs.declared.outcome.Write.{Write as WriteEvent}
-use Rattle.nv_base.specs.declared.outcome.Outcome.{Outcome}
-use Rattle.nv_base.specs.declared.outcome.Outcome.TheVariants as outcome
 use Rattle.nv_base.specs.Memories.{Memories}
 use Rattle.nv_base.specs.Meanings.{FullOutcome}
-use Rattle.uc_isa.specs.Step.{Next, step, step_at, effect}
+use Rattle.uc_isa.specs.Step.{step, step_at, effect}
 use Rattle.uc_isa.specs.Engine.{run, continue_run, halted}
 use Rattle.uc_isa.specs.Straight.{RunsTo, Reaches, went, going}
 use Rattle.uc_isa.specs.declared.instruction.Instr.{Instr}
 use Rattle.uc_isa.specs.declared.engine.Engine.{Engine}
-use Rattle.uc_isa.specs.declared.engine.Stepped.{Stepped}
-use Rattle.uc_isa.specs.declared.engine.Stepped.TheVariants.{Went, Wrote, Halted, Fault}
+use Rattle.uc_isa.specs.declared.engine.Stepped.TheVariants.{Halted}
 
 pub run-went : (code : List Instr) (j : ℕ) (e e' : Engine) (p : Memories) (ws : List WriteEvent) → step code e p ≡ went e' p → run code (suc j) e p ws ≡ run code j e' p ws
 run-went code j e e' p ws h = ap (λ n. continue_run (run code j) n.stepped n.engine n.packet ws) h

@@ -1,5 +1,5 @@
 -- The engine's banks keep their sizes, and their registers hold words.
-use Rattle.std.proofs.Common.{◌≡◌, ℕ, zero, suc, ◌+◌, ◌-◌, ◌*◌, ◌%◌, ◌≤◌, ◌<◌, ◌^◌, List, [], ◌∷◌, ◌++◌, Some, None, length, take, drop, All, refl, ap, sym, ◌∙◌, arith, length-append, lit<}
+use Rattle.std.proofs.Common.{◌≡◌, ℕ, zero, suc, ◌+◌, ◌-◌, ◌*◌, ◌≤◌, ◌<◌, ◌^◌, List, [], ◌∷◌, ◌++◌, Some, None, length, take, drop, All, refl, ap, ◌∙◌, arith, length-append, lit<}
 use Rattle.std.proofs.lemmas.List.{length-set, length-take, length-drop, length-replicate}
 use Rattle.std.proofs.lemmas.List.Elements.{All-append, All-take, All-drop, All-set, All-replicate, All-cons, All-nil}
 use Rattle.std.specs.Prelude.{Option, Bool, slice_index, slice_set, slice_get, replicate}
@@ -10,9 +10,9 @@ use Rattle.nv_base.specs.Memories.{Memories, HasSizes, fetched, stored}
 use Rattle.nv_base.specs.Words.{IsWord}
 use Rattle.nv_base.proofs.WordLemmas.{word-fits, una-fits, bin-fits}
 use Rattle.nv_base.proofs.MemoryLemmas.{stored-sizes, fetched-words}
-use Rattle.uc_isa.specs.Lawful.{IsLawfulAt, IsLawful, IsRun, IsShift}
+use Rattle.uc_isa.specs.Lawful.{IsLawfulAt, IsLawful, IsShift}
 use Rattle.uc_isa.specs.Engine.{IsBank, IsEngine, start}
-use Rattle.uc_isa.specs.Step.{Next, step, step_at, effect, operand, address, with_result, with_flags, onward, branched, filled, with_read, write_registers, after_read, after_write, un_word}
+use Rattle.uc_isa.specs.Step.{Next, step, step_at, effect, operand, address, with_result, filled, with_read, write_registers, after_read, after_write, un_word}
 use Rattle.uc_isa.specs.declared.instruction.Src.{Src}
 use Rattle.uc_isa.specs.declared.instruction.Src.TheVariants as src
 use Rattle.uc_isa.specs.declared.instruction.Dst.{Dst}

@@ -1,11 +1,10 @@
 -- Runs of more and of fewer steps.
-use Rattle.std.proofs.Common.{◌≡◌, ℕ, zero, suc, ◌+◌, ◌-◌, ◌≤◌, ◌<◌, List, [], ◌∷◌, ◌++◌, Some, None, refl, ap, sym, subst, ◌∙◌, ◌⊎◌, inl, inr, append_assoc, arith}
+use Rattle.std.proofs.Common.{◌≡◌, ℕ, zero, suc, ◌+◌, ◌-◌, ◌<◌, List, [], ◌∷◌, ◌++◌, Some, None, refl, ap, sym, subst, ◌∙◌, ◌⊎◌, inl, inr, append_assoc, arith}
 use Rattle.std.proofs.lemmas.List.{append-nil}
 use Rattle.std.proofs.lemmas.List.Elements.{filter-append}
 use Rattle.std.specs.Prelude.{Option, slice_get}
 use Rattle.nv_base.specs.declared.term.Mem.{Mem}
 use Rattle.nv_base.specs.declared.outcome.Write.{Write as WriteEvent}
-use Rattle.nv_base.specs.declared.outcome.Outcome.{Outcome}
 use Rattle.nv_base.specs.declared.outcome.Outcome.TheVariants as outcome
 use Rattle.nv_base.specs.Memories.{Memories}
 use Rattle.nv_base.specs.Meanings.{FullOutcome, IsOver, IsPrefix, seen, source_writes, is_source_write}

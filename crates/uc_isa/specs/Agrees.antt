@@ -1,7 +1,6 @@
 -- Code that does what a source says.
 use Rattle.std.specs.Prelude.{◌≡◌, ℕ, ◌+◌, ◌<◌, ◌≤◌, ◌^◌, List, Option, Some, None, All, ⊤, length, slice_get}
-use Rattle.nv_base.specs.declared.term.Mem.{Mem}
-use Rattle.nv_base.specs.declared.term.Mem.TheVariants.{Sram, Sdram, Scratch}
+use Rattle.nv_base.specs.declared.term.Mem.TheVariants.{Scratch}
 use Rattle.nv_base.specs.declared.outcome.Outcome.TheVariants as outcome
 use Rattle.nv_base.specs.Memories.{Memories, HasSizes}
 use Rattle.nv_base.specs.Meanings.{Meaning, Same, seen}
@@ -9,7 +8,7 @@ use Rattle.uc_isa.specs.Code.{CodeView}
 use Rattle.uc_isa.specs.Step.{address}
 use Rattle.uc_isa.specs.Engine.{start, engine, after}
 use Rattle.uc_isa.specs.declared.instruction.Instr.{Instr}
-use Rattle.uc_isa.specs.declared.instruction.Instr.TheVariants.{Alu, Un, Immed, Br, Read, Write, Halt}
+use Rattle.uc_isa.specs.declared.instruction.Instr.TheVariants.{Read, Write}
 use Rattle.uc_isa.specs.declared.engine.Engine.{Engine}
 
 -- the first scratch address that an instruction is to reach, and the number of words

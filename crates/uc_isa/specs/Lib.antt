@@ -5,3 +5,6 @@ pub mod Engine
 pub mod Straight
 pub mod Agrees
 pub mod Moves
+pub mod Registers
+pub mod Pieces
+pub mod Worked

@@ -1,7 +1,7 @@
--- What moves cost: each instruction has a weight, which counts by the label that it stands in. No contract cites it so far.
+-- What moves cost: each instruction has a weight, which counts by the label that it stands in.
 use Rattle.std.specs.Prelude.{ℕ, suc, ◌+◌, ◌*◌, List, [], ◌∷◌, nat_eq, nat_le, if◌then◌else◌}
 use Rattle.nv_base.specs.declared.term.Mem.{Mem}
-use Rattle.nv_base.specs.declared.term.Mem.TheVariants.{Sram, Sdram, Scratch}
+use Rattle.nv_base.specs.declared.term.Mem.TheVariants.{Scratch}
 use Rattle.uc_isa.specs.declared.instruction.Src.{Src}
 use Rattle.uc_isa.specs.declared.instruction.Src.TheVariants as src
 use Rattle.uc_isa.specs.declared.instruction.Dst.{Dst}

@@ -5,7 +5,6 @@ use Rattle.nv_base.specs.declared.term.Mem.TheVariants.{Sram, Sdram, Scratch}
 use Rattle.nv_base.specs.declared.term.Bin.{Bin}
 use Rattle.nv_base.specs.declared.term.Bin.TheVariants.{Add, Sub, And, Or, Xor}
 use Rattle.nv_base.specs.declared.term.Una.TheVariants as una
-use Rattle.nv_base.specs.declared.outcome.Write.{Write as WriteEvent}
 use Rattle.nv_base.specs.Memories.{Memories, fetched, stored}
 use Rattle.nv_base.specs.Words.{bin_word, una_word, shifted_left}
 use Rattle.uc_isa.specs.declared.instruction.Src.{Src}

@@ -1,6 +1,6 @@
 //! Laws of the engine's runs and of lawful code: each is the contract of a function that does nothing.
 ghost use Rattle.std.specs.Prelude.{◌≡◌, ◌+◌, ◌<◌, ◌≤◌, ◌↔◌, ℕ, All, Some, List, ◌∷◌, ◌++◌, length, slice_get};
-ghost use Rattle.nv_base.specs.Meanings.{IsOver, Same};
+ghost use Rattle.nv_base.specs.Meanings.{AreArguments, IsOver, KeepsOutcomes, Same};
 ghost use Rattle.nv_base.specs.Memories.{HasSizes, Memories};
 ghost use Rattle.nv_base.specs.Words.{IsWord};
 ghost use Rattle.nv_base.specs.Progress.{FollowsAll, FollowsWrites, Grows, IsStepwise};
@@ -12,6 +12,7 @@ ghost use Rattle.uc_isa.specs.Engine.{IsEngine, after, engine, halted, run, star
 ghost use Rattle.uc_isa.specs.Lawful.{IsFirstBroken, IsLawful};
 ghost use Rattle.uc_isa.specs.Step.{EndsRun, step};
 ghost use Rattle.uc_isa.specs.Straight.{Stands, Reaches, RunsTo, went};
+ghost use Rattle.uc_isa.specs.Worked.{MovesCost, SumRuns};
 ghost use Rattle.uc_isa.specs.declared.engine.Engine.{Engine};
 ghost use Rattle.uc_isa.specs.declared.engine.Stepped.{Stepped};
 ghost use Rattle.uc_isa.specs.declared.instruction.Instr.{Instr};
@@ -46,6 +47,14 @@ pub fn agrees_where_same()
         → Agrees params source c }
 {}
 
+/// Code that agrees with what a source became agrees with the source, where the outcomes were kept and the source's
+/// memories follow its writes.
+pub fn agrees_through()
+    ensures { (params params' : ℕ) (first second : SourceMeaning) (c : CodeView) → KeepsOutcomes params params' first second
+        → ((args : List ℕ) (p : Memories) → AreArguments params args → HasSizes p → FollowsWrites p (first args p))
+        → Agrees params' second c → Agrees params first c }
+{}
+
 /// A part of what stands in code stands there too, and its first instruction is the one at its place.
 pub fn parts_of_code()
     ensures left { (code : List Instr) (at : ℕ) (is js : List Instr) → Stands code at (is ++ js) → Stands code at is }
@@ -71,4 +80,11 @@ pub fn first_broken_rule()
 pub fn engine_states()
     ensures start { (args : List ℕ) (base : ℕ) → length args ≤ 16 → All IsWord args → IsWord base → IsEngine (start args base) }
     ensures step { (code : List Instr) (e : Engine) (p : Memories) → IsLawful code → IsEngine e → HasSizes p → IsEngine (step code e p).engine × HasSizes (step code e p).packet }
+{}
+
+/// What a short code does, and what its moves cost.
+#[tactic(auto, using(crate::proofs::Worked::sum_runs, crate::proofs::Worked::moves_cost))]
+pub fn short_code()
+    ensures runs { SumRuns }
+    ensures cost { MovesCost }
 {}

@@ -5,6 +5,7 @@ mod code;
 mod engine;
 mod instruction;
 pub mod laws;
+pub mod pieces;
 mod registers;
 mod rules;
 

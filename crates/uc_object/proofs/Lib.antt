@@ -10,3 +10,4 @@ pub mod Places
 pub mod RowPlaces
 pub mod Results
 pub mod Spelling
+pub mod Worked

@@ -1,3 +1,4 @@
 pub mod Object
+pub mod Worked
 pub mod Columns
 pub mod Header

@@ -2,6 +2,7 @@
 ghost use Rattle.std.specs.Prelude.{◌≡◌, ◌+◌, ◌*◌, ◌<◌, ◌^◌, ◌⊎◌, ℕ, List, length, Ok, Err};
 ghost use Rattle.uc_isa.specs.Code.{CodeView};
 ghost use Rattle.uc_object.specs.Object.{IsObject};
+ghost use Rattle.uc_object.specs.Worked.{SumObject};
 
 use crate::{ObjectError, decode, encode};
 use std::alloc::Global;
@@ -24,3 +25,9 @@ pub fn decode_encoded(alloc: Global, code: &Code) -> Result<Code, ObjectError>
 {
     decode(alloc, &encode(alloc, code)?)
 }
+
+/// The bytes of a short code.
+#[tactic(auto, using(crate::proofs::Worked::sum_object))]
+pub fn short_object()
+    ensures { SumObject }
+{}

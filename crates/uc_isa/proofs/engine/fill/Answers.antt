@@ -1,4 +1,4 @@
-use Rattle.std.proofs.Common.{◌≡◌, ◌∙◌, sym, ap, subst, length}
+use Rattle.std.proofs.Common.{◌∙◌, sym, ap, subst}
 use Rattle.nv_base.specs.Memories.{IsAccess, fetched}
 use Rattle.uc_isa.proofs.Banks.{access-of_run, length-run, put_mid-run}
 use Rattle.uc_isa.proofs.engine.fill.Goals as goal
