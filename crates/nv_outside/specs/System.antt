@@ -4,6 +4,10 @@ use Rattle.nv_outside.specs.declared.disk.DiskFiles.{DiskFiles}
 use Rattle.nv_outside.specs.declared.output.StdSink.{StdSink}
 
 module _ {R File Dir : Type 0} where
+  -- how many loads and saves there were
+  abbrev pub disk_call_count : DiskFiles R File Dir → ℕ
+  disk_call_count files = files.calls
+
   -- how often loads from the system have failed, and saves, whatever the name
   abbrev pub disk_load_count : DiskFiles R File Dir → ℕ
   disk_load_count files = files.load_faults

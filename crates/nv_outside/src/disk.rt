@@ -1,13 +1,18 @@
 // The files of the system.
-ghost use Rattle.std.specs.Prelude.{◌≡◌, ◌≢◌, ◌+◌, ◌≤◌, ◌++◌, ℕ, List, None, length};
-ghost use Rattle.nv_outside.specs.System.{disk_load_count, disk_save_count};
+ghost use Rattle.std.specs.Prelude.{◌≡◌, ◌≢◌, ◌↔◌, ◌+◌, ◌≤◌, ◌<◌, ◌++◌, ℕ, List, None, OnOk, IsOk, IfOk, IfErr, IfSome, length};
+ghost use Rattle.std.specs.Fs.{file_type, IsFile};
+ghost use Rattle.std.specs.IoError.{error_kind};
+ghost use Rattle.std.specs.Io.KnownBytes.{Appends};
+ghost use Rattle.nv_outside.specs.System.{disk_call_count, disk_load_count, disk_save_count};
+ghost use Rattle.nv_outside.specs.declared.disk.Way.{Way};
 ghost use Rattle.nv_outside.specs.declared.files.Loaded.{Loaded};
 
 use crate::files::{Files, Loaded, Saved};
 use arrayvec::ArrayString;
 use std::fmt::Write as _;
-use std::fs::{File, OpenFile, OpenOptions, Permissions};
+use std::fs::{File, Metadata, OpenFile, OpenOptions, Permissions};
 use std::io::{ErrorKind, Read, Write};
+use std::random::RandomSource;
 use std::{fs, io, rt};
 
 // The longest path that is made for a temporary file, and how many names are tried for one.
@@ -19,11 +24,13 @@ const TEMPORARY_NAMES: u32 = 1000;
 /// what the files hold, and keeps one count of failed loads and one of failed saves for all names.
 ///
 /// A save to a name that is absent or a regular file writes a temporary file in the same folder, syncs it
-/// and renames it, so a run that is killed leaves the old file, or the new one, whole. Anything else, as
-/// a device, a pipe or a symbolic link, is written in place, and so is a file whose folder takes no new one.
+/// and renames it, so a run that is killed leaves the old file, or the new one, whole; of a symbolic link
+/// that is done where it leads to. A device or a pipe is written in place, and so are a link that leads
+/// nowhere and a file whose folder lets nothing be made or renamed.
 #[derive(Drop)]
 pub struct DiskFiles<'a, R: rt::Files> {
     rt: &'a R,
+    calls: u64,
     load_faults: u64,
     save_faults: u64,
 }
@@ -31,27 +38,32 @@ pub struct DiskFiles<'a, R: rt::Files> {
 impl<'a, R: rt::Files> DiskFiles<'a, R> {
     /// The files of this runtime.
     pub fn new(rt: &'a R) -> DiskFiles<'a, R>
+        ensures calls { disk_call_count result ≡ 0 }
         ensures loads { disk_load_count result ≡ 0 }
         ensures saves { disk_save_count result ≡ 0 }
     {
         DiskFiles {
             rt,
+            calls: 0,
             load_faults: 0,
             save_faults: 0,
         }
     }
 }
 
-impl<'a, R: rt::Files> Files for DiskFiles<'a, R> {
+impl<'a, R: rt::Files + RandomSource + AllocGlobal> Files for DiskFiles<'a, R> {
     ghost tells = { ⊥ };
 
     ghost held = { λ _ _. None };
+
+    ghost calls_made = { disk_call_count };
 
     ghost load_faults = { λ f _. disk_load_count f };
 
     ghost save_faults = { λ f _. disk_save_count f };
 
     fn load(&mut self, name: &str, limit: u64, into: &mut Vec<u8>) -> Loaded {
+        self.calls = self.calls.saturating_add(1);
         let loaded = match fs::open(self.rt, name) {
             Ok(mut file) => read_whole(&mut file, limit, into),
             Err(_) => Loaded::Failed,
@@ -63,6 +75,7 @@ impl<'a, R: rt::Files> Files for DiskFiles<'a, R> {
     }
 
     fn save(&mut self, name: &str, bytes: &[u8]) -> Saved {
+        self.calls = self.calls.saturating_add(1);
         match write_whole(self.rt, name, bytes) {
             Ok(()) => Saved::Done,
             Err(_) => {
@@ -74,8 +87,10 @@ impl<'a, R: rt::Files> Files for DiskFiles<'a, R> {
 }
 
 // Appends what a file has left, where that is at most `limit` bytes. Of a longer one at most a buffer more is read.
-fn read_whole<F: Read>(file: &mut F, limit: u64, into: &mut Vec<u8>) -> Loaded
+pub(crate) fn read_whole<F: Read>(file: &mut F, limit: u64, into: &mut Vec<u8>) -> Loaded
+    ensures whole { result ≡ Loaded.Done → IfSome (F.remaining file.old) (λ left. into.new.items ≡ into.old.items ++ left) }
     ensures within { result ≡ Loaded.Done → (bytes : List ℕ) × (length bytes ≤ limit) × (into.new.items ≡ into.old.items ++ bytes) }
+    ensures too_long { result ≡ Loaded.TooLong → IfSome (F.remaining file.old) (λ left. limit < length left) }
     ensures not_done { result ≢ Loaded.Done → into.new.items ≡ into.old.items }
 {
     let before = into.len();
@@ -106,49 +121,108 @@ fn read_whole<F: Read>(file: &mut F, limit: u64, into: &mut Vec<u8>) -> Loaded
     Loaded::Failed
 }
 
-// Makes these bytes the whole of a file.
-fn write_whole<R: rt::Files>(rt: &R, name: &str, bytes: &[u8]) -> io::Result<()> {
-    match fs::symlink_metadata(rt, name) {
-        Ok(old) if old.is_file() => {
-            // A file that may not be written may not be replaced either.
-            OpenOptions::new().write(true).open(rt, name)?;
-            replace(rt, name, bytes, Some(old.permissions()))
+// How a file comes to have other bytes.
+#[derive(Drop)]
+enum Way {
+    // A new file takes the name, which nothing has.
+    New,
+    // A new file with these permissions takes the name of a regular one.
+    Replace(Permissions),
+    // What has the name is written to.
+    InPlace,
+}
+
+// How a file is written, by a look at what has its name, links followed. A look that fails otherwise than
+// by 'not found' answers nothing.
+fn way_by(look: io::Result<Metadata>) -> io::Result<Way>
+    ensures looked { IfOk look (λ seen. IfOk result (λ it. (it ≡ Way.InPlace ↔ (IsFile (file_type seen) → ⊥)) × (it ≢ Way.New))) }
+    ensures answered { IsOk look → IsOk result }
+    ensures unseen { IfErr look (λ e. IfOk result (λ it. (it ≡ Way.New) × (error_kind e ≡ ErrorKind.NotFound))) }
+{
+    match look {
+        Ok(seen) => {
+            if seen.is_file() {
+                Ok(Way::Replace(seen.permissions()))
+            } else {
+                Ok(Way::InPlace)
+            }
         }
-        Err(e) if e.kind() == ErrorKind::NotFound => replace(rt, name, bytes, None),
-        _ => fs::write(rt, name, bytes),
+        Err(e) => {
+            if e.kind() == ErrorKind::NotFound {
+                Ok(Way::New)
+            } else {
+                Err(e)
+            }
+        }
     }
 }
 
-// Writes a temporary file beside a file, and gives it the file's name. Where the folder takes no new file,
-// the file is written in place.
-fn replace<R: rt::Files>(
+// Makes these bytes the whole of a file.
+fn write_whole<R: rt::Files + RandomSource + AllocGlobal>(
+    rt: &R,
+    name: &str,
+    bytes: &[u8],
+) -> io::Result<()> {
+    match way_by(fs::metadata(rt, name))? {
+        Way::Replace(permissions) => {
+            // A file that may not be written may not be replaced either.
+            OpenOptions::new().write(true).open(rt, name)?;
+            if fs::symlink_metadata(rt, name)?.is_symlink() {
+                let path = fs::canonicalize(rt, name)?;
+                replace(rt, path.as_str(), bytes, Some(permissions))
+            } else {
+                replace(rt, name, bytes, Some(permissions))
+            }
+        }
+        Way::InPlace => fs::write(rt, name, bytes),
+        Way::New => match way_by(fs::symlink_metadata(rt, name))? {
+            Way::New => replace(rt, name, bytes, None),
+            // A link that leads nowhere: the file that it names is made.
+            _ => fs::write(rt, name, bytes),
+        },
+    }
+}
+
+// Writes a temporary file beside a file, and gives it the file's name. Where the folder doesn't let it, the
+// file is written in place.
+fn replace<R: rt::Files + RandomSource>(
     rt: &R,
     name: &str,
     bytes: &[u8],
     permissions: Option<Permissions>,
 ) -> io::Result<()> {
-    match create_temporary(rt, name) {
-        Ok((temporary, mut file)) => {
-            let moved = match fill(&mut file, bytes, permissions) {
-                Ok(()) => fs::rename(rt, temporary.as_str(), name),
-                Err(e) => Err(e),
-            };
-            if moved.is_err() {
-                let _ = fs::remove_file(rt, temporary.as_str());
-            }
-            moved
-        }
+    match replaced(rt, name, bytes, permissions) {
         Err(e) if e.kind() == ErrorKind::PermissionDenied => fs::write(rt, name, bytes),
-        Err(e) => Err(e),
+        other => other,
     }
 }
 
-// Writes a new file, and sees that the bytes have reached the disk.
-fn fill<F: Write + OpenFile>(
-    file: &mut F,
+// Writes a temporary file beside a file, and gives it the file's name; where that fails, none stays.
+fn replaced<R: rt::Files + RandomSource>(
+    rt: &R,
+    name: &str,
     bytes: &[u8],
     permissions: Option<Permissions>,
 ) -> io::Result<()> {
+    let (temporary, mut file) = create_temporary(rt, name)?;
+    let moved = match fill(&mut file, bytes, permissions) {
+        Ok(()) => fs::rename(rt, temporary.as_str(), name),
+        Err(e) => Err(e),
+    };
+    if moved.is_err() {
+        let _ = fs::remove_file(rt, temporary.as_str());
+    }
+    moved
+}
+
+// Writes these bytes to a new file, and sees that they have reached the disk.
+pub(crate) fn fill<F: Write + OpenFile>(
+    file: &mut F,
+    bytes: &[u8],
+    permissions: Option<Permissions>,
+) -> io::Result<()>
+    ensures { OnOk result (Appends (F.contents file.old) (F.contents file.new) bytes.now) }
+{
     if let Some(permissions) = permissions {
         file.set_permissions(permissions)?;
     }
@@ -156,8 +230,9 @@ fn fill<F: Write + OpenFile>(
     file.sync_all()
 }
 
-// A new file in the folder of a file, and its path.
-fn create_temporary<R: rt::Files>(
+// A new file in the folder of a file, and its path. The names begin at a random number, so what killed runs
+// left takes none of them.
+fn create_temporary<R: rt::Files + RandomSource>(
     rt: &R,
     name: &str,
 ) -> io::Result<(ArrayString<PATH_BYTES>, R::File)> {
@@ -165,9 +240,12 @@ fn create_temporary<R: rt::Files>(
         Some((folder, _)) => folder,
         None => ".",
     };
+    let mut random = [0u8; 8];
+    rt.fill_bytes(&mut random)?;
+    let first = u64::from_le_bytes(random);
     for number in 0..TEMPORARY_NAMES {
         let mut path = ArrayString::new();
-        if write!(path, "{folder}/.novac-{number}.tmp").is_err() {
+        if write!(path, "{folder}/.novac-{first}-{number}.tmp").is_err() {
             return Err(io::Error::from(ErrorKind::InvalidFilename));
         }
         match File::create_new(rt, path.as_str()) {

@@ -8,6 +8,8 @@ mod memory;
 mod output;
 mod sink;
 #[cfg(test)]
+mod stream_tests;
+#[cfg(test)]
 mod tests;
 
 pub use disk::DiskFiles;

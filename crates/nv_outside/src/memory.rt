@@ -93,6 +93,8 @@ impl Files for MemFiles {
 
     ghost held = { files_of };
 
+    ghost calls_made = { next_call };
+
     ghost load_faults = { λ f _. load_count f };
 
     ghost save_faults = { λ f _. save_count f };

@@ -1,6 +1,7 @@
 // What the calls do with ample memory, and what the system's files and output take and give back.
 use crate::{DiskFiles, Files, Loaded, MemFiles, MemSink, Put, Saved, Sink, StdSink};
 use std::fs;
+use std::os::unix::fs as unix;
 use std::test::Fail;
 
 #[test]
@@ -87,12 +88,26 @@ fn disk_gives_back_what_was_saved(rt: HostRuntime) -> Result<(), Fail> {
         "a device that is full"
     );
 
+    unix::symlink(&rt, "file", "disk_test/link")?;
+    assert_eq!(rt;
+        files.save("disk_test/link", b"third"),
+        Saved::Done,
+        "through a link"
+    );
+    into.clear();
+    assert_eq!(rt; files.load(name, 6, &mut into), Loaded::Done);
+    assert_eq!(rt; into.as_slice(), b"third".as_slice());
+    assert_eq!(rt;
+        fs::symlink_metadata(&rt, "disk_test/link")?.is_symlink(),
+        true
+    );
+
     let mut left = 0u32;
     for entry in fs::read_dir(&rt, "disk_test")? {
         let _ = entry?;
         left = left.saturating_add(1);
     }
-    assert_eq!(rt; left, 1, "no temporary file stays");
+    assert_eq!(rt; left, 2, "no temporary file stays");
     fs::remove_dir_all(&rt, "disk_test")?;
     Ok(())
 }
