@@ -2,6 +2,7 @@ pub mod Values
 pub mod Packing
 pub mod Running
 pub mod Meaning
+pub mod Laws
 pub mod View
 pub mod Tables
 pub mod Sizes

@@ -46,10 +46,11 @@ now_of (Gives v now) = now
 now_of (Raises k vs now) = now
 now_of (Stops how now) = now
 
--- the writes so far are the first ones of a result's
+-- the writes so far are the first ones of a result's, and the further ones made its memories of those so far
 pub record Grown (now : Running) (r : Result) : Type 0 where
   pub rest : List Write
   pub writes : (now_of r).writes ≡ now.writes ++ rest
+  pub packet : (now_of r).packet ≡ left_by rest now.packet
 
 -- a stop is what the run came to; after want of memory its writes so far are the first ones of the result's
 abbrev pub Stopped : Stop → Running → Result → Type 0
