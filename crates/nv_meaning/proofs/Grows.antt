@@ -22,8 +22,12 @@ Growing call = (f : List ℕ) (vs : Values) (now : Running) → Grown now (call 
 pub grown-here : (now : Running) (r : Result) → now_of r ≡ now → Grown now r
 grown-here now r e = record { rest = []; writes = ap (λ x. x.writes) e ∙ sym (append-nil now.writes); packet = ap (λ x. x.packet) e }
 
-grown-further : (a b : Running) (ws : List Write) (r : Result) → b.writes ≡ a.writes ++ ws → Grown b r → Grown a r
-grown-further a b ws r e g = record { rest = ws ++ g.rest; writes = g.writes ∙ ap (λ l. l ++ g.rest) e ∙ append_assoc a.writes ws g.rest }
+grown-further : (a b : Running) (ws : List Write) (r : Result) → b.writes ≡ a.writes ++ ws → b.packet ≡ left_by ws a.packet → Grown b r → Grown a r
+grown-further a b ws r e p g = record {
+  rest = ws ++ g.rest;
+  writes = g.writes ∙ ap (λ l. l ++ g.rest) e ∙ append_assoc a.writes ws g.rest;
+  packet = g.packet ∙ ap (left_by g.rest) p ∙ sym (left-append ws g.rest a.packet);
+}
 
 pub grown-then : (now : Running) (q : Result) (next : Value → Running → Result) → Grown now q → ((v : Value) (last : Running) → Grown last (next v last)) → Grown now (and_then q next)
 grown-then now (Gives v last) next g h = grown-further now last g.rest (next v last) g.writes g.packet (h v last)
