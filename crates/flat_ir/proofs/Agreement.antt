@@ -5,30 +5,9 @@ use Rattle.nv_base.specs.declared.term.Mem.{Mem}
 use Rattle.nv_base.specs.declared.term.Cmp.{Cmp}
 use Rattle.nv_base.specs.Memories.{Memories, fetched, stored}
 use Rattle.nv_base.specs.Words.{Env, assigned, assigned_all, compares}
-use Rattle.flat_ir.specs.Running.{Running, Result, Gives, Raises, Stops, and_then, handled, fetch, after_fetch, store, after_store}
-use Rattle.flat_ir.specs.Formed.{is_in}
-use Rattle.flat_ir.specs.Counts.{AgreeOn}
-
--- ---- assignments
-
-assigned-at : (b : Bool) (y : ℕ) (known : List ℕ) (w u v : ℕ) → (is_in y known ≡ true → u ≡ v) → (b || is_in y known) ≡ true → (if b then w else u) ≡ (if b then w else v)
-assigned-at true y known w u v h e = refl
-assigned-at false y known w u v h e = h e
-
-pub agree-assigned : (known : List ℕ) (env env' : Env) (x w : ℕ) → AgreeOn known env env' → AgreeOn (x ∷ known) (assigned env x w) (assigned env' x w)
-agree-assigned known env env' x w h = λ y e. assigned-at (nat_eq y x) y known w (env y) (env' y) (h y) e
-
-in-later : (b : Bool) (y : ℕ) (xs : List ℕ) (x : ℕ) (known : List ℕ) → nat_eq y x ≡ b → (b || is_in y (xs ++ known)) ≡ true → is_in y (xs ++ x ∷ known) ≡ true
-in-later b y [] x known same e = subst (λ c. (c || is_in y known) ≡ true) (sym same) e
-in-later true y (z ∷ xs) x known same e = or_right (nat_eq y z) (is_in y (xs ++ x ∷ known)) (in-later true y xs x known same refl)
-in-later false y (z ∷ xs) x known same e =
-    ⊎_elim (λ (p : nat_eq y z ≡ true). or_left (nat_eq y z) (is_in y (xs ++ x ∷ known)) p)
-    (λ (p : is_in y (xs ++ known) ≡ true). or_right (nat_eq y z) (is_in y (xs ++ x ∷ known)) (in-later false y xs x known same p)) (or_cases (nat_eq y z) (is_in y (xs ++ known)) e)
-
-pub agree-all : (xs : List ℕ) (ws : List ℕ) (known : List ℕ) (env env' : Env) → AgreeOn known env env' → AgreeOn (xs ++ known) (assigned_all env xs ws) (assigned_all env' xs ws)
-agree-all [] ws known env env' h = h
-agree-all (x ∷ xs) [] known env env' h = λ y e. agree-all xs [] (x ∷ known) (assigned env x 0) (assigned env' x 0) (agree-assigned known env env' x 0 h) y (in-later (nat_eq y x) y xs x known refl e)
-agree-all (x ∷ xs) (w ∷ ws) known env env' h = λ y e. agree-all xs ws (x ∷ known) (assigned env x w) (assigned env' x w) (agree-assigned known env env' x w h) y (in-later (nat_eq y x) y xs x known refl e)
+use Rattle.nv_base.specs.Running.{Running}
+use Rattle.flat_ir.specs.Running.{Result, Gives, Raises, Stops, and_then, handled, fetch, after_fetch, store, after_store}
+use Rattle.nv_base.specs.Sets.{is_in, AgreeOn}
 
 -- ---- what follows is the same
 

@@ -3,7 +3,8 @@ use Rattle.std.proofs.Common.{◌≡◌, ℕ, max, ◌&&◌, List, [], ◌∷◌
 use Rattle.flat_ir.specs.declared.flat.FlatFun.{FlatFun}
 use Rattle.flat_ir.specs.declared.spine.Step.{Step}
 use Rattle.flat_ir.specs.Wide.{Widths}
-use Rattle.flat_ir.specs.Bulk.{Bulk, Bulks, both}
+use Rattle.nv_base.specs.Measures.{Bulk, both}
+use Rattle.flat_ir.specs.Bulk.{Bulks}
 use Rattle.flat_ir.specs.Pieces.{new_vars, known_behind, step_formed, steps_formed, step_defined, steps_defined, step_raised, steps_raised, step_live, steps_live, step_wide, steps_wide, step_bulk, steps_bulk}
 use Rattle.flat_ir.proofs.Parts.{and-two}
 

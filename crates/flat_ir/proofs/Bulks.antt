@@ -1,51 +1,22 @@
 -- The bulks of groups are the least that bound their functions together.
 use Rattle.std.proofs.Common.{◌≡◌, ℕ, zero, suc, ◌+◌, ◌-◌, ◌≤◌, ◌<◌, Bool, true, false, nat_lt, ◌==◌, List, [], ◌∷◌, refl, sym, subst, if◌then◌else◌, Option, Some, None, length, slice_get, arith}
 use Rattle.std.proofs.lemmas.Bool.{ltb-true, eqb-true}
+use Rattle.nv_base.proofs.Measures.{most-refl, most-trans, most-none, most-both, most-behind, most-if}
 use Rattle.flat_ir.specs.declared.flat.Flat.{Flat}
 use Rattle.flat_ir.specs.declared.flat.Flat.TheVariants.{Let', Fetch', Store', If', Bind', Call, Raise, Try', Give}
 use Rattle.flat_ir.specs.declared.flat.FlatFun.{FlatFun}
-use Rattle.flat_ir.specs.Bulk.{Bulk, nothing, a_label, a_jump, a_node, both, Bulks, return_bulk, call_bulk, code_bulk, function_bulk, sum_bulk, bulks_within, group_bulk, main_bulk, bulk, IsAtMost, AreBulks}
-
-pub most-refl : (a : Bulk) → IsAtMost a a
-most-refl a = record { labels = omega arith; jumps = omega arith; nodes = omega arith; defined = omega arith; used = omega arith }
-
-pub most-trans : (a b c : Bulk) → IsAtMost a b → IsAtMost b c → IsAtMost a c
-most-trans a b c p q = record {
-  labels = omega (arith, p.labels, q.labels);
-  jumps = omega (arith, p.jumps, q.jumps);
-  nodes = omega (arith, p.nodes, q.nodes);
-  defined = omega (arith, p.defined, q.defined);
-  used = omega (arith, p.used, q.used);
-}
-
-pub most-none : (a : Bulk) → IsAtMost nothing a
-most-none a = record { labels = omega arith; jumps = omega arith; nodes = omega arith; defined = omega arith; used = omega arith }
-
-pub most-both : (a b c d : Bulk) → IsAtMost a b → IsAtMost c d → IsAtMost (both a c) (both b d)
-most-both a b c d p q = record {
-  labels = omega (arith, p.labels, q.labels);
-  jumps = omega (arith, p.jumps, q.jumps);
-  nodes = omega (arith, p.nodes, q.nodes);
-  defined = omega (arith, p.defined, q.defined);
-  used = omega (arith, p.used, q.used);
-}
+use Rattle.nv_base.specs.Measures.{Bulk, nothing, a_label, a_jump, a_node, both, IsAtMost}
+use Rattle.flat_ir.specs.Bulk.{Bulks, return_bulk, call_bulk, code_bulk, function_bulk, sum_bulk, bulks_within, group_bulk, main_bulk, bulk, AreBulks}
 
 -- the first gives each group below this one at most what the second gives it
 abbrev pub Less : ℕ → Bulks → Bulks → Type 0
 Less own v w = (g : ℕ) → g < own → IsAtMost (v g) (w g)
-
-most-if : (b : Bool) (c d : Bulk) → (b ≡ true → IsAtMost c d) → IsAtMost (if b then c else nothing) (if b then d else nothing)
-most-if true c d h = h refl
-most-if false c d h = most-refl nothing
 
 call-mono : (v w : Bulks) (own : ℕ) (last : Bool) (o : Option FlatFun) → Less own v w → IsAtMost (call_bulk v own last o) (call_bulk w own last o)
 call-mono v w own last (Some f) h =
     most-if (nat_lt f.group own) (both (return_bulk last) (v f.group)) (both (return_bulk last) (w f.group))
     (λ e. most-both (return_bulk last) (return_bulk last) (v f.group) (w f.group) (most-refl (return_bulk last)) (h f.group (ltb-true f.group own e)))
 call-mono v w own last None h = most-refl nothing
-
-most-behind : (a c d : Bulk) → IsAtMost c d → IsAtMost (both a c) (both a d)
-most-behind a c d h = most-both a a c d (most-refl a) h
 
 pub code-mono : (funs : List FlatFun) (v w : Bulks) (own : ℕ) → Less own v w → (last : Bool) (t : Flat) → IsAtMost (code_bulk funs v own last t) (code_bulk funs w own last t)
 code-mono funs v w own h last (Let' x a q t) = most-behind (a_node 1 2) (code_bulk funs v own last t) (code_bulk funs w own last t) (code-mono funs v w own h last t)

@@ -6,21 +6,21 @@ use Rattle.nv_base.specs.declared.term.Mem.{Mem}
 use Rattle.nv_base.specs.declared.term.Atom.{Atom}
 use Rattle.nv_base.specs.Memories.{Memories, fetched, stored}
 use Rattle.nv_base.specs.Words.{Env, assigned, assigned_all, atom_word, atom_words, prim_word, compares}
+use Rattle.nv_base.proofs.WordLemmas.{length-words}
 use Rattle.flat_ir.specs.declared.flat.Flat.{Flat}
 use Rattle.flat_ir.specs.declared.flat.Flat.TheVariants.{Let', Fetch', Store', If', Bind', Call, Raise, Try', Give}
 use Rattle.flat_ir.specs.declared.flat.FlatFun.{FlatFun}
-use Rattle.flat_ir.specs.Running.{Running, Result, Gives, Raises, Stops, and_then, handled, after_fetch, after_store, taken}
+use Rattle.nv_base.specs.Running.{Running}
+use Rattle.flat_ir.specs.Running.{Result, Gives, Raises, Stops, and_then, handled, after_fetch, after_store, taken}
 use Rattle.flat_ir.specs.Meaning.{Calls, does, blank, enter, calls_within}
-use Rattle.flat_ir.specs.Formed.{is_known, all_known, can_move, is_address, is_primitive, may_stand, can_call, is_formed, all_different, defined, is_function, agree, all_raised, is_main, is_program}
+use Rattle.nv_base.specs.Access.{is_known, all_known, can_move, is_address, is_primitive}
+use Rattle.nv_base.specs.Sets.{all_different}
+use Rattle.flat_ir.specs.Formed.{may_stand, can_call, is_formed, defined, is_function, agree, all_raised, is_main, is_program}
 use Rattle.flat_ir.specs.Counts.{GivesMany}
 
 -- each call of a function of the program gives as many words as that says
 abbrev pub CallsMany : List FlatFun → Calls → Type 0
 CallsMany funs call = (f : ℕ) (g : FlatFun) (ws : List ℕ) (now : Running) → slice_get funs f ≡ Some g → GivesMany g.results (call f ws now)
-
-pub length-words : (env : Env) (as' : List Atom) → length (atom_words env as') ≡ length as'
-length-words env [] = refl
-length-words env (a ∷ as') = ap suc (length-words env as')
 
 then-many : (n : ℕ) (q : Result) (next : List ℕ → Running → Result) → ((ws : List ℕ) (last : Running) → GivesMany n (next ws last)) → GivesMany n (and_then q next)
 then-many n (Gives ws last) next h = h ws last

@@ -7,7 +7,8 @@ use Rattle.nv_base.specs.Words.{Env, assigned, assigned_all, atom_word, atom_wor
 use Rattle.flat_ir.specs.declared.flat.Flat.{Flat}
 use Rattle.flat_ir.specs.declared.flat.Flat.TheVariants.{Let', Fetch', Store', If', Bind', Call, Raise, Try', Give}
 use Rattle.flat_ir.specs.declared.flat.FlatFun.{FlatFun}
-use Rattle.flat_ir.specs.Running.{Running, Result, Gives, Raises, Stops, and_then, handled, after_fetch, after_store, taken}
+use Rattle.nv_base.specs.Running.{Running}
+use Rattle.flat_ir.specs.Running.{Result, Gives, Raises, Stops, and_then, handled, after_fetch, after_store, taken}
 use Rattle.flat_ir.specs.Meaning.{Calls, does, blank, enter, calls_within}
 use Rattle.flat_ir.proofs.Growth.{now_of}
 use Rattle.flat_ir.proofs.Agreement.{if-same}

@@ -10,7 +10,8 @@ use Rattle.nv_base.proofs.Same.{prefix-refl, prefix-trans, before-equal, before-
 use Rattle.flat_ir.specs.declared.flat.Flat.{Flat}
 use Rattle.flat_ir.specs.declared.flat.Flat.TheVariants.{Let', Fetch', Store', If', Bind', Call, Raise, Try', Give}
 use Rattle.flat_ir.specs.declared.flat.FlatFun.{FlatFun}
-use Rattle.flat_ir.specs.Running.{Running, Result, Gives, Raises, Stops, and_then, handled, after_fetch, after_store, taken, closed}
+use Rattle.nv_base.specs.Running.{Running}
+use Rattle.flat_ir.specs.Running.{Result, Gives, Raises, Stops, and_then, handled, after_fetch, after_store, taken, closed}
 use Rattle.flat_ir.specs.Meaning.{Calls, does, blank, enter, calls_within, flat_meaning}
 
 -- ---- writes are only added

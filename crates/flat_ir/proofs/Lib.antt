@@ -3,7 +3,6 @@ pub mod Growth
 pub mod Depth
 pub mod Counted
 pub mod Agreement
-pub mod Sets
 pub mod Live
 pub mod Parts
 pub mod Widths

@@ -6,79 +6,19 @@ use Rattle.nv_base.specs.declared.term.Atom.TheVariants.{Var, Lit}
 use Rattle.nv_base.specs.declared.term.Primitive.{Primitive}
 use Rattle.nv_base.specs.declared.term.Primitive.TheVariants.{Same, Una as UnaOf, Bin as BinOf}
 use Rattle.nv_base.specs.Words.{Env, una_word, bin_word, assigned, assigned_all, atom_word, atom_words, prim_word, atom_vars, prim_vars}
+use Rattle.nv_base.proofs.Operands.{atom-known, atoms-known, prim-known, atom-same, atoms-same, prim-same}
 use Rattle.flat_ir.specs.declared.flat.Flat.{Flat}
 use Rattle.flat_ir.specs.declared.flat.Flat.TheVariants.{Let', Fetch', Store', If', Bind', Call, Raise, Try', Give}
 use Rattle.flat_ir.specs.declared.flat.FlatFun.{FlatFun}
-use Rattle.flat_ir.specs.Running.{Running, Gives, Raises}
+use Rattle.nv_base.specs.Running.{Running}
+use Rattle.flat_ir.specs.Running.{Gives, Raises}
 use Rattle.flat_ir.specs.Meaning.{Calls, does}
-use Rattle.flat_ir.specs.Formed.{is_in, is_known, all_known, has_count, is_primitive, can_move, is_address, is_formed}
-use Rattle.flat_ir.specs.Counts.{AgreeOn}
-use Rattle.flat_ir.specs.Wide.{without, all_vars, live}
-use Rattle.flat_ir.proofs.Sets.{Within, same-number, in-append, in-without}
-use Rattle.flat_ir.proofs.Agreement.{agree-all, then-same, handled-same, fetch-same, store-same, compared}
-
--- ---- sets
-
-pub within-left : (a b : List ℕ) → Within a (a ++ b)
-within-left a b = λ x e. in-append x a b ∙ or_left (is_in x a) (is_in x b) e
-
-pub within-right : (a b : List ℕ) → Within b (a ++ b)
-within-right a b = λ x e. in-append x a b ∙ or_right (is_in x a) (is_in x b) e
-
-pub within-both : (a b c : List ℕ) → Within a c → Within b c → Within (a ++ b) c
-within-both a b c p q = λ x e. ⊎_elim (p x) (q x) (or_cases (is_in x a) (is_in x b) (sym (in-append x a b) ∙ e))
-
--- what is left without some is known before, if all of it is known behind them
-pub within-without : (a gone known : List ℕ) → Within a (gone ++ known) → Within (without a gone) known
-within-without a gone known h =
-    λ x e.
-    let parts = and_parts (is_in x a) (not (is_in x gone)) (sym (in-without x a gone) ∙ e) in
-    ⊎_elim (λ (p : is_in x gone ≡ true). absurd (false≢true (sym (not-true (is_in x gone) parts.1) ∙ p))) (λ (p : is_in x known ≡ true). p) (or_cases (is_in x gone) (is_in x known) (sym (in-append x gone known) ∙ h x parts.0))
-
--- and the other way round: all of it is among these or what is left without them
-behind-at : (b : Bool) (x : ℕ) (a gone : List ℕ) → is_in x gone ≡ b → is_in x a ≡ true → is_in x (gone ++ without a gone) ≡ true
-behind-at true x a gone g e = in-append x gone (without a gone) ∙ or_left (is_in x gone) (is_in x (without a gone)) g
-behind-at false x a gone g e =
-    in-append x gone (without a gone) ∙ or_right (is_in x gone) (is_in x (without a gone)) (in-without x a gone ∙ and_from (is_in x a) (not (is_in x gone)) e (not_from_false (is_in x gone) g))
-
-pub within-behind : (a gone : List ℕ) → Within a (gone ++ without a gone)
-within-behind a gone = λ x e. behind-at (is_in x gone) x a gone refl e
-
-agree-within : (a b : List ℕ) (env env' : Env) → Within a b → AgreeOn b env env' → AgreeOn a env env'
-agree-within a b env env' p h = λ x e. h x (p x e)
-
--- ---- operands
-
-atom-known : (known : List ℕ) (a : Atom) → is_known known a ≡ true → Within (atom_vars a) known
-atom-known known (Var x) e = λ y i. ⊎_elim (λ (p : nat_eq y x ≡ true). subst (λ z. is_in z known ≡ true) (sym (same-number y x p)) e) (λ (p : false ≡ true). absurd (false≢true p)) (or_cases (nat_eq y x) false i)
-atom-known known (Lit v) e = λ y i. absurd (false≢true i)
-
-atoms-known : (known : List ℕ) (as' : List Atom) → all_known known as' ≡ true → Within (all_vars as') known
-atoms-known known [] e = λ y i. absurd (false≢true i)
-atoms-known known (a ∷ as') e =
-    let parts = and_parts (is_known known a) (all_known known as') e in within-both (atom_vars a) (all_vars as') known (atom-known known a parts.0) (atoms-known known as' parts.1)
-
-prim-known : (known : List ℕ) (p : Primitive) → is_primitive known p ≡ true → Within (prim_vars p) known
-prim-known known (Same a) e = atom-known known a e
-prim-known known (UnaOf op a) e = atom-known known a (and_parts (has_count op) (is_known known a) e).1
-prim-known known (BinOf op a b) e = let parts = and_parts (is_known known a) (is_known known b) e in within-both (atom_vars a) (atom_vars b) known (atom-known known a parts.0) (atom-known known b parts.1)
-
-atom-same : (env env' : Env) (a : Atom) → AgreeOn (atom_vars a) env env' → atom_word env a ≡ atom_word env' a
-atom-same env env' (Var x) h = h x (or_left (nat_eq x x) false (eq-eqb x x refl))
-atom-same env env' (Lit v) h = refl
-
-atoms-same : (env env' : Env) (as' : List Atom) → AgreeOn (all_vars as') env env' → atom_words env as' ≡ atom_words env' as'
-atoms-same env env' [] h = refl
-atoms-same env env' (a ∷ as') h =
-    ap (λ w. w ∷ atom_words env as') (atom-same env env' a (agree-within (atom_vars a) (atom_vars a ++ all_vars as') env env' (within-left (atom_vars a) (all_vars as')) h))
-    ∙ ap (λ ws. atom_word env' a ∷ ws) (atoms-same env env' as' (agree-within (all_vars as') (atom_vars a ++ all_vars as') env env' (within-right (atom_vars a) (all_vars as')) h))
-
-prim-same : (env env' : Env) (p : Primitive) → AgreeOn (prim_vars p) env env' → prim_word env p ≡ prim_word env' p
-prim-same env env' (Same a) h = atom-same env env' a h
-prim-same env env' (UnaOf op a) h = ap (una_word op) (atom-same env env' a h)
-prim-same env env' (BinOf op a b) h =
-    ap (λ w. bin_word op w (atom_word env b)) (atom-same env env' a (agree-within (atom_vars a) (atom_vars a ++ atom_vars b) env env' (within-left (atom_vars a) (atom_vars b)) h))
-    ∙ ap (bin_word op (atom_word env' a)) (atom-same env env' b (agree-within (atom_vars b) (atom_vars a ++ atom_vars b) env env' (within-right (atom_vars a) (atom_vars b)) h))
+use Rattle.nv_base.specs.Sets.{is_in, AgreeOn, without, all_vars, Within}
+use Rattle.nv_base.specs.Access.{is_known, all_known, has_count, is_primitive, can_move, is_address}
+use Rattle.flat_ir.specs.Formed.{is_formed}
+use Rattle.flat_ir.specs.Wide.{live}
+use Rattle.nv_base.proofs.Sets.{same-number, in-append, in-without, agree-all, within-left, within-right, within-both, within-without, within-behind, agree-within}
+use Rattle.flat_ir.proofs.Agreement.{then-same, handled-same, fetch-same, store-same, compared}
 
 -- ---- what code does
 

@@ -5,9 +5,11 @@ use Rattle.flat_ir.specs.declared.flat.FlatFun.{FlatFun}
 use Rattle.flat_ir.specs.declared.spine.Step.{Step}
 use Rattle.flat_ir.specs.declared.spine.Step.TheVariants.{Let, Fetch, Store, Bind}
 use Rattle.flat_ir.specs.Spine.{IsNode, AreNodes}
-use Rattle.flat_ir.specs.Formed.{is_known, all_known, can_move, is_address, is_formed, defined, raised}
+use Rattle.nv_base.specs.Access.{is_known, all_known, can_move, is_address}
+use Rattle.flat_ir.specs.Formed.{is_formed, defined, raised}
 use Rattle.flat_ir.specs.Wide.{live, Widths, code_wide}
-use Rattle.flat_ir.specs.Bulk.{Bulks, both, code_bulk}
+use Rattle.nv_base.specs.Measures.{both}
+use Rattle.flat_ir.specs.Bulk.{Bulks, code_bulk}
 use Rattle.flat_ir.specs.Pieces.{new_vars, known_behind, step_formed, steps_formed, step_defined, steps_defined, step_raised, steps_raised, step_live, steps_live, step_wide, steps_wide, step_bulk, steps_bulk}
 
 pub and-two : (a b c : Bool) → (a && (b && c)) ≡ ((a && b) && c)

@@ -6,49 +6,19 @@ use Rattle.nv_base.specs.declared.term.Atom.TheVariants.{Var, Lit}
 use Rattle.nv_base.specs.declared.term.Primitive.{Primitive}
 use Rattle.nv_base.specs.declared.term.Primitive.TheVariants.{Same, Una as UnaOf, Bin as BinOf}
 use Rattle.nv_base.specs.Words.{prim_vars}
+use Rattle.nv_base.proofs.Measures.{operands-more, let-more, entry-more, max-mono}
+use Rattle.nv_base.proofs.Operands.{atom-more, atoms-more, prim-more}
 use Rattle.flat_ir.specs.declared.flat.Flat.{Flat}
 use Rattle.flat_ir.specs.declared.flat.Flat.TheVariants.{Let', Fetch', Store', If', Bind', Call, Raise, Try', Give}
 use Rattle.flat_ir.specs.declared.flat.FlatFun.{FlatFun}
-use Rattle.flat_ir.specs.Formed.{is_in, is_known, all_known, has_count, is_primitive, can_move, is_address, can_call, is_formed}
-use Rattle.flat_ir.specs.Wide.{different, without, all_vars, live, operands_wide, let_wide, entry_wide, Widths, call_wide, code_wide}
-use Rattle.flat_ir.proofs.Sets.{Within, in-append, in-without, different-below}
-
--- ---- sets
-
-pub within-behind_same : (front a b : List ℕ) → Within a b → Within (front ++ a) (front ++ b)
-within-behind_same front a b h =
-    λ x e.
-    in-append x front b
-    ∙ ⊎_elim (λ (p : is_in x front ≡ true). or_left (is_in x front) (is_in x b) p) (λ (p : is_in x a ≡ true). or_right (is_in x front) (is_in x b) (h x p)) (or_cases (is_in x front) (is_in x a) (sym (in-append x front a) ∙ e))
-
-pub within-before_same : (a b last : List ℕ) → Within a b → Within (a ++ last) (b ++ last)
-within-before_same a b last h =
-    λ x e.
-    in-append x b last
-    ∙ ⊎_elim (λ (p : is_in x a ≡ true). or_left (is_in x b) (is_in x last) (h x p)) (λ (p : is_in x last ≡ true). or_right (is_in x b) (is_in x last) p) (or_cases (is_in x a) (is_in x last) (sym (in-append x a last) ∙ e))
-
-pub within-without_same : (a b gone : List ℕ) → Within a b → Within (without a gone) (without b gone)
-within-without_same a b gone h =
-    λ x e.
-    let parts = and_parts (is_in x a) (not (is_in x gone)) (sym (in-without x a gone) ∙ e) in
-    in-without x b gone ∙ and_from (is_in x b) (not (is_in x gone)) (h x parts.0) parts.1
+use Rattle.nv_base.specs.Sets.{is_in, different, without, all_vars, Within}
+use Rattle.nv_base.specs.Access.{is_known, all_known, has_count, is_primitive, can_move, is_address}
+use Rattle.flat_ir.specs.Formed.{can_call, is_formed}
+use Rattle.nv_base.specs.Measures.{operands_wide, let_wide, entry_wide}
+use Rattle.flat_ir.specs.Wide.{live, Widths, call_wide, code_wide}
+use Rattle.nv_base.proofs.Sets.{in-append, in-without, different-below, within-behind_same, within-before_same}
 
 -- ---- formed
-
-atom-more : (known known' : List ℕ) (a : Atom) → Within known known' → is_known known a ≡ true → is_known known' a ≡ true
-atom-more known known' (Var x) h e = h x e
-atom-more known known' (Lit v) h e = refl
-
-atoms-more : (known known' : List ℕ) (as' : List Atom) → Within known known' → all_known known as' ≡ true → all_known known' as' ≡ true
-atoms-more known known' [] h e = refl
-atoms-more known known' (a ∷ as') h e =
-    let parts = and_parts (is_known known a) (all_known known as') e in and_from (is_known known' a) (all_known known' as') (atom-more known known' a h parts.0) (atoms-more known known' as' h parts.1)
-
-prim-more : (known known' : List ℕ) (p : Primitive) → Within known known' → is_primitive known p ≡ true → is_primitive known' p ≡ true
-prim-more known known' (Same a) h e = atom-more known known' a h e
-prim-more known known' (UnaOf op a) h e = let parts = and_parts (has_count op) (is_known known a) e in and_from (has_count op) (is_known known' a) parts.0 (atom-more known known' a h parts.1)
-prim-more known known' (BinOf op a b) h e =
-    let parts = and_parts (is_known known a) (is_known known b) e in and_from (is_known known' a) (is_known known' b) (atom-more known known' a h parts.0) (atom-more known known' b h parts.1)
 
 pub formed-more : (funs : List FlatFun) (own : ℕ) (tail : Bool) (n : ℕ) (known known' : List ℕ) (t : Flat) → Within known known' → is_formed funs own tail n known t ≡ true → is_formed funs own tail n known' t ≡ true
 formed-more funs own tail n known known' (Let' x a q t) h e =
@@ -113,26 +83,6 @@ formed-more funs own tail n known known' (Give bs) h e =
 
 -- ---- wide
 
-plus : (m n k : ℕ) → m ≤ n → m + k ≤ n + k
-plus m n k le = omega arith
-
-pub operands-more : (held held' : List ℕ) (as' : List Atom) → Within held held' → operands_wide held as' ≤ operands_wide held' as'
-operands-more held held' [] h = different-below held held' h
-operands-more held held' (a ∷ as') h =
-    let gone = all_vars (a ∷ as') in
-    let le : different (without held gone) ≤ different (without held' gone) = different-below (without held gone) (without held' gone) (within-without_same held held' gone h) in
-    let k = length (a ∷ as') + 1 in
-    plus (different (without held gone)) (different (without held' gone)) k le
-
-pub let-more : (held held' : List ℕ) → Within held held' → let_wide held ≤ let_wide held'
-let-more held held' h = plus (different held) (different held') 3 (different-below held held' h)
-
-pub entry-more : (held held' : List ℕ) (n : ℕ) → Within held held' → entry_wide held n ≤ entry_wide held' n
-entry-more held held' n h = plus (different held) (different held') (n + 1) (different-below held held' h)
-
-two : (a b c d : ℕ) → a ≤ b → c ≤ d → max a c ≤ max b d
-two a b c d p q = omega arith
-
 call-if : (b : Bool) (m n k : ℕ) → m ≤ n → (if b then m + k else 0) ≤ (if b then n + k else 0)
 call-if true m n k le = omega arith
 call-if false m n k le = omega arith
@@ -148,30 +98,30 @@ part-more funs w own o o' behind xs t u h first rest =
     let held = o ++ without behind xs in
     let held' = o' ++ without behind xs in
     let more = within-before_same o o' (without behind xs) h in
-    two (max (code_wide funs w own held t) (entry_wide held (length xs))) (max (code_wide funs w own held' t) (entry_wide held' (length xs))) (code_wide funs w own o u) (code_wide funs w own o' u)
-    (two (code_wide funs w own held t) (code_wide funs w own held' t) (entry_wide held (length xs)) (entry_wide held' (length xs)) (first held held' more) (entry-more held held' (length xs) more)) rest
+    max-mono (max (code_wide funs w own held t) (entry_wide held (length xs))) (max (code_wide funs w own held' t) (entry_wide held' (length xs))) (code_wide funs w own o u) (code_wide funs w own o' u)
+    (max-mono (code_wide funs w own held t) (code_wide funs w own held' t) (entry_wide held (length xs)) (entry_wide held' (length xs)) (first held held' more) (entry-more held held' (length xs) more)) rest
 
 pub code-more : (funs : List FlatFun) (w : Widths) (own : ℕ) (o o' : List ℕ) (t : Flat) → Within o o' → code_wide funs w own o t ≤ code_wide funs w own o' t
 code-more funs w own o o' (Let' x a q t) h =
     let here = prim_vars a ++ without (live t) (x ∷ []) in
-    two (let_wide (o ++ here)) (let_wide (o' ++ here)) (code_wide funs w own o t) (code_wide funs w own o' t) (let-more (o ++ here) (o' ++ here) (within-before_same o o' here h)) (code-more funs w own o o' t h)
+    max-mono (let_wide (o ++ here)) (let_wide (o' ++ here)) (code_wide funs w own o t) (code_wide funs w own o' t) (let-more (o ++ here) (o' ++ here) (within-before_same o o' here h)) (code-more funs w own o o' t h)
 code-more funs w own o o' (Fetch' m xs a q t) h =
     let here = without (live t) xs.items in
     let there = xs.items ++ live t in
-    two (max (operands_wide (o ++ here) (a ∷ [])) (different (o ++ there))) (max (operands_wide (o' ++ here) (a ∷ [])) (different (o' ++ there))) (code_wide funs w own o t) (code_wide funs w own o' t)
-    (two (operands_wide (o ++ here) (a ∷ [])) (operands_wide (o' ++ here) (a ∷ [])) (different (o ++ there)) (different (o' ++ there)) (operands-more (o ++ here) (o' ++ here) (a ∷ []) (within-before_same o o' here h))
+    max-mono (max (operands_wide (o ++ here) (a ∷ [])) (different (o ++ there))) (max (operands_wide (o' ++ here) (a ∷ [])) (different (o' ++ there))) (code_wide funs w own o t) (code_wide funs w own o' t)
+    (max-mono (operands_wide (o ++ here) (a ∷ [])) (operands_wide (o' ++ here) (a ∷ [])) (different (o ++ there)) (different (o' ++ there)) (operands-more (o ++ here) (o' ++ here) (a ∷ []) (within-before_same o o' here h))
     (different-below (o ++ there) (o' ++ there) (within-before_same o o' there h))) (code-more funs w own o o' t h)
 code-more funs w own o o' (Store' m a bs q t) h =
-    two (operands_wide (o ++ live t) (a ∷ bs.items)) (operands_wide (o' ++ live t) (a ∷ bs.items)) (code_wide funs w own o t) (code_wide funs w own o' t)
+    max-mono (operands_wide (o ++ live t) (a ∷ bs.items)) (operands_wide (o' ++ live t) (a ∷ bs.items)) (code_wide funs w own o t) (code_wide funs w own o' t)
     (operands-more (o ++ live t) (o' ++ live t) (a ∷ bs.items) (within-before_same o o' (live t) h)) (code-more funs w own o o' t h)
 code-more funs w own o o' (If' c a b q t r u) h =
     let here = live t ++ live u in
-    two (operands_wide (o ++ here) (a ∷ b ∷ [])) (operands_wide (o' ++ here) (a ∷ b ∷ [])) (max (code_wide funs w own o t) (code_wide funs w own o u)) (max (code_wide funs w own o' t) (code_wide funs w own o' u))
+    max-mono (operands_wide (o ++ here) (a ∷ b ∷ [])) (operands_wide (o' ++ here) (a ∷ b ∷ [])) (max (code_wide funs w own o t) (code_wide funs w own o u)) (max (code_wide funs w own o' t) (code_wide funs w own o' u))
     (operands-more (o ++ here) (o' ++ here) (a ∷ b ∷ []) (within-before_same o o' here h))
-    (two (code_wide funs w own o t) (code_wide funs w own o' t) (code_wide funs w own o u) (code_wide funs w own o' u) (code-more funs w own o o' t h) (code-more funs w own o o' u h))
+    (max-mono (code_wide funs w own o t) (code_wide funs w own o' t) (code_wide funs w own o u) (code_wide funs w own o' u) (code-more funs w own o o' t h) (code-more funs w own o o' u h))
 code-more funs w own o o' (Bind' xs q t r u) h = part-more funs w own o o' (live u) xs.items t u h (λ p p' le. code-more funs w own p p' t le) (code-more funs w own o o' u h)
 code-more funs w own o o' (Call f bs) h =
-    two (operands_wide o bs.items) (operands_wide o' bs.items) (call_wide w own (different o) (slice_get funs f)) (call_wide w own (different o') (slice_get funs f)) (operands-more o o' bs.items h)
+    max-mono (operands_wide o bs.items) (operands_wide o' bs.items) (call_wide w own (different o) (slice_get funs f)) (call_wide w own (different o') (slice_get funs f)) (operands-more o o' bs.items h)
     (call-more w own (different o) (different o') (slice_get funs f) (different-below o o' h))
 code-more funs w own o o' (Raise k bs) h = operands-more o o' bs.items h
 code-more funs w own o o' (Try' q t k xs r u) h = part-more funs w own o o' (live u) xs.items t u h (λ p p' le. code-more funs w own p p' t le) (code-more funs w own o o' u h)

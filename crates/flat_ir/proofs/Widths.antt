@@ -2,20 +2,17 @@
 use Rattle.std.proofs.Common.{◌≡◌, ℕ, zero, suc, ◌+◌, ◌-◌, ◌≤◌, ◌<◌, max, Bool, true, false, nat_lt, ◌==◌, List, [], ◌∷◌, ◌++◌, refl, sym, subst, if◌then◌else◌, Option, Some, None, length, slice_get, arith}
 use Rattle.std.proofs.lemmas.Bool.{ltb-true, eqb-true, eq-eqb}
 use Rattle.nv_base.specs.Words.{prim_vars}
+use Rattle.nv_base.proofs.Measures.{max-mono, max-same}
 use Rattle.flat_ir.specs.declared.flat.Flat.{Flat}
 use Rattle.flat_ir.specs.declared.flat.Flat.TheVariants.{Let', Fetch', Store', If', Bind', Call, Raise, Try', Give}
 use Rattle.flat_ir.specs.declared.flat.FlatFun.{FlatFun}
-use Rattle.flat_ir.specs.Wide.{different, without, live, operands_wide, let_wide, entry_wide, Widths, call_wide, code_wide, function_wide, greatest_wide, widths_within, group_wide, main_wide, wide, AreWidths}
+use Rattle.nv_base.specs.Sets.{different, without}
+use Rattle.nv_base.specs.Measures.{operands_wide, let_wide, entry_wide}
+use Rattle.flat_ir.specs.Wide.{live, Widths, call_wide, code_wide, function_wide, greatest_wide, widths_within, group_wide, main_wide, wide, AreWidths}
 
 -- the first gives each group below this one at most what the second gives it
 abbrev pub Less : ℕ → Widths → Widths → Type 0
 Less own v w = (g : ℕ) → g < own → v g ≤ w g
-
-max-mono : (a b c d : ℕ) → a ≤ b → c ≤ d → max a c ≤ max b d
-max-mono a b c d p q = omega arith
-
-max-same : (a c d : ℕ) → c ≤ d → max a c ≤ max a d
-max-same a c d q = omega arith
 
 call-at : (b : Bool) (m n : ℕ) → (b ≡ true → m ≤ n) → (if b then m else 0) ≤ (if b then n else 0)
 call-at true m n h = h refl

@@ -1,32 +1,10 @@
 -- How much code a flat program makes when each call of an earlier group gets a copy of that group: labels, jumps, other nodes, and the
 -- words that the other nodes define and use.
 use Rattle.std.specs.Prelude.{ℕ, zero, suc, ◌+◌, ◌*◌, ◌≤◌, Bool, true, false, nat_lt, ◌==◌, if◌then◌else◌, List, [], ◌∷◌, Option, Some, None, slice_get, length}
+use Rattle.nv_base.specs.Measures.{Bulk, nothing, a_label, a_jump, a_node, both, IsAtMost}
 use Rattle.flat_ir.specs.declared.flat.Flat.{Flat}
 use Rattle.flat_ir.specs.declared.flat.Flat.TheVariants.{Let', Fetch', Store', If', Bind', Call, Raise, Try', Give}
 use Rattle.flat_ir.specs.declared.flat.FlatFun.{FlatFun}
-
-pub record Bulk : Type 0 where
-  pub labels : ℕ
-  pub jumps : ℕ
-  pub nodes : ℕ
-  pub defined : ℕ
-  pub used : ℕ
-
-abbrev pub nothing : Bulk
-nothing = record { labels = 0; jumps = 0; nodes = 0; defined = 0; used = 0 }
-
-abbrev pub a_label : Bulk
-a_label = record { labels = 1; jumps = 0; nodes = 0; defined = 0; used = 0 }
-
-abbrev pub a_jump : Bulk
-a_jump = record { labels = 0; jumps = 1; nodes = 0; defined = 0; used = 0 }
-
--- a node that defines and uses so many words
-abbrev pub a_node : ℕ → ℕ → Bulk
-a_node defined used = record { labels = 0; jumps = 0; nodes = 1; defined = defined; used = used }
-
-abbrev pub both : Bulk → Bulk → Bulk
-both a b = record { labels = a.labels + b.labels; jumps = a.jumps + b.jumps; nodes = a.nodes + b.nodes; defined = a.defined + b.defined; used = a.used + b.used }
 
 -- a bulk for each group of functions
 abbrev pub Bulks : Type 0
@@ -82,18 +60,6 @@ abbrev pub bulk : List FlatFun → ℕ → Bulk
 bulk funs main = main_bulk funs (slice_get funs main)
 
 -- ---- bounds
-
--- each number of the first is at most that of the second
-pub record IsAtMost (a b : Bulk) : Type 0 where
-  pub labels : a.labels ≤ b.labels
-  pub jumps : a.jumps ≤ b.jumps
-  pub nodes : a.nodes ≤ b.nodes
-  pub defined : a.defined ≤ b.defined
-  pub used : a.used ≤ b.used
-
--- what code of this size may have
-abbrev pub of_size : ℕ → Bulk
-of_size e = record { labels = e; jumps = e + 1; nodes = e; defined = e; used = 2 * e }
 
 -- the functions of each group have together at most the bulk that is given for it, where every call counts that of the called group
 pub record AreBulks (funs : List FlatFun) (w : Bulks) : Type 0 where

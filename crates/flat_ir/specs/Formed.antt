@@ -9,26 +9,11 @@ use Rattle.nv_base.specs.declared.term.Una.{Una}
 use Rattle.nv_base.specs.declared.term.Una.TheVariants.{Not, Shl, Shr, Rol}
 use Rattle.nv_base.specs.declared.term.Primitive.{Primitive}
 use Rattle.nv_base.specs.declared.term.Primitive.TheVariants.{Same, Una as UnaOf, Bin as BinOf}
+use Rattle.nv_base.specs.Sets.{all_different}
+use Rattle.nv_base.specs.Access.{is_known, all_known, is_primitive, can_move, is_address}
 use Rattle.flat_ir.specs.declared.flat.Flat.{Flat}
 use Rattle.flat_ir.specs.declared.flat.Flat.TheVariants.{Let', Fetch', Store', If', Bind', Call, Raise, Try', Give}
 use Rattle.flat_ir.specs.declared.flat.FlatFun.{FlatFun}
-
--- ---- variables
-
-abbrev pub is_in : ℕ → List ℕ → Bool
-is_in x xs = list_any (λ y. nat_eq x y) xs
-
-abbrev pub all_different : List ℕ → Bool
-all_different [] = true
-all_different (x ∷ xs) = not (is_in x xs) && all_different xs
-
--- an operand is a literal or one of these variables
-abbrev pub is_known : List ℕ → Atom → Bool
-is_known known (Var x) = is_in x known
-is_known known (Lit v) = true
-
-abbrev pub all_known : List ℕ → List Atom → Bool
-all_known known as' = list_all (is_known known) as'
 
 -- the variables that code defines, in the order of the text
 abbrev pub defined : Flat → List ℕ
@@ -41,34 +26,6 @@ defined (Call f bs) = []
 defined (Raise k bs) = []
 defined (Try' q t k xs r u) = defined t ++ (xs.items ++ defined u)
 defined (Give bs) = []
-
--- ---- primitives: the count of a shift is 1 to 31
-
-abbrev pub has_count : Una → Bool
-has_count Not = true
-has_count (Shl k) = nat_le 1 k && nat_le k 31
-has_count (Shr k) = nat_le 1 k && nat_le k 31
-has_count (Rol k) = nat_le 1 k && nat_le k 31
-
-abbrev pub is_primitive : List ℕ → Primitive → Bool
-is_primitive known (Same a) = is_known known a
-is_primitive known (UnaOf op a) = has_count op && is_known known a
-is_primitive known (BinOf op a b) = is_known known a && is_known known b
-
--- ---- accesses of memory
-
--- 1 to 8 words, of SDRAM whole quadwords
-abbrev pub can_move : Mem → ℕ → Bool
-can_move Sram n = nat_le 1 n && nat_le n 8
-can_move Scratch n = nat_le 1 n && nat_le n 8
-can_move Sdram n = (n == 2) || ((n == 4) || ((n == 6) || (n == 8)))
-
--- scratch is addressed by literals alone, and the words lie below 512
-abbrev pub is_address : Mem → Atom → ℕ → Bool
-is_address Scratch (Lit at) n = nat_le (at + n) 512
-is_address Scratch (Var x) n = false
-is_address Sram a n = true
-is_address Sdram a n = true
 
 -- ---- calls
 

@@ -6,3 +6,4 @@ pub mod Counts
 pub mod Wide
 pub mod Bulk
 pub mod Pieces
+pub mod Reached

@@ -7,7 +7,8 @@ use Rattle.nv_base.specs.Words.{Env, assigned, assigned_all, atom_word, atom_wor
 use Rattle.flat_ir.specs.declared.flat.Flat.{Flat}
 use Rattle.flat_ir.specs.declared.flat.Flat.TheVariants.{Let', Fetch', Store', If', Bind', Call, Raise, Try', Give}
 use Rattle.flat_ir.specs.declared.flat.FlatFun.{FlatFun}
-use Rattle.flat_ir.specs.Running.{Running, Result, Gives, Raises, Stops, and_then, handled, fetch, store, taken, closed}
+use Rattle.nv_base.specs.Running.{Running}
+use Rattle.flat_ir.specs.Running.{Result, Gives, Raises, Stops, and_then, handled, fetch, store, taken, closed}
 
 -- what a call of a function, by its number, with these words comes to
 abbrev pub Calls : Type 0

@@ -4,9 +4,12 @@ use Rattle.nv_base.specs.Words.{atom_vars, prim_vars}
 use Rattle.flat_ir.specs.declared.flat.FlatFun.{FlatFun}
 use Rattle.flat_ir.specs.declared.spine.Step.{Step}
 use Rattle.flat_ir.specs.declared.spine.Step.TheVariants.{Let, Fetch, Store, Bind}
-use Rattle.flat_ir.specs.Formed.{is_known, all_known, is_primitive, can_move, is_address, is_formed, defined, raised}
-use Rattle.flat_ir.specs.Wide.{without, all_vars, live, different, operands_wide, let_wide, entry_wide, Widths, code_wide}
-use Rattle.flat_ir.specs.Bulk.{Bulk, Bulks, a_label, a_node, both, code_bulk}
+use Rattle.nv_base.specs.Access.{is_known, all_known, is_primitive, can_move, is_address}
+use Rattle.flat_ir.specs.Formed.{is_formed, defined, raised}
+use Rattle.nv_base.specs.Sets.{without, all_vars, different}
+use Rattle.nv_base.specs.Measures.{operands_wide, let_wide, entry_wide, Bulk, a_label, a_node, both}
+use Rattle.flat_ir.specs.Wide.{live, Widths, code_wide}
+use Rattle.flat_ir.specs.Bulk.{Bulks, code_bulk}
 
 -- ---- formed: the variables that a step defines, and what holds of the step alone
 

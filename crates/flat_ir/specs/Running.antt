@@ -1,17 +1,12 @@
--- A run of flat code in progress, and what code comes to in it.
-use Rattle.std.specs.Prelude.{ℕ, zero, suc, ◌==◌, List, [], ◌∷◌, ◌++◌, Option, Some, None, if◌then◌else◌}
+-- What flat code comes to in a run.
+use Rattle.std.specs.Prelude.{ℕ, ◌==◌, List, Option, if◌then◌else◌}
 use Rattle.nv_base.specs.declared.term.Mem.{Mem}
-use Rattle.nv_base.specs.declared.outcome.Write.{Write}
 use Rattle.nv_base.specs.declared.outcome.Outcome.{Outcome}
 use Rattle.nv_base.specs.declared.outcome.Outcome.TheVariants as outcome
-use Rattle.nv_base.specs.Memories.{Memories, fetched, stored}
+use Rattle.nv_base.specs.Memories.{Memories}
 use Rattle.nv_base.specs.Meanings.{FullOutcome}
-
--- how many calls are left in the whole run, the memories, and the writes so far, the first one first
-pub record Running : Type 0 where
-  pub calls : ℕ
-  pub packet : Memories
-  pub writes : List Write
+use Rattle.nv_base.specs.Running as running
+pub use Rattle.nv_base.specs.Running.{Running, over}
 
 -- what code comes to: words, an exception with its number on the way to a handler, or the end of the run
 pub data Result : Type 0 where
@@ -31,30 +26,24 @@ handled k handler (Gives ws now) = Gives ws now
 handled k handler (Raises j ws now) = if j == k then handler ws now else Raises j ws now
 handled k handler (Stops how now) = Stops how now
 
--- an access that reaches past its memory ends the run with the memory and its first address, and changes nothing
+-- an access that reaches past its memory, and a call where none is left, end the run
+
 abbrev pub after_fetch : Mem → ℕ → Option (List ℕ) → Running → (List ℕ → Result) → Result
-after_fetch m at (Some ws) now next = next ws
-after_fetch m at None now next = Stops (outcome.Fault m at) now
+after_fetch m at found now next = running.after_fetch Stops m at found now next
 
 abbrev pub fetch : Mem → ℕ → ℕ → Running → (List ℕ → Result) → Result
-fetch m n at now next = after_fetch m at (fetched m at n now.packet) now next
+fetch m n at now next = running.fetch Stops m n at now next
 
 abbrev pub after_store : Mem → ℕ → List ℕ → Option Memories → Running → (Running → Result) → Result
-after_store m at ws (Some p) now next = next (record { calls = now.calls; packet = p; writes = now.writes ++ record { mem = m; at = at; words = ws } ∷ [] })
-after_store m at ws None now next = Stops (outcome.Fault m at) now
+after_store m at ws found now next = running.after_store Stops m at ws found now next
 
 abbrev pub store : Mem → ℕ → List ℕ → Running → (Running → Result) → Result
-store m at ws now next = after_store m at ws (stored m at ws now.packet) now next
+store m at ws now next = running.store Stops m at ws now next
 
--- a call takes one of those left in the run; where none is left the run is still going, with its writes so far
 abbrev pub taken : ℕ → Running → (Running → Result) → Result
-taken zero now next = Stops outcome.Going now
-taken (suc left) now next = next (record { calls = left; packet = now.packet; writes = now.writes })
+taken left now next = running.taken Stops left now next
 
 -- the full outcome of a run whose main came to this
-abbrev pub over : Outcome → Running → FullOutcome
-over how now = record { outcome = how; packet = now.packet; writes = now.writes }
-
 abbrev pub closed : Result → FullOutcome
 closed (Gives ws now) = over (outcome.Ended ws) now
 closed (Raises k ws now) = over (outcome.Raised k ws) now

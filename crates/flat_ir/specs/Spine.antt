@@ -5,7 +5,8 @@ use Rattle.flat_ir.specs.declared.flat.Flat.{Flat}
 use Rattle.flat_ir.specs.declared.flat.Flat.TheVariants.{Let', Fetch', Store', Bind'}
 use Rattle.flat_ir.specs.declared.spine.Step.{Step}
 use Rattle.flat_ir.specs.declared.spine.Step.TheVariants.{Let, Fetch, Store, Bind}
-use Rattle.flat_ir.specs.Running.{Running, Result, and_then, fetch, store}
+use Rattle.nv_base.specs.Running.{Running}
+use Rattle.flat_ir.specs.Running.{Result, and_then, fetch, store}
 use Rattle.flat_ir.specs.Meaning.{Calls, does}
 
 -- what is done under an assignment

@@ -4,27 +4,11 @@
 use Rattle.std.specs.Prelude.{◌≡◌, ℕ, zero, suc, ◌+◌, ◌≤◌, max, nat_lt, ◌==◌, if◌then◌else◌, List, [], ◌∷◌, ◌++◌, Option, Some, None, slice_get, length}
 use Rattle.nv_base.specs.declared.term.Atom.{Atom}
 use Rattle.nv_base.specs.Words.{atom_vars, prim_vars}
+use Rattle.nv_base.specs.Measures.{operands_wide, let_wide, entry_wide}
 use Rattle.flat_ir.specs.declared.flat.Flat.{Flat}
 use Rattle.flat_ir.specs.declared.flat.Flat.TheVariants.{Let', Fetch', Store', If', Bind', Call, Raise, Try', Give}
 use Rattle.flat_ir.specs.declared.flat.FlatFun.{FlatFun}
-use Rattle.flat_ir.specs.Formed.{is_in}
-
--- ---- sets of variables, as lists in which each may stand more than once
-
--- how many different ones there are
-abbrev pub different : List ℕ → ℕ
-different [] = 0
-different (x ∷ xs) = if is_in x xs then different xs else 1 + different xs
-
--- those that aren't among others
-abbrev pub without : List ℕ → List ℕ → List ℕ
-without [] gone = []
-without (x ∷ xs) gone = if is_in x gone then without xs gone else x ∷ without xs gone
-
--- the variables of operands
-abbrev pub all_vars : List Atom → List ℕ
-all_vars [] = []
-all_vars (a ∷ as') = atom_vars a ++ all_vars as'
+use Rattle.nv_base.specs.Sets.{is_in, different, without, all_vars}
 
 -- the live variables where code begins: those that it uses and doesn't define
 abbrev pub live : Flat → List ℕ
@@ -39,20 +23,6 @@ live (Try' q t k xs r u) = live t ++ without (live u) xs.items
 live (Give bs) = all_vars bs.items
 
 -- ---- widths of places
-
--- of a node with operands, where these variables are live behind it or outside: each operand counts, however often it stands, and 1 for
--- the second half of a literal
-abbrev pub operands_wide : List ℕ → List Atom → ℕ
-operands_wide held [] = different held
-operands_wide held (a ∷ as') = different (without held (all_vars (a ∷ as'))) + (length (a ∷ as') + 1)
-
--- of a `Let`, where these variables are live before it or outside: two operands, and 1 for the second half of a literal
-abbrev pub let_wide : List ℕ → ℕ
-let_wide held = different held + 3
-
--- where so many words get variables at once, used or not: the other live variables, and 1 for the second half of a literal
-abbrev pub entry_wide : List ℕ → ℕ → ℕ
-entry_wide held n = different held + (n + 1)
 
 -- a number for each group of functions
 abbrev pub Widths : Type 0

@@ -3,14 +3,16 @@ ghost use Rattle.std.specs.Prelude.{◌≡◌, ◌≤◌, ◌+◌, ◌&&◌, ℕ
 ghost use Rattle.nv_base.specs.Memories.{Memories};
 ghost use Rattle.nv_base.specs.Progress.{Grows};
 ghost use Rattle.nv_base.specs.Words.{Env};
-ghost use Rattle.flat_ir.specs.Counts.{GivesMany, AgreeOn};
-ghost use Rattle.flat_ir.specs.Bulk.{Bulk, Bulks, a_label, a_jump, both, code_bulk, group_bulk, bulk, AreBulks, IsAtMost};
-ghost use Rattle.flat_ir.specs.Formed.{is_in, all_different, is_formed, defined, raised, is_program};
+ghost use Rattle.nv_base.specs.Sets.{AgreeOn, is_in, all_different, different};
+ghost use Rattle.flat_ir.specs.Counts.{GivesMany};
+ghost use Rattle.nv_base.specs.Measures.{Bulk, a_label, a_jump, both, IsAtMost};
+ghost use Rattle.flat_ir.specs.Bulk.{Bulks, code_bulk, group_bulk, bulk, AreBulks};
+ghost use Rattle.flat_ir.specs.Formed.{is_formed, defined, raised, is_program};
 ghost use Rattle.flat_ir.specs.Meaning.{Calls, does, calls_within, flat_meaning};
 ghost use Rattle.flat_ir.specs.Pieces.{known_behind, steps_formed, steps_defined, steps_raised, steps_live, steps_wide, steps_bulk};
-ghost use Rattle.flat_ir.specs.Running.{Running};
+ghost use Rattle.nv_base.specs.Running.{Running};
 ghost use Rattle.flat_ir.specs.Spine.{AreNodes};
-ghost use Rattle.flat_ir.specs.Wide.{different, live, Widths, code_wide, group_wide, wide, AreWidths};
+ghost use Rattle.flat_ir.specs.Wide.{live, Widths, code_wide, group_wide, wide, AreWidths};
 ghost use Rattle.flat_ir.specs.declared.flat.Flat.{Flat};
 ghost use Rattle.flat_ir.specs.declared.flat.FlatFun.{FlatFun};
 ghost use Rattle.flat_ir.specs.declared.spine.Step.{Step};
@@ -67,15 +69,6 @@ pub fn steps_follow_steps()
 pub fn more_variables_keep()
     ensures formed { (funs : List FlatFun) (own : ℕ) (tail : Bool) (n : ℕ) (known known' : List ℕ) (t : Flat) → ((x : ℕ) → is_in x known ≡ true → is_in x known' ≡ true) → is_formed funs own tail n known t ≡ true → is_formed funs own tail n known' t ≡ true }
     ensures wide { (funs : List FlatFun) (w : Widths) (own : ℕ) (outside outside' : List ℕ) (t : Flat) → ((x : ℕ) → is_in x outside ≡ true → is_in x outside' ≡ true) → code_wide funs w own outside t ≤ code_wide funs w own outside' t }
-{}
-
-/// Of lists of variables the different ones are counted: a set in another has at most as many, two
-/// together at most as many as both, and all where they are different.
-pub fn sets_are_counted()
-    ensures below { (a b : List ℕ) → ((x : ℕ) → is_in x a ≡ true → is_in x b ≡ true) → different a ≤ different b }
-    ensures together { (a b : List ℕ) → different (a ++ b) ≤ different a + different b }
-    ensures length { (a : List ℕ) → different a ≤ length a }
-    ensures all { (a : List ℕ) → all_different a ≡ true → different a ≡ length a }
 {}
 
 /// The widths of groups are the least numbers such that each function is at most as wide as its

@@ -1,16 +1,16 @@
 // From a text to its programs.
 
 ghost use Rattle.std.specs.Prelude.{◌≡◌, ◌≤◌, ◌⊎◌, length, IfOk, IfErr, MatchResult};
-ghost use Rattle.nv_base.specs.Meanings.{KeepsOutcomes};
+ghost use Rattle.nv_base.specs.Meanings.{KeepsOutcomes, AreEqual};
 ghost use Rattle.nv_ast.specs.Sizes.{expanded_size, main_words, room};
 ghost use Rattle.nv_ast.specs.Tree.{ProgramTree};
 ghost use Rattle.nv_ast.specs.TypedView.{typed_program};
 ghost use Rattle.nv_meaning.specs.Meaning.{source};
-ghost use Rattle.flat_ir.specs.Bulk.{bulk, IsAtMost, of_size};
+ghost use Rattle.nv_base.specs.Measures.{IsAtMost, of_size};
+ghost use Rattle.flat_ir.specs.Bulk.{bulk};
 ghost use Rattle.flat_ir.specs.Meaning.{flat_meaning};
 ghost use Rattle.flat_ir.specs.Wide.{wide};
-ghost use Rattle.nv_flatten.specs.Equal.{AreEqual};
-ghost use Rattle.nv_flatten.specs.Flattened.{params_in, AreReached};
+ghost use Rattle.flat_ir.specs.Reached.{params_in, AreReached};
 ghost use Rattle.nova_front.specs.Sources.{IsTypedSource, IsCause};
 
 use crate::error::FrontError;

@@ -6,3 +6,6 @@ pub mod LogLemmas
 pub mod Rotation
 pub mod Blank
 pub mod WordLemmas
+pub mod Sets
+pub mod Operands
+pub mod Measures

@@ -1,5 +1,5 @@
 -- The operations give words.
-use Rattle.std.proofs.Common.{◌≡◌, ℕ, ◌+◌, ◌-◌, ◌*◌, ◌/◌, ◌^◌, ◌≤◌, List, [], ◌∷◌, ◌++◌, All, refl, ap, ◌∙◌, subst, arith}
+use Rattle.std.proofs.Common.{◌≡◌, ℕ, ◌+◌, ◌-◌, ◌*◌, ◌/◌, ◌^◌, ◌≤◌, List, [], ◌∷◌, ◌++◌, All, length, suc, refl, ap, ◌∙◌, subst, arith}
 use Rattle.std.proofs.lemmas.Nat.{or_lt, xor_lt}
 use Rattle.std.proofs.lemmas.List.Elements.{All-head, All-tail}
 use Rattle.std.proofs.Math.Nat.{div-le_self}
@@ -12,7 +12,7 @@ use Rattle.nv_base.specs.declared.term.Una.{Una}
 use Rattle.nv_base.specs.declared.term.Una.TheVariants.{Not, Shl, Shr, Rol}
 use Rattle.nv_base.specs.declared.term.Bin.{Bin}
 use Rattle.nv_base.specs.declared.term.Bin.TheVariants.{Add, Sub, And, Or, Xor}
-use Rattle.nv_base.specs.Words.{IsWord, word, shifted_right, rotated_left, una_word, bin_word, HasCount, Env, atom_word, atom_vars, prim_word, prim_vars}
+use Rattle.nv_base.specs.Words.{IsWord, word, shifted_right, rotated_left, una_word, bin_word, HasCount, Env, atom_word, atom_words, atom_vars, prim_word, prim_vars}
 use Rattle.nv_base.proofs.Rotation.{joined}
 
 pub word-fits : (n : ℕ) → IsWord (word n)
@@ -55,3 +55,7 @@ prim-agrees env env' (UnaOf op a) h = ap (una_word op) (atom-agrees env env' a h
 prim-agrees env env' (BinOf op a b) h =
     let both = both-agree env env' a b h in
     ap (λ w. bin_word op w (atom_word env b)) both.0 ∙ ap (bin_word op (atom_word env' a)) both.1
+
+pub length-words : (env : Env) (as' : List Atom) → length (atom_words env as') ≡ length as'
+length-words env [] = refl
+length-words env (a ∷ as') = ap suc (length-words env as')

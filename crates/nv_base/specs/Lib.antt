@@ -3,3 +3,7 @@ pub mod Memories
 pub mod Log
 pub mod Meanings
 pub mod Progress
+pub mod Sets
+pub mod Access
+pub mod Measures
+pub mod Running

@@ -62,6 +62,10 @@ pub record KeepsOutcomes (params params' : ℕ) (m n : List ℕ → Memories →
   pub arguments : params ≡ params'
   pub same : (args : List ℕ) (p : Memories) → AreArguments params args → HasSizes p → Same (m args p) (n args p)
 
+-- on whatever both are started, with so many parameters, their full outcomes within each number of calls are equal
+abbrev pub AreEqual : ℕ → (List ℕ → Memories → Meaning) → (List ℕ → Memories → Meaning) → Type 0
+AreEqual params m n = (args : List ℕ) (p : Memories) → AreArguments params args → HasSizes p → (calls : ℕ) → m args p calls ≡ n args p calls
+
 -- the memories after a write; one that reaches past its memory changes nothing
 abbrev pub applied : Write → Memories → Memories
 applied w p = unwrap_or (stored w.mem w.at w.words p) p

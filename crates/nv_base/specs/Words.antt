@@ -69,6 +69,10 @@ compares Ge x y = not (nat_lt x y)
 abbrev pub Env : Type 0
 Env = ℕ → ℕ
 
+-- each variable has a word
+abbrev pub IsEnv : Env → Type 0
+IsEnv env = (x : ℕ) → IsWord (env x)
+
 -- the same, but x has the word w
 abbrev pub assigned : Env → ℕ → ℕ → Env
 assigned env x w = λ y. if nat_eq y x then w else env y
@@ -79,10 +83,10 @@ assigned_all env [] ws = env
 assigned_all env (x ∷ xs) [] = assigned_all (assigned env x 0) xs []
 assigned_all env (x ∷ xs) (w ∷ ws) = assigned_all (assigned env x w) xs ws
 
--- the word of an operand
+-- the word of an operand: of a literal its lowest 32 bits
 abbrev pub atom_word : Env → Atom → ℕ
 atom_word env (Var x) = env x
-atom_word env (Lit v) = v
+atom_word env (Lit v) = word v
 
 -- the words of operands
 abbrev pub atom_words : Env → List Atom → List ℕ

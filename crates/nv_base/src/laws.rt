@@ -1,9 +1,11 @@
 //! Laws of the definitions in specs/: each is the contract of a function that does nothing.
-ghost use Rattle.std.specs.Prelude.{◌≡◌, ℕ, suc, List, All, Some, length, take};
+ghost use Rattle.std.specs.Prelude.{◌≡◌, ◌≤◌, ◌+◌, ◌↔◌, ℕ, suc, Bool, true, List, ◌++◌, All, Some, length, take};
 ghost use Rattle.nv_base.specs.Log.{Log, empty_log, noted_all};
-ghost use Rattle.nv_base.specs.Memories.{Memories, HasSizes, fetched, stored};
+ghost use Rattle.nv_base.specs.Memories.{Memories, HasSizes, IsAccess, fetched, stored};
 ghost use Rattle.nv_base.specs.Meanings.{Meaning, Same, KeepsOutcomes, seen};
 ghost use Rattle.nv_base.specs.Progress.{Before, Reaches, Grows, Lands, IsStepwise, FollowsAll, FollowsWrites};
+ghost use Rattle.nv_base.specs.Access.{can_move, has_count};
+ghost use Rattle.nv_base.specs.Sets.{Within, is_in, all_different, different};
 ghost use Rattle.nv_base.specs.Words.{IsWord, HasCount, una_word, bin_word, Env, prim_word, prim_vars};
 ghost use Rattle.nv_base.specs.declared.outcome.Outcome.{Outcome};
 ghost use Rattle.nv_base.specs.declared.outcome.Write.{Write};
@@ -83,4 +85,19 @@ pub fn memories_hold_words()
 /// What was written is read.
 pub fn written_is_read()
     ensures { (m : Mem) (at : ℕ) (ws : List ℕ) (p q : Memories) → stored m at ws p ≡ Some q → fetched m at (length ws) q ≡ Some ws }
+{}
+
+/// Of lists of variables the different ones are counted: a set in another has at most as many, two
+/// together at most as many as both, and all where they are different.
+pub fn sets_are_counted()
+    ensures below { (a b : List ℕ) → Within a b → different a ≤ different b }
+    ensures together { (a b : List ℕ) → different (a ++ b) ≤ different a + different b }
+    ensures length { (a : List ℕ) → different a ≤ length a }
+    ensures all { (a : List ℕ) → all_different a ≡ true → different a ≡ length a }
+{}
+
+/// The tests of an access and of a shift's count tell what the rules say.
+pub fn tests_tell_the_rules()
+    ensures access { (m : Mem) (n : ℕ) → can_move m n ≡ true ↔ IsAccess m n }
+    ensures count { (op : Una) → has_count op ≡ true ↔ HasCount op }
 {}

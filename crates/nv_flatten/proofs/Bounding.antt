@@ -13,7 +13,7 @@ use Rattle.flat_ir.specs.Wide.{wide}
 use Rattle.nv_flatten.specs.Symbols.{Symbol, SymbolScope, named_fresh, params_bound}
 use Rattle.nv_flatten.specs.Whole.{Whole, whole_of, group_of}
 use Rattle.nv_flatten.specs.Simulation.{Names, Extends}
-use Rattle.nv_flatten.specs.Flattened.{calls}
+use Rattle.flat_ir.specs.Reached.{calls}
 use Rattle.nv_flatten.specs.Well.{AreCalled}
 use Rattle.nv_flatten.specs.Made.{IsMade, IsPlaced, entry, params_in}
 use Rattle.nv_flatten.specs.Narrow.{IsNarrowEnd, IsNarrowFun, IsEmptyFun, IsNarrowOf, AreNarrowFuns}

@@ -3,7 +3,7 @@ use Rattle.std.proofs.Common.{◌≡◌, ◌∙◌, refl, ap, sym, subst, ℕ, �
 use Rattle.nv_base.specs.declared.term.Atom.{Atom}
 use Rattle.nv_base.specs.Words.{atom_vars}
 use Rattle.flat_ir.specs.declared.spine.Step.{Step}
-use Rattle.flat_ir.specs.Wide.{all_vars}
+use Rattle.nv_base.specs.Sets.{all_vars}
 use Rattle.nv_flatten.specs.Symbols.{Symbol, Word, Record, NamedSymbols, no_named_symbols, named_symbol_and, operands, named_operands}
 use Rattle.nv_flatten.specs.View.{Named, list_named_symbols}
 use Rattle.nv_flatten.specs.Reads.{◌++_symbols◌}

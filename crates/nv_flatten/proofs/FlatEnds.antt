@@ -15,7 +15,7 @@ use Rattle.nv_meaning.specs.Running.{exception_number}
 use Rattle.flat_ir.specs.Running as flat
 use Rattle.flat_ir.specs.Meaning as code
 use Rattle.flat_ir.specs.Spine.{steps_do, IsJoined}
-use Rattle.flat_ir.specs.Wide.{all_vars}
+use Rattle.nv_base.specs.Sets.{all_vars}
 use Rattle.flat_ir.specs.declared.flat.Flat.{Flat}
 use Rattle.flat_ir.specs.declared.flat.Flat.TheVariants.{Call, Raise, Give, Try'}
 use Rattle.flat_ir.specs.declared.spine.Step.{Step}

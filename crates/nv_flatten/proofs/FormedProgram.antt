@@ -2,7 +2,8 @@
 use Rattle.std.proofs.Common.{◌≡◌, ◌∙◌, refl, sym, ap, subst, ℕ, ◌+◌, ◌<◌, ◌≤◌, true, List, [], ◌∷◌, ◌++◌, append-nil, length, Option, Some, None, arith}
 use Rattle.std.specs.Prelude.{slice_get}
 use Rattle.flat_ir.specs.declared.flat.FlatFun.{FlatFun}
-use Rattle.flat_ir.specs.Formed.{all_known, is_program}
+use Rattle.nv_base.specs.Access.{all_known}
+use Rattle.flat_ir.specs.Formed.{is_program}
 use Rattle.nv_ast.specs.Tree.{FunTree, ProgramTree}
 use Rattle.nv_ast.specs.Types.{Ty, NamedTys, no_named_tys, named_ty_and, type_of, words, total_named_words}
 use Rattle.nv_ast.specs.Scope.{param_vars}
@@ -14,7 +15,7 @@ use Rattle.nv_flatten.specs.Symbols.{SymbolScope, fresh, named_fresh, numbers_fr
 use Rattle.nv_flatten.specs.Whole.{Whole, whole_of, Stands}
 use Rattle.nv_flatten.specs.Simulation.{Names}
 use Rattle.nv_flatten.specs.Made.{params_in, entry, IsMade, IsPlaced, IsComplete}
-use Rattle.nv_flatten.specs.Flattened.{AreReached}
+use Rattle.flat_ir.specs.Reached.{AreReached}
 use Rattle.nv_flatten.specs.Well.{FunsMatch, ScopeKnown, GivesWords, IsWellFun}
 use Rattle.nv_flatten.proofs.Fresh.{numbers-append, numbers-length, variables-append, fresh-operands}
 use Rattle.nv_flatten.proofs.WellBasics.{knows-left, knows-right, knows-variables}

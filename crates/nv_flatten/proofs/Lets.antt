@@ -10,7 +10,7 @@ use Rattle.nv_ast.specs.declared.tree.ShiftOp.{ShiftOp}
 use Rattle.nv_ast.specs.declared.tree.ShiftOp.TheVariants.{Left, Right, Rotate}
 use Rattle.flat_ir.specs.declared.spine.Step.{Step}
 use Rattle.flat_ir.specs.declared.spine.Step.TheVariants.{Let}
-use Rattle.flat_ir.specs.Formed.{is_known, all_known, is_primitive}
+use Rattle.nv_base.specs.Access.{is_known, all_known, is_primitive}
 use Rattle.flat_ir.specs.Pieces.{known_behind, steps_formed, steps_defined, steps_raised}
 use Rattle.flat_ir.proofs.Appended.{known-append, formed-append, defined-append, raised-append}
 use Rattle.nv_flatten.specs.Code.{shift_of}

@@ -5,7 +5,7 @@ use Rattle.std.proofs.lemmas.Bool.{ltb-false}
 use Rattle.std.proofs.lemmas.Slice.Eq.{bytes_eq-Decides}
 use Rattle.nv_base.specs.Words.{Env, assigned_all}
 use Rattle.nv_base.specs.Memories.{Memories, HasSizes}
-use Rattle.nv_base.specs.Meanings.{KeepsOutcomes, seen}
+use Rattle.nv_base.specs.Meanings.{KeepsOutcomes, seen, AreEqual}
 use Rattle.nv_base.specs.declared.outcome.Outcome.TheVariants as outcome
 use Rattle.nv_base.proofs.Same.{same_seen}
 use Rattle.nv_ast.specs.Tree.{Tree, NumberTree, TruthTree, VarTree, ParenTree, TupleTree, FieldsTree, DotTree, InvertTree, NegateTree, BinaryTree, ShiftTree, CallTree, UnpackTree, PackTree, RaiseTree, IfTree, TryTree, FetchTree, BlockTree, FunTree, ProgramTree, span_of}
@@ -27,8 +27,7 @@ use Rattle.nv_flatten.specs.Whole.{Whole, whole_of, raised_tys}
 use Rattle.nv_flatten.specs.Soundness.{AreWords, value_ty, value_tys, ComesTo, CallsTyped}
 use Rattle.nv_flatten.specs.Simulation.{Names, CallsAgree}
 use Rattle.nv_flatten.specs.Made.{params_in, entry, IsMade, AllMade, IsComplete}
-use Rattle.nv_flatten.specs.Equal.{AreEqual}
-use Rattle.nv_flatten.specs.Flattened as flattened
+use Rattle.flat_ir.specs.Reached as flattened
 use Rattle.nv_flatten.proofs.Fresh.{fresh-values, all-fresh-fit}
 use Rattle.nv_flatten.proofs.Sound.{typed-eval}
 use Rattle.nv_flatten.proofs.Knowing.{no_front, no_rest, no_kinds, not_where, where_not, neither_first, neither_second, some_same, function-named}

@@ -8,7 +8,7 @@ use Rattle.nv_meaning.specs.Meaning.{function_in}
 use Rattle.flat_ir.specs.declared.flat.FlatFun.{FlatFun}
 use Rattle.nv_flatten.specs.Whole.{Whole}
 use Rattle.nv_flatten.specs.Simulation.{Names, Extends}
-use Rattle.nv_flatten.specs.Flattened.{calls}
+use Rattle.flat_ir.specs.Reached.{calls}
 use Rattle.nv_flatten.specs.Made.{IsMade, AreMade, AllMade, IsPlaced, ArePlaced}
 use Rattle.nv_flatten.specs.Well.{AreCalled}
 use Rattle.nv_flatten.proofs.WellProgram.{AreFound, found-first, found-more}

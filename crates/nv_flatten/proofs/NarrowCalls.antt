@@ -16,7 +16,7 @@ use Rattle.flat_ir.specs.declared.flat.Flat.TheVariants.{Call, Raise, Try'}
 use Rattle.flat_ir.specs.declared.flat.FlatFun.{FlatFun}
 use Rattle.flat_ir.specs.declared.spine.Step.{Step}
 use Rattle.flat_ir.specs.Spine.{AreNodes}
-use Rattle.flat_ir.specs.Wide.{all_vars}
+use Rattle.nv_base.specs.Sets.{all_vars}
 use Rattle.nv_flatten.specs.Symbols.{Symbol, Symbols, SymbolScope, form, operands, all_operands, all_fresh, numbers_from, vars_of, all_bound}
 use Rattle.nv_flatten.specs.Whole.{Whole, Stands, raised_or_none}
 use Rattle.nv_flatten.specs.Simulation.{Names, HasForm, AreValues}

@@ -19,7 +19,8 @@ use Rattle.flat_ir.specs.declared.flat.Flat.TheVariants.{If', Give}
 use Rattle.flat_ir.specs.declared.flat.FlatFun.{FlatFun}
 use Rattle.flat_ir.specs.declared.spine.Step.{Step}
 use Rattle.flat_ir.specs.Spine.{AreNodes}
-use Rattle.flat_ir.specs.Wide.{all_vars, Widths}
+use Rattle.nv_base.specs.Sets.{all_vars}
+use Rattle.flat_ir.specs.Wide.{Widths}
 use Rattle.nv_flatten.specs.Code.{is_given, is_comparison}
 use Rattle.nv_flatten.specs.Symbols.{Symbol, Symbols, SymbolScope, operands, all_operands, truth_operand}
 use Rattle.nv_flatten.specs.Whole.{Whole, Stands}

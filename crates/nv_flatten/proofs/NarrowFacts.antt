@@ -9,8 +9,8 @@ use Rattle.nv_ast.specs.Scope.{Known, Vars, Place}
 use Rattle.nv_ast.specs.Typing.{type_at, vars_behind}
 use Rattle.nv_ast.specs.Faults.{Wanted, faults}
 use Rattle.nv_ast.specs.Sizes.{GroupNumbers, words_at, need}
-use Rattle.flat_ir.specs.Wide.{all_vars}
-use Rattle.flat_ir.proofs.Sets.{same-number}
+use Rattle.nv_base.specs.Sets.{all_vars}
+use Rattle.nv_base.proofs.Sets.{same-number}
 use Rattle.nv_flatten.specs.Code.{variables, is_given, form_or_unit}
 use Rattle.nv_flatten.specs.Symbols.{Symbol, Symbols, NamedSymbols, Word, Truth, Tuple, Record, no_symbols, symbol_and, no_named_symbols, named_symbol_and, SymbolScope, operands, all_operands, named_operands, form, forms, named_forms, numbers_from, word_symbols, words_symbol, word_operand, truth_operand, fields_of, field_named, symbol_in}
 use Rattle.nv_flatten.specs.Whole.{Whole, Stands}

@@ -10,8 +10,10 @@ use Rattle.nv_ast.specs.Scope.{Place, nothing_known, param_vars}
 use Rattle.nv_ast.specs.Faults.{Wanted, same_as, main_name, program_faults}
 use Rattle.nv_meaning.specs.Meaning.{function_in}
 use Rattle.flat_ir.specs.declared.flat.FlatFun.{FlatFun}
-use Rattle.flat_ir.specs.Wide.{different, all_vars, operands_wide, Widths, code_wide, function_wide, wide, main_wide, AreWidths}
-use Rattle.flat_ir.proofs.Sets.{different-length}
+use Rattle.nv_base.specs.Sets.{different, all_vars}
+use Rattle.nv_base.specs.Measures.{operands_wide}
+use Rattle.flat_ir.specs.Wide.{Widths, code_wide, function_wide, wide, main_wide, AreWidths}
+use Rattle.nv_base.proofs.Sets.{different-length}
 use Rattle.flat_ir.proofs.Widths.{main-bounded}
 use Rattle.nv_flatten.specs.Symbols.{Symbol, NamedSymbols, no_named_symbols, named_symbol_and, SymbolScope, operands, named_operands, named_fresh, symbol_in, params_bound}
 use Rattle.nv_flatten.specs.Whole.{Whole, whole_of, group_of, Stands}

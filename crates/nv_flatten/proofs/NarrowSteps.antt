@@ -10,7 +10,9 @@ use Rattle.flat_ir.specs.declared.flat.FlatFun.{FlatFun}
 use Rattle.flat_ir.specs.declared.spine.Step.{Step}
 use Rattle.flat_ir.specs.declared.spine.Step.TheVariants.{Let, Fetch, Store, Bind}
 use Rattle.flat_ir.specs.Spine.{AreNodes}
-use Rattle.flat_ir.specs.Wide.{different, without, all_vars, live, operands_wide, entry_wide, Widths, call_wide, code_wide}
+use Rattle.nv_base.specs.Sets.{different, without, all_vars}
+use Rattle.nv_base.specs.Measures.{operands_wide, entry_wide}
+use Rattle.flat_ir.specs.Wide.{live, Widths, call_wide, code_wide}
 use Rattle.flat_ir.specs.Pieces.{new_vars, steps_live, steps_wide}
 use Rattle.flat_ir.proofs.Parts.{nodes-live, nodes-wide}
 use Rattle.flat_ir.proofs.Appended.{live-append, wide-append}

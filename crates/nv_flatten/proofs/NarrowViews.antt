@@ -11,7 +11,7 @@ use Rattle.nv_ast.specs.declared.tree.ShiftOp.{ShiftOp}
 use Rattle.nv_ast.specs.ExprView.{tree_of, list_trees, list_named_trees, statement_tree, list_statements}
 use Rattle.nv_ast.specs.Tree.{Tree, ShiftTree, no_statements, statement_and}
 use Rattle.nv_base.specs.Words.{atom_vars}
-use Rattle.flat_ir.specs.Wide.{all_vars}
+use Rattle.nv_base.specs.Sets.{all_vars}
 use Rattle.flat_ir.specs.declared.spine.Step.{Step}
 use Rattle.flat_ir.specs.declared.spine.Step.TheVariants.{Let}
 use Rattle.nv_flatten.specs.declared.symbol.Symbol.{Symbol as CodeSymbol}

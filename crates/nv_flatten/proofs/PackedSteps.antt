@@ -10,7 +10,8 @@ use Rattle.nv_ast.specs.Types.{form_of, can_pack}
 use Rattle.flat_ir.specs.declared.flat.FlatFun.{FlatFun}
 use Rattle.flat_ir.specs.declared.spine.Step.{Step}
 use Rattle.flat_ir.specs.declared.spine.Step.TheVariants.{Let}
-use Rattle.flat_ir.specs.Wide.{Widths, all_vars}
+use Rattle.nv_base.specs.Sets.{all_vars}
+use Rattle.flat_ir.specs.Wide.{Widths}
 use Rattle.nv_flatten.specs.Symbols.{Symbol, Word, operands, form, fields_of, field_named, word_operand, words_symbol}
 use Rattle.nv_flatten.specs.Narrow.{IsWithin, NarrowSteps, AreNarrowLets}
 use Rattle.nv_flatten.specs.Small.{PacksFew}

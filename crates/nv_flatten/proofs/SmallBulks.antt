@@ -5,11 +5,12 @@ use Rattle.flat_ir.specs.declared.flat.Flat.{Flat}
 use Rattle.flat_ir.specs.declared.flat.FlatFun.{FlatFun}
 use Rattle.flat_ir.specs.declared.spine.Step.{Step}
 use Rattle.flat_ir.specs.Spine.{AreNodes}
-use Rattle.flat_ir.specs.Bulk.{Bulk, Bulks, nothing, a_label, a_jump, a_node, both, code_bulk, IsAtMost}
+use Rattle.nv_base.specs.Measures.{Bulk, nothing, a_label, a_jump, a_node, both, IsAtMost}
+use Rattle.flat_ir.specs.Bulk.{Bulks, code_bulk}
 use Rattle.flat_ir.specs.Pieces.{steps_bulk}
 use Rattle.flat_ir.proofs.Parts.{nodes-bulk}
 use Rattle.flat_ir.proofs.Appended.{bulk-append}
-use Rattle.flat_ir.proofs.Bulks.{most-refl}
+use Rattle.nv_base.proofs.Measures.{most-refl}
 use Rattle.nv_flatten.specs.Code.{is_given}
 use Rattle.nv_flatten.specs.Small.{of_parts, uses, lets, value_rest}
 

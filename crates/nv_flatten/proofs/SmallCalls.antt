@@ -18,8 +18,9 @@ use Rattle.flat_ir.specs.declared.flat.Flat.TheVariants.{Call, Raise, Try'}
 use Rattle.flat_ir.specs.declared.flat.FlatFun.{FlatFun}
 use Rattle.flat_ir.specs.declared.spine.Step.{Step}
 use Rattle.flat_ir.specs.Spine.{AreNodes}
-use Rattle.flat_ir.specs.Bulk.{Bulk, Bulks, nothing, a_label, a_jump, both, return_bulk, call_bulk, code_bulk, IsAtMost}
-use Rattle.flat_ir.proofs.Bulks.{most-none}
+use Rattle.nv_base.specs.Measures.{Bulk, nothing, a_label, a_jump, both, IsAtMost}
+use Rattle.flat_ir.specs.Bulk.{Bulks, return_bulk, call_bulk, code_bulk}
+use Rattle.nv_base.proofs.Measures.{most-none}
 use Rattle.nv_flatten.specs.Code.{form_or_unit}
 use Rattle.nv_flatten.specs.Symbols.{Symbol, Symbols, SymbolScope, form, operands, all_operands, all_fresh, vars_of, all_bound}
 use Rattle.nv_flatten.specs.Whole.{Whole, Stands, raised_or_none, result_of}

@@ -15,7 +15,8 @@ use Rattle.flat_ir.specs.declared.flat.Flat.TheVariants.{If', Give}
 use Rattle.flat_ir.specs.declared.flat.FlatFun.{FlatFun}
 use Rattle.flat_ir.specs.declared.spine.Step.{Step}
 use Rattle.flat_ir.specs.Spine.{AreNodes}
-use Rattle.flat_ir.specs.Bulk.{Bulks, nothing, a_label, a_jump, a_node, both, code_bulk, IsAtMost}
+use Rattle.nv_base.specs.Measures.{nothing, a_label, a_jump, a_node, both, IsAtMost}
+use Rattle.flat_ir.specs.Bulk.{Bulks, code_bulk}
 use Rattle.nv_flatten.specs.Code.{is_given, is_comparison, form_or_unit}
 use Rattle.nv_flatten.specs.Symbols.{Symbol, Truth, SymbolScope, operands, form}
 use Rattle.nv_flatten.specs.Whole.{Whole}

@@ -13,7 +13,8 @@ use Rattle.flat_ir.specs.declared.flat.Flat.{Flat}
 use Rattle.flat_ir.specs.declared.spine.Step.{Step}
 use Rattle.flat_ir.specs.declared.spine.Step.TheVariants.{Store}
 use Rattle.flat_ir.specs.Spine.{AreNodes}
-use Rattle.flat_ir.specs.Bulk.{a_label, both, code_bulk, IsAtMost}
+use Rattle.nv_base.specs.Measures.{a_label, both, IsAtMost}
+use Rattle.flat_ir.specs.Bulk.{code_bulk}
 use Rattle.nv_flatten.specs.Code.{form_or_unit}
 use Rattle.nv_flatten.specs.Symbols.{Symbol, Symbols, NamedSymbols, no_symbols, symbol_and, no_named_symbols, named_symbol_and, SymbolScope, operands, all_operands, named_operands, word_operand}
 use Rattle.nv_flatten.specs.Whole.{Whole, Stands}

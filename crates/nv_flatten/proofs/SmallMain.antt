@@ -6,10 +6,11 @@ use Rattle.nv_ast.specs.Sizes.{expanded_size}
 use Rattle.nv_ast.specs.Faults.{program_faults, main_name}
 use Rattle.nv_meaning.specs.Meaning.{function_in}
 use Rattle.flat_ir.specs.declared.flat.FlatFun.{FlatFun}
-use Rattle.flat_ir.specs.Bulk.{bulk, of_size, IsAtMost}
-use Rattle.flat_ir.specs.Formed.{is_in}
+use Rattle.nv_base.specs.Measures.{of_size, IsAtMost}
+use Rattle.flat_ir.specs.Bulk.{bulk}
+use Rattle.nv_base.specs.Sets.{is_in}
 use Rattle.nv_flatten.specs.Whole.{whole_of}
-use Rattle.nv_flatten.specs.Flattened.{calls, Reached, itself, called}
+use Rattle.flat_ir.specs.Reached.{calls, Reached, itself, called}
 use Rattle.nv_flatten.specs.Well.{Linked}
 use Rattle.nv_flatten.specs.Made.{IsComplete}
 use Rattle.nv_flatten.specs.Small.{AreSmallFuns}

@@ -10,8 +10,10 @@ use Rattle.nv_ast.specs.Scope.{Place, nothing_known, param_vars}
 use Rattle.nv_ast.specs.Faults.{Wanted, same_as, main_name, program_faults}
 use Rattle.nv_meaning.specs.Meaning.{function_in}
 use Rattle.flat_ir.specs.declared.flat.FlatFun.{FlatFun}
-use Rattle.flat_ir.specs.Bulk.{Bulks, a_label, a_jump, both, code_bulk, function_bulk, sum_bulk, main_bulk, bulk, IsAtMost, of_size, AreBulks}
-use Rattle.flat_ir.proofs.Bulks.{most-trans, main-bounded}
+use Rattle.nv_base.specs.Measures.{a_label, a_jump, both, IsAtMost, of_size}
+use Rattle.flat_ir.specs.Bulk.{Bulks, code_bulk, function_bulk, sum_bulk, main_bulk, bulk, AreBulks}
+use Rattle.nv_base.proofs.Measures.{most-trans}
+use Rattle.flat_ir.proofs.Bulks.{main-bounded}
 use Rattle.nv_flatten.specs.Code.{form_or_unit}
 use Rattle.nv_flatten.specs.Whole.{whole_of, group_of, Stands}
 use Rattle.nv_flatten.specs.Simulation.{Names}

@@ -17,7 +17,8 @@ use Rattle.nv_ast.specs.Sizes.{expanded, expanded_all, expanded_named}
 use Rattle.flat_ir.specs.declared.flat.Flat.{Flat}
 use Rattle.flat_ir.specs.declared.spine.Step.{Step}
 use Rattle.flat_ir.specs.declared.spine.Step.TheVariants.{Let, Fetch, Bind}
-use Rattle.flat_ir.specs.Bulk.{Bulk, nothing, a_label, a_jump, a_node, both, code_bulk, IsAtMost}
+use Rattle.nv_base.specs.Measures.{Bulk, nothing, a_label, a_jump, a_node, both, IsAtMost}
+use Rattle.flat_ir.specs.Bulk.{code_bulk}
 use Rattle.flat_ir.specs.Pieces.{new_vars, steps_bulk}
 use Rattle.nv_flatten.specs.Code.{variables as var_operands, is_given, form_or_unit, shift_of}
 use Rattle.nv_flatten.specs.Symbols.{Symbol, Symbols, NamedSymbols, Word, Truth, Tuple, Record, no_named_symbols, named_symbol_and, SymbolScope, operands, all_operands, named_operands, form, fresh, numbers_from, words_symbol, word_operand, truth_operand, fields_of, field_named, symbol_in, vars_of}

@@ -22,8 +22,8 @@ use Rattle.nv_ast.specs.Typing.{vars_behind, operand_ty}
 use Rattle.nv_ast.specs.Faults.{a_value, of_type, anything, wanted_packed, wanted_unpacked, faults, list_faults, named_faults, statements_faults, wrong_access, wrong_scratch, can_move}
 use Rattle.flat_ir.specs.declared.spine.Step.{Step}
 use Rattle.flat_ir.specs.declared.spine.Step.TheVariants.{Let, Fetch}
-use Rattle.flat_ir.specs.Formed as flat
-use Rattle.flat_ir.specs.Formed.{is_known, all_known, is_primitive}
+use Rattle.nv_base.specs.Access as flat
+use Rattle.nv_base.specs.Access.{is_known, all_known, is_primitive}
 use Rattle.nv_flatten.specs.Code.{shift_of, variables}
 use Rattle.nv_flatten.specs.Symbols.{Symbol, Symbols, NamedSymbols, SymbolScope, Word, Truth, Tuple, Record, operands, form, word_operand, truth_operand, fields_of, field_named, symbol_in, numbers_from, words_symbol, vars_of}
 use Rattle.nv_flatten.specs.Simulation.{Names, Extends, HasForm}

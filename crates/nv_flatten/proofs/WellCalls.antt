@@ -14,7 +14,8 @@ use Rattle.flat_ir.specs.declared.flat.Flat.TheVariants.{Call, Raise}
 use Rattle.flat_ir.specs.declared.spine.Step.{Step}
 use Rattle.flat_ir.specs.declared.spine.Step.TheVariants.{Bind}
 use Rattle.flat_ir.specs.Spine.{AreNodes}
-use Rattle.flat_ir.specs.Formed.{all_known, may_stand, can_call, is_formed, defined, raised}
+use Rattle.nv_base.specs.Access.{all_known}
+use Rattle.flat_ir.specs.Formed.{may_stand, can_call, is_formed, defined, raised}
 use Rattle.nv_flatten.specs.Code.{form_or_unit, variables}
 use Rattle.nv_flatten.specs.Symbols.{Symbol, Symbols, SymbolScope, operands, all_operands, form, forms, fresh, numbers_from, vars_of}
 use Rattle.nv_flatten.specs.Simulation.{Names, Extends}
@@ -24,7 +25,7 @@ use Rattle.nv_flatten.proofs.Fresh.{fresh-operands}
 use Rattle.nv_flatten.proofs.Sound.{arguments-typed}
 use Rattle.nv_flatten.proofs.WellBasics.{nil-left, nil-right, knows-variables, all-operands-words, numbers-length, rises-append, rises-numbers, raised-both}
 use Rattle.nv_flatten.proofs.WellTypes.{not-where, some-where, low-of, middle-of, plain-words, stands-inside}
-use Rattle.nv_flatten.specs.Flattened.{calls}
+use Rattle.flat_ir.specs.Reached.{calls}
 use Rattle.nv_flatten.specs.Well.{steps_calls, AreCalled}
 use Rattle.nv_flatten.proofs.WellNames.{called-more, code-called-more, code-called-then}
 use Rattle.nv_flatten.proofs.WellSteps.{steps-names, code-behind, code-inner}

@@ -17,8 +17,8 @@ use Rattle.nv_ast.specs.Typing.{type_at, vars_after, vars_behind, operand_ty}
 use Rattle.nv_ast.specs.Faults.{Wanted, a_value, of_type, wanted_stored, faults, list_faults, named_faults, statement_faults, statements_faults, wrong_access, wrong_scratch, can_move}
 use Rattle.flat_ir.specs.declared.spine.Step.{Step}
 use Rattle.flat_ir.specs.declared.spine.Step.TheVariants.{Store}
-use Rattle.flat_ir.specs.Formed as flat
-use Rattle.flat_ir.specs.Formed.{is_known, all_known}
+use Rattle.nv_base.specs.Access as flat
+use Rattle.nv_base.specs.Access.{is_known, all_known}
 use Rattle.nv_flatten.specs.Symbols.{Symbol, Symbols, NamedSymbols, SymbolScope, no_symbols, symbol_and, no_named_symbols, named_symbol_and, operands, all_operands, named_operands, form, word_operand, truth_operand, vars_of, bound}
 use Rattle.nv_flatten.specs.Simulation.{Names, Extends, HasForm}
 use Rattle.nv_flatten.specs.Whole.{Whole, Stands}

@@ -8,10 +8,10 @@ use Rattle.flat_ir.specs.declared.flat.Flat.{Flat}
 use Rattle.flat_ir.specs.declared.spine.Step.{Step}
 use Rattle.flat_ir.specs.declared.spine.Step.TheVariants.{Let, Fetch, Store, Bind}
 use Rattle.flat_ir.specs.Spine.{IsNode, AreNodes}
-use Rattle.flat_ir.specs.Formed.{is_in}
-use Rattle.flat_ir.proofs.Sets.{in-append}
+use Rattle.nv_base.specs.Sets.{is_in}
+use Rattle.nv_base.proofs.Sets.{in-append}
 use Rattle.nv_flatten.specs.Simulation.{Names}
-use Rattle.nv_flatten.specs.Flattened.{calls}
+use Rattle.flat_ir.specs.Reached.{calls}
 use Rattle.nv_flatten.specs.Well.{step_calls, steps_calls, AreCalled, IsChoice}
 
 -- ---- no name, further calls, and one after the other

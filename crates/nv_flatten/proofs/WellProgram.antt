@@ -11,12 +11,14 @@ use Rattle.nv_ast.specs.Faults.{Wanted, faults}
 use Rattle.flat_ir.specs.declared.flat.Flat.{Flat}
 use Rattle.flat_ir.specs.declared.flat.Flat.TheVariants.{Let', Fetch', Store', If', Bind', Call, Raise, Try', Give}
 use Rattle.flat_ir.specs.declared.flat.FlatFun.{FlatFun}
-use Rattle.flat_ir.specs.Formed.{is_in, all_different, is_known, all_known, is_primitive, can_move, is_address, may_stand, can_call, is_formed, defined, raised, all_raised, agree, is_function, is_main, is_program}
-use Rattle.flat_ir.proofs.Sets.{in-append}
+use Rattle.nv_base.specs.Sets.{is_in, all_different}
+use Rattle.nv_base.specs.Access.{is_known, all_known, is_primitive, can_move, is_address}
+use Rattle.flat_ir.specs.Formed.{may_stand, can_call, is_formed, defined, raised, all_raised, agree, is_function, is_main, is_program}
+use Rattle.nv_base.proofs.Sets.{in-append}
 use Rattle.nv_flatten.specs.Symbols.{SymbolScope, numbers_from}
 use Rattle.nv_flatten.specs.Simulation.{Names, Extends}
 use Rattle.nv_flatten.specs.Whole.{Whole, Stands, raised_tys}
-use Rattle.nv_flatten.specs.Flattened.{calls, Reached, itself, called, AreReached}
+use Rattle.flat_ir.specs.Reached.{calls, Reached, itself, called, AreReached}
 use Rattle.nv_flatten.specs.Well.{FunsMatch, AreShort, Linked, ScopeKnown, Rises, IsRaised, RaisedMatch, GivesWords, IsWellEnd, IsWellFun}
 use Rattle.nv_flatten.proofs.WellBasics.{rises-append, rises-numbers, rises-different, raised-both}
 use Rattle.nv_flatten.proofs.WellSteps.{linked-fewer}

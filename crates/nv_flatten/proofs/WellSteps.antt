@@ -8,9 +8,10 @@ use Rattle.flat_ir.specs.declared.flat.Flat.{Flat}
 use Rattle.flat_ir.specs.declared.flat.Flat.TheVariants.{If'}
 use Rattle.flat_ir.specs.declared.spine.Step.{Step}
 use Rattle.flat_ir.specs.Spine.{AreNodes}
-use Rattle.flat_ir.specs.Formed.{is_known, is_formed, defined, raised}
+use Rattle.nv_base.specs.Access.{is_known}
+use Rattle.flat_ir.specs.Formed.{is_formed, defined, raised}
 use Rattle.flat_ir.specs.Pieces.{new_vars, known_behind, step_formed, steps_formed, step_defined, steps_defined, step_raised, steps_raised}
-use Rattle.flat_ir.proofs.Sets.{Within}
+use Rattle.nv_base.specs.Sets.{Within}
 use Rattle.flat_ir.proofs.Parts.{nodes-formed, nodes-defined, nodes-raised}
 use Rattle.flat_ir.proofs.Appended.{known-append, formed-append, defined-append, raised-append}
 use Rattle.nv_flatten.specs.Symbols.{SymbolScope}

@@ -4,9 +4,9 @@ use Rattle.std.proofs.lemmas.Bool.{false≢true, and_parts, or_cases}
 use Rattle.nv_base.specs.declared.term.Atom.{Atom}
 use Rattle.nv_base.specs.declared.term.Atom.TheVariants.{Var, Lit}
 use Rattle.nv_base.specs.Words.{atom_vars}
-use Rattle.flat_ir.specs.Wide.{different, without, all_vars, operands_wide}
-use Rattle.flat_ir.proofs.Sets.{same-number, different-below, different-append, different-length}
-use Rattle.flat_ir.proofs.Live.{within-left, within-right, within-both, within-without}
+use Rattle.nv_base.specs.Sets.{different, without, all_vars}
+use Rattle.nv_base.specs.Measures.{operands_wide}
+use Rattle.nv_base.proofs.Sets.{same-number, different-below, different-append, different-length, within-left, within-right, within-both, within-without}
 use Rattle.nv_flatten.specs.Narrow.{IsWithin, Grows}
 
 pub itself : {a : List ℕ} → IsWithin a a

@@ -7,7 +7,7 @@ use Rattle.nv_base.specs.declared.term.Bin.TheVariants.{Or}
 use Rattle.nv_base.specs.declared.term.Primitive.TheVariants.{Bin as BinOf}
 use Rattle.flat_ir.specs.declared.spine.Step.{Step}
 use Rattle.flat_ir.specs.declared.spine.Step.TheVariants.{Let}
-use Rattle.flat_ir.specs.Formed.{is_known, all_known}
+use Rattle.nv_base.specs.Access.{is_known, all_known}
 use Rattle.nv_flatten.specs.Symbols.{Symbol, Word, operands, fields_of, field_named, word_operand, words_symbol}
 use Rattle.nv_flatten.specs.Well.{AreWellLets}
 use Rattle.nv_flatten.specs.Adds.{AddsLets, AddsWords}

@@ -11,9 +11,10 @@ use Rattle.nv_ast.specs.declared.tree.ShiftOp.TheVariants.{Left, Right, Rotate}
 use Rattle.flat_ir.specs.declared.flat.FlatFun.{FlatFun}
 use Rattle.flat_ir.specs.declared.spine.Step.{Step}
 use Rattle.flat_ir.specs.declared.spine.Step.TheVariants.{Let}
-use Rattle.flat_ir.specs.Bulk.{Bulk, Bulks, nothing, both}
+use Rattle.nv_base.specs.Measures.{Bulk, nothing, both}
+use Rattle.flat_ir.specs.Bulk.{Bulks}
 use Rattle.flat_ir.specs.Pieces.{step_bulk, steps_bulk}
-use Rattle.flat_ir.specs.Wide.{all_vars}
+use Rattle.nv_base.specs.Sets.{all_vars}
 use Rattle.flat_ir.proofs.Appended.{bulk-append}
 use Rattle.nv_flatten.specs.Code.{shift_of}
 use Rattle.nv_flatten.specs.Narrow.{IsWithin}

@@ -4,7 +4,8 @@ use Rattle.nv_base.specs.declared.term.Atom.{Atom}
 use Rattle.nv_base.specs.Words.{atom_vars}
 use Rattle.flat_ir.specs.declared.flat.FlatFun.{FlatFun}
 use Rattle.flat_ir.specs.declared.spine.Step.{Step}
-use Rattle.flat_ir.specs.Wide.{Widths, all_vars}
+use Rattle.nv_base.specs.Sets.{all_vars}
+use Rattle.flat_ir.specs.Wide.{Widths}
 use Rattle.nv_flatten.specs.Symbols.{Symbol, NamedSymbols, operands, named_operands}
 use Rattle.nv_flatten.specs.Well.{AreWellLets}
 use Rattle.nv_flatten.specs.Narrow.{IsWithin, NarrowSteps}

@@ -16,7 +16,7 @@ use Rattle.nv_ast.specs.declared.tree.ShiftOp.{ShiftOp}
 use Rattle.nv_ast.specs.declared.tree.ShiftOp.TheVariants.{Left, Right, Rotate}
 use Rattle.nv_ast.specs.Tree.{Tree, ParenTree, BinaryTree, CallTree, RaiseTree, IfTree, TryTree, BlockTree}
 use Rattle.nv_ast.specs.Types.{Ty, TupleTy, no_tys}
-use Rattle.flat_ir.specs.Running as flat
+use Rattle.nv_base.specs.Running as flat
 use Rattle.flat_ir.specs.Meaning as code
 use Rattle.flat_ir.specs.Spine.{Act, steps_do}
 use Rattle.flat_ir.specs.declared.spine.Step.{Step}

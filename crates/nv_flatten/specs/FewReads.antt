@@ -3,7 +3,8 @@ use Rattle.std.specs.Prelude.{◌≡◌, ℕ, ◌+◌, ◌*◌, ◌≤◌, List,
 use Rattle.nv_base.specs.declared.term.Atom.{Atom}
 use Rattle.flat_ir.specs.declared.flat.FlatFun.{FlatFun}
 use Rattle.flat_ir.specs.declared.spine.Step.{Step}
-use Rattle.flat_ir.specs.Wide.{Widths, all_vars}
+use Rattle.nv_base.specs.Sets.{all_vars}
+use Rattle.flat_ir.specs.Wide.{Widths}
 use Rattle.nv_flatten.specs.Symbols.{NamedSymbols, named_operands}
 use Rattle.nv_flatten.specs.Narrow.{NarrowSteps}
 use Rattle.nv_flatten.specs.Small.{AreFewLets}

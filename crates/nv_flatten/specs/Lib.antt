@@ -8,7 +8,6 @@ pub mod Code
 pub mod Simulation
 pub mod Well
 pub mod Adds
-pub mod Flattened
 pub mod Fields
 pub mod Made
 pub mod Reads
@@ -19,4 +18,3 @@ pub mod Bounded
 pub mod Arms
 pub mod Flat
 pub mod Written
-pub mod Equal

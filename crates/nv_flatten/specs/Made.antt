@@ -7,7 +7,7 @@ use Rattle.flat_ir.specs.declared.flat.FlatFun.{FlatFun}
 use Rattle.nv_flatten.specs.Symbols.{Symbol, SymbolScope, named_fresh, numbers_from, params_bound}
 use Rattle.nv_flatten.specs.Whole.{Whole, group_of}
 use Rattle.nv_flatten.specs.Simulation.{Names, Extends, IsEnd}
-use Rattle.nv_flatten.specs.Flattened.{AreReached}
+use Rattle.flat_ir.specs.Reached.{AreReached}
 use Rattle.nv_flatten.specs.Well.{IsWellEnd, IsWellFun}
 
 -- the types of a function's parameters, with their names

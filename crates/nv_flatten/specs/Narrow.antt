@@ -12,8 +12,8 @@ use Rattle.flat_ir.specs.declared.flat.Flat.{Flat}
 use Rattle.flat_ir.specs.declared.flat.Flat.TheVariants.{Give}
 use Rattle.flat_ir.specs.declared.flat.FlatFun.{FlatFun}
 use Rattle.flat_ir.specs.declared.spine.Step.{Step}
-use Rattle.flat_ir.specs.Formed.{is_in}
-use Rattle.flat_ir.specs.Wide.{different, all_vars, live, Widths, code_wide}
+use Rattle.nv_base.specs.Sets.{is_in, different, all_vars}
+use Rattle.flat_ir.specs.Wide.{live, Widths, code_wide}
 use Rattle.flat_ir.specs.Pieces.{steps_live, steps_wide}
 use Rattle.nv_flatten.specs.Symbols.{Symbol, Symbols, NamedSymbols, SymbolScope, operands, all_operands, named_operands, symbol_in}
 use Rattle.nv_flatten.specs.Whole.{Whole, Stands, group_of}

@@ -12,7 +12,8 @@ use Rattle.nv_meaning.specs.Meaning.{function_in}
 use Rattle.flat_ir.specs.declared.flat.Flat.{Flat}
 use Rattle.flat_ir.specs.declared.flat.FlatFun.{FlatFun}
 use Rattle.flat_ir.specs.declared.spine.Step.{Step}
-use Rattle.flat_ir.specs.Bulk.{Bulk, Bulks, nothing, a_label, a_jump, both, code_bulk, IsAtMost}
+use Rattle.nv_base.specs.Measures.{Bulk, nothing, a_label, a_jump, both, IsAtMost}
+use Rattle.flat_ir.specs.Bulk.{Bulks, code_bulk}
 use Rattle.flat_ir.specs.Pieces.{steps_bulk}
 use Rattle.nv_flatten.specs.Code.{is_given, is_comparison, form_or_unit}
 use Rattle.nv_flatten.specs.Made.{entry}

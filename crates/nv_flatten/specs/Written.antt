@@ -4,7 +4,8 @@ use Rattle.nv_base.specs.declared.term.Atom.{Atom}
 use Rattle.nv_ast.specs.Outline.{OutlineTree, BitsOutline, GapOutline, PartsOutline, OverlayOutline, JoinedOutline, OutlineTrees, no_outlines, outline_and, NamedOutlines, no_named_outlines, named_outline_and}
 use Rattle.flat_ir.specs.declared.flat.FlatFun.{FlatFun}
 use Rattle.flat_ir.specs.declared.spine.Step.{Step}
-use Rattle.flat_ir.specs.Wide.{all_vars, Widths}
+use Rattle.nv_base.specs.Sets.{all_vars}
+use Rattle.flat_ir.specs.Wide.{Widths}
 use Rattle.nv_flatten.specs.Symbols.{Symbol, NamedSymbols, operands, fields_of, field_named}
 use Rattle.nv_flatten.specs.Reads.{has_symbol}
 use Rattle.nv_flatten.specs.Narrow.{IsWithin, NarrowSteps}

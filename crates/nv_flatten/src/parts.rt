@@ -4,7 +4,8 @@ ghost use Rattle.std.specs.Prelude.{◌≡◌, ◌<◌, ◌≤◌, ◌+◌, ◌�
 ghost use Rattle.nv_base.specs.declared.term.Atom.TheVariants.{Var, Lit};
 ghost use Rattle.nv_base.specs.Words.{Env, compares};
 ghost use Rattle.flat_ir.specs.Meaning.{Calls, does};
-ghost use Rattle.flat_ir.specs.Running.{Running, Gives};
+ghost use Rattle.nv_base.specs.Running.{Running};
+ghost use Rattle.flat_ir.specs.Running.{Gives};
 ghost use Rattle.flat_ir.specs.Spine.{steps_do};
 ghost use Rattle.flat_ir.specs.declared.spine.Step.TheVariants.{Let};
 ghost use Rattle.nv_flatten.specs.Code.{arithmetic_of, comparison_of, ends_of, shift_of, variables, chosen};

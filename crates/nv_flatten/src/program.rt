@@ -1,7 +1,7 @@
 // Whole programs.
 
 ghost use Rattle.std.specs.Prelude.{◌≡◌, ◌≤◌, ◌+◌, ◌++◌, ℕ, List, [], Some, IfOk, OnOk};
-ghost use Rattle.nv_base.specs.Meanings.{KeepsOutcomes};
+ghost use Rattle.nv_base.specs.Meanings.{KeepsOutcomes, AreEqual};
 ghost use Rattle.nv_ast.specs.ProgramView.{fun_tree};
 ghost use Rattle.nv_ast.specs.Sizes.{main_words, room, expanded_size};
 ghost use Rattle.nv_ast.specs.Tree.{FunTree};
@@ -9,12 +9,12 @@ ghost use Rattle.nv_ast.specs.TypedView.{typed_program};
 ghost use Rattle.nv_ast.specs.Types.{named_types_of, total_named_words};
 ghost use Rattle.nv_ast.specs.TypeView.{list_named_types};
 ghost use Rattle.nv_meaning.specs.Meaning.{source, function_in};
-ghost use Rattle.flat_ir.specs.Bulk.{bulk, of_size, IsAtMost};
+ghost use Rattle.nv_base.specs.Measures.{of_size, IsAtMost};
+ghost use Rattle.flat_ir.specs.Bulk.{bulk};
 ghost use Rattle.flat_ir.specs.Meaning.{flat_meaning};
 ghost use Rattle.flat_ir.specs.Wide.{wide};
 ghost use Rattle.nv_flatten.specs.Bounded.{IsBounded};
-ghost use Rattle.nv_flatten.specs.Equal.{AreEqual};
-ghost use Rattle.nv_flatten.specs.Flattened.{params_in, calls, AreReached};
+ghost use Rattle.flat_ir.specs.Reached.{params_in, calls, AreReached};
 ghost use Rattle.nv_flatten.specs.Made.{IsMade, IsPlaced};
 ghost use Rattle.nv_flatten.specs.Narrow.{IsNarrowFun, IsNarrowOf};
 ghost use Rattle.nv_flatten.specs.Simulation.{Extends};

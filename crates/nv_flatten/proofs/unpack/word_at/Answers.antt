@@ -2,7 +2,7 @@ use Rattle.std.proofs.Common.{refl, [], ◌∷◌, ◌<◌, ◌≤◌, ◌*◌, 
 use Rattle.std.proofs.lemmas.List.{get_or_default}
 use Rattle.std.proofs.lemmas.Result.{IfOk-weaker}
 use Rattle.nv_base.specs.declared.term.Atom.TheVariants.{Lit}
-use Rattle.flat_ir.specs.Wide.{all_vars}
+use Rattle.nv_base.specs.Sets.{all_vars}
 use Rattle.nv_ast.specs.Bits.{number, packed, slice}
 use Rattle.nv_flatten.proofs.Computing.{makes-there}
 use Rattle.nv_flatten.proofs.Leaves.{one-makes, two-makes, item-next}

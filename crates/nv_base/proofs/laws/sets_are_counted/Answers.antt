@@ -1,5 +1,5 @@
-use Rattle.flat_ir.proofs.Sets.{different-below, different-append, different-length, different-all}
-use Rattle.flat_ir.proofs.laws.sets_are_counted.Goals as goal
+use Rattle.nv_base.proofs.Sets.{different-below, different-append, different-length, different-all}
+use Rattle.nv_base.proofs.laws.sets_are_counted.Goals as goal
 
 pub returns-clause-below : goal.returns-clause-below
 returns-clause-below c = different-below

@@ -1,9 +1,9 @@
--- Flat programs as what is made of typed ones.
+-- Which functions of a program are reached, and how many words they take.
 use Rattle.std.specs.Prelude.{◌≡◌, ℕ, ◌<◌, ◌≤◌, Bool, true, List, [], ◌∷◌, ◌++◌, Option, Some, None, slice_get, length, ◌⊎◌}
 use Rattle.flat_ir.specs.declared.flat.Flat.{Flat}
 use Rattle.flat_ir.specs.declared.flat.Flat.TheVariants.{Let', Fetch', Store', If', Bind', Call, Raise, Try', Give}
 use Rattle.flat_ir.specs.declared.flat.FlatFun.{FlatFun}
-use Rattle.flat_ir.specs.Formed.{is_in}
+use Rattle.nv_base.specs.Sets.{is_in}
 
 -- how many words a function of a program takes
 abbrev pub params_of : Option FlatFun → ℕ
