@@ -22,12 +22,12 @@ use Rattle.flat_ir.specs.Running as flat
 use Rattle.flat_ir.specs.Meaning as code
 use Rattle.flat_ir.specs.Spine.{Act, step_does}
 use Rattle.flat_ir.specs.declared.spine.Step.{Step}
-use Rattle.nv_flatten.specs.Code.{Computes, variables}
-use Rattle.nv_flatten.specs.Symbols.{Symbol, Word, Truth, Tuple, Record, Symbols, no_symbols, symbol_and, NamedSymbols, no_named_symbols, named_symbol_and, SymbolScope, operands, all_operands, named_operands, form, forms, named_forms, value_in, Fits, AreOlder, word_operand, word_symbols, words_symbol, numbers_from}
-use Rattle.nv_flatten.specs.Runs.{flat_run, onward}
-use Rattle.nv_flatten.specs.Soundness.{AreWords}
-use Rattle.nv_flatten.specs.Whole.{Whole}
-use Rattle.nv_flatten.specs.Simulation.{Names, Done, IsValue}
+use Rattle.nv_flatten.specs.inner.Code.{Computes, variables}
+use Rattle.nv_flatten.specs.inner.Symbols.{Symbol, Word, Truth, Tuple, Record, Symbols, no_symbols, symbol_and, NamedSymbols, no_named_symbols, named_symbol_and, SymbolScope, operands, all_operands, named_operands, form, forms, named_forms, value_in, Fits, AreOlder, word_operand, word_symbols, words_symbol, numbers_from}
+use Rattle.nv_flatten.specs.inner.Runs.{flat_run, onward}
+use Rattle.nv_flatten.specs.inner.Soundness.{AreWords}
+use Rattle.nv_flatten.specs.inner.Whole.{Whole}
+use Rattle.nv_flatten.specs.inner.Simulation.{Names, Done, IsValue}
 use Rattle.nv_flatten.proofs.Keeping.{keeps-then, words-fit, are-words}
 use Rattle.nv_flatten.proofs.Fresh.{numbers-keep, numbers-older, words-read, words-read-fit}
 use Rattle.nv_flatten.proofs.NoFaults.{none-left, set, some-same, value-has-type, clean as is-clean, is-right, wanted-type}

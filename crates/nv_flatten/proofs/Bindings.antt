@@ -7,10 +7,10 @@ use Rattle.nv_ast.specs.declared.tree.Pat.TheViews as patterns
 use Rattle.nv_ast.specs.PatternView.{pattern_tree, list_patterns}
 use Rattle.nv_ast.specs.Tree.{TuplePattern}
 use Rattle.nv_ast.proofs.Reading.{tuple_pattern_is}
-use Rattle.nv_flatten.specs.Symbols.{SymbolScope, symbol_in, bound, all_bound}
+use Rattle.nv_flatten.specs.inner.Symbols.{SymbolScope, symbol_in, bound, all_bound}
 use Rattle.nv_flatten.specs.declared.symbol.Symbol as code
-use Rattle.nv_flatten.specs.View.{Named, view, list_symbols, scope_of}
-use Rattle.nv_flatten.specs.Simulation.{Extends}
+use Rattle.nv_flatten.specs.inner.View.{Named, view, list_symbols, scope_of}
+use Rattle.nv_flatten.specs.inner.Simulation.{Extends}
 use Rattle.nv_flatten.proofs.Rows.{tuple_view}
 
 pub scope-append : (a b : List Named) (outer : SymbolScope) → scope_of (a ++ b) outer ≡ scope_of b (scope_of a outer)

@@ -14,8 +14,8 @@ use Rattle.nv_ast.specs.Faults.{types_faults, wide_exception, declared_before, s
 use Rattle.nv_layout.proofs.Sound.{layout_sound}
 use Rattle.nv_meaning.specs.Meaning.{Declared, with_decl, with_decls, function_in}
 use Rattle.nv_meaning.specs.Running.{exception_number}
-use Rattle.nv_meaning.specs.Tables.{place_from}
-use Rattle.nv_flatten.specs.Whole.{Whole, whole_of, raised_tys, raised_in, groups_from, group_of, group_at, IsCallable, IsPart}
+use Rattle.nv_meaning.specs.inner.Tables.{place_from}
+use Rattle.nv_flatten.specs.inner.Whole.{Whole, whole_of, raised_tys, raised_in, groups_from, group_of, group_at, IsCallable, IsPart}
 use Rattle.nv_flatten.proofs.Knowing.{no_front, no_rest, no_kinds, where_not, at_most, some_same, value-found, sound-found, types-stay, params-stay, result-stays, signatures-stay, function-front, function-behind, signature-found, signature-there, function-among, among-function, signatures-append, AllAre, are-also, are-both, are-replicate, length-replicate, length-both, slice-behind, grouped, group-behind, numbered, names-append, mapped, AllNarrow, narrow-append, narrow-found, with-layouts, with-exceptions, with-functions}
 
 -- what is declared by what is known and some functions

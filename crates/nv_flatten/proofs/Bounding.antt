@@ -10,15 +10,15 @@ use Rattle.nv_ast.specs.Sizes.{room}
 use Rattle.nv_meaning.specs.Meaning.{function_in}
 use Rattle.flat_ir.specs.declared.flat.FlatFun.{FlatFun}
 use Rattle.flat_ir.specs.Wide.{wide}
-use Rattle.nv_flatten.specs.Symbols.{Symbol, SymbolScope, named_fresh, params_bound}
-use Rattle.nv_flatten.specs.Whole.{Whole, whole_of, group_of}
-use Rattle.nv_flatten.specs.Simulation.{Names, Extends}
+use Rattle.nv_flatten.specs.inner.Symbols.{Symbol, SymbolScope, named_fresh, params_bound}
+use Rattle.nv_flatten.specs.inner.Whole.{Whole, whole_of, group_of}
+use Rattle.nv_flatten.specs.inner.Simulation.{Names, Extends}
 use Rattle.flat_ir.specs.Reached.{calls}
-use Rattle.nv_flatten.specs.Well.{AreCalled}
-use Rattle.nv_flatten.specs.Made.{IsMade, IsPlaced, entry, params_in}
-use Rattle.nv_flatten.specs.Narrow.{IsNarrowEnd, IsNarrowFun, IsEmptyFun, IsNarrowOf, AreNarrowFuns}
-use Rattle.nv_flatten.specs.Small.{IsSmallEnd, IsSmallFun}
-use Rattle.nv_flatten.specs.Bounded.{AreOnce, AreSmallFound, IsBounded}
+use Rattle.nv_flatten.specs.inner.Well.{AreCalled}
+use Rattle.nv_flatten.specs.inner.Made.{IsMade, IsPlaced, entry, params_in}
+use Rattle.nv_flatten.specs.inner.Narrow.{IsNarrowEnd, IsNarrowFun, IsEmptyFun, IsNarrowOf, AreNarrowFuns}
+use Rattle.nv_flatten.specs.inner.Small.{IsSmallEnd, IsSmallFun}
+use Rattle.nv_flatten.specs.inner.Bounded.{AreOnce, AreSmallFound, IsBounded}
 use Rattle.nv_flatten.proofs.Fresh.{numbers-length}
 use Rattle.nv_flatten.proofs.Knowing.{some_same, function-named}
 use Rattle.nv_flatten.proofs.Naming.{Added, MadeSoFar, made-first, made-more, all-made, slice-front, slice-last, slice-there, slice-below}

@@ -19,11 +19,11 @@ use Rattle.flat_ir.specs.Spine.{IsJoined}
 use Rattle.flat_ir.specs.declared.flat.Flat.{Flat}
 use Rattle.flat_ir.specs.declared.flat.Flat.TheVariants.{Call}
 use Rattle.flat_ir.specs.declared.spine.Step.{Step}
-use Rattle.nv_flatten.specs.Symbols.{Symbol, Symbols, SymbolScope, all_operands, form, values_in, scope_in}
-use Rattle.nv_flatten.specs.Runs.{flat_run, ended}
-use Rattle.nv_flatten.specs.Soundness.{value_tys}
-use Rattle.nv_flatten.specs.Whole.{Whole, Stands, result_of}
-use Rattle.nv_flatten.specs.Simulation.{Names, Extends, IsEnd, AreValues, IsStated}
+use Rattle.nv_flatten.specs.inner.Symbols.{Symbol, Symbols, SymbolScope, all_operands, form, values_in, scope_in}
+use Rattle.nv_flatten.specs.inner.Runs.{flat_run, ended}
+use Rattle.nv_flatten.specs.inner.Soundness.{value_tys}
+use Rattle.nv_flatten.specs.inner.Whole.{Whole, Stands, result_of}
+use Rattle.nv_flatten.specs.inner.Simulation.{Names, Extends, IsEnd, AreValues, IsStated}
 use Rattle.nv_flatten.proofs.Keeping.{all-words-fit, all-are-words, forms-of-values}
 use Rattle.nv_flatten.proofs.NoFaults.{none-left, none-right, unset, given, clean, arguments-typed}
 use Rattle.nv_flatten.proofs.Following.{onward-all, onward-stated, stands-inside, values-more, stated-more}

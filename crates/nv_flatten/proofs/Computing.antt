@@ -14,10 +14,10 @@ use Rattle.nv_ast.specs.declared.tree.ShiftOp.TheVariants.{Left, Right, Rotate}
 use Rattle.flat_ir.specs.Spine.{Act, steps_do}
 use Rattle.flat_ir.specs.declared.spine.Step.{Step}
 use Rattle.flat_ir.specs.declared.spine.Step.TheVariants.{Let}
-use Rattle.nv_flatten.specs.Code.{Computes, shift_of}
-use Rattle.nv_flatten.specs.Soundness.{AreWords}
-use Rattle.nv_flatten.specs.Symbols.{IsOlder, AreOlder, Keeps}
-use Rattle.nv_flatten.specs.Reads.{Makes}
+use Rattle.nv_flatten.specs.inner.Code.{Computes, shift_of}
+use Rattle.nv_flatten.specs.inner.Soundness.{AreWords}
+use Rattle.nv_flatten.specs.inner.Symbols.{IsOlder, AreOlder, Keeps}
+use Rattle.nv_flatten.specs.inner.Reads.{Makes}
 use Rattle.nv_flatten.proofs.Keeping.{older-later, keeps-itself, keeps-then, keeps-operand, keeps-operands, steps-append}
 
 -- ---- assignments

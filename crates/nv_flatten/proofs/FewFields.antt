@@ -4,13 +4,13 @@ use Rattle.nv_base.specs.declared.term.Atom.{Atom}
 use Rattle.nv_base.specs.Words.{atom_vars}
 use Rattle.flat_ir.specs.declared.spine.Step.{Step}
 use Rattle.nv_base.specs.Sets.{all_vars}
-use Rattle.nv_flatten.specs.Symbols.{Symbol, Word, Record, NamedSymbols, no_named_symbols, named_symbol_and, operands, named_operands}
-use Rattle.nv_flatten.specs.View.{Named, list_named_symbols}
-use Rattle.nv_flatten.specs.Reads.{◌++_symbols◌}
-use Rattle.nv_flatten.specs.Narrow.{IsWithin, AreNarrowLets}
-use Rattle.nv_flatten.specs.Small.{AreFewLets}
-use Rattle.nv_flatten.specs.Adds.{AddsWord}
-use Rattle.nv_flatten.specs.FewReads.{ReadsFew}
+use Rattle.nv_flatten.specs.inner.Symbols.{Symbol, Word, Record, NamedSymbols, no_named_symbols, named_symbol_and, operands, named_operands}
+use Rattle.nv_flatten.specs.inner.View.{Named, list_named_symbols}
+use Rattle.nv_flatten.specs.inner.Reads.{◌++_symbols◌}
+use Rattle.nv_flatten.specs.inner.Narrow.{IsWithin, AreNarrowLets}
+use Rattle.nv_flatten.specs.inner.Small.{AreFewLets}
+use Rattle.nv_flatten.specs.inner.Adds.{AddsWord}
+use Rattle.nv_flatten.specs.inner.FewReads.{ReadsFew}
 use Rattle.nv_flatten.proofs.Within.{itself, together, into-left, into-right, grows-by, grows-not, all-vars-append, vars-length, one-operand-back}
 use Rattle.nv_flatten.proofs.NarrowSteps.{no-steps, recast, follow, beside}
 use Rattle.nv_flatten.proofs.WordSteps.{few-none, few-then}

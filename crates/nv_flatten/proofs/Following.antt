@@ -10,10 +10,10 @@ use Rattle.flat_ir.specs.Running as flat
 use Rattle.flat_ir.specs.Meaning as code
 use Rattle.flat_ir.specs.Spine.{Act, steps_do}
 use Rattle.flat_ir.specs.declared.spine.Step.{Step}
-use Rattle.nv_flatten.specs.Symbols.{Symbol, Word, Truth, Tuple, Record, SymbolScope, value_in, Fits, IsOlder, AreOlder, Keeps, word_operand, truth_operand}
-use Rattle.nv_flatten.specs.Runs.{flat_run, onward}
-use Rattle.nv_flatten.specs.Whole.{Whole, Stands}
-use Rattle.nv_flatten.specs.Simulation.{Names, Extends, Setting, Done, IsValue, AreValues, AreFields, IsStated, onward_all, onward_named, onward_stated}
+use Rattle.nv_flatten.specs.inner.Symbols.{Symbol, Word, Truth, Tuple, Record, SymbolScope, value_in, Fits, IsOlder, AreOlder, Keeps, word_operand, truth_operand}
+use Rattle.nv_flatten.specs.inner.Runs.{flat_run, onward}
+use Rattle.nv_flatten.specs.inner.Whole.{Whole, Stands}
+use Rattle.nv_flatten.specs.inner.Simulation.{Names, Extends, Setting, Done, IsValue, AreValues, AreFields, IsStated, onward_all, onward_named, onward_stated}
 use Rattle.nv_flatten.proofs.Keeping.{steps-append, extends-then}
 
 -- ---- what follows, and then what follows that

@@ -10,13 +10,13 @@ use Rattle.nv_ast.specs.Scope.{param_vars}
 use Rattle.nv_ast.specs.Typing.{type_at}
 use Rattle.nv_ast.specs.Faults.{program_faults, main_name}
 use Rattle.nv_meaning.specs.Meaning.{function_in}
-use Rattle.nv_flatten.specs.Code.{variables}
-use Rattle.nv_flatten.specs.Symbols.{SymbolScope, fresh, named_fresh, numbers_from, params_bound}
-use Rattle.nv_flatten.specs.Whole.{Whole, whole_of, Stands}
-use Rattle.nv_flatten.specs.Simulation.{Names}
-use Rattle.nv_flatten.specs.Made.{params_in, entry, IsMade, IsPlaced, IsComplete}
+use Rattle.nv_flatten.specs.inner.Code.{variables}
+use Rattle.nv_flatten.specs.inner.Symbols.{SymbolScope, fresh, named_fresh, numbers_from, params_bound}
+use Rattle.nv_flatten.specs.inner.Whole.{Whole, whole_of, Stands}
+use Rattle.nv_flatten.specs.inner.Simulation.{Names}
+use Rattle.nv_flatten.specs.inner.Made.{params_in, entry, IsMade, IsPlaced, IsComplete}
 use Rattle.flat_ir.specs.Reached.{AreReached}
-use Rattle.nv_flatten.specs.Well.{FunsMatch, ScopeKnown, GivesWords, IsWellFun}
+use Rattle.nv_flatten.specs.inner.Well.{FunsMatch, ScopeKnown, GivesWords, IsWellFun}
 use Rattle.nv_flatten.proofs.Fresh.{numbers-append, numbers-length, variables-append, fresh-operands}
 use Rattle.nv_flatten.proofs.WellBasics.{knows-left, knows-right, knows-variables}
 use Rattle.nv_flatten.proofs.WellProgram.{walked-fun, fun-names, program-formed}

@@ -9,9 +9,9 @@ use Rattle.nv_ast.specs.Scope.{bind, bind_all}
 use Rattle.nv_ast.specs.Tree.{PatternTree, NamePattern, AnyPattern, TuplePattern, PatternTrees, no_patterns, pattern_and}
 use Rattle.nv_meaning.specs.Values.{Value, Values, NamedValues, words_of, all_words, all_named_words, word_values, words_value, matched, all_matched}
 use Rattle.nv_meaning.specs.Values as meaning
-use Rattle.nv_flatten.specs.Code.{variables}
-use Rattle.nv_flatten.specs.Symbols.{Symbol, Word, Truth, Tuple, Record, Symbols, no_symbols, symbol_and, SymbolScope, operands, all_operands, named_operands, form, forms, named_forms, value_in, values_in, named_values_in, Fits, AllFit, NamedFit, IsOlder, AreOlder, Keeps, fresh, all_fresh, named_fresh, numbers_from, word_symbols, words_symbol, ScopeFits, ScopeOlder, scope_in, vars_of, bound, all_bound}
-use Rattle.nv_flatten.specs.Soundness.{AreWords, value_ty, value_tys, named_value_tys}
+use Rattle.nv_flatten.specs.inner.Code.{variables}
+use Rattle.nv_flatten.specs.inner.Symbols.{Symbol, Word, Truth, Tuple, Record, Symbols, no_symbols, symbol_and, SymbolScope, operands, all_operands, named_operands, form, forms, named_forms, value_in, values_in, named_values_in, Fits, AllFit, NamedFit, IsOlder, AreOlder, Keeps, fresh, all_fresh, named_fresh, numbers_from, word_symbols, words_symbol, ScopeFits, ScopeOlder, scope_in, vars_of, bound, all_bound}
+use Rattle.nv_flatten.specs.inner.Soundness.{AreWords, value_ty, value_tys, named_value_tys}
 use Rattle.nv_flatten.proofs.Keeping.{all-left, all-right, older-left, older-right, keeps-value, keeps-fit}
 
 -- ---- the form of new variables

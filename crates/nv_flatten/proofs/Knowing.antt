@@ -11,7 +11,7 @@ use Rattle.nv_ast.specs.Scope.{Signature, signature, signatures}
 use Rattle.nv_ast.specs.Faults.{at_span, type_faults, types_faults, named_types_faults, too_large, no_layout, twice_in_type, type_names, signature_faults, signatures_faults}
 use Rattle.nv_meaning.specs.Meaning.{Declared, with_decl, with_decls, function_in}
 use Rattle.nv_meaning.specs.Running.{number_from}
-use Rattle.nv_meaning.specs.Tables.{place_from}
+use Rattle.nv_meaning.specs.inner.Tables.{place_from}
 
 -- ---- no faults
 pub no_front : {A : Type 0} (xs ys : List A) → xs ++ ys ≡ [] → xs ≡ []

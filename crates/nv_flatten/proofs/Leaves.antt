@@ -10,9 +10,9 @@ use Rattle.nv_base.specs.Words.{Env, atom_word, atom_words, shifted_left, shifte
 use Rattle.nv_ast.specs.Bits.{bits, number, packed, slice}
 use Rattle.flat_ir.specs.declared.spine.Step.{Step}
 use Rattle.flat_ir.specs.declared.spine.Step.TheVariants.{Let}
-use Rattle.nv_flatten.specs.Symbols.{IsOlder, AreOlder}
-use Rattle.nv_flatten.specs.Soundness.{AreWords}
-use Rattle.nv_flatten.specs.Reads.{Makes}
+use Rattle.nv_flatten.specs.inner.Symbols.{IsOlder, AreOlder}
+use Rattle.nv_flatten.specs.inner.Soundness.{AreWords}
+use Rattle.nv_flatten.specs.inner.Reads.{Makes}
 use Rattle.nv_flatten.proofs.Computing.{older-one, older-two, words-one, words-two, words-at, length-atom_words, makes-of, makes-or}
 use Rattle.nv_flatten.proofs.Cutting.{between-number, across-number, one-cut, two-cut, packed-two}
 

@@ -13,12 +13,12 @@ use Rattle.flat_ir.specs.declared.spine.Step.TheVariants.{Let}
 use Rattle.nv_base.specs.Access.{is_known, all_known, is_primitive}
 use Rattle.flat_ir.specs.Pieces.{known_behind, steps_formed, steps_defined, steps_raised}
 use Rattle.flat_ir.proofs.Appended.{known-append, formed-append, defined-append, raised-append}
-use Rattle.nv_flatten.specs.Code.{shift_of}
-use Rattle.nv_flatten.specs.Symbols.{Symbol, Record, NamedSymbols, no_named_symbols, named_symbol_and, operands, named_operands}
-use Rattle.nv_flatten.specs.View.{Named, list_named_symbols}
-use Rattle.nv_flatten.specs.Reads.{◌++_symbols◌}
-use Rattle.nv_flatten.specs.Well.{Rises, AreWellLets}
-use Rattle.nv_flatten.specs.Adds.{AddsLets, AddsFields}
+use Rattle.nv_flatten.specs.inner.Code.{shift_of}
+use Rattle.nv_flatten.specs.inner.Symbols.{Symbol, Record, NamedSymbols, no_named_symbols, named_symbol_and, operands, named_operands}
+use Rattle.nv_flatten.specs.inner.View.{Named, list_named_symbols}
+use Rattle.nv_flatten.specs.inner.Reads.{◌++_symbols◌}
+use Rattle.nv_flatten.specs.inner.Well.{Rises, AreWellLets}
+use Rattle.nv_flatten.specs.inner.Adds.{AddsLets, AddsFields}
 use Rattle.nv_flatten.proofs.WellBasics.{known-more, atoms-more, knows-both, knows-left, knows-right, knows-one, knows-two, knows-first, knows-rest, knows-new, rises-append}
 
 -- ---- steps alone

@@ -17,11 +17,11 @@ use Rattle.flat_ir.specs.Running as flat
 use Rattle.flat_ir.specs.Spine.{steps_do}
 use Rattle.flat_ir.specs.declared.spine.Step.{Step}
 use Rattle.nv_flatten.specs.declared.symbol.Symbol as coded
-use Rattle.nv_flatten.specs.Symbols.{Symbol, Tuple, Record, Symbols, no_symbols, symbol_and, NamedSymbols, no_named_symbols, named_symbol_and, SymbolScope, operands, all_operands, named_operands, form, forms, named_forms, value_in, values_in, named_values_in, Fits, AllFit, NamedFit, IsOlder, scope_in}
-use Rattle.nv_flatten.specs.View.{view, list_symbols, Named, list_named_symbols}
-use Rattle.nv_flatten.specs.Runs.{flat_run, onward}
-use Rattle.nv_flatten.specs.Whole.{Whole}
-use Rattle.nv_flatten.specs.Simulation.{Names, Extends, IsValue, AreValues, AreFields, onward_all, onward_named}
+use Rattle.nv_flatten.specs.inner.Symbols.{Symbol, Tuple, Record, Symbols, no_symbols, symbol_and, NamedSymbols, no_named_symbols, named_symbol_and, SymbolScope, operands, all_operands, named_operands, form, forms, named_forms, value_in, values_in, named_values_in, Fits, AllFit, NamedFit, IsOlder, scope_in}
+use Rattle.nv_flatten.specs.inner.View.{view, list_symbols, Named, list_named_symbols}
+use Rattle.nv_flatten.specs.inner.Runs.{flat_run, onward}
+use Rattle.nv_flatten.specs.inner.Whole.{Whole}
+use Rattle.nv_flatten.specs.inner.Simulation.{Names, Extends, IsValue, AreValues, AreFields, onward_all, onward_named}
 use Rattle.nv_flatten.proofs.Keeping.{older-later, scope-later, keeps-value, keeps-fit, keeps-scope, begins-then, begins-done, done-then, extends-itself, extends-then}
 use Rattle.nv_flatten.proofs.NoFaults.{none-left, none-right, some-same, none-some, value-has-type}
 use Rattle.nv_flatten.proofs.Following.{onward-all, onward-named, steps-then, stands-inside, fewer}

@@ -6,10 +6,10 @@ use Rattle.nv_base.specs.declared.term.Atom.{Atom}
 use Rattle.nv_base.specs.declared.term.Atom.TheVariants.{Var}
 use Rattle.nv_ast.specs.Types.{words, total_words, total_named_words}
 use Rattle.nv_flatten.specs.declared.symbol.Symbol.{Symbol}
-use Rattle.nv_flatten.specs.Symbols.{no_symbols, symbol_and, no_named_symbols, named_symbol_and, operands, all_operands, named_operands, form, forms, named_forms, fresh, all_fresh, named_fresh, numbers_from, word_symbols}
-use Rattle.nv_flatten.specs.Symbols as symbols
-use Rattle.nv_flatten.specs.View.{Named, view, list_symbols, list_named_symbols}
-use Rattle.nv_flatten.specs.Code.{variables}
+use Rattle.nv_flatten.specs.inner.Symbols.{no_symbols, symbol_and, no_named_symbols, named_symbol_and, operands, all_operands, named_operands, form, forms, named_forms, fresh, all_fresh, named_fresh, numbers_from, word_symbols}
+use Rattle.nv_flatten.specs.inner.Symbols as symbols
+use Rattle.nv_flatten.specs.inner.View.{Named, view, list_symbols, list_named_symbols}
+use Rattle.nv_flatten.specs.inner.Code.{variables}
 use Rattle.nv_flatten.proofs.Fresh.{numbers-append, variables-append}
 
 -- what a turn of a loop takes on

@@ -21,12 +21,12 @@ use Rattle.nv_meaning.specs.Meaning.{Calls, eval, enter, entered, calls_within, 
 use Rattle.flat_ir.specs.declared.flat.FlatFun.{FlatFun}
 use Rattle.flat_ir.specs.Running as flat
 use Rattle.flat_ir.specs.Meaning as code
-use Rattle.nv_flatten.specs.Symbols.{values_in, AllFit, all_fresh, numbers_from, scope_in}
-use Rattle.nv_flatten.specs.Runs.{flat_run, ended}
-use Rattle.nv_flatten.specs.Whole.{Whole, whole_of, raised_tys}
-use Rattle.nv_flatten.specs.Soundness.{AreWords, value_ty, value_tys, ComesTo, CallsTyped}
-use Rattle.nv_flatten.specs.Simulation.{Names, CallsAgree}
-use Rattle.nv_flatten.specs.Made.{params_in, entry, IsMade, AllMade, IsComplete}
+use Rattle.nv_flatten.specs.inner.Symbols.{values_in, AllFit, all_fresh, numbers_from, scope_in}
+use Rattle.nv_flatten.specs.inner.Runs.{flat_run, ended}
+use Rattle.nv_flatten.specs.inner.Whole.{Whole, whole_of, raised_tys}
+use Rattle.nv_flatten.specs.inner.Soundness.{AreWords, value_ty, value_tys, ComesTo, CallsTyped}
+use Rattle.nv_flatten.specs.inner.Simulation.{Names, CallsAgree}
+use Rattle.nv_flatten.specs.inner.Made.{params_in, entry, IsMade, AllMade, IsComplete}
 use Rattle.flat_ir.specs.Reached as flattened
 use Rattle.nv_flatten.proofs.Fresh.{fresh-values, all-fresh-fit}
 use Rattle.nv_flatten.proofs.Sound.{typed-eval}

@@ -6,11 +6,11 @@ use Rattle.std.proofs.lemmas.Slice.Eq.{bytes_eq-Decides}
 use Rattle.nv_ast.specs.Tree.{FunTree}
 use Rattle.nv_meaning.specs.Meaning.{function_in}
 use Rattle.flat_ir.specs.declared.flat.FlatFun.{FlatFun}
-use Rattle.nv_flatten.specs.Whole.{Whole}
-use Rattle.nv_flatten.specs.Simulation.{Names, Extends}
+use Rattle.nv_flatten.specs.inner.Whole.{Whole}
+use Rattle.nv_flatten.specs.inner.Simulation.{Names, Extends}
 use Rattle.flat_ir.specs.Reached.{calls}
-use Rattle.nv_flatten.specs.Made.{IsMade, AreMade, AllMade, IsPlaced, ArePlaced}
-use Rattle.nv_flatten.specs.Well.{AreCalled}
+use Rattle.nv_flatten.specs.inner.Made.{IsMade, AreMade, AllMade, IsPlaced, ArePlaced}
+use Rattle.nv_flatten.specs.inner.Well.{AreCalled}
 use Rattle.nv_flatten.proofs.WellProgram.{AreFound, found-first, found-more}
 
 some_same : {A : Type 0} {x y : A} → Some x ≡ Some y → x ≡ y

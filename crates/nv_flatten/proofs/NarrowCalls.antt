@@ -17,10 +17,10 @@ use Rattle.flat_ir.specs.declared.flat.FlatFun.{FlatFun}
 use Rattle.flat_ir.specs.declared.spine.Step.{Step}
 use Rattle.flat_ir.specs.Spine.{AreNodes}
 use Rattle.nv_base.specs.Sets.{all_vars}
-use Rattle.nv_flatten.specs.Symbols.{Symbol, Symbols, SymbolScope, form, operands, all_operands, all_fresh, numbers_from, vars_of, all_bound}
-use Rattle.nv_flatten.specs.Whole.{Whole, Stands, raised_or_none}
-use Rattle.nv_flatten.specs.Simulation.{Names, HasForm, AreValues}
-use Rattle.nv_flatten.specs.Narrow.{IsWithin, written, NarrowSteps, NarrowCode, AreNarrowLets, Room, IsNarrowValue, AreNarrowValues, IsNarrowEnd}
+use Rattle.nv_flatten.specs.inner.Symbols.{Symbol, Symbols, SymbolScope, form, operands, all_operands, all_fresh, numbers_from, vars_of, all_bound}
+use Rattle.nv_flatten.specs.inner.Whole.{Whole, Stands, raised_or_none}
+use Rattle.nv_flatten.specs.inner.Simulation.{Names, HasForm, AreValues}
+use Rattle.nv_flatten.specs.inner.Narrow.{IsWithin, written, NarrowSteps, NarrowCode, AreNarrowLets, Room, IsNarrowValue, AreNarrowValues, IsNarrowEnd}
 use Rattle.nv_flatten.proofs.Fresh.{fresh-forms, fresh-operands, all-bound-types}
 use Rattle.nv_flatten.proofs.Sound.{arguments-are-values}
 use Rattle.nv_flatten.proofs.WellTypes.{no-kinds, some-where, low-of}

@@ -21,12 +21,12 @@ use Rattle.flat_ir.specs.declared.spine.Step.{Step}
 use Rattle.flat_ir.specs.Spine.{AreNodes}
 use Rattle.nv_base.specs.Sets.{all_vars}
 use Rattle.flat_ir.specs.Wide.{Widths}
-use Rattle.nv_flatten.specs.Code.{is_given, is_comparison}
-use Rattle.nv_flatten.specs.Symbols.{Symbol, Symbols, SymbolScope, operands, all_operands, truth_operand}
-use Rattle.nv_flatten.specs.Whole.{Whole, Stands}
-use Rattle.nv_flatten.specs.Simulation.{Names, HasForm, AreValues}
-use Rattle.nv_flatten.specs.Narrow.{IsWithin, written, NarrowSteps, NarrowCode, IsNarrowValue, IsNarrowTest, IsNarrowEnd}
-use Rattle.nv_flatten.specs.Well.{GivesLiteral}
+use Rattle.nv_flatten.specs.inner.Code.{is_given, is_comparison}
+use Rattle.nv_flatten.specs.inner.Symbols.{Symbol, Symbols, SymbolScope, operands, all_operands, truth_operand}
+use Rattle.nv_flatten.specs.inner.Whole.{Whole, Stands}
+use Rattle.nv_flatten.specs.inner.Simulation.{Names, HasForm, AreValues}
+use Rattle.nv_flatten.specs.inner.Narrow.{IsWithin, written, NarrowSteps, NarrowCode, IsNarrowValue, IsNarrowTest, IsNarrowEnd}
+use Rattle.nv_flatten.specs.inner.Well.{GivesLiteral}
 use Rattle.nv_flatten.proofs.Sound.{values-have-types}
 use Rattle.nv_flatten.proofs.Within.{itself, of-none, one, both, unions, together, behind-same, grows-not}
 use Rattle.nv_flatten.proofs.NarrowSteps.{last, beside, joined, recast-code, give-code, if-code}

@@ -11,11 +11,11 @@ use Rattle.nv_ast.specs.Faults.{Wanted, faults}
 use Rattle.nv_ast.specs.Sizes.{GroupNumbers, words_at, need}
 use Rattle.nv_base.specs.Sets.{all_vars}
 use Rattle.nv_base.proofs.Sets.{same-number}
-use Rattle.nv_flatten.specs.Code.{variables, is_given, form_or_unit}
-use Rattle.nv_flatten.specs.Symbols.{Symbol, Symbols, NamedSymbols, Word, Truth, Tuple, Record, no_symbols, symbol_and, no_named_symbols, named_symbol_and, SymbolScope, operands, all_operands, named_operands, form, forms, named_forms, numbers_from, word_symbols, words_symbol, word_operand, truth_operand, fields_of, field_named, symbol_in}
-use Rattle.nv_flatten.specs.Whole.{Whole, Stands}
-use Rattle.nv_flatten.specs.Simulation.{HasForm}
-use Rattle.nv_flatten.specs.Narrow.{IsWithin, written}
+use Rattle.nv_flatten.specs.inner.Code.{variables, is_given, form_or_unit}
+use Rattle.nv_flatten.specs.inner.Symbols.{Symbol, Symbols, NamedSymbols, Word, Truth, Tuple, Record, no_symbols, symbol_and, no_named_symbols, named_symbol_and, SymbolScope, operands, all_operands, named_operands, form, forms, named_forms, numbers_from, word_symbols, words_symbol, word_operand, truth_operand, fields_of, field_named, symbol_in}
+use Rattle.nv_flatten.specs.inner.Whole.{Whole, Stands}
+use Rattle.nv_flatten.specs.inner.Simulation.{HasForm}
+use Rattle.nv_flatten.specs.inner.Narrow.{IsWithin, written}
 use Rattle.nv_flatten.proofs.Within.{itself, of-none, into-left, into-right, through, all-vars-append, vars-length}
 use Rattle.nv_flatten.proofs.Sound.{value-has-type, given-has-type}
 

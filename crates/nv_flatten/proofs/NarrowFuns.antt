@@ -4,9 +4,9 @@ use Rattle.std.specs.Prelude.{slice_get}
 use Rattle.nv_ast.specs.Tree.{FunTree}
 use Rattle.nv_meaning.specs.Meaning.{function_in}
 use Rattle.flat_ir.specs.declared.flat.FlatFun.{FlatFun}
-use Rattle.nv_flatten.specs.Whole.{Whole}
-use Rattle.nv_flatten.specs.Simulation.{Names, Extends}
-use Rattle.nv_flatten.specs.Narrow.{IsNarrowOf, AreNarrowFuns}
+use Rattle.nv_flatten.specs.inner.Whole.{Whole}
+use Rattle.nv_flatten.specs.inner.Simulation.{Names, Extends}
+use Rattle.nv_flatten.specs.inner.Narrow.{IsNarrowOf, AreNarrowFuns}
 use Rattle.nv_flatten.proofs.NarrowValues.{extends-further}
 
 -- what stands at a place of a list with one more element

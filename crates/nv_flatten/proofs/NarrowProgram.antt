@@ -15,11 +15,11 @@ use Rattle.nv_base.specs.Measures.{operands_wide}
 use Rattle.flat_ir.specs.Wide.{Widths, code_wide, function_wide, wide, main_wide, AreWidths}
 use Rattle.nv_base.proofs.Sets.{different-length}
 use Rattle.flat_ir.proofs.Widths.{main-bounded}
-use Rattle.nv_flatten.specs.Symbols.{Symbol, NamedSymbols, no_named_symbols, named_symbol_and, SymbolScope, operands, named_operands, named_fresh, symbol_in, params_bound}
-use Rattle.nv_flatten.specs.Whole.{Whole, whole_of, group_of, Stands}
-use Rattle.nv_flatten.specs.Simulation.{Names}
-use Rattle.nv_flatten.specs.Made.{params_in, entry}
-use Rattle.nv_flatten.specs.Narrow.{IsWithin, written, NarrowCode, CallsNarrow, Room, IsNarrowFun, IsEmptyFun, IsNarrowOf, AreNarrowFuns}
+use Rattle.nv_flatten.specs.inner.Symbols.{Symbol, NamedSymbols, no_named_symbols, named_symbol_and, SymbolScope, operands, named_operands, named_fresh, symbol_in, params_bound}
+use Rattle.nv_flatten.specs.inner.Whole.{Whole, whole_of, group_of, Stands}
+use Rattle.nv_flatten.specs.inner.Simulation.{Names}
+use Rattle.nv_flatten.specs.inner.Made.{params_in, entry}
+use Rattle.nv_flatten.specs.inner.Narrow.{IsWithin, written, NarrowCode, CallsNarrow, Room, IsNarrowFun, IsEmptyFun, IsNarrowOf, AreNarrowFuns}
 use Rattle.nv_flatten.proofs.Fresh.{fresh-form}
 use Rattle.nv_flatten.proofs.Entering.{params-types}
 use Rattle.nv_flatten.proofs.Knowing.{some_same}

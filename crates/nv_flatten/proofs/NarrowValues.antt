@@ -24,11 +24,11 @@ use Rattle.flat_ir.specs.declared.spine.Step.TheVariants.{Let, Fetch, Bind}
 use Rattle.flat_ir.specs.Pieces.{new_vars}
 use Rattle.nv_base.specs.Sets.{all_vars}
 use Rattle.flat_ir.specs.Wide.{Widths}
-use Rattle.nv_flatten.specs.Code.{variables as var_operands, form_or_unit, shift_of}
-use Rattle.nv_flatten.specs.Symbols.{Symbol, Symbols, NamedSymbols, Word, Truth, Tuple, Record, SymbolScope, operands, all_operands, named_operands, fresh, numbers_from, words_symbol, word_operand, truth_operand, fields_of, field_named, symbol_in}
-use Rattle.nv_flatten.specs.Whole.{Whole, Stands}
-use Rattle.nv_flatten.specs.Simulation.{Names, Extends, HasForm, IsEnd}
-use Rattle.nv_flatten.specs.Narrow.{IsWithin, written, NarrowSteps, Room, IsNarrowValue, AreNarrowValues, AreNarrowFields, IsNarrowTest, IsNarrowEnd}
+use Rattle.nv_flatten.specs.inner.Code.{variables as var_operands, form_or_unit, shift_of}
+use Rattle.nv_flatten.specs.inner.Symbols.{Symbol, Symbols, NamedSymbols, Word, Truth, Tuple, Record, SymbolScope, operands, all_operands, named_operands, fresh, numbers_from, words_symbol, word_operand, truth_operand, fields_of, field_named, symbol_in}
+use Rattle.nv_flatten.specs.inner.Whole.{Whole, Stands}
+use Rattle.nv_flatten.specs.inner.Simulation.{Names, Extends, HasForm, IsEnd}
+use Rattle.nv_flatten.specs.inner.Narrow.{IsWithin, written, NarrowSteps, Room, IsNarrowValue, AreNarrowValues, AreNarrowFields, IsNarrowTest, IsNarrowEnd}
 use Rattle.nv_flatten.proofs.Fresh.{fresh-operands}
 use Rattle.nv_flatten.proofs.Within.{itself, of-none, into-left, together, through, both-same, grows-by, grows-not}
 use Rattle.nv_flatten.proofs.NarrowSteps.{no-steps, recast, follow, in-turn, let-step, fetch-step, bind-step}

@@ -15,12 +15,12 @@ use Rattle.nv_base.specs.Sets.{all_vars}
 use Rattle.flat_ir.specs.declared.spine.Step.{Step}
 use Rattle.flat_ir.specs.declared.spine.Step.TheVariants.{Let}
 use Rattle.nv_flatten.specs.declared.symbol.Symbol.{Symbol as CodeSymbol}
-use Rattle.nv_flatten.specs.Code.{shift_of}
-use Rattle.nv_flatten.specs.Symbols.{Symbol, SymbolScope, Word, operands, word_operand}
-use Rattle.nv_flatten.specs.Simulation.{Names, Extends, HasForm, IsStated}
-use Rattle.nv_flatten.specs.View.{view, list_symbols, list_named_symbols, scope_of, Named}
-use Rattle.nv_flatten.specs.Whole.{Whole}
-use Rattle.nv_flatten.specs.Narrow.{IsWithin, AreNarrowLets, IsNarrowValue, AreNarrowValues, AreNarrowFields, IsNarrowStatement, IsNarrowStated}
+use Rattle.nv_flatten.specs.inner.Code.{shift_of}
+use Rattle.nv_flatten.specs.inner.Symbols.{Symbol, SymbolScope, Word, operands, word_operand}
+use Rattle.nv_flatten.specs.inner.Simulation.{Names, Extends, HasForm, IsStated}
+use Rattle.nv_flatten.specs.inner.View.{view, list_symbols, list_named_symbols, scope_of, Named}
+use Rattle.nv_flatten.specs.inner.Whole.{Whole}
+use Rattle.nv_flatten.specs.inner.Narrow.{IsWithin, AreNarrowLets, IsNarrowValue, AreNarrowValues, AreNarrowFields, IsNarrowStatement, IsNarrowStated}
 use Rattle.nv_flatten.proofs.WellTypes.{middle-of, not-where}
 use Rattle.nv_flatten.proofs.Within.{of-none, into-left, into-right, together, through, turned}
 use Rattle.nv_flatten.proofs.NarrowFacts.{word-operand-within}

@@ -11,9 +11,9 @@ use Rattle.nv_ast.specs.Types.{Forms, no_forms, form_and, ◌+++◌, form_of, fo
 use Rattle.nv_meaning.proofs.Bindings.{if-true, if-false}
 use Rattle.nv_meaning.proofs.Lists.{take_item, dropped}
 use Rattle.nv_meaning.proofs.Unpacking.{FieldItem, outlines_of, joined_of}
-use Rattle.nv_flatten.specs.Symbols.{Symbol, Word, Truth, Tuple, Record, NamedSymbols, no_named_symbols, named_symbol_and, form, named_forms, operands, named_operands, fields_of, field_named}
-use Rattle.nv_flatten.specs.Reads.{has_symbol}
-use Rattle.nv_flatten.specs.Written.{packed_fields, packed_layout, packed_parts, packed_chosen, packed_joined}
+use Rattle.nv_flatten.specs.inner.Symbols.{Symbol, Word, Truth, Tuple, Record, NamedSymbols, no_named_symbols, named_symbol_and, form, named_forms, operands, named_operands, fields_of, field_named}
+use Rattle.nv_flatten.specs.inner.Reads.{has_symbol}
+use Rattle.nv_flatten.specs.inner.Written.{packed_fields, packed_layout, packed_parts, packed_chosen, packed_joined}
 
 -- ---- as many as the layout has
 either-few : (b : Bool) (m n k : ℕ) → m ≤ k → n ≤ k → (if b then m else n) ≤ k

@@ -12,11 +12,11 @@ use Rattle.flat_ir.specs.declared.spine.Step.{Step}
 use Rattle.flat_ir.specs.declared.spine.Step.TheVariants.{Let}
 use Rattle.nv_base.specs.Sets.{all_vars}
 use Rattle.flat_ir.specs.Wide.{Widths}
-use Rattle.nv_flatten.specs.Symbols.{Symbol, Word, operands, form, fields_of, field_named, word_operand, words_symbol}
-use Rattle.nv_flatten.specs.Narrow.{IsWithin, NarrowSteps, AreNarrowLets}
-use Rattle.nv_flatten.specs.Small.{PacksFew}
-use Rattle.nv_flatten.specs.Adds.{AddsWord}
-use Rattle.nv_flatten.specs.Written.{packed_layout, WritesFew}
+use Rattle.nv_flatten.specs.inner.Symbols.{Symbol, Word, operands, form, fields_of, field_named, word_operand, words_symbol}
+use Rattle.nv_flatten.specs.inner.Narrow.{IsWithin, NarrowSteps, AreNarrowLets}
+use Rattle.nv_flatten.specs.inner.Small.{PacksFew}
+use Rattle.nv_flatten.specs.inner.Adds.{AddsWord}
+use Rattle.nv_flatten.specs.inner.Written.{packed_layout, WritesFew}
 use Rattle.nv_flatten.proofs.Within.{itself, of-none, one, both, unions, into-left, into-right, together, through, behind-same, grows-not, vars-length, one-operand, one-operand-back}
 use Rattle.nv_flatten.proofs.NarrowSteps.{no-steps, recast, follow}
 use Rattle.nv_flatten.proofs.WordSteps.{few-none, few-then, few-so, atom-length, word-none, word-define, within-at}

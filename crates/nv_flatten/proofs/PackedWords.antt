@@ -14,10 +14,10 @@ use Rattle.nv_meaning.specs.Values as meaning
 use Rattle.nv_meaning.specs.Packing.{bits_of, words_of_bits, packed_value}
 use Rattle.nv_meaning.proofs.Writing.{bits-within, blank-zeros, words-written}
 use Rattle.flat_ir.specs.declared.spine.Step.{Step}
-use Rattle.nv_flatten.specs.Code.{Computes}
-use Rattle.nv_flatten.specs.Soundness.{AreWords}
-use Rattle.nv_flatten.specs.Symbols.{Symbol, operands, all_operands, form, forms, value_in, values_in, Fits, AllFit, IsOlder, AreOlder, word_symbols, words_symbol}
-use Rattle.nv_flatten.specs.Reads.{Writes, Packs}
+use Rattle.nv_flatten.specs.inner.Code.{Computes}
+use Rattle.nv_flatten.specs.inner.Soundness.{AreWords}
+use Rattle.nv_flatten.specs.inner.Symbols.{Symbol, operands, all_operands, form, forms, value_in, values_in, Fits, AllFit, IsOlder, AreOlder, word_symbols, words_symbol}
+use Rattle.nv_flatten.specs.inner.Reads.{Writes, Packs}
 use Rattle.nv_flatten.proofs.Computing.{computes-so, length-atom_words}
 use Rattle.nv_flatten.proofs.Writing.{writes-none}
 

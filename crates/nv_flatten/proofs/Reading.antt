@@ -15,11 +15,11 @@ use Rattle.nv_meaning.specs.Packing.{value_at, parts_at, alternatives_at, joined
 use Rattle.nv_meaning.proofs.Lists.{take_item}
 use Rattle.nv_meaning.proofs.Unpacking.{FieldItem, outlines_of, joined_of, drop-at, parts_more, alternatives_more, joined_more, total_named_within, longest_within, total_within}
 use Rattle.flat_ir.specs.declared.spine.Step.{Step}
-use Rattle.nv_flatten.specs.Code.{Computes}
-use Rattle.nv_flatten.specs.Soundness.{AreWords}
-use Rattle.nv_flatten.specs.Symbols.{Symbol, Word, Record, NamedSymbols, no_named_symbols, named_symbol_and, form, named_forms, operands, named_operands, value_in, named_values_in, Fits, NamedFit, IsOlder, AreOlder}
-use Rattle.nv_flatten.specs.View.{Named, view, list_named_symbols}
-use Rattle.nv_flatten.specs.Reads.{◌++_symbols◌, Makes, Reads, ReadsRecord, ReadsField, Unpacks}
+use Rattle.nv_flatten.specs.inner.Code.{Computes}
+use Rattle.nv_flatten.specs.inner.Soundness.{AreWords}
+use Rattle.nv_flatten.specs.inner.Symbols.{Symbol, Word, Record, NamedSymbols, no_named_symbols, named_symbol_and, form, named_forms, operands, named_operands, value_in, named_values_in, Fits, NamedFit, IsOlder, AreOlder}
+use Rattle.nv_flatten.specs.inner.View.{Named, view, list_named_symbols}
+use Rattle.nv_flatten.specs.inner.Reads.{◌++_symbols◌, Makes, Reads, ReadsRecord, ReadsField, Unpacks}
 use Rattle.nv_flatten.proofs.Keeping.{older-later, keeps-operands, keeps-named, keeps-named_fit}
 use Rattle.nv_flatten.proofs.Computing.{computes-none, computes-then, computes-so, length-atom_words, older-one}
 

@@ -3,8 +3,8 @@ use Rattle.std.proofs.Common.{◌≡◌, ◌∙◌, refl, ap, List, ℕ, Vec, Gl
 use Rattle.nv_flatten.specs.declared.symbol.Symbol
 use Rattle.nv_flatten.specs.declared.symbol.Symbol.{Symbol}
 use Rattle.nv_flatten.specs.declared.symbol.Symbol.TheBlock.{Row_of-Symbol, end_of-Symbol, more_of-Symbol, items-the_row-Symbol, hidden-the_row-Symbol-0, items_hidden-the_row-Symbol-0, Row_of-Symbol-Record-0-2, end_of-Symbol-Record-0-2, more_of-Symbol-Record-0-2, items-the_row-Symbol-Record-0-2, hidden-the_row-Symbol-Record-0-2-1, items_hidden-the_row-Symbol-Record-0-2-1}
-use Rattle.nv_flatten.specs.Symbols.{Tuple, Record, symbol_and, named_symbol_and}
-use Rattle.nv_flatten.specs.View.{view, row_symbols, row_named_symbols, list_symbols, list_named_symbols}
+use Rattle.nv_flatten.specs.inner.Symbols.{Tuple, Record, symbol_and, named_symbol_and}
+use Rattle.nv_flatten.specs.inner.View.{view, row_symbols, row_named_symbols, list_symbols, list_named_symbols}
 
 symbols-row : {n : _} (row : Row_of-Symbol n) → row_symbols row ≡ list_symbols (items-the_row-Symbol n row)
 symbols-row end_of-Symbol = refl

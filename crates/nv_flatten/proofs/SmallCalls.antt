@@ -21,11 +21,11 @@ use Rattle.flat_ir.specs.Spine.{AreNodes}
 use Rattle.nv_base.specs.Measures.{Bulk, nothing, a_label, a_jump, both, IsAtMost}
 use Rattle.flat_ir.specs.Bulk.{Bulks, return_bulk, call_bulk, code_bulk}
 use Rattle.nv_base.proofs.Measures.{most-none}
-use Rattle.nv_flatten.specs.Code.{form_or_unit}
-use Rattle.nv_flatten.specs.Symbols.{Symbol, Symbols, SymbolScope, form, operands, all_operands, all_fresh, vars_of, all_bound}
-use Rattle.nv_flatten.specs.Whole.{Whole, Stands, raised_or_none, result_of}
-use Rattle.nv_flatten.specs.Simulation.{Names, HasForm}
-use Rattle.nv_flatten.specs.Small.{of_parts, uses, value_rest, Sized, IsSmallValue, AreSmallValues, IsSmallEnd, AreFewLets, PacksFew}
+use Rattle.nv_flatten.specs.inner.Code.{form_or_unit}
+use Rattle.nv_flatten.specs.inner.Symbols.{Symbol, Symbols, SymbolScope, form, operands, all_operands, all_fresh, vars_of, all_bound}
+use Rattle.nv_flatten.specs.inner.Whole.{Whole, Stands, raised_or_none, result_of}
+use Rattle.nv_flatten.specs.inner.Simulation.{Names, HasForm}
+use Rattle.nv_flatten.specs.inner.Small.{of_parts, uses, value_rest, Sized, IsSmallValue, AreSmallValues, IsSmallEnd, AreFewLets, PacksFew}
 use Rattle.nv_flatten.proofs.Fresh.{fresh-forms, all-bound-types}
 use Rattle.nv_flatten.proofs.Sound.{value-has-type}
 use Rattle.nv_flatten.proofs.WellTypes.{not-where, some-where, low-of, right-of}

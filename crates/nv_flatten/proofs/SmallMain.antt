@@ -9,12 +9,12 @@ use Rattle.flat_ir.specs.declared.flat.FlatFun.{FlatFun}
 use Rattle.nv_base.specs.Measures.{of_size, IsAtMost}
 use Rattle.flat_ir.specs.Bulk.{bulk}
 use Rattle.nv_base.specs.Sets.{is_in}
-use Rattle.nv_flatten.specs.Whole.{whole_of}
+use Rattle.nv_flatten.specs.inner.Whole.{whole_of}
 use Rattle.flat_ir.specs.Reached.{calls, Reached, itself, called}
-use Rattle.nv_flatten.specs.Well.{Linked}
-use Rattle.nv_flatten.specs.Made.{IsComplete}
-use Rattle.nv_flatten.specs.Small.{AreSmallFuns}
-use Rattle.nv_flatten.specs.Bounded.{IsBounded}
+use Rattle.nv_flatten.specs.inner.Well.{Linked}
+use Rattle.nv_flatten.specs.inner.Made.{IsComplete}
+use Rattle.nv_flatten.specs.inner.Small.{AreSmallFuns}
+use Rattle.nv_flatten.specs.inner.Bounded.{IsBounded}
 use Rattle.nv_flatten.proofs.Knowing.{some_same}
 use Rattle.nv_flatten.proofs.Naming.{slice-there, slice-below}
 use Rattle.nv_flatten.proofs.Bodies.{narrow-raised, has-main}

@@ -14,11 +14,11 @@ use Rattle.nv_base.specs.Measures.{a_label, a_jump, both, IsAtMost, of_size}
 use Rattle.flat_ir.specs.Bulk.{Bulks, code_bulk, function_bulk, sum_bulk, main_bulk, bulk, AreBulks}
 use Rattle.nv_base.proofs.Measures.{most-trans}
 use Rattle.flat_ir.proofs.Bulks.{main-bounded}
-use Rattle.nv_flatten.specs.Code.{form_or_unit}
-use Rattle.nv_flatten.specs.Whole.{whole_of, group_of, Stands}
-use Rattle.nv_flatten.specs.Simulation.{Names}
-use Rattle.nv_flatten.specs.Made.{params_in, entry}
-use Rattle.nv_flatten.specs.Small.{of_parts, uses, CallsSmall, Sized, IsSmallFun, AreSmallFuns}
+use Rattle.nv_flatten.specs.inner.Code.{form_or_unit}
+use Rattle.nv_flatten.specs.inner.Whole.{whole_of, group_of, Stands}
+use Rattle.nv_flatten.specs.inner.Simulation.{Names}
+use Rattle.nv_flatten.specs.inner.Made.{params_in, entry}
+use Rattle.nv_flatten.specs.inner.Small.{of_parts, uses, CallsSmall, Sized, IsSmallFun, AreSmallFuns}
 use Rattle.nv_flatten.proofs.Entering.{params-types}
 use Rattle.nv_flatten.proofs.Knowing.{some_same}
 use Rattle.nv_flatten.proofs.GroupWalk.{IsIn}

@@ -7,8 +7,8 @@ use Rattle.nv_ast.specs.Sizes.{GroupNumbers}
 use Rattle.flat_ir.specs.declared.flat.FlatFun.{FlatFun}
 use Rattle.nv_base.specs.Measures.{Bulk, nothing, a_label, a_jump, both, IsAtMost, of_size}
 use Rattle.flat_ir.specs.Bulk.{Bulks, function_bulk, sum_bulk}
-use Rattle.nv_flatten.specs.Simulation.{Names}
-use Rattle.nv_flatten.specs.Small.{of_parts, uses}
+use Rattle.nv_flatten.specs.inner.Simulation.{Names}
+use Rattle.nv_flatten.specs.inner.Small.{of_parts, uses}
 use Rattle.nv_flatten.proofs.Knowing.{some_same}
 use Rattle.nv_flatten.proofs.SmallSizes.{picked}
 

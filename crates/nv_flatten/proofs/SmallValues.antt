@@ -20,11 +20,11 @@ use Rattle.flat_ir.specs.declared.spine.Step.TheVariants.{Let, Fetch, Bind}
 use Rattle.nv_base.specs.Measures.{Bulk, nothing, a_label, a_jump, a_node, both, IsAtMost}
 use Rattle.flat_ir.specs.Bulk.{code_bulk}
 use Rattle.flat_ir.specs.Pieces.{new_vars, steps_bulk}
-use Rattle.nv_flatten.specs.Code.{variables as var_operands, is_given, form_or_unit, shift_of}
-use Rattle.nv_flatten.specs.Symbols.{Symbol, Symbols, NamedSymbols, Word, Truth, Tuple, Record, no_named_symbols, named_symbol_and, SymbolScope, operands, all_operands, named_operands, form, fresh, numbers_from, words_symbol, word_operand, truth_operand, fields_of, field_named, symbol_in, vars_of}
-use Rattle.nv_flatten.specs.Whole.{Whole, Stands}
-use Rattle.nv_flatten.specs.Simulation.{Names, Extends}
-use Rattle.nv_flatten.specs.Small.{of_parts, uses, value_rest, Sized, IsSmallValue, AreSmallValues, AreSmallFields, IsSmallStated, IsSmallTest, IsSmallEnd}
+use Rattle.nv_flatten.specs.inner.Code.{variables as var_operands, is_given, form_or_unit, shift_of}
+use Rattle.nv_flatten.specs.inner.Symbols.{Symbol, Symbols, NamedSymbols, Word, Truth, Tuple, Record, no_named_symbols, named_symbol_and, SymbolScope, operands, all_operands, named_operands, form, fresh, numbers_from, words_symbol, word_operand, truth_operand, fields_of, field_named, symbol_in, vars_of}
+use Rattle.nv_flatten.specs.inner.Whole.{Whole, Stands}
+use Rattle.nv_flatten.specs.inner.Simulation.{Names, Extends}
+use Rattle.nv_flatten.specs.inner.Small.{of_parts, uses, value_rest, Sized, IsSmallValue, AreSmallValues, AreSmallFields, IsSmallStated, IsSmallTest, IsSmallEnd}
 use Rattle.nv_flatten.proofs.Fresh.{fresh-operands, numbers-length}
 use Rattle.nv_flatten.proofs.NarrowFacts.{none-left, none-right, words-of-form, words-symbol-operands, words-of-words}
 use Rattle.nv_flatten.proofs.NarrowValues.{extends-further, stands-inside, result-words}

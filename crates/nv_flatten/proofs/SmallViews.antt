@@ -12,12 +12,12 @@ use Rattle.nv_ast.specs.Tree.{Tree, ShiftTree, no_statements, statement_and}
 use Rattle.flat_ir.specs.declared.spine.Step.{Step}
 use Rattle.flat_ir.specs.declared.spine.Step.TheVariants.{Let}
 use Rattle.nv_flatten.specs.declared.symbol.Symbol.{Symbol as CodeSymbol}
-use Rattle.nv_flatten.specs.Code.{shift_of}
-use Rattle.nv_flatten.specs.Symbols.{Symbol, SymbolScope, Word, word_operand}
-use Rattle.nv_flatten.specs.Simulation.{Names, Extends, IsStated}
-use Rattle.nv_flatten.specs.View.{view, list_symbols, list_named_symbols, scope_of, Named}
-use Rattle.nv_flatten.specs.Whole.{Whole}
-use Rattle.nv_flatten.specs.Small.{IsSmallValue, AreSmallValues, AreSmallFields, IsSmallStated}
+use Rattle.nv_flatten.specs.inner.Code.{shift_of}
+use Rattle.nv_flatten.specs.inner.Symbols.{Symbol, SymbolScope, Word, word_operand}
+use Rattle.nv_flatten.specs.inner.Simulation.{Names, Extends, IsStated}
+use Rattle.nv_flatten.specs.inner.View.{view, list_symbols, list_named_symbols, scope_of, Named}
+use Rattle.nv_flatten.specs.inner.Whole.{Whole}
+use Rattle.nv_flatten.specs.inner.Small.{IsSmallValue, AreSmallValues, AreSmallFields, IsSmallStated}
 use Rattle.nv_flatten.proofs.WellTypes.{middle-of, not-where}
 use Rattle.nv_flatten.proofs.NarrowValues.{extends-further}
 use Rattle.nv_flatten.proofs.NarrowViews.{rest-at, no-rest}

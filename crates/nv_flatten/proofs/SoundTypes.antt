@@ -10,7 +10,7 @@ use Rattle.nv_ast.specs.Types.{Ty, WordTy, BoolTy, TupleTy, RecordTy, Tys, no_ty
 use Rattle.nv_ast.specs.Scope.{Place, inside, with_vars, bind_raised}
 use Rattle.nv_ast.specs.Typing.{field_ty, and_ty, and_named_ty, operand_ty, result_ty, type_at, types_at, named_types_at, vars_behind}
 use Rattle.nv_ast.specs.Faults.{Wanted, anything, a_value, of_type, same_as, at_span, as_many, all_wanted, wanted_arguments, wrong_number, low_kinds, other_type, middle_kinds, no_value, no_field, too_large_value, node_faults, raised_kinds, wanted_packed, wanted_unpacked, params_of, faults, list_faults, named_faults, statements_faults}
-use Rattle.nv_flatten.specs.Code.{is_given}
+use Rattle.nv_flatten.specs.inner.Code.{is_given}
 
 -- ---- lists of faults
 pub none-left : {A : Type 0} (a b : List A) → a ++ b ≡ [] → a ≡ []

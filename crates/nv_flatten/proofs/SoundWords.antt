@@ -10,7 +10,7 @@ use Rattle.nv_ast.specs.Scope.{bind, bind_all}
 use Rattle.nv_ast.specs.Typing.{field_ty, fields_of as type_fields}
 use Rattle.nv_meaning.specs.Values.{Value, Word, Truth, Tuple, Record, Values, no_values, value_and, NamedValues, no_named_values, named_value_and, words_of, all_words, all_named_words, word_values, words_value, word_of, fields_of, field_named, has_field, ◌++_fields◌, Scope, variable_in, matched, all_matched}
 use Rattle.nv_meaning.specs.Packing.{value_at, parts_at, alternatives_at, joined_at, unpacked_value, bits_of, parts_bits, chosen_bits, joined_bits, words_of_bits, packed_value}
-use Rattle.nv_flatten.specs.Soundness.{value_ty, value_tys, named_value_tys, scope_tys, AreWords, ScopeWords}
+use Rattle.nv_flatten.specs.inner.Soundness.{value_ty, value_tys, named_value_tys, scope_tys, AreWords, ScopeWords}
 
 -- ---- words
 pub no-words : AreWords []

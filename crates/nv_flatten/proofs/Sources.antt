@@ -12,10 +12,10 @@ use Rattle.nv_ast.specs.Tree.{DeclTree, LayoutDecl, ExceptionDecl, GroupDecl, Pr
 use Rattle.nv_ast.specs.Outline.{Layouts}
 use Rattle.nv_ast.specs.Types.{no_tys, types_of}
 use Rattle.nv_meaning.specs.Meaning.{Declared, declared}
-use Rattle.nv_meaning.specs.Tables.{place_from, functions_in}
+use Rattle.nv_meaning.specs.inner.Tables.{place_from, functions_in}
 use Rattle.nv_meaning.proofs.Places.{declared-functions}
 use Rattle.nv_meaning.proofs.Lists.{dropped, dropped-all}
-use Rattle.nv_flatten.specs.Whole.{Whole, whole_of, groups_from, raised_in, raised_or_none, group_at, group_of}
+use Rattle.nv_flatten.specs.inner.Whole.{Whole, whole_of, groups_from, raised_in, raised_or_none, group_at, group_of}
 
 -- a number more
 pub replicate-more : (i n : ℕ) → replicate i n ++ n ∷ [] ≡ replicate (i + 1) n

@@ -21,10 +21,10 @@ use Rattle.flat_ir.specs.Meaning as code
 use Rattle.flat_ir.specs.Spine.{Act, steps_do}
 use Rattle.flat_ir.specs.declared.spine.Step.{Step}
 use Rattle.flat_ir.specs.declared.spine.Step.TheVariants.{Let}
-use Rattle.nv_flatten.specs.Symbols.{Symbol, Word, Truth, Tuple, Record, NamedSymbols, no_named_symbols, named_symbol_and, SymbolScope, operands, named_operands, form, named_forms, value_in, named_values_in, Fits, NamedFit, AreOlder, word_operand, truth_operand, fields_of, field_named, symbol_in, ScopeFits, ScopeOlder, scope_in, vars_of}
-use Rattle.nv_flatten.specs.Runs.{flat_run, onward}
-use Rattle.nv_flatten.specs.Whole.{Whole, Stands}
-use Rattle.nv_flatten.specs.Simulation.{Names, Done, HasForm, IsValue}
+use Rattle.nv_flatten.specs.inner.Symbols.{Symbol, Word, Truth, Tuple, Record, NamedSymbols, no_named_symbols, named_symbol_and, SymbolScope, operands, named_operands, form, named_forms, value_in, named_values_in, Fits, NamedFit, AreOlder, word_operand, truth_operand, fields_of, field_named, symbol_in, ScopeFits, ScopeOlder, scope_in, vars_of}
+use Rattle.nv_flatten.specs.inner.Runs.{flat_run, onward}
+use Rattle.nv_flatten.specs.inner.Whole.{Whole, Stands}
+use Rattle.nv_flatten.specs.inner.Simulation.{Names, Done, HasForm, IsValue}
 use Rattle.nv_flatten.proofs.Keeping.{older-left, older-right, older-later, begins-done}
 use Rattle.nv_flatten.proofs.NoFaults.{none-left, some-same, none-some}
 use Rattle.nv_flatten.proofs.Following.{onward-then, steps-then, stands-inside, word-of, truth-of, truth-fits, one-older, assigned-here, defined}

@@ -24,15 +24,15 @@ use Rattle.flat_ir.specs.declared.spine.Step.{Step}
 use Rattle.flat_ir.specs.declared.spine.Step.TheVariants.{Let, Fetch}
 use Rattle.nv_base.specs.Access as flat
 use Rattle.nv_base.specs.Access.{is_known, all_known, is_primitive}
-use Rattle.nv_flatten.specs.Code.{shift_of, variables}
-use Rattle.nv_flatten.specs.Symbols.{Symbol, Symbols, NamedSymbols, SymbolScope, Word, Truth, Tuple, Record, operands, form, word_operand, truth_operand, fields_of, field_named, symbol_in, numbers_from, words_symbol, vars_of}
-use Rattle.nv_flatten.specs.Simulation.{Names, Extends, HasForm}
-use Rattle.nv_flatten.specs.Whole.{Whole, Stands}
-use Rattle.nv_flatten.specs.Well.{ScopeKnown, Rises, WellSteps, Knows, IsWellValue, AreWellValues, AreWellFields, IsWellStated, AreWellLets}
+use Rattle.nv_flatten.specs.inner.Code.{shift_of, variables}
+use Rattle.nv_flatten.specs.inner.Symbols.{Symbol, Symbols, NamedSymbols, SymbolScope, Word, Truth, Tuple, Record, operands, form, word_operand, truth_operand, fields_of, field_named, symbol_in, numbers_from, words_symbol, vars_of}
+use Rattle.nv_flatten.specs.inner.Simulation.{Names, Extends, HasForm}
+use Rattle.nv_flatten.specs.inner.Whole.{Whole, Stands}
+use Rattle.nv_flatten.specs.inner.Well.{ScopeKnown, Rises, WellSteps, Knows, IsWellValue, AreWellValues, AreWellFields, IsWellStated, AreWellLets}
 use Rattle.nv_flatten.proofs.Sound.{wanted-type, value-has-type}
 use Rattle.nv_flatten.proofs.WellBasics.{nil-left, nil-right, knows-both, knows-left, knows-right, knows-one, knows-new, knows-variables, knows-word, knows-truth, knows-field, knows-in, atoms-more, words-operands, operands-words, numbers-length, words-ty-words, rises-numbers}
 use Rattle.nv_flatten.proofs.WellTypes.{not-where, low-of, middle-of, right-of, stands-inside, move-same, address-formed}
-use Rattle.nv_flatten.specs.Well.{steps_calls, AreCalled}
+use Rattle.nv_flatten.specs.inner.Well.{steps_calls, AreCalled}
 use Rattle.nv_flatten.proofs.WellNames.{called-none, steps-called-more, steps-called-then}
 use Rattle.nv_flatten.proofs.WellSteps.{steps-none, steps-names, steps-knowing, steps-then, steps-last, steps-compute}
 

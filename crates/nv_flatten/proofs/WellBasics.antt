@@ -9,11 +9,11 @@ use Rattle.nv_base.specs.Sets.{is_in, all_different, Within}
 use Rattle.nv_base.specs.Access.{is_known, all_known}
 use Rattle.flat_ir.specs.Pieces.{new_vars, known_behind}
 use Rattle.nv_base.proofs.Sets.{in-append}
-use Rattle.nv_flatten.specs.Code.{variables}
-use Rattle.nv_flatten.specs.Symbols.{Symbol, Symbols, NamedSymbols, Word, Truth, Tuple, Record, no_symbols, symbol_and, no_named_symbols, named_symbol_and, SymbolScope, operands, all_operands, named_operands, form, forms, named_forms, numbers_from, word_operand, truth_operand, fields_of, field_named, symbol_in, words_symbol, word_symbols, bound, all_bound}
+use Rattle.nv_flatten.specs.inner.Code.{variables}
+use Rattle.nv_flatten.specs.inner.Symbols.{Symbol, Symbols, NamedSymbols, Word, Truth, Tuple, Record, no_symbols, symbol_and, no_named_symbols, named_symbol_and, SymbolScope, operands, all_operands, named_operands, form, forms, named_forms, numbers_from, word_operand, truth_operand, fields_of, field_named, symbol_in, words_symbol, word_symbols, bound, all_bound}
 use Rattle.nv_ast.specs.Tree.{PatternTree, NamePattern, AnyPattern, TuplePattern, PatternTrees, no_patterns, pattern_and}
-use Rattle.nv_flatten.specs.Whole.{Whole}
-use Rattle.nv_flatten.specs.Well.{ScopeKnown, Rises, RaisedMatch}
+use Rattle.nv_flatten.specs.inner.Whole.{Whole}
+use Rattle.nv_flatten.specs.inner.Well.{ScopeKnown, Rises, RaisedMatch}
 
 -- ---- lists of nothing
 pub nil-left : {A : Type 0} (xs ys : List A) → xs ++ ys ≡ [] → xs ≡ []

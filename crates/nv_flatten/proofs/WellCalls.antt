@@ -16,17 +16,17 @@ use Rattle.flat_ir.specs.declared.spine.Step.TheVariants.{Bind}
 use Rattle.flat_ir.specs.Spine.{AreNodes}
 use Rattle.nv_base.specs.Access.{all_known}
 use Rattle.flat_ir.specs.Formed.{may_stand, can_call, is_formed, defined, raised}
-use Rattle.nv_flatten.specs.Code.{form_or_unit, variables}
-use Rattle.nv_flatten.specs.Symbols.{Symbol, Symbols, SymbolScope, operands, all_operands, form, forms, fresh, numbers_from, vars_of}
-use Rattle.nv_flatten.specs.Simulation.{Names, Extends}
-use Rattle.nv_flatten.specs.Whole.{Whole, Stands, raised_tys}
-use Rattle.nv_flatten.specs.Well.{ScopeKnown, Rises, WellSteps, Knows, GivesWords, IsLiteral, IsWellValue, AreWellValues, IsWellStated, IsWellEnd}
+use Rattle.nv_flatten.specs.inner.Code.{form_or_unit, variables}
+use Rattle.nv_flatten.specs.inner.Symbols.{Symbol, Symbols, SymbolScope, operands, all_operands, form, forms, fresh, numbers_from, vars_of}
+use Rattle.nv_flatten.specs.inner.Simulation.{Names, Extends}
+use Rattle.nv_flatten.specs.inner.Whole.{Whole, Stands, raised_tys}
+use Rattle.nv_flatten.specs.inner.Well.{ScopeKnown, Rises, WellSteps, Knows, GivesWords, IsLiteral, IsWellValue, AreWellValues, IsWellStated, IsWellEnd}
 use Rattle.nv_flatten.proofs.Fresh.{fresh-operands}
 use Rattle.nv_flatten.proofs.Sound.{arguments-typed}
 use Rattle.nv_flatten.proofs.WellBasics.{nil-left, nil-right, knows-variables, all-operands-words, numbers-length, rises-append, rises-numbers, raised-both}
 use Rattle.nv_flatten.proofs.WellTypes.{not-where, some-where, low-of, middle-of, plain-words, stands-inside}
 use Rattle.flat_ir.specs.Reached.{calls}
-use Rattle.nv_flatten.specs.Well.{steps_calls, AreCalled}
+use Rattle.nv_flatten.specs.inner.Well.{steps_calls, AreCalled}
 use Rattle.nv_flatten.proofs.WellNames.{called-more, code-called-more, code-called-then}
 use Rattle.nv_flatten.proofs.WellSteps.{steps-names, code-behind, code-inner}
 use Rattle.nv_flatten.proofs.WellArms.{stands-behind}

@@ -22,17 +22,17 @@ use Rattle.nv_base.specs.Access.{is_known, all_known, is_primitive, can_move, is
 use Rattle.flat_ir.specs.Formed.{can_call, is_formed, defined, raised}
 use Rattle.nv_base.specs.Sets.{is_in}
 use Rattle.nv_base.proofs.Sets.{in-append}
-use Rattle.nv_flatten.specs.Code.{is_given, is_comparison, variables}
-use Rattle.nv_flatten.specs.Symbols.{Symbol, SymbolScope, operands, all_operands, form, all_fresh, numbers_from, vars_of, all_bound}
-use Rattle.nv_flatten.specs.Simulation.{Names, Extends, HasForm}
-use Rattle.nv_flatten.specs.Whole.{Whole, Stands, raised_tys, raised_or_none}
-use Rattle.nv_flatten.specs.Well.{ScopeKnown, Rises, Knows, GivesWords, WellCode, IsWellValue, IsWellTest, IsWellEnd, GivesLiteral, IsChoice}
+use Rattle.nv_flatten.specs.inner.Code.{is_given, is_comparison, variables}
+use Rattle.nv_flatten.specs.inner.Symbols.{Symbol, SymbolScope, operands, all_operands, form, all_fresh, numbers_from, vars_of, all_bound}
+use Rattle.nv_flatten.specs.inner.Simulation.{Names, Extends, HasForm}
+use Rattle.nv_flatten.specs.inner.Whole.{Whole, Stands, raised_tys, raised_or_none}
+use Rattle.nv_flatten.specs.inner.Well.{ScopeKnown, Rises, Knows, GivesWords, WellCode, IsWellValue, IsWellTest, IsWellEnd, GivesLiteral, IsChoice}
 use Rattle.nv_flatten.proofs.Fresh.{fresh-forms, fresh-operands, all-bound-types}
 use Rattle.nv_flatten.proofs.Sound.{wanted-type, given-has-type}
 use Rattle.nv_flatten.proofs.WellBasics.{nil-left, nil-right, knows-variables, operands-words, numbers-length, rises-append, rises-numbers, raised-both, all-bound-known, scope-more}
 use Rattle.nv_flatten.proofs.WellTypes.{no-kinds, some-where, right-of, same-words, stands-inside, given-inside, comparison-inside}
 use Rattle.flat_ir.specs.Reached.{calls}
-use Rattle.nv_flatten.specs.Well.{AreCalled}
+use Rattle.nv_flatten.specs.inner.Well.{AreCalled}
 use Rattle.nv_flatten.proofs.WellNames.{called-none, called-then, code-called-more, choice-called}
 use Rattle.nv_flatten.proofs.WellSteps.{steps-names, code-names, code-behind, code-choice}
 

@@ -15,14 +15,14 @@ use Rattle.nv_base.specs.Sets.{is_in, all_different}
 use Rattle.nv_base.specs.Access.{is_known, all_known, is_primitive, can_move, is_address}
 use Rattle.flat_ir.specs.Formed.{may_stand, can_call, is_formed, defined, raised, all_raised, agree, is_function, is_main, is_program}
 use Rattle.nv_base.proofs.Sets.{in-append}
-use Rattle.nv_flatten.specs.Symbols.{SymbolScope, numbers_from}
-use Rattle.nv_flatten.specs.Simulation.{Names, Extends}
-use Rattle.nv_flatten.specs.Whole.{Whole, Stands, raised_tys}
+use Rattle.nv_flatten.specs.inner.Symbols.{SymbolScope, numbers_from}
+use Rattle.nv_flatten.specs.inner.Simulation.{Names, Extends}
+use Rattle.nv_flatten.specs.inner.Whole.{Whole, Stands, raised_tys}
 use Rattle.flat_ir.specs.Reached.{calls, Reached, itself, called, AreReached}
-use Rattle.nv_flatten.specs.Well.{FunsMatch, AreShort, Linked, ScopeKnown, Rises, IsRaised, RaisedMatch, GivesWords, IsWellEnd, IsWellFun}
+use Rattle.nv_flatten.specs.inner.Well.{FunsMatch, AreShort, Linked, ScopeKnown, Rises, IsRaised, RaisedMatch, GivesWords, IsWellEnd, IsWellFun}
 use Rattle.nv_flatten.proofs.WellBasics.{rises-append, rises-numbers, rises-different, raised-both}
 use Rattle.nv_flatten.proofs.WellSteps.{linked-fewer}
-use Rattle.nv_flatten.specs.Well.{AreCalled}
+use Rattle.nv_flatten.specs.inner.Well.{AreCalled}
 use Rattle.nv_flatten.proofs.WellCalls.{some-same, get-more}
 
 -- ---- functions

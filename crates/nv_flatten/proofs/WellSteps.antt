@@ -14,10 +14,10 @@ use Rattle.flat_ir.specs.Pieces.{new_vars, known_behind, step_formed, steps_form
 use Rattle.nv_base.specs.Sets.{Within}
 use Rattle.flat_ir.proofs.Parts.{nodes-formed, nodes-defined, nodes-raised}
 use Rattle.flat_ir.proofs.Appended.{known-append, formed-append, defined-append, raised-append}
-use Rattle.nv_flatten.specs.Symbols.{SymbolScope}
-use Rattle.nv_flatten.specs.Simulation.{Names, Extends}
-use Rattle.nv_flatten.specs.Whole.{Whole}
-use Rattle.nv_flatten.specs.Well.{Linked, ScopeKnown, Rises, RaisedMatch, WellSteps, Knows, GivesWords, WellCode, IsChoice, AreWellLets}
+use Rattle.nv_flatten.specs.inner.Symbols.{SymbolScope}
+use Rattle.nv_flatten.specs.inner.Simulation.{Names, Extends}
+use Rattle.nv_flatten.specs.inner.Whole.{Whole}
+use Rattle.nv_flatten.specs.inner.Well.{Linked, ScopeKnown, Rises, RaisedMatch, WellSteps, Knows, GivesWords, WellCode, IsChoice, AreWellLets}
 use Rattle.nv_flatten.proofs.WellBasics.{known-more, scope-more, rises-append, rises-later, raised-both}
 
 -- ---- further names

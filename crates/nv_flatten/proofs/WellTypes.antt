@@ -12,10 +12,10 @@ use Rattle.nv_ast.specs.Scope.{Place, inside, with_vars, plain_tys, bind_raised}
 use Rattle.nv_ast.specs.Typing.{type_at, operand_ty, vars_behind}
 use Rattle.nv_ast.specs.Faults.{Wanted, anything, of_type, same_as, raised_kinds, at_span, faults, node_faults, low_kinds, middle_kinds, other_type, no_value, too_large_value, wrong_scratch, can_move, statements_faults}
 use Rattle.nv_base.specs.Access as flat
-use Rattle.nv_flatten.specs.Symbols.{Symbol, SymbolScope, Word, word_operand}
-use Rattle.nv_flatten.specs.Whole.{Whole, Stands}
-use Rattle.nv_flatten.specs.Code.{is_given, is_comparison}
-use Rattle.nv_flatten.specs.Well.{IsLiteral}
+use Rattle.nv_flatten.specs.inner.Symbols.{Symbol, SymbolScope, Word, word_operand}
+use Rattle.nv_flatten.specs.inner.Whole.{Whole, Stands}
+use Rattle.nv_flatten.specs.inner.Code.{is_given, is_comparison}
+use Rattle.nv_flatten.specs.inner.Well.{IsLiteral}
 use Rattle.nv_flatten.proofs.WellBasics.{nil-left, nil-right}
 
 -- ---- kinds

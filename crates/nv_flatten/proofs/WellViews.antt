@@ -7,11 +7,11 @@ use Rattle.nv_ast.specs.ExprView.{tree_of, list_trees, list_named_trees, stateme
 use Rattle.nv_ast.specs.Tree.{Tree, no_trees, no_named_trees, no_statements, statement_and}
 use Rattle.flat_ir.specs.declared.spine.Step.{Step}
 use Rattle.nv_flatten.specs.declared.symbol.Symbol.{Symbol as CodeSymbol}
-use Rattle.nv_flatten.specs.Symbols.{Symbol, Symbols, NamedSymbols, SymbolScope, symbol_and, named_symbol_and}
-use Rattle.nv_flatten.specs.Simulation.{Names, Extends}
-use Rattle.nv_flatten.specs.View.{view, list_symbols, list_named_symbols, scope_of, Named}
-use Rattle.nv_flatten.specs.Whole.{Whole}
-use Rattle.nv_flatten.specs.Well.{AreWellLets, IsWellValue, AreWellValues, AreWellFields, IsWellStated}
+use Rattle.nv_flatten.specs.inner.Symbols.{Symbol, Symbols, NamedSymbols, SymbolScope, symbol_and, named_symbol_and}
+use Rattle.nv_flatten.specs.inner.Simulation.{Names, Extends}
+use Rattle.nv_flatten.specs.inner.View.{view, list_symbols, list_named_symbols, scope_of, Named}
+use Rattle.nv_flatten.specs.inner.Whole.{Whole}
+use Rattle.nv_flatten.specs.inner.Well.{AreWellLets, IsWellValue, AreWellValues, AreWellFields, IsWellStated}
 use Rattle.nv_flatten.proofs.WellLists.{and_last, and_last_named, take-one, each-none, each-more, fields-none, fields-more, AreTyped, typed-more, statements-none, statements-more}
 
 -- ---- at an equal scope, an equal tree and equal operands

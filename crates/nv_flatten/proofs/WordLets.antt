@@ -8,9 +8,9 @@ use Rattle.nv_base.specs.declared.term.Primitive.TheVariants.{Bin as BinOf}
 use Rattle.flat_ir.specs.declared.spine.Step.{Step}
 use Rattle.flat_ir.specs.declared.spine.Step.TheVariants.{Let}
 use Rattle.nv_base.specs.Access.{is_known, all_known}
-use Rattle.nv_flatten.specs.Symbols.{Symbol, Word, operands, fields_of, field_named, word_operand, words_symbol}
-use Rattle.nv_flatten.specs.Well.{AreWellLets}
-use Rattle.nv_flatten.specs.Adds.{AddsLets, AddsWords}
+use Rattle.nv_flatten.specs.inner.Symbols.{Symbol, Word, operands, fields_of, field_named, word_operand, words_symbol}
+use Rattle.nv_flatten.specs.inner.Well.{AreWellLets}
+use Rattle.nv_flatten.specs.inner.Adds.{AddsLets, AddsWords}
 use Rattle.nv_flatten.proofs.WellBasics.{knows-both, knows-left, knows-right, knows-one, knows-two, knows-first, knows-rest, knows-word, knows-field, words-operands}
 use Rattle.nv_flatten.proofs.Lets.{lets-so, known-at, adds-none, adds-then, adds-so, adds-define}
 

@@ -16,9 +16,9 @@ use Rattle.nv_meaning.proofs.Packed.{replaced-zeros}
 use Rattle.nv_meaning.proofs.Writing.{written-more, blank-after}
 use Rattle.flat_ir.specs.declared.spine.Step.{Step}
 use Rattle.flat_ir.specs.declared.spine.Step.TheVariants.{Let}
-use Rattle.nv_flatten.specs.Soundness.{AreWords}
-use Rattle.nv_flatten.specs.Symbols.{Symbol, Word, Truth, Tuple, Record, NamedSymbols, no_named_symbols, named_symbol_and, operands, named_operands, value_in, named_values_in, Fits, NamedFit, IsOlder, AreOlder, word_operand, fields_of, field_named}
-use Rattle.nv_flatten.specs.Reads.{Makes, Writes, has_symbol}
+use Rattle.nv_flatten.specs.inner.Soundness.{AreWords}
+use Rattle.nv_flatten.specs.inner.Symbols.{Symbol, Word, Truth, Tuple, Record, NamedSymbols, no_named_symbols, named_symbol_and, operands, named_operands, value_in, named_values_in, Fits, NamedFit, IsOlder, AreOlder, word_operand, fields_of, field_named}
+use Rattle.nv_flatten.specs.inner.Reads.{Makes, Writes, has_symbol}
 use Rattle.nv_flatten.proofs.Keeping.{older-later, keeps-operand, keeps-operands, keeps-value, keeps-fit}
 use Rattle.nv_flatten.proofs.Computing.{computes-none, computes-then, computes-so, length-atom_words, older-one, older-two, words-one, words-two, makes-there, makes-let}
 use Rattle.nv_flatten.proofs.Leaves.{older-at, words-small, word-is}

@@ -13,8 +13,8 @@ use Rattle.nv_meaning.specs.declared.stop.Step.{Step}
 use Rattle.nv_meaning.specs.declared.stop.Step.TheVariants.{Done, Again}
 use Rattle.nv_meaning.specs.declared.stop.Stop.{Stop}
 use Rattle.nv_meaning.specs.declared.stop.Stop.TheVariants.{NoMemory, Raised}
-use Rattle.nv_meaning.specs.View.{Named, view, list_values, scope_of}
-use Rattle.nv_meaning.specs.Ran.{At, Ran, Stopped, Grown, IsStep, IsValue, AreValues, AreFields, IsScope, all_result, named_result, stated_result, RanStep, RanValue, RanValues, RanFields, RanScope}
+use Rattle.nv_meaning.specs.inner.View.{Named, view, list_values, scope_of}
+use Rattle.nv_meaning.specs.inner.Ran.{At, Ran, Stopped, Grown, IsStep, IsValue, AreValues, AreFields, IsScope, all_result, named_result, stated_result, RanStep, RanValue, RanValues, RanFields, RanScope}
 use Rattle.nv_meaning.proofs.Rows.{tuple_view, record_view}
 use Rattle.nv_meaning.proofs.Grows.{Growing, grown-here, grown-before, grown-before_named, grown-store, grown-statement, eval-grows, all-grows, named-grows, statements-grow}
 use Rattle.nv_meaning.proofs.Moments.{ran-here, ran-as, ran-then}

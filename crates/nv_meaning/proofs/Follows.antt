@@ -7,7 +7,7 @@ use Rattle.nv_ast.specs.Tree.{ProgramTree, FunTree}
 use Rattle.nv_meaning.specs.Running.{Running, Result, Gives, Raises, Stops, closed}
 use Rattle.nv_meaning.specs.Meaning.{Declared, source, declared, function_in, run_main, calls_within}
 use Rattle.nv_meaning.specs.Laws.{Seeking}
-use Rattle.nv_meaning.specs.Ran.{Grown, now_of}
+use Rattle.nv_meaning.specs.inner.Ran.{Grown, now_of}
 use Rattle.nv_meaning.proofs.Grows.{grown-here, eval-grows, calls-grow}
 use Rattle.nv_meaning.proofs.Whole.{closed-writes}
 

@@ -13,7 +13,7 @@ use Rattle.nv_ast.specs.Tree.{Tree, NumberTree, TruthTree, VarTree, ParenTree, T
 use Rattle.nv_meaning.specs.Values.{Value, Tuple, Record, Values, NamedValues, Scope, word_of, truth_of, words_of, all_matched}
 use Rattle.nv_meaning.specs.Running.{Running, Result, Gives, Raises, Stops, Results, GiveAll, Breaks, NamedResults, GiveNamed, BreaksNamed, Stated, GoesOn, StopsAt, and_then, and_all, and_named, and_stated, and_further, then_more, then_named, then_stated, before_rest, before_named, handled, exception_number, fetch, after_fetch, store, after_store, taken}
 use Rattle.nv_meaning.specs.Meaning.{Declared, Calls, combined, binary, eval, eval_all, eval_named, run_one, run_all, enter, entered, function_in, calls_within}
-use Rattle.nv_meaning.specs.Ran.{Grown, now_of, all_result, named_result, stated_result}
+use Rattle.nv_meaning.specs.inner.Ran.{Grown, now_of, all_result, named_result, stated_result}
 
 -- a call only adds writes
 abbrev pub Growing : Calls → Type 0

@@ -5,7 +5,7 @@ use Rattle.std.proofs.lemmas.List.{take_more}
 use Rattle.nv_meaning.specs.declared.value.Value.{Value}
 use Rattle.nv_meaning.specs.Values.{value_and, named_value_and, words_of, all_words, all_named_words, Values, NamedValues, word_values}
 use Rattle.nv_meaning.specs.Values as meaning
-use Rattle.nv_meaning.specs.View.{Named, view, list_values, list_named_values}
+use Rattle.nv_meaning.specs.inner.View.{Named, view, list_values, list_named_values}
 
 -- what a turn of a loop takes on
 pub take_item : {A : Type 0} (xs : List A) (i : ℕ) (x : A) → i < length xs → x ≡ get_or xs i x → take (i + 1) xs ≡ take i xs ++ x ∷ []

@@ -19,7 +19,7 @@ use Rattle.nv_ast.specs.Outline.{OutlineTree, Layouts, outline, PartsOutline, no
 use Rattle.nv_ast.specs.Tree.{LayoutTree, FunTree, DeclTree, LayoutDecl, ExceptionDecl, GroupDecl, ProgramTree}
 use Rattle.nv_meaning.specs.Running.{number_from}
 use Rattle.nv_meaning.specs.Meaning.{Declared, with_decl, with_decls, declared, function_in}
-use Rattle.nv_meaning.specs.Tables.{place_from, or_else, laid, layout_pairs, functions_in, layouts_in, exceptions_in}
+use Rattle.nv_meaning.specs.inner.Tables.{place_from, or_else, laid, layout_pairs, functions_in, layouts_in, exceptions_in}
 use Rattle.nv_meaning.proofs.Lists.{take_item, dropped, dropped-all}
 
 -- ---- places

@@ -16,8 +16,8 @@ use Rattle.nv_meaning.specs.Meaning.{Declared, eval, run_main, source, declared,
 use Rattle.nv_meaning.specs.declared.value.Value as code
 use Rattle.nv_meaning.specs.declared.stop.Stop.{Stop}
 use Rattle.nv_meaning.specs.declared.stop.Stop.TheVariants as stops
-use Rattle.nv_meaning.specs.View.{view, list_values}
-use Rattle.nv_meaning.specs.Ran.{At, at, running, Wrote, RanValue, IsValue, Grown, now_of, Executes}
+use Rattle.nv_meaning.specs.inner.View.{view, list_values}
+use Rattle.nv_meaning.specs.inner.Ran.{At, at, running, Wrote, RanValue, IsValue, Grown, now_of, Executes}
 use Rattle.nv_meaning.proofs.Grows.{grown-here}
 
 pub main_name : IsName (codes "main")

@@ -3,11 +3,4 @@ pub mod Packing
 pub mod Running
 pub mod Meaning
 pub mod Laws
-pub mod View
-pub mod Tables
-pub mod Sizes
-pub mod TableView
-pub mod Ran
-pub mod Operand
-pub mod Weight
-pub mod Blanks
+pub mod inner

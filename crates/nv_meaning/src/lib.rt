@@ -12,8 +12,6 @@ mod scope;
 mod sizes;
 mod stop;
 mod table;
-#[cfg(test)]
-mod tests;
 mod unpack;
 mod value;
 

@@ -12,16 +12,16 @@ use Rattle.nv_ast.proofs.Reading.{parts_is, joined_is, overlay_is}
 use Rattle.nv_layout.proofs.BitLists.{length-bits}
 use Rattle.nv_meaning.specs.Values.{Value, word_of, field_named, fields_of}
 use Rattle.nv_meaning.specs.Packing.{bits_of, parts_bits, chosen_bits, joined_bits}
-use Rattle.nv_meaning.specs.TableView.{declared_in}
+use Rattle.nv_meaning.specs.inner.TableView.{declared_in}
 use Rattle.nv_meaning.proofs.Unpacking.{FieldItem, alias_rank, alias-low, alias-none, total_named_within, longest_within, highest_named_within, total_within, highest_within}
 use Rattle.nv_meaning.proofs.Writing.{parts_bits-more, joined_bits-more, chosen-turn, parts-within, joined-within, behind-more}
 use Rattle.nv_meaning.proofs.Lists.{dropped-all}
 use Rattle.nv_meaning.proofs.Bindings.{if-true, if-false}
 use Rattle.flat_ir.specs.declared.spine.Step.{Step}
-use Rattle.nv_flatten.specs.Symbols.{Symbol, Word, operands, value_in, word_operand, fields_of as symbols_of, field_named as symbol_named}
-use Rattle.nv_flatten.specs.View.{view}
-use Rattle.nv_flatten.specs.Reads.{Writes}
-use Rattle.nv_flatten.specs.Written.{packed_fields, packed_layout, packed_parts, packed_chosen, packed_joined, WritesFew}
+use Rattle.nv_flatten.specs.inner.Symbols.{Symbol, Word, operands, value_in, word_operand, fields_of as symbols_of, field_named as symbol_named}
+use Rattle.nv_flatten.specs.inner.View.{view}
+use Rattle.nv_flatten.specs.inner.Reads.{Writes}
+use Rattle.nv_flatten.specs.inner.Written.{packed_fields, packed_layout, packed_parts, packed_chosen, packed_joined, WritesFew}
 use Rattle.nv_flatten.proofs.Reading.{sound-named, sound-joined}
 use Rattle.nv_flatten.proofs.Writing.{part-value, part-there, word-value, word-older, word-fits, writes-none, writes-of, writes-then, part-writes}
 use Rattle.nv_flatten.proofs.Lets.{adds-turn}

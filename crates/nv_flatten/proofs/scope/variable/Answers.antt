@@ -1,5 +1,5 @@
 use Rattle.std.proofs.Common.{◌≡◌, sym, ◌∙◌, arith, IfOk, subst}
-use Rattle.nv_flatten.specs.View.{view}
+use Rattle.nv_flatten.specs.inner.View.{view}
 use Rattle.nv_flatten.proofs.Bindings.{variable-newest, if-true, if-false}
 use Rattle.nv_flatten.proofs.scope.variable.Goals as goal
 

@@ -6,11 +6,12 @@ use Rattle.nv_ast.specs.Bits.{packed, replaced}
 use Rattle.nv_ast.specs.Outline.{OutlineTree, OutlineTrees, NamedOutlines, IsSound, AllSound, AllNamedSound, size, total_size, total_named_size, longest}
 use Rattle.nv_ast.specs.Types.{Forms, no_forms, form_and, form_of, forms_of, joined_forms, record_forms, unpacked_all, unpacked_ty, packed_words, packed_ty}
 use Rattle.nv_meaning.specs.Values.{Value, NamedValues, no_named_values, named_value_and, fields_of}
-use Rattle.nv_meaning.specs.Packing.{value_at, parts_at, alternatives_at, joined_at, packed_value, IsBlankFrom}
+use Rattle.nv_meaning.specs.Packing.{value_at, parts_at, alternatives_at, joined_at, packed_value}
+use Rattle.nv_meaning.specs.inner.Blanks.{IsBlankFrom}
 use Rattle.flat_ir.specs.declared.spine.Step.{Step}
-use Rattle.nv_flatten.specs.Code.{Computes}
-use Rattle.nv_flatten.specs.Soundness.{AreWords}
-use Rattle.nv_flatten.specs.Symbols.{Symbol, NamedSymbols, no_named_symbols, named_symbol_and, form, named_forms, operands, named_operands, value_in, named_values_in, Fits, NamedFit, IsOlder, AreOlder}
+use Rattle.nv_flatten.specs.inner.Code.{Computes}
+use Rattle.nv_flatten.specs.inner.Soundness.{AreWords}
+use Rattle.nv_flatten.specs.inner.Symbols.{Symbol, NamedSymbols, no_named_symbols, named_symbol_and, form, named_forms, operands, named_operands, value_in, named_values_in, Fits, NamedFit, IsOlder, AreOlder}
 
 -- the fields of one record and then those of another
 infixr 5 ◌++_symbols◌

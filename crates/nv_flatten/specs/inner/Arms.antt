@@ -12,7 +12,7 @@ use Rattle.nv_flatten.specs.declared.arms.TestArm.{TestArm}
 use Rattle.nv_flatten.specs.declared.arms.TestArm.TheVariants as test
 use Rattle.nv_flatten.specs.declared.arms.EndArm.{EndArm}
 use Rattle.nv_flatten.specs.declared.arms.EndArm.TheVariants as end
-use Rattle.nv_flatten.specs.Code.{arithmetic_of, comparison_of, ends_of, gives, is_given, is_comparison}
+use Rattle.nv_flatten.specs.inner.Code.{arithmetic_of, comparison_of, ends_of, gives, is_given, is_comparison}
 
 -- expressions that choose, call or raise, whose words get names
 abbrev pub is_named : Tree → Bool

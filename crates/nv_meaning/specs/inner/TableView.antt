@@ -3,7 +3,7 @@ use Rattle.std.specs.Prelude.{map, []}
 use Rattle.nv_ast.specs.ProgramView.{fun_tree}
 use Rattle.nv_meaning.specs.declared.table.Table.{Table}
 use Rattle.nv_meaning.specs.Meaning.{Declared}
-use Rattle.nv_meaning.specs.Tables.{laid, layout_pairs}
+use Rattle.nv_meaning.specs.inner.Tables.{laid, layout_pairs}
 
 abbrev pub declared_in : Table → Declared
 declared_in t = record {

@@ -17,10 +17,10 @@ use Rattle.flat_ir.specs.Meaning as code
 use Rattle.flat_ir.specs.Spine.{Act, steps_do}
 use Rattle.flat_ir.specs.declared.flat.Flat.{Flat}
 use Rattle.flat_ir.specs.declared.spine.Step.{Step}
-use Rattle.nv_flatten.specs.Symbols.{Symbol, Symbols, NamedSymbols, SymbolScope, value_in, values_in, named_values_in, Fits, AllFit, NamedFit, Keeps, ScopeFits, ScopeOlder, AreOlder, IsOlder, operands, all_operands, named_operands, scope_in, vars_of, form, forms, named_forms}
-use Rattle.nv_flatten.specs.Runs.{flat_run, onward, ended}
-use Rattle.nv_flatten.specs.Whole.{Whole, Stands}
-use Rattle.nv_flatten.specs.Soundness.{value_tys, AreWords, CallsTyped}
+use Rattle.nv_flatten.specs.inner.Symbols.{Symbol, Symbols, NamedSymbols, SymbolScope, value_in, values_in, named_values_in, Fits, AllFit, NamedFit, Keeps, ScopeFits, ScopeOlder, AreOlder, IsOlder, operands, all_operands, named_operands, scope_in, vars_of, form, forms, named_forms}
+use Rattle.nv_flatten.specs.inner.Runs.{flat_run, onward, ended}
+use Rattle.nv_flatten.specs.inner.Whole.{Whole, Stands}
+use Rattle.nv_flatten.specs.inner.Soundness.{value_tys, AreWords, CallsTyped}
 
 -- the names of functions by their numbers; further ones may come
 abbrev pub Names : Type 0

@@ -1,5 +1,5 @@
--- The value of a type whose words are 0, and a value with other words.
-use Rattle.std.specs.Prelude.{ℕ, ◌==◌, false, not, List, drop, length, slice_index}
+-- What is blank: the value of a type whose words are 0, the same with other words, and bits of 0 behind a place.
+use Rattle.std.specs.Prelude.{◌≡◌, ℕ, ◌-◌, ◌==◌, false, not, List, drop, length, replicate, slice_index}
 use Rattle.nv_ast.specs.Types.{Ty, WordTy, BoolTy, TupleTy, RecordTy, Tys, no_tys, ty_and, NamedTys, no_named_tys, named_ty_and}
 use Rattle.nv_meaning.specs.Values.{Value, Word, Truth, Tuple, Record, Values, no_values, value_and, NamedValues, no_named_values, named_value_and, words_of}
 
@@ -33,3 +33,7 @@ abbrev mutual
   pub fields_filled : NamedValues → List ℕ → NamedValues
   fields_filled no_named_values ws = no_named_values
   fields_filled (named_value_and x v vs) ws = named_value_and x (filled v ws) (fields_filled vs (drop (length (words_of v)) ws))
+
+-- from a place on all bits are 0
+abbrev pub IsBlankFrom : ℕ → List ℕ → Type 0
+IsBlankFrom place bs = drop place bs ≡ replicate (length bs - place) 0

@@ -6,10 +6,10 @@ use Rattle.flat_ir.specs.declared.flat.FlatFun.{FlatFun}
 use Rattle.flat_ir.specs.declared.spine.Step.{Step}
 use Rattle.nv_base.specs.Sets.{all_vars}
 use Rattle.flat_ir.specs.Wide.{Widths}
-use Rattle.nv_flatten.specs.Symbols.{Symbol, NamedSymbols, operands, fields_of, field_named}
-use Rattle.nv_flatten.specs.Reads.{has_symbol}
-use Rattle.nv_flatten.specs.Narrow.{IsWithin, NarrowSteps}
-use Rattle.nv_flatten.specs.Small.{AreFewLets}
+use Rattle.nv_flatten.specs.inner.Symbols.{Symbol, NamedSymbols, operands, fields_of, field_named}
+use Rattle.nv_flatten.specs.inner.Reads.{has_symbol}
+use Rattle.nv_flatten.specs.inner.Narrow.{IsWithin, NarrowSteps}
+use Rattle.nv_flatten.specs.inner.Small.{AreFewLets}
 
 -- ---- the bit fields that are written for a symbolic value: of alternatives, those of the first that the record has. A layout is a record,
 -- so that neither bits nor alternatives stand for one by themselves.

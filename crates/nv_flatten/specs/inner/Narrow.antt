@@ -15,10 +15,10 @@ use Rattle.flat_ir.specs.declared.spine.Step.{Step}
 use Rattle.nv_base.specs.Sets.{is_in, different, all_vars}
 use Rattle.flat_ir.specs.Wide.{live, Widths, code_wide}
 use Rattle.flat_ir.specs.Pieces.{steps_live, steps_wide}
-use Rattle.nv_flatten.specs.Symbols.{Symbol, Symbols, NamedSymbols, SymbolScope, operands, all_operands, named_operands, symbol_in}
-use Rattle.nv_flatten.specs.Whole.{Whole, Stands, group_of}
-use Rattle.nv_flatten.specs.Simulation.{Names, Extends}
-use Rattle.nv_flatten.specs.Made.{params_in, entry}
+use Rattle.nv_flatten.specs.inner.Symbols.{Symbol, Symbols, NamedSymbols, SymbolScope, operands, all_operands, named_operands, symbol_in}
+use Rattle.nv_flatten.specs.inner.Whole.{Whole, Stands, group_of}
+use Rattle.nv_flatten.specs.inner.Simulation.{Names, Extends}
+use Rattle.nv_flatten.specs.inner.Made.{params_in, entry}
 
 -- ---- sets of variables, as lists
 

@@ -2,9 +2,9 @@
 use Rattle.std.specs.Prelude.{map}
 use Rattle.nv_ast.specs.Types.{types_of}
 use Rattle.nv_ast.specs.TypeView.{list_types}
-use Rattle.nv_meaning.specs.TableView.{declared_in}
+use Rattle.nv_meaning.specs.inner.TableView.{declared_in}
 use Rattle.nv_flatten.specs.declared.source.Source.{Source}
-use Rattle.nv_flatten.specs.Whole.{Whole}
+use Rattle.nv_flatten.specs.inner.Whole.{Whole}
 
 abbrev pub whole_in : Source → Whole
 whole_in t = record {

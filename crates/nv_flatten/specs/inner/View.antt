@@ -1,8 +1,8 @@
 -- What the symbolic values of the code stand for.
 use Rattle.std.specs.Prelude.{ℕ, List, [], ◌∷◌}
 use Rattle.std.specs.Borrow.{Bor}
-use Rattle.nv_flatten.specs.Symbols.{Symbols, no_symbols, symbol_and, NamedSymbols, no_named_symbols, named_symbol_and, SymbolScope}
-use Rattle.nv_flatten.specs.Symbols as symbols
+use Rattle.nv_flatten.specs.inner.Symbols.{Symbols, no_symbols, symbol_and, NamedSymbols, no_named_symbols, named_symbol_and, SymbolScope}
+use Rattle.nv_flatten.specs.inner.Symbols as symbols
 use Rattle.nv_flatten.specs.declared.symbol.Symbol.{Symbol}
 use Rattle.nv_flatten.specs.declared.symbol.Symbol.TheVariants.{Word, Truth, Tuple', Record'}
 use Rattle.nv_flatten.specs.declared.symbol.Symbol.TheBlock.{Row_of-Symbol, end_of-Symbol, more_of-Symbol, Row_of-Symbol-Record-0-2, end_of-Symbol-Record-0-2, more_of-Symbol-Record-0-2}

@@ -7,7 +7,7 @@ use Rattle.nv_ast.specs.Scope.{Vars, plain_tys}
 use Rattle.nv_meaning.specs.Values.{Value, Word, Truth, Tuple, Record, Values, no_values, value_and, NamedValues, no_named_values, named_value_and, Scope, words_of, all_words}
 use Rattle.nv_meaning.specs.Running.{Running, Result, Gives, Raises, Stops}
 use Rattle.nv_meaning.specs.Meaning.{Calls, function_in}
-use Rattle.nv_flatten.specs.Whole.{Whole, raised_tys}
+use Rattle.nv_flatten.specs.inner.Whole.{Whole, raised_tys}
 
 -- ---- the type of a value
 abbrev mutual

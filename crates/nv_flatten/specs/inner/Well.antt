@@ -19,9 +19,9 @@ use Rattle.nv_base.specs.Sets.{is_in, all_different}
 use Rattle.nv_base.specs.Access.{all_known}
 use Rattle.flat_ir.specs.Formed.{is_formed, defined, raised}
 use Rattle.flat_ir.specs.Pieces.{known_behind, steps_formed, steps_defined, steps_raised}
-use Rattle.nv_flatten.specs.Symbols.{Symbol, Symbols, NamedSymbols, SymbolScope, Word, operands, all_operands, named_operands}
-use Rattle.nv_flatten.specs.Whole.{Whole, Stands, raised_tys, group_of}
-use Rattle.nv_flatten.specs.Simulation.{Names, Extends}
+use Rattle.nv_flatten.specs.inner.Symbols.{Symbol, Symbols, NamedSymbols, SymbolScope, Word, operands, all_operands, named_operands}
+use Rattle.nv_flatten.specs.inner.Whole.{Whole, Stands, raised_tys, group_of}
+use Rattle.nv_flatten.specs.inner.Simulation.{Names, Extends}
 use Rattle.flat_ir.specs.Reached.{calls}
 
 -- ---- the flat functions that calls go to

@@ -7,8 +7,8 @@ use Rattle.nv_ast.specs.Tests.{look_up, is_among, names_of}
 use Rattle.nv_ast.specs.Scope.{Signature, signature, Known, callable, Place}
 use Rattle.nv_meaning.specs.Meaning.{Declared, declared, function_in}
 use Rattle.nv_meaning.specs.Running.{exception_number}
-use Rattle.nv_meaning.specs.Tables.{place_from}
-use Rattle.nv_flatten.specs.Symbols.{SymbolScope, vars_of}
+use Rattle.nv_meaning.specs.inner.Tables.{place_from}
+use Rattle.nv_flatten.specs.inner.Symbols.{SymbolScope, vars_of}
 
 -- the layouts, exceptions and functions; the types of each exception's values; and the number of each function's group
 pub record Whole : Type 0 where

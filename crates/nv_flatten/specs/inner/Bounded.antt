@@ -3,11 +3,11 @@ use Rattle.std.specs.Prelude.{◌≡◌, ℕ, List, Some, slice_get}
 use Rattle.nv_ast.specs.Tree.{FunTree}
 use Rattle.nv_meaning.specs.Meaning.{function_in}
 use Rattle.flat_ir.specs.declared.flat.FlatFun.{FlatFun}
-use Rattle.nv_flatten.specs.Whole.{Whole}
-use Rattle.nv_flatten.specs.Simulation.{Names}
-use Rattle.nv_flatten.specs.Made.{IsComplete}
-use Rattle.nv_flatten.specs.Narrow.{AreNarrowFuns}
-use Rattle.nv_flatten.specs.Small.{IsSmallFun}
+use Rattle.nv_flatten.specs.inner.Whole.{Whole}
+use Rattle.nv_flatten.specs.inner.Simulation.{Names}
+use Rattle.nv_flatten.specs.inner.Made.{IsComplete}
+use Rattle.nv_flatten.specs.inner.Narrow.{AreNarrowFuns}
+use Rattle.nv_flatten.specs.inner.Small.{IsSmallFun}
 
 -- no name has two numbers
 abbrev pub AreOnce : Names → Type 0

@@ -4,11 +4,11 @@ use Rattle.nv_ast.specs.Tree.{FunTree}
 use Rattle.nv_ast.specs.Types.{NamedTys, type_of, named_types_of, words, total_named_words}
 use Rattle.nv_meaning.specs.Meaning.{function_in}
 use Rattle.flat_ir.specs.declared.flat.FlatFun.{FlatFun}
-use Rattle.nv_flatten.specs.Symbols.{Symbol, SymbolScope, named_fresh, numbers_from, params_bound}
-use Rattle.nv_flatten.specs.Whole.{Whole, group_of}
-use Rattle.nv_flatten.specs.Simulation.{Names, Extends, IsEnd}
+use Rattle.nv_flatten.specs.inner.Symbols.{Symbol, SymbolScope, named_fresh, numbers_from, params_bound}
+use Rattle.nv_flatten.specs.inner.Whole.{Whole, group_of}
+use Rattle.nv_flatten.specs.inner.Simulation.{Names, Extends, IsEnd}
 use Rattle.flat_ir.specs.Reached.{AreReached}
-use Rattle.nv_flatten.specs.Well.{IsWellEnd, IsWellFun}
+use Rattle.nv_flatten.specs.inner.Well.{IsWellEnd, IsWellFun}
 
 -- the types of a function's parameters, with their names
 abbrev pub params_in : Whole → FunTree → NamedTys

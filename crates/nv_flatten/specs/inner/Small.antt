@@ -15,11 +15,11 @@ use Rattle.flat_ir.specs.declared.spine.Step.{Step}
 use Rattle.nv_base.specs.Measures.{Bulk, nothing, a_label, a_jump, both, IsAtMost}
 use Rattle.flat_ir.specs.Bulk.{Bulks, code_bulk}
 use Rattle.flat_ir.specs.Pieces.{steps_bulk}
-use Rattle.nv_flatten.specs.Code.{is_given, is_comparison, form_or_unit}
-use Rattle.nv_flatten.specs.Made.{entry}
-use Rattle.nv_flatten.specs.Simulation.{Names, Extends}
-use Rattle.nv_flatten.specs.Symbols.{Symbol, Symbols, NamedSymbols, SymbolScope, operands, all_operands, named_operands}
-use Rattle.nv_flatten.specs.Whole.{Whole, Stands, group_of}
+use Rattle.nv_flatten.specs.inner.Code.{is_given, is_comparison, form_or_unit}
+use Rattle.nv_flatten.specs.inner.Made.{entry}
+use Rattle.nv_flatten.specs.inner.Simulation.{Names, Extends}
+use Rattle.nv_flatten.specs.inner.Symbols.{Symbol, Symbols, NamedSymbols, SymbolScope, operands, all_operands, named_operands}
+use Rattle.nv_flatten.specs.inner.Whole.{Whole, Stands, group_of}
 
 -- what an expanded size of so many stands for
 abbrev pub of_parts : ℕ → Bulk

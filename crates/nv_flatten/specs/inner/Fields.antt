@@ -1,5 +1,5 @@
 -- Fields one after another.
-use Rattle.nv_flatten.specs.Symbols.{NamedSymbols, no_named_symbols, named_symbol_and}
+use Rattle.nv_flatten.specs.inner.Symbols.{NamedSymbols, no_named_symbols, named_symbol_and}
 
 -- the fields of one record and then those of another
 infixr 5 ◌++_symbols◌

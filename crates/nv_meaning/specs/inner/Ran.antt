@@ -12,7 +12,7 @@ use Rattle.nv_base.specs.Meanings.{FullOutcome, source_writes, left_by, IsPrefix
 use Rattle.nv_meaning.specs.Values.{Word, Tuple, Record, Scope}
 use Rattle.nv_meaning.specs.Running.{Running, Result, Gives, Raises, Stops, Results, GiveAll, Breaks, NamedResults, GiveNamed, BreaksNamed, Stated, GoesOn, StopsAt}
 use Rattle.nv_meaning.specs.Meaning.{Declared, Calls, calls_within}
-use Rattle.nv_meaning.specs.View.{view, list_values, list_named_values}
+use Rattle.nv_meaning.specs.inner.View.{view, list_values, list_named_values}
 use Rattle.nv_meaning.specs.declared.value.Value.{Value}
 use Rattle.nv_meaning.specs.declared.stop.Step.{Step}
 use Rattle.nv_meaning.specs.declared.stop.Step.TheVariants.{Done, Again}

@@ -5,9 +5,9 @@ use Rattle.flat_ir.specs.declared.flat.FlatFun.{FlatFun}
 use Rattle.flat_ir.specs.declared.spine.Step.{Step}
 use Rattle.nv_base.specs.Sets.{all_vars}
 use Rattle.flat_ir.specs.Wide.{Widths}
-use Rattle.nv_flatten.specs.Symbols.{NamedSymbols, named_operands}
-use Rattle.nv_flatten.specs.Narrow.{NarrowSteps}
-use Rattle.nv_flatten.specs.Small.{AreFewLets}
+use Rattle.nv_flatten.specs.inner.Symbols.{NamedSymbols, named_operands}
+use Rattle.nv_flatten.specs.inner.Narrow.{NarrowSteps}
+use Rattle.nv_flatten.specs.inner.Small.{AreFewLets}
 
 -- fields were added behind others: at most 4 steps for each of so many bit fields, and no place wider than the words, all fields and 4 more
 pub record ReadsFew (words : List Atom) (old new : List Step) (before after : NamedSymbols) (bits : ℕ) : Type 0 where

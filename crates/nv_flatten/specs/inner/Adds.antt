@@ -6,10 +6,10 @@ use Rattle.flat_ir.specs.declared.flat.FlatFun.{FlatFun}
 use Rattle.flat_ir.specs.declared.spine.Step.{Step}
 use Rattle.nv_base.specs.Sets.{all_vars}
 use Rattle.flat_ir.specs.Wide.{Widths}
-use Rattle.nv_flatten.specs.Symbols.{Symbol, NamedSymbols, operands, named_operands}
-use Rattle.nv_flatten.specs.Well.{AreWellLets}
-use Rattle.nv_flatten.specs.Narrow.{IsWithin, NarrowSteps}
-use Rattle.nv_flatten.specs.Small.{AreFewLets}
+use Rattle.nv_flatten.specs.inner.Symbols.{Symbol, NamedSymbols, operands, named_operands}
+use Rattle.nv_flatten.specs.inner.Well.{AreWellLets}
+use Rattle.nv_flatten.specs.inner.Narrow.{IsWithin, NarrowSteps}
+use Rattle.nv_flatten.specs.inner.Small.{AreFewLets}
 
 -- steps were added, from these operands to those
 pub record AddsLets (low high : ℕ) (given : List Atom) (old new : List Step) (found : List Atom) : Type 0 where

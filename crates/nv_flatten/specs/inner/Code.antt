@@ -22,7 +22,7 @@ use Rattle.flat_ir.specs.Spine.{Act, steps_do}
 use Rattle.flat_ir.specs.declared.spine.Step.{Step}
 use Rattle.nv_flatten.specs.declared.parts.Ends.{Ends}
 use Rattle.nv_flatten.specs.declared.parts.Ends.TheVariants as ends
-use Rattle.nv_flatten.specs.Symbols.{Symbol, form, Keeps}
+use Rattle.nv_flatten.specs.inner.Symbols.{Symbol, form, Keeps}
 
 -- the operation of an operator on words
 abbrev pub arithmetic_of : Op → Option Bin
