@@ -12,7 +12,6 @@ use Rattle.nv_layout.proofs.BitLists.{length-packed}
 use Rattle.nv_meaning.specs.Values.{NamedValues, no_named_values, named_value_and, ◌++_fields◌, fields_of}
 use Rattle.nv_meaning.specs.Values as meaning
 use Rattle.nv_meaning.specs.Packing.{value_at, parts_at, alternatives_at, joined_at}
-use Rattle.nv_meaning.proofs.Lists.{take_item}
 use Rattle.nv_meaning.proofs.Unpacking.{FieldItem, outlines_of, joined_of, drop-at, parts_more, alternatives_more, joined_more, total_named_within, longest_within, total_within}
 use Rattle.flat_ir.specs.declared.spine.Step.{Step}
 use Rattle.nv_flatten.specs.inner.Code.{Computes}
@@ -22,6 +21,7 @@ use Rattle.nv_flatten.specs.inner.View.{Named, view, list_named_symbols}
 use Rattle.nv_flatten.specs.inner.Reads.{◌++_symbols◌, Makes, Reads, ReadsRecord, ReadsField, Unpacks}
 use Rattle.nv_flatten.proofs.Keeping.{older-later, keeps-operands, keeps-named, keeps-named_fit}
 use Rattle.nv_flatten.proofs.Computing.{computes-none, computes-then, computes-so, length-atom_words, older-one}
+use Rattle.nv_layout.proofs.Lists.{take_item}
 
 -- ---- the fields of one record and then those of another
 pub symbols-none : (ss : NamedSymbols) → ss ++_symbols no_named_symbols ≡ ss

@@ -32,7 +32,7 @@ span-some : (fs : List FunTree) → 0 < span fs
 span-some [] = omega arith
 span-some (f ∷ fs) = let h : 0 < span fs = span-some fs in omega arith
 
-some_same : {A : Type 0} {x y : A} → Some x ≡ Some y → x ≡ y
+pub some_same : {A : Type 0} {x y : A} → Some x ≡ Some y → x ≡ y
 some_same e = cc
 
 none_some : {A : Type 0} {x : A} → None ≡ Some x → ⊥

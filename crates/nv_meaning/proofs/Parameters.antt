@@ -11,10 +11,11 @@ use Rattle.nv_meaning.specs.Values as meaning
 use Rattle.nv_meaning.specs.Meaning.{named_scope}
 use Rattle.nv_meaning.specs.inner.Blanks.{blank, blanks, named_blanks, filled, all_filled, fields_filled}
 use Rattle.nv_meaning.specs.inner.View.{Named, view, list_values, list_named_values, scope_of}
-use Rattle.nv_meaning.proofs.Lists.{take_item, dropped}
+use Rattle.nv_meaning.proofs.Lists.{dropped}
 use Rattle.nv_meaning.proofs.Bindings.{scope-append}
 use Rattle.nv_meaning.proofs.Filling.{blank-words, blank-filled}
 use Rattle.nv_meaning.proofs.Unpacking.{drop-further, drop-capped}
+use Rattle.nv_layout.proofs.Lists.{take_item}
 
 -- ---- blank values of types one after another
 module _ (known : Layouts) where

@@ -12,9 +12,10 @@ use Rattle.nv_layout.proofs.BitLists.{length-bits, bits-split, packed-append, pa
 use Rattle.nv_meaning.specs.Values.{Value, NamedValues, word_of, fields_of, field_named, has_field}
 use Rattle.nv_meaning.specs.Packing.{bits_of, parts_bits, chosen_bits, joined_bits, words_of_bits}
 use Rattle.nv_meaning.specs.inner.Blanks.{IsBlankFrom}
-use Rattle.nv_meaning.proofs.Lists.{take_item, dropped, dropped-all}
+use Rattle.nv_meaning.proofs.Lists.{dropped, dropped-all}
 use Rattle.nv_meaning.proofs.Packed.{replaced-more, replaced-zeros, replicate-split, blank-behind, number-word}
 use Rattle.nv_meaning.proofs.Unpacking.{FieldItem, outlines_of, joined_of, drop-nothing}
+use Rattle.nv_layout.proofs.Lists.{take_item}
 
 -- ---- no more bits than the size says
 either-within : (b : Bool) (xs ys : List ℕ) (m n : ℕ) → length xs ≤ m → length ys ≤ n → length (if b then xs else ys) ≤ max m n
