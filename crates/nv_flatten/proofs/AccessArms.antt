@@ -30,7 +30,7 @@ use Rattle.nv_flatten.specs.inner.Whole.{Whole}
 use Rattle.nv_flatten.specs.inner.Simulation.{Names, Done, IsValue}
 use Rattle.nv_flatten.proofs.Keeping.{keeps-then, words-fit, are-words}
 use Rattle.nv_flatten.proofs.Fresh.{numbers-keep, numbers-older, words-read, words-read-fit}
-use Rattle.nv_flatten.proofs.NoFaults.{none-left, set, some-same, value-has-type, clean as is-clean, is-right, wanted-type}
+use Rattle.nv_flatten.proofs.NoFaults.{none-left, set, some-same, value-has-type, clean as is-clean, is-right, wanted-type, among-known}
 use Rattle.nv_flatten.proofs.Following.{stands-inside, word-of}
 use Rattle.nv_flatten.proofs.ValueArms.{unary}
 
@@ -130,18 +130,11 @@ chosen-name : {A : Type 0} (b : Bool) (a : A) (more : Bool) (o : Option A) → (
 chosen-name true a more o h e = (a, refl)
 chosen-name false a more o h e = h e
 
-known-name : {A : Type 0} (x : List ℕ) (known : List (List ℕ × A)) → is_among x (names_of known) ≡ true → (a : A) × (look_up x known ≡ Some a)
-known-name x [] e = absurd (false-true e)
-  where
-    false-true : false ≡ true → ⊥
-    false-true q = cc
-known-name x ((y, a) ∷ known) e = chosen-name (bytes_eq x y) a (is_among x (names_of known)) (look_up x known) (known-name x known) e
-
 unpack-known : (p : Place) (wanted : Wanted) (sp : Span) (l : List ℕ) (a : Tree) → faults p wanted (UnpackTree sp l a) ≡ [] → (o : OutlineTree) × (look_up l p.known.layouts ≡ Some o)
-unpack-known p wanted sp l a none = known-name l p.known.layouts (set (is_among l (names_of p.known.layouts)) 3 (is-clean p wanted (UnpackTree sp l a) none).low)
+unpack-known p wanted sp l a none = among-known l p.known.layouts (set (is_among l (names_of p.known.layouts)) 3 (is-clean p wanted (UnpackTree sp l a) none).low)
 
 pack-known : (p : Place) (wanted : Wanted) (sp : Span) (l : List ℕ) (a : Tree) → faults p wanted (PackTree sp l a) ≡ [] → (o : OutlineTree) × (look_up l p.known.layouts ≡ Some o)
-pack-known p wanted sp l a none = known-name l p.known.layouts (set (is_among l (names_of p.known.layouts)) 3 (is-clean p wanted (PackTree sp l a) none).low)
+pack-known p wanted sp l a none = among-known l p.known.layouts (set (is_among l (names_of p.known.layouts)) 3 (is-clean p wanted (PackTree sp l a) none).low)
 
 -- ---- packing and unpacking by a layout
 module _ (w : Whole) (names : Names) (low mid high : ℕ) (scope : SymbolScope) (sp : Span) (l : List ℕ) (a : Tree) (ss ts : List Step) (s r : Symbol) where

@@ -20,13 +20,14 @@ use Rattle.nv_flatten.specs.inner.Narrow.{IsNarrowEnd, IsNarrowFun, IsEmptyFun, 
 use Rattle.nv_flatten.specs.inner.Small.{IsSmallEnd, IsSmallFun}
 use Rattle.nv_flatten.specs.inner.Bounded.{AreOnce, AreSmallFound, IsBounded}
 use Rattle.nv_flatten.proofs.Fresh.{numbers-length}
-use Rattle.nv_flatten.proofs.Knowing.{some_same, function-named}
+use Rattle.nv_flatten.proofs.Knowing.{function-named}
 use Rattle.nv_flatten.proofs.Naming.{Added, MadeSoFar, made-first, made-more, all-made, slice-front, slice-last, slice-there, slice-below}
 use Rattle.nv_flatten.proofs.WellProgram.{found-reached}
 use Rattle.nv_flatten.proofs.Bodies.{has-main}
 use Rattle.nv_flatten.proofs.NarrowValues.{extends-further}
 use Rattle.nv_flatten.proofs.NarrowFuns.{funs-none, funs-more}
 use Rattle.nv_flatten.proofs.NarrowProgram.{wide-enough}
+use Rattle.nv_flatten.proofs.NoFaults.{some-same}
 
 -- ---- the functions that are made so far
 pub record BoundedSoFar (w : Whole) (main : List ℕ) (names : Names) (funs : List FlatFun) : Type 0 where
@@ -51,13 +52,13 @@ small-one w name names new funs fun named more small so = record {
       let s = slice-last funs fun i d there in
       let p : i ≤ length funs = s.place in
       let r = slice-there names i (omega arith) in
-      let same : r.0 ≡ f = some_same (sym (ap (λ l. slice_get l i) more.1 ∙ slice-front names more.0 i r.0 r.1) ∙ called) in
+      let same : r.0 ≡ f = some-same _ _ (sym (ap (λ l. slice_get l i) more.1 ∙ slice-front names more.0 i r.0 r.1) ∙ called) in
       let named' : slice_get names i ≡ Some f = r.1 ∙ ap (λ x. Some x) same in
       elim (cases_lt i (length funs)) [
         | inl below ↦ small-names w names new f g d more (so.by i f g d named' found (s.before below))
         | inr past ↦ (
             let here : i ≡ length funs = omega arith in
-            let is : name ≡ f = some_same (sym named ∙ ap (slice_get names) (sym here) ∙ named') in
+            let is : name ≡ f = some-same _ _ (sym named ∙ ap (slice_get names) (sym here) ∙ named') in
             subst (λ x. IsSmallFun w new f g x) (sym (s.here here)) (subst (λ x. IsSmallFun w new x g fun) is (small g (ap (function_in w.declared.functions) is ∙ found))))
       ];
 }
@@ -136,7 +137,7 @@ empty-made w names x (Some g) fun none e = absurd (cc)
 
 -- the function that was found is the one that is made
 pub small-found : (w : Whole) (name : List ℕ) (names : Names) (f g : FunTree) (fun : FlatFun) → function_in w.declared.functions name ≡ Some f → IsSmallFun w names name f fun → function_in w.declared.functions name ≡ Some g → IsSmallFun w names name g fun
-small-found w name names f g fun found m e = subst (λ d. IsSmallFun w names name d fun) (some_same (sym found ∙ e)) m
+small-found w name names f g fun found m e = subst (λ d. IsSmallFun w names name d fun) (some-same _ _ (sym found ∙ e)) m
 
 pub narrow-found : (w : Whole) (name : List ℕ) (names : Names) (f : FunTree) (fun : FlatFun) → function_in w.declared.functions name ≡ Some f → IsNarrowFun w names name f fun → IsNarrowOf w names name (function_in w.declared.functions name) fun
 narrow-found w name names f fun found m = subst (λ o. IsNarrowOf w names name o fun) (sym found) m

@@ -20,11 +20,11 @@ use Rattle.nv_flatten.specs.inner.Well.{FunsMatch, ScopeKnown, GivesWords, IsWel
 use Rattle.nv_flatten.proofs.Fresh.{numbers-append, numbers-length, variables-append, fresh-operands}
 use Rattle.nv_flatten.proofs.WellBasics.{knows-left, knows-right, knows-variables}
 use Rattle.nv_flatten.proofs.WellProgram.{walked-fun, fun-names, program-formed}
-use Rattle.nv_flatten.proofs.Knowing.{some_same}
 use Rattle.nv_flatten.proofs.Naming.{slice-there, slice-below}
 use Rattle.nv_flatten.proofs.Bodies.{IsBody, bodies, narrow-raised, has-main}
 use Rattle.nv_flatten.proofs.Entering.{type-same, params-types}
 use Rattle.nv_flatten.proofs.Lockstep.{right-type, body_place, body_wanted, main-narrow}
+use Rattle.nv_flatten.proofs.NoFaults.{some-same}
 
 -- ---- the parameters are known in a body
 params-known : (known : List ℕ) (n : ℕ) (ts : NamedTys) (scope : SymbolScope) → all_known known (variables (numbers_from n (total_named_words ts))) ≡ true → ScopeKnown known scope → ScopeKnown known (params_bound (named_fresh n ts) scope)
@@ -84,7 +84,7 @@ all-well t h main funs c i fun here = by (function_in (whole_of t).declared.func
     by None q = placed.absent q c.all
     by (Some g) q =
         let r = c.made.by i name.0 g name.1 q in
-        let same : r.0 ≡ fun = some_same (sym r.1 ∙ here) in
+        let same : r.0 ≡ fun = some-same _ _ (sym r.1 ∙ here) in
         made-well (whole_of t) name.0 g (bodies t h name.0 g q) q c.all fun (subst (IsMade (whole_of t) c.all g) same r.2) placed
 
 abbrev pub IsCompleteMain : ProgramTree → List FlatFun → Type 0

@@ -12,22 +12,17 @@ use Rattle.flat_ir.specs.Reached.{calls}
 use Rattle.nv_flatten.specs.inner.Made.{IsMade, AreMade, AllMade, IsPlaced, ArePlaced}
 use Rattle.nv_flatten.specs.inner.Well.{AreCalled}
 use Rattle.nv_flatten.proofs.WellProgram.{AreFound, found-first, found-more}
-
-some_same : {A : Type 0} {x y : A} → Some x ≡ Some y → x ≡ y
-some_same e = cc
+use Rattle.std.proofs.lemmas.List.{map-append}
+use Rattle.nv_flatten.proofs.NoFaults.{some-same}
 
 slice-mapped : (ks : List (Bor (List ℕ))) (i : ℕ) (k : Bor (List ℕ)) → slice_get ks i ≡ Some k → slice_get (map (λ y. y.now) ks) i ≡ Some k.now
 slice-mapped [] i k e = cc
-slice-mapped (y ∷ ks) zero k e = ap (λ z. Some z.now) (some_same e)
+slice-mapped (y ∷ ks) zero k e = ap (λ z. Some z.now) (some-same _ _ e)
 slice-mapped (y ∷ ks) (suc i) k e = slice-mapped ks i k e
 
 -- the number of a name
 pub name-at : (ks : List (Bor (List ℕ))) (i : ℕ) (k : Bor (List ℕ)) (x : List ℕ) → slice_get ks i ≡ Some k → bytes_eq x k.now ≡ true → slice_get (map (λ y. y.now) ks) i ≡ Some x
 name-at ks i k x e q = slice-mapped ks i k e ∙ ap (λ y. Some y) (sym ((bytes_eq-Decides x k.now).0 q))
-
-mapped : {A B : Type 0} (f : A → B) (xs ys : List A) → map f (xs ++ ys) ≡ map f xs ++ map f ys
-mapped f [] ys = refl
-mapped f (x ∷ xs) ys = ap (λ l. f x ∷ l) (mapped f xs ys)
 
 -- a name more, or the same names
 abbrev pub Added : Names → Names → List ℕ → Type 0
@@ -35,7 +30,7 @@ Added old new x = (new ≡ old) ⊎ (new ≡ old ++ x ∷ [])
 
 key-added : (b : Bool) (ks : List (Bor (List ℕ))) (k : Bor (List ℕ)) → Added (map (λ y. y.now) ks) (map (λ y. y.now) (if b then ks else ks ++ k ∷ [])) k.now
 key-added true ks k = inl refl
-key-added false ks k = inr (mapped (λ y. y.now) ks (k ∷ []))
+key-added false ks k = inr (map-append (λ y. y.now) ks (k ∷ []))
 
 pub names-added : (b : Bool) (ks new : List (Bor (List ℕ))) (k : Bor (List ℕ)) → new ≡ (if b then ks else ks ++ k ∷ []) → Added (map (λ y. y.now) ks) (map (λ y. y.now) new) k.now
 names-added b ks new k e = subst (λ l. Added (map (λ y. y.now) ks) (map (λ y. y.now) l) k.now) (sym e) (key-added b ks k)
@@ -56,7 +51,7 @@ pub record Seen {A : Type 0} (xs : List A) (last : A) (i : ℕ) (x : A) : Type 0
   pub here : i ≡ length xs → x ≡ last
 
 pub slice-last : {A : Type 0} (xs : List A) (last : A) (i : ℕ) (x : A) → slice_get (xs ++ last ∷ []) i ≡ Some x → Seen xs last i x
-slice-last [] last zero x e = record { place = omega arith; before = λ h. absurd (omega arith); here = λ h. sym (some_same e) }
+slice-last [] last zero x e = record { place = omega arith; before = λ h. absurd (omega arith); here = λ h. sym (some-same _ _ e) }
 slice-last [] last (suc i) x e = absurd (cc)
 slice-last (y ∷ xs) last zero x e = record { place = omega arith; before = λ h. e; here = λ h. absurd (omega arith) }
 slice-last (y ∷ xs) last (suc i) x e =
@@ -158,7 +153,7 @@ made-more w main name names new funs funs' fun so named more made placed calling
     earlier : (i : ℕ) → i < length names → (f : List ℕ) → slice_get new i ≡ Some f → slice_get names i ≡ Some f
     earlier i h f e =
         let r = slice-there names i h in
-        let same : r.0 ≡ f = some_same (sym (ap (λ l. slice_get l i) more.1 ∙ slice-front names more.0 i r.0 r.1) ∙ e) in
+        let same : r.0 ≡ f = some-same _ _ (sym (ap (λ l. slice_get l i) more.1 ∙ slice-front names more.0 i r.0 r.1) ∙ e) in
         r.1 ∙ ap (λ x. Some x) same
 
     by : (i : ℕ) (f : List ℕ) (g : FunTree) (d : FlatFun) → slice_get new i ≡ Some f → function_in w.declared.functions f ≡ Some g → slice_get funs' i ≡ Some d → IsMade w new g d
@@ -171,7 +166,7 @@ made-more w main name names new funs funs' fun so named more made placed calling
           | inl below ↦ more-names w names new g d more (so.made.by i f g d named' found (s.before below))
           | inr past ↦ (
               let here : i ≡ length funs = omega arith in
-              let same : name ≡ f = some_same (sym named ∙ ap (slice_get names) (sym here) ∙ named') in
+              let same : name ≡ f = some-same _ _ (sym named ∙ ap (slice_get names) (sym here) ∙ named') in
               subst (IsMade w new g) (sym (s.here here)) (made g (ap (function_in w.declared.functions) same ∙ found)))
         ]
 
@@ -185,7 +180,7 @@ made-more w main name names new funs funs' fun so named more made placed calling
           | inl below ↦ so.placed.by i f d named' (s.before below)
           | inr past ↦ (
               let here : i ≡ length funs = omega arith in
-              let same : name ≡ f = some_same (sym named ∙ ap (slice_get names) (sym here) ∙ named') in
+              let same : name ≡ f = some-same _ _ (sym named ∙ ap (slice_get names) (sym here) ∙ named') in
               subst (λ x. IsPlaced w x d) same (subst (IsPlaced w name) (sym (s.here here)) placed))
         ]
 

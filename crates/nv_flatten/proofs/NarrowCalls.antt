@@ -23,13 +23,14 @@ use Rattle.nv_flatten.specs.inner.Simulation.{Names, HasForm, AreValues}
 use Rattle.nv_flatten.specs.inner.Narrow.{IsWithin, written, NarrowSteps, NarrowCode, AreNarrowLets, Room, IsNarrowValue, AreNarrowValues, IsNarrowEnd}
 use Rattle.nv_flatten.proofs.Fresh.{fresh-forms, fresh-operands, all-bound-types}
 use Rattle.nv_flatten.proofs.Sound.{arguments-are-values}
-use Rattle.nv_flatten.proofs.WellTypes.{no-kinds, some-where, low-of}
+use Rattle.nv_flatten.proofs.WellTypes.{some-where, low-of}
 use Rattle.nv_flatten.proofs.Within.{itself, of-none, into-left, into-right, through, behind-same, grows-not}
 use Rattle.nv_flatten.proofs.NarrowSteps.{last, handled, recast, follow, joined, recast-code, raise-code, call-code, CallAtMost, try-code}
-use Rattle.nv_flatten.proofs.NarrowFacts.{none-left, none-right, written-append, counted, counted-given, vars-of-variables, numbers-length, need-least}
+use Rattle.nv_flatten.proofs.NarrowFacts.{written-append, counted, counted-given, vars-of-variables, numbers-length, need-least}
 use Rattle.nv_flatten.proofs.Bound.{written-all-bound}
 use Rattle.nv_flatten.proofs.NarrowValues.{roomier, stands-inside}
 use Rattle.nv_flatten.proofs.NarrowEnds.{arguments-counted}
+use Rattle.nv_flatten.proofs.NoFaults.{none-left, none-right, no-kinds}
 
 pub slice-more : {A : Type 0} (xs more : List A) (i : ℕ) (a : A) → slice_get xs i ≡ Some a → slice_get (xs ++ more) i ≡ Some a
 slice-more [] more i a e = cc

@@ -18,15 +18,9 @@ use Rattle.nv_flatten.specs.inner.Simulation.{HasForm}
 use Rattle.nv_flatten.specs.inner.Narrow.{IsWithin, written}
 use Rattle.nv_flatten.proofs.Within.{itself, of-none, into-left, into-right, through, all-vars-append, vars-length}
 use Rattle.nv_flatten.proofs.Sound.{value-has-type, given-has-type}
+use Rattle.nv_flatten.proofs.NoFaults.{none-left, none-right}
 
 -- ---- lists without an element
-pub none-left : {A : Type 0} (a b : List A) → a ++ b ≡ [] → a ≡ []
-none-left [] b e = refl
-none-left (x ∷ a) b e = cc
-
-pub none-right : {A : Type 0} (a b : List A) → a ++ b ≡ [] → b ≡ []
-none-right [] b e = e
-none-right (x ∷ a) b e = cc
 
 -- ---- written names
 pub written-append : (scope : SymbolScope) (xs ys : List (List ℕ)) → written scope (xs ++ ys) ≡ written scope xs ++ written scope ys

@@ -22,9 +22,10 @@ use Rattle.nv_flatten.specs.inner.Simulation.{Names, Extends, HasForm, IsStated}
 use Rattle.nv_flatten.specs.inner.Narrow.{IsWithin, Grows, written, Pends, NarrowSteps, Room, IsNarrowValue, AreNarrowValues, AreNarrowFields, IsNarrowEnd, IsNarrowStatement, IsNarrowStated}
 use Rattle.nv_flatten.proofs.Within.{itself, of-none, both-same, grows-not, grows-more, grows-further, all-vars-append}
 use Rattle.nv_flatten.proofs.NarrowSteps.{no-steps, recast, beside, follow, store-step, stored, joined, recast-code}
-use Rattle.nv_flatten.proofs.NarrowFacts.{none-left, none-right, written-append, written-right, counted, vars-at-most, word-operand-within}
+use Rattle.nv_flatten.proofs.NarrowFacts.{written-append, written-right, counted, vars-at-most, word-operand-within}
 use Rattle.nv_flatten.proofs.Bound.{written-bound, bound-pends, same-pends, pends-further}
 use Rattle.nv_flatten.proofs.NarrowValues.{roomier, two-parts, fewer, stands-inside}
+use Rattle.nv_flatten.proofs.NoFaults.{none-left, none-right}
 
 module _ (w : Whole) (names : Names) (scope : SymbolScope) where
   -- ---- lists

@@ -32,7 +32,8 @@ use Rattle.nv_flatten.specs.inner.Narrow.{IsWithin, written, NarrowSteps, Room, 
 use Rattle.nv_flatten.proofs.Fresh.{fresh-operands}
 use Rattle.nv_flatten.proofs.Within.{itself, of-none, into-left, together, through, both-same, grows-by, grows-not}
 use Rattle.nv_flatten.proofs.NarrowSteps.{no-steps, recast, follow, in-turn, let-step, fetch-step, bind-step}
-use Rattle.nv_flatten.proofs.NarrowFacts.{none-left, none-right, written-append, counted, words-of-or-unit, vars-at-most, word-operand-within, truth-operand-within, field-within, fields-within, vars-of-variables, numbers-length, words-symbol-operands, words-of-words, need-least}
+use Rattle.nv_flatten.proofs.NarrowFacts.{written-append, counted, words-of-or-unit, vars-at-most, word-operand-within, truth-operand-within, field-within, fields-within, vars-of-variables, numbers-length, words-symbol-operands, words-of-words, need-least}
+use Rattle.nv_flatten.proofs.NoFaults.{none-left, none-right}
 
 -- ---- steps and then a primitive of their results
 prim-length : (q : Primitive) → length (prim_vars q) ≤ 2

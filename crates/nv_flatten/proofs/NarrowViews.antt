@@ -21,11 +21,12 @@ use Rattle.nv_flatten.specs.inner.Simulation.{Names, Extends, HasForm, IsStated}
 use Rattle.nv_flatten.specs.inner.View.{view, list_symbols, list_named_symbols, scope_of, Named}
 use Rattle.nv_flatten.specs.inner.Whole.{Whole}
 use Rattle.nv_flatten.specs.inner.Narrow.{IsWithin, AreNarrowLets, IsNarrowValue, AreNarrowValues, AreNarrowFields, IsNarrowStatement, IsNarrowStated}
-use Rattle.nv_flatten.proofs.WellTypes.{middle-of, not-where}
+use Rattle.nv_flatten.proofs.WellTypes.{middle-of}
 use Rattle.nv_flatten.proofs.Within.{of-none, into-left, into-right, together, through, turned}
 use Rattle.nv_flatten.proofs.NarrowFacts.{word-operand-within}
 use Rattle.nv_flatten.proofs.NarrowValues.{extends-further, value-narrow-more, shift-none-narrow, shift-narrow}
 use Rattle.nv_flatten.proofs.NarrowLists.{values-cons, fields-cons, values-nil, fields-nil, stated-cons, stated-nil, statement-narrow-more}
+use Rattle.nv_flatten.proofs.NoFaults.{unset}
 
 -- ---- at an equal scope, an equal tree and equal operands
 pub narrow-at : (w : Whole) (names : Names) (scope : SymbolScope) (e : Tree) (ss ss' : List Step) (v v' : Symbol) → ss' ≡ ss → v' ≡ v → IsNarrowValue w names scope e ss v → IsNarrowValue w names scope e ss' v'
@@ -51,7 +52,7 @@ pub shifted-narrow : (w : Whole) (names : Names) (scope : SymbolScope) (sp : Spa
     → (1 ≤ n → n ≤ 31 → (b ≡ Var x) × (ss' ≡ ss ++ Let x (shift_of op n (word_operand s)) ∷ [])) → IsNarrowValue w names scope a ss s → IsNarrowValue w names scope (ShiftTree sp op a n) ss' (Word b)
 shifted-narrow w names scope sp op a n ss ss' s b x none some v = record {
   by = λ c p wanted stands clean.
-      let le : n ≤ 31 = ltb-false 31 n (not-where (nat_lt 31 n) 21 (middle-of p wanted (ShiftTree sp op a n) clean)) in
+      let le : n ≤ 31 = ltb-false 31 n (unset (nat_lt 31 n) 21 (middle-of p wanted (ShiftTree sp op a n) clean)) in
       (shift-by w names scope sp op a n ss ss' s b x none some v le).by c p wanted stands clean;
 }
 

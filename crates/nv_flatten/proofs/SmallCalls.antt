@@ -28,14 +28,14 @@ use Rattle.nv_flatten.specs.inner.Simulation.{Names, HasForm}
 use Rattle.nv_flatten.specs.inner.Small.{of_parts, uses, value_rest, Sized, IsSmallValue, AreSmallValues, IsSmallEnd, AreFewLets, PacksFew}
 use Rattle.nv_flatten.proofs.Fresh.{fresh-forms, all-bound-types}
 use Rattle.nv_flatten.proofs.Sound.{value-has-type}
-use Rattle.nv_flatten.proofs.WellTypes.{not-where, some-where, low-of, right-of}
-use Rattle.nv_flatten.proofs.WellArms.{among-found}
-use Rattle.nv_flatten.proofs.NarrowFacts.{none-left, counted-given, words-of-or-unit, words-of-words}
+use Rattle.nv_flatten.proofs.WellTypes.{some-where, low-of, right-of}
+use Rattle.nv_flatten.proofs.NarrowFacts.{counted-given, words-of-or-unit, words-of-words}
 use Rattle.nv_flatten.proofs.NarrowValues.{stands-inside}
 use Rattle.nv_flatten.proofs.NarrowCalls.{slice-more, around, behind, handler_faults, handler-none, unknown-none}
 use Rattle.nv_flatten.proofs.SmallBulks.{alone-most, jump-most, handled-most, lets-most, steps-then, code-then}
 use Rattle.nv_flatten.proofs.SmallValues.{of_steps, size_of, behind_value}
 use Rattle.nv_flatten.proofs.SmallEnds.{words-of-either}
+use Rattle.nv_flatten.proofs.NoFaults.{none-left, unset, among-known}
 
 -- ---- what a call counts beside its jump
 returned : (last : Bool) (b : Bulk) (n : ℕ) → IsAtMost (both (both a_label a_jump) b) (of_parts n) → IsAtMost (both (return_bulk last) b) (of_parts n)
@@ -130,7 +130,7 @@ module _ (w : Whole) (names : Names) (scope : SymbolScope) (sp : Span) (l : List
   unpack-small g v t = record {
     by = λ c p wanted stands none.
         let names' = names_of p.known.layouts in
-        let found = among-found l p.known.layouts (not-false (is_among l names') (not-where (not (is_among l names')) 3 (low-of p wanted (UnpackTree sp l a) none))) in
+        let found = among-known l p.known.layouts (not-false (is_among l names') (unset (not (is_among l names')) 3 (low-of p wanted (UnpackTree sp l a) none))) in
         let known = stands.part.layouts l found.0 found.1 in
         let fields = 4 * length (bit_fields 0 (outline w.declared.layouts (NamedLayout l))) in
         let size : fields ≡ field_size (look_up l p.known.layouts) = ap (λ o. 4 * length (bit_fields 0 o)) known.0 ∙ sym (ap field_size found.1) in
@@ -146,7 +146,7 @@ module _ (w : Whole) (names : Names) (scope : SymbolScope) (sp : Span) (l : List
   pack-small f g v packs = record {
     by = λ c p wanted stands none.
         let names' = names_of p.known.layouts in
-        let found = among-found l p.known.layouts (not-false (is_among l names') (not-where (not (is_among l names')) 3 (low-of p wanted (PackTree sp l a) none))) in
+        let found = among-known l p.known.layouts (not-false (is_among l names') (unset (not (is_among l names')) 3 (low-of p wanted (PackTree sp l a) none))) in
         let known = stands.part.layouts l found.0 found.1 in
         let o = outline w.declared.layouts (NamedLayout l) in
         let stands' = stands-inside w c.own scope p stands in

@@ -26,9 +26,10 @@ use Rattle.nv_flatten.specs.inner.Whole.{Whole, Stands}
 use Rattle.nv_flatten.specs.inner.Simulation.{Names, Extends}
 use Rattle.nv_flatten.specs.inner.Small.{of_parts, uses, value_rest, Sized, IsSmallValue, AreSmallValues, AreSmallFields, IsSmallStated, IsSmallTest, IsSmallEnd}
 use Rattle.nv_flatten.proofs.Fresh.{fresh-operands, numbers-length}
-use Rattle.nv_flatten.proofs.NarrowFacts.{none-left, none-right, words-of-form, words-symbol-operands, words-of-words}
+use Rattle.nv_flatten.proofs.NarrowFacts.{words-of-form, words-symbol-operands, words-of-words}
 use Rattle.nv_flatten.proofs.NarrowValues.{extends-further, stands-inside, result-words}
 use Rattle.nv_flatten.proofs.SmallBulks.{then-most, paid, stay-most, let-most, most-alone, most-words, bound-most, operands-most, steps-then}
+use Rattle.nv_flatten.proofs.NoFaults.{none-left, none-right}
 
 -- ---- further names
 abbrev pub fewer-sized : (w : Whole) (names more : Names) → Extends names more → Sized w more → Sized w names

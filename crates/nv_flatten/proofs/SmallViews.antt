@@ -18,11 +18,12 @@ use Rattle.nv_flatten.specs.inner.Simulation.{Names, Extends, IsStated}
 use Rattle.nv_flatten.specs.inner.View.{view, list_symbols, list_named_symbols, scope_of, Named}
 use Rattle.nv_flatten.specs.inner.Whole.{Whole}
 use Rattle.nv_flatten.specs.inner.Small.{IsSmallValue, AreSmallValues, AreSmallFields, IsSmallStated}
-use Rattle.nv_flatten.proofs.WellTypes.{middle-of, not-where}
+use Rattle.nv_flatten.proofs.WellTypes.{middle-of}
 use Rattle.nv_flatten.proofs.NarrowValues.{extends-further}
 use Rattle.nv_flatten.proofs.NarrowViews.{rest-at, no-rest}
 use Rattle.nv_flatten.proofs.SmallValues.{value-small-more, stated-small-more, shift-none-small, shift-small}
 use Rattle.nv_flatten.proofs.SmallLists.{small-values-nil, small-values-cons, small-fields-nil, small-fields-cons, small-stated-nil, small-stated-cons}
+use Rattle.nv_flatten.proofs.NoFaults.{unset}
 
 -- ---- at equal operands, and at an equal scope
 small-at : (w : Whole) (names : Names) (scope : SymbolScope) (e : Tree) (ss ss' : List Step) (v v' : Symbol) → ss' ≡ ss → v' ≡ v → IsSmallValue w names scope e ss v → IsSmallValue w names scope e ss' v'
@@ -45,7 +46,7 @@ pub shifted-small : (w : Whole) (names : Names) (scope : SymbolScope) (sp : Span
     → (1 ≤ n → n ≤ 31 → (b ≡ Var x) × (ss' ≡ ss ++ Let x (shift_of op n (word_operand s)) ∷ [])) → IsSmallValue w names scope a ss s → IsSmallValue w names scope (ShiftTree sp op a n) ss' (Word b)
 shifted-small w names scope sp op a n ss ss' s b x none some v = record {
   by = λ c p wanted stands clean.
-      let le : n ≤ 31 = ltb-false 31 n (not-where (nat_lt 31 n) 21 (middle-of p wanted (ShiftTree sp op a n) clean)) in
+      let le : n ≤ 31 = ltb-false 31 n (unset (nat_lt 31 n) 21 (middle-of p wanted (ShiftTree sp op a n) clean)) in
       (shift-by w names scope sp op a n ss ss' s b x none some v le).by c p wanted stands clean;
 }
 

@@ -11,41 +11,14 @@ use Rattle.nv_ast.specs.Scope.{Place, inside, with_vars, bind_raised}
 use Rattle.nv_ast.specs.Typing.{field_ty, and_ty, and_named_ty, operand_ty, result_ty, type_at, types_at, named_types_at, vars_behind}
 use Rattle.nv_ast.specs.Faults.{Wanted, anything, a_value, of_type, same_as, at_span, as_many, all_wanted, wanted_arguments, wrong_number, low_kinds, other_type, middle_kinds, no_value, no_field, too_large_value, node_faults, raised_kinds, wanted_packed, wanted_unpacked, params_of, faults, list_faults, named_faults, statements_faults}
 use Rattle.nv_flatten.specs.inner.Code.{is_given}
+use Rattle.std.proofs.lemmas.Bool.{and_parts}
+use Rattle.nv_flatten.proofs.NoFaults.{none-left, none-right, no-kinds, unset, set, some-same, node-of, is-name, among-known, is-right}
 
 -- ---- lists of faults
-pub none-left : {A : Type 0} (a b : List A) → a ++ b ≡ [] → a ≡ []
-none-left [] b h = refl
-none-left (x ∷ a) b h = cc
-
-pub none-right : {A : Type 0} (a b : List A) → a ++ b ≡ [] → b ≡ []
-none-right [] b h = h
-none-right (x ∷ a) b h = cc
-
-pub no-kinds : (s : Span) (kinds : List ℕ) → at_span s kinds ≡ [] → kinds ≡ []
-no-kinds s [] h = refl
-no-kinds s (k ∷ kinds) h = cc
-
-pub unset : (b : Bool) (k : ℕ) → where_true b k ≡ [] → b ≡ false
-unset true k h = cc
-unset false k h = refl
-
-pub set : (b : Bool) (k : ℕ) → where_true (not b) k ≡ [] → b ≡ true
-set true k h = refl
-set false k h = cc
-
-pub both-set : (a b : Bool) → (a && b) ≡ true → (a ≡ true) × (b ≡ true)
-both-set true b h = (refl, h)
-both-set false b h = absurd (true≢false (sym h))
 
 pub given : {A : Type 0} (o : Option A) → is_none o ≡ false → (a : A) × (o ≡ Some a)
 given None h = absurd (true≢false h)
 given (Some a) h = (a, refl)
-
-pub some-same : {A : Type 0} (a b : A) → Some a ≡ Some b → a ≡ b
-some-same a b h = cc
-
-pub is-name : (x y : List ℕ) → bytes_eq x y ≡ true → x ≡ y
-is-name x y h = (bytes_eq-Decides x y).0 h
 
 -- ---- the same types
 mutual
@@ -72,7 +45,7 @@ mutual
   same-are no_tys (ty_and u us) h = absurd (true≢false (sym h))
   same-are (ty_and t ts) no_tys h = absurd (true≢false (sym h))
   same-are (ty_and t ts) (ty_and u us) h =
-      let both = both-set (same_type t u) (same_types ts us) h in
+      let both = and_parts (same_type t u) (same_types ts us) h in
       ap (λ a. ty_and a ts) (same-is t u both.0) ∙ ap (λ l. ty_and u l) (same-are ts us both.1)
 
   pub same-named : (ts us : NamedTys) → same_named_types ts us ≡ true → ts ≡ us
@@ -80,8 +53,8 @@ mutual
   same-named no_named_tys (named_ty_and y u us) h = absurd (true≢false (sym h))
   same-named (named_ty_and x t ts) no_named_tys h = absurd (true≢false (sym h))
   same-named (named_ty_and x t ts) (named_ty_and y u us) h =
-      let first = both-set (bytes_eq x y) (same_type t u && same_named_types ts us) h in
-      let both = both-set (same_type t u) (same_named_types ts us) first.1 in
+      let first = and_parts (bytes_eq x y) (same_type t u && same_named_types ts us) h in
+      let both = and_parts (same_type t u) (same_named_types ts us) first.1 in
       ap (λ z. named_ty_and z t ts) (is-name x y first.0) ∙ ap (λ a. named_ty_and y a ts) (same-is t u both.0) ∙ ap (λ l. named_ty_and y u l) (same-named ts us both.1)
 
 -- ---- the node of an expression
@@ -105,29 +78,6 @@ node-clean p w e h =
       value = none-left (no_value w t) (too_large_value t) (none-right (middle_kinds p e) ends last);
     }
 
-node-of : (p : Place) (w : Wanted) (e : Tree) → faults p w e ≡ [] → node_faults p w e ≡ []
-node-of p w (NumberTree s n) h = h
-node-of p w (TruthTree s b) h = h
-node-of p w (VarTree s x) h = h
-node-of p w (ParenTree s e) h = none-right (faults p a_value e) _ h
-node-of p w (TupleTree s es) h = none-right (list_faults (inside p) [] es) _ h
-node-of p w (FieldsTree s es) h = none-right (named_faults (inside p) es) _ h
-node-of p w (DotTree s e x) h = none-right (faults (inside p) a_value e) _ h
-node-of p w (InvertTree s e) h = none-right (faults (inside p) (of_type WordTy) e) _ h
-node-of p w (NegateTree s e) h = none-right (faults (inside p) (of_type BoolTy) e) _ h
-node-of p w (BinaryTree s op a b) h = none-right (faults (inside p) (of_type (operand_ty op)) b) _ (none-right (faults (inside p) (of_type (operand_ty op)) a) _ h)
-node-of p w (ShiftTree s op e n) h = none-right (faults (inside p) (of_type WordTy) e) _ h
-node-of p w (CallTree s f es) h = none-right (list_faults (inside p) (wanted_arguments (params_of p.known f) es) es) _ h
-node-of p w (UnpackTree s l e) h = none-right (faults (inside p) (wanted_packed (look_up l p.known.layouts)) e) _ h
-node-of p w (PackTree s l e) h = none-right (faults (inside p) (wanted_unpacked (look_up l p.known.layouts)) e) _ h
-node-of p w (RaiseTree s x es) h = none-right (list_faults (inside p) (wanted_arguments (look_up x p.known.exceptions) es) es) _ h
-node-of p w (IfTree s c a b) h = none-right (faults p (same_as (type_at p.known p.vars a)) b) _ (none-right (faults p anything a) _ (none-right (faults (inside p) (of_type BoolTy) c) _ h))
-node-of p w (TryTree s a x ps e) h =
-    none-right (faults (with_vars (bind_raised ps (look_up x p.known.exceptions) p.vars) p) (same_as (type_at p.known p.vars a)) e) _
-    (none-right (at_span s (raised_kinds p.known x ps)) _ (none-right (faults (inside p) anything a) _ h))
-node-of p w (FetchTree s m n a) h = none-right (faults (inside p) (of_type WordTy) a) _ h
-node-of p w (BlockTree s sts e) h = none-right (faults (with_vars (vars_behind p.known p.vars sts) p) anything e) _ (none-right (statements_faults (inside p) sts) _ h)
-
 pub clean : (p : Place) (w : Wanted) (e : Tree) → faults p w e ≡ [] → IsClean p w e
 clean p w e h = node-clean p w e (node-of p w e h)
 
@@ -135,10 +85,6 @@ clean p w e h = node-clean p w e (node-of p w e h)
 is-value : (w : Wanted) (o : Option Ty) → w.value ≡ true → no_value w o ≡ [] → (t : Ty) × (o ≡ Some t)
 is-value w None v h = absurd (true≢false (sym v ∙ unset w.value 22 h))
 is-value w (Some t) v h = (t, refl)
-
--- a type of which a right one is wanted is right
-pub is-right : (w : Wanted) (o : Option Ty) (t : Ty) → other_type w o ≡ [] → o ≡ Some t → w.right t ≡ true
-is-right w o t h e = set (w.right t) 14 (subst (λ u. other_type w u ≡ []) e h)
 
 pub value-has-type : (p : Place) (wanted : Wanted) (e : Tree) → wanted.value ≡ true → faults p wanted e ≡ [] → (t : Ty) × (type_at p.known p.vars e ≡ Some t)
 value-has-type p wanted e v h = is-value wanted (type_at p.known p.vars e) v (clean p wanted e h).value
@@ -192,13 +138,6 @@ arguments-typed p ts es h n =
     all-typed p ts es many (subst (λ b. list_faults p (if b then all_wanted ts else []) es ≡ []) many h)
 
 -- ---- names that are known
-pub among-known : {A : Type 0} (x : List ℕ) (known : List (List ℕ × A)) → is_among x (names_of known) ≡ true → (a : A) × (look_up x known ≡ Some a)
-among-known x [] h = absurd (true≢false (sym h))
-among-known {A} x ((y, a) ∷ rest) h = by (bytes_eq x y) h (λ g. among-known x rest g)
-  where
-    by : (b : Bool) → (b || list_any (bytes_eq x) (names_of rest)) ≡ true → (is_among x (names_of rest) ≡ true → (c : A) × (look_up x rest ≡ Some c)) → (c : A) × ((if b then Some a else look_up x rest) ≡ Some c)
-    by true g r = (a, refl)
-    by false g r = r g
 
 -- ---- an expression of such a kind has a value, whatever is wanted
 pub given-has-type : (p : Place) (wanted : Wanted) (e : Tree) → faults p wanted e ≡ [] → is_given e ≡ true → (t : Ty) × (type_at p.known p.vars e ≡ Some t)

@@ -14,15 +14,10 @@ use Rattle.nv_flatten.specs.inner.Symbols.{Symbol, Symbols, NamedSymbols, Word, 
 use Rattle.nv_ast.specs.Tree.{PatternTree, NamePattern, AnyPattern, TuplePattern, PatternTrees, no_patterns, pattern_and}
 use Rattle.nv_flatten.specs.inner.Whole.{Whole}
 use Rattle.nv_flatten.specs.inner.Well.{ScopeKnown, Rises, RaisedMatch}
+use Rattle.std.proofs.lemmas.List.{length-append}
+use Rattle.nv_flatten.proofs.NoFaults.{none-left, none-right}
 
 -- ---- lists of nothing
-pub nil-left : {A : Type 0} (xs ys : List A) → xs ++ ys ≡ [] → xs ≡ []
-nil-left [] ys e = refl
-nil-left (x ∷ xs) ys e = cc
-
-pub nil-right : {A : Type 0} (xs ys : List A) → xs ++ ys ≡ [] → ys ≡ []
-nil-right [] ys e = e
-nil-right (x ∷ xs) ys e = cc
 
 -- ---- known variables
 pub known-more : (known : List ℕ) (ss : List Step) → Within known (known_behind known ss)
@@ -140,9 +135,6 @@ mutual
   all-bound-known known (pattern_and p ps) no_symbols scope e k = k
 
 -- ---- how many operands
-append-length : {A : Type 0} (a b : List A) → length (a ++ b) ≡ length a + length b
-append-length [] b = omega arith
-append-length (x ∷ a) b = let e = append-length a b in omega arith
 
 mutual
   pub operands-words : (s : Symbol) → length (operands s) ≡ words (form s)
@@ -153,11 +145,11 @@ mutual
 
   pub all-operands-words : (ss : Symbols) → length (all_operands ss) ≡ total_words (forms ss)
   all-operands-words no_symbols = refl
-  all-operands-words (symbol_and s ss) = let a = operands-words s in let b = all-operands-words ss in let c = append-length (operands s) (all_operands ss) in omega arith
+  all-operands-words (symbol_and s ss) = let a = operands-words s in let b = all-operands-words ss in let c = length-append (operands s) (all_operands ss) in omega arith
 
   pub named-operands-words : (fs : NamedSymbols) → length (named_operands fs) ≡ total_named_words (named_forms fs)
   named-operands-words no_named_symbols = refl
-  named-operands-words (named_symbol_and x s ss) = let a = operands-words s in let b = named-operands-words ss in let c = append-length (operands s) (named_operands ss) in omega arith
+  named-operands-words (named_symbol_and x s ss) = let a = operands-words s in let b = named-operands-words ss in let c = length-append (operands s) (named_operands ss) in omega arith
 
 pub numbers-length : (n k : ℕ) → length (numbers_from n k) ≡ k
 numbers-length n zero = refl

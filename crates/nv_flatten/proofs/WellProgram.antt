@@ -23,7 +23,8 @@ use Rattle.nv_flatten.specs.inner.Well.{FunsMatch, AreShort, Linked, ScopeKnown,
 use Rattle.nv_flatten.proofs.WellBasics.{rises-append, rises-numbers, rises-different, raised-both}
 use Rattle.nv_flatten.proofs.WellSteps.{linked-fewer}
 use Rattle.nv_flatten.specs.inner.Well.{AreCalled}
-use Rattle.nv_flatten.proofs.WellCalls.{some-same, get-more}
+use Rattle.nv_flatten.proofs.WellCalls.{get-more}
+use Rattle.nv_flatten.proofs.NoFaults.{some-same}
 
 -- ---- functions
 
