@@ -12,6 +12,7 @@ use Rattle.nv_flatten.specs.declared.symbol.Symbol as code
 use Rattle.nv_flatten.specs.inner.View.{Named, view, list_symbols, scope_of}
 use Rattle.nv_flatten.specs.inner.Simulation.{Extends}
 use Rattle.nv_flatten.proofs.Rows.{tuple_view}
+use Rattle.nv_meaning.proofs.Bindings.{if-true, if-false}
 
 pub scope-append : (a b : List Named) (outer : SymbolScope) → scope_of (a ++ b) outer ≡ scope_of b (scope_of a outer)
 scope-append [] b outer = refl
@@ -24,12 +25,6 @@ variable-newest scope x j b some inside is =
     let e : j ≡ j - 1 + 1 = omega arith in
     let m : take (j - 1 + 1) scope ≡ take (j - 1) scope ++ get_or scope (j - 1) b ∷ [] = take_more scope (j - 1) b (omega arith) in
     ap (λ k. symbol_in (scope_of (take k scope) []) x) e ∙ ap (λ l. symbol_in (scope_of l []) x) m ∙ ap (λ y. symbol_in (scope_of (take (j - 1) scope ++ y ∷ []) []) x) (sym is) ∙ ap (λ s. symbol_in s x) (scope-append (take (j - 1) scope) (b ∷ []) [])
-
-pub if-true : {A : Type 0} (b : Bool) (x y : A) → b ≡ true → (if b then x else y) ≡ x
-if-true b x y e = ap (λ t. if t then x else y) e
-
-pub if-false : {A : Type 0} (b : Bool) (x y : A) → b ≡ false → (if b then x else y) ≡ y
-if-false b x y e = ap (λ t. if t then x else y) e
 
 -- one more binding behind the others
 pub pushed-name : (old new : List Named) (x : Bor (List ℕ)) (v : code.Symbol) → new ≡ old ++ (x, v) ∷ [] → scope_of new [] ≡ (x.now, view v) ∷ scope_of old []

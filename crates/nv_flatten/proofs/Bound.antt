@@ -18,7 +18,7 @@ at_name scope x = all_vars (operands (symbol_in scope x))
 
 -- ---- behind a pattern a name stands for variables of its value, or for what it did
 
-choice-of : (b : Bool) (s t : Symbol) → IsWithin (all_vars (operands (if b then s else t))) (all_vars (operands s) ++ all_vars (operands t))
+pub choice-of : (b : Bool) (s t : Symbol) → IsWithin (all_vars (operands (if b then s else t))) (all_vars (operands s) ++ all_vars (operands t))
 choice-of true s t = into-left (all_vars (operands s)) (all_vars (operands s)) (all_vars (operands t)) itself
 choice-of false s t = into-right (all_vars (operands t)) (all_vars (operands s)) (all_vars (operands t)) itself
 

@@ -21,13 +21,14 @@ use Rattle.nv_flatten.specs.inner.Small.{IsSmallEnd, IsSmallFun}
 use Rattle.nv_flatten.specs.inner.Bounded.{AreOnce, AreSmallFound, IsBounded}
 use Rattle.nv_flatten.proofs.Fresh.{numbers-length}
 use Rattle.nv_flatten.proofs.Knowing.{function-named}
-use Rattle.nv_flatten.proofs.Naming.{Added, MadeSoFar, made-first, made-more, all-made, slice-front, slice-last, slice-there, slice-below}
+use Rattle.nv_flatten.proofs.Naming.{Added, MadeSoFar, made-first, made-more, all-made, slice-last, slice-there, slice-below}
 use Rattle.nv_flatten.proofs.WellProgram.{found-reached}
 use Rattle.nv_flatten.proofs.Bodies.{has-main}
-use Rattle.nv_flatten.proofs.NarrowValues.{extends-further}
 use Rattle.nv_flatten.proofs.NarrowFuns.{funs-none, funs-more}
 use Rattle.nv_flatten.proofs.NarrowProgram.{wide-enough}
 use Rattle.nv_flatten.proofs.NoFaults.{some-same}
+use Rattle.nv_flatten.proofs.CallArms.{get-append}
+use Rattle.nv_flatten.proofs.Keeping.{extends-then}
 
 -- ---- the functions that are made so far
 pub record BoundedSoFar (w : Whole) (main : List ℕ) (names : Names) (funs : List FlatFun) : Type 0 where
@@ -36,7 +37,7 @@ pub record BoundedSoFar (w : Whole) (main : List ℕ) (names : Names) (funs : Li
   pub small : AreSmallFound w names funs
 
 small-names : (w : Whole) (names new : Names) (f : List ℕ) (g : FunTree) (fun : FlatFun) → Extends names new → IsSmallFun w names f g fun → IsSmallFun w new f g fun
-small-names w names new f g fun more m = record { names = m.names; more = extends-further m.names names new m.more more; group = m.group; form = m.form; end = m.end }
+small-names w names new f g fun more m = record { names = m.names; more = extends-then m.names names new m.more more; group = m.group; form = m.form; end = m.end }
 
 small-first : (w : Whole) (names : Names) → AreSmallFound w names []
 small-first w names = record { by = λ i f g fun named found e. absurd (none-at i fun e) }
@@ -52,7 +53,7 @@ small-one w name names new funs fun named more small so = record {
       let s = slice-last funs fun i d there in
       let p : i ≤ length funs = s.place in
       let r = slice-there names i (omega arith) in
-      let same : r.0 ≡ f = some-same _ _ (sym (ap (λ l. slice_get l i) more.1 ∙ slice-front names more.0 i r.0 r.1) ∙ called) in
+      let same : r.0 ≡ f = some-same _ _ (sym (ap (λ l. slice_get l i) more.1 ∙ get-append names more.0 i r.0 r.1) ∙ called) in
       let named' : slice_get names i ≡ Some f = r.1 ∙ ap (λ x. Some x) same in
       elim (cases_lt i (length funs)) [
         | inl below ↦ small-names w names new f g d more (so.by i f g d named' found (s.before below))

@@ -73,7 +73,7 @@ block-end w names later low mid high scope inner sp sts e steps last t o v end m
     stands-behind own p wanted stands none = record { part = stands.part; vars = v.formed own (inside p) (stands-inside w own scope p stands) (none-statements p wanted none) }
 
 -- ---- a call
-get-append : {A : Type 0} (xs ys : List A) (i : ℕ) (x : A) → slice_get xs i ≡ Some x → slice_get (xs ++ ys) i ≡ Some x
+pub get-append : {A : Type 0} (xs ys : List A) (i : ℕ) (x : A) → slice_get xs i ≡ Some x → slice_get (xs ++ ys) i ≡ Some x
 get-append [] ys i x h = cc
 get-append (y ∷ xs) ys zero x h = h
 get-append (y ∷ xs) ys (suc i) x h = get-append xs ys i x h

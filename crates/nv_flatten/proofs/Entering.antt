@@ -15,6 +15,7 @@ use Rattle.nv_flatten.proofs.Fresh.{fresh-form, fresh-older}
 use Rattle.std.proofs.lemmas.List.{length-append}
 use Rattle.std.proofs.lemmas.Bool.{and_parts, or_parts}
 use Rattle.nv_flatten.proofs.NoFaults.{is-name}
+use Rattle.nv_flatten.proofs.WellTypes.{plain-words}
 
 -- ---- types are the same where the test says so
 
@@ -54,9 +55,6 @@ mutual
       ∙ ap (named_ty_and y u) (named-types-same ts us ((and_parts (same_type t u) (same_named_types ts us) rest).1))
 
 -- ---- words
-pub plain-words : (ts : NamedTys) → total_words (plain_tys ts) ≡ total_named_words ts
-plain-words no_named_tys = refl
-plain-words (named_ty_and x t ts) = ap (λ n. words t + n) (plain-words ts)
 
 mutual
   pub word-count : (v : Value) → length (words_of v) ≡ words (value_ty v)

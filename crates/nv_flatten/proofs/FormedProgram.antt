@@ -23,8 +23,9 @@ use Rattle.nv_flatten.proofs.WellProgram.{walked-fun, fun-names, program-formed}
 use Rattle.nv_flatten.proofs.Naming.{slice-there, slice-below}
 use Rattle.nv_flatten.proofs.Bodies.{IsBody, bodies, narrow-raised, has-main}
 use Rattle.nv_flatten.proofs.Entering.{type-same, params-types}
-use Rattle.nv_flatten.proofs.Lockstep.{right-type, body_place, body_wanted, main-narrow}
+use Rattle.nv_flatten.proofs.Lockstep.{body_place, body_wanted, main-narrow}
 use Rattle.nv_flatten.proofs.NoFaults.{some-same}
+use Rattle.nv_flatten.proofs.WellTypes.{right-of}
 
 -- ---- the parameters are known in a body
 params-known : (known : List ℕ) (n : ℕ) (ts : NamedTys) (scope : SymbolScope) → all_known known (variables (numbers_from n (total_named_words ts))) ≡ true → ScopeKnown known scope → ScopeKnown known (params_bound (named_fresh n ts) scope)
@@ -45,7 +46,7 @@ entry-known w g =
 words-given : (w : Whole) (f : List ℕ) (g : FunTree) (b : IsBody w f g) (n : ℕ) → n ≡ words (type_of w.declared.layouts g.result) → (o : Option Ty) → type_at b.known (body_place b.known g).vars g.body ≡ o → GivesWords n o
 words-given w f g b n results None q = tt {0}
 words-given w f g b n results (Some t) q =
-    let same : t ≡ type_of w.declared.layouts g.result = type-same t (type_of b.known.layouts g.result) (right-type (body_place b.known g) (body_wanted b.known g) g.body t b.none q) ∙ b.result in
+    let same : t ≡ type_of w.declared.layouts g.result = type-same t (type_of b.known.layouts g.result) (right-of (body_place b.known g) (body_wanted b.known g) g.body t b.none q) ∙ b.result in
     ap words same ∙ sym results
 
 made-well : (w : Whole) (f : List ℕ) (g : FunTree) → IsBody w f g → function_in w.declared.functions f ≡ Some g → (all : Names) (fun : FlatFun) → IsMade w all g fun → IsPlaced w f fun → IsWellFun w all fun

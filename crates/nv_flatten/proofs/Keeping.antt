@@ -16,6 +16,7 @@ use Rattle.nv_flatten.specs.inner.Symbols.{Symbol, Word, Truth, Tuple, Record, S
 use Rattle.nv_flatten.specs.inner.Soundness.{AreWords, ScopeWords, value_ty, value_tys, named_value_tys, scope_tys}
 use Rattle.nv_flatten.specs.inner.Whole.{Whole}
 use Rattle.nv_flatten.specs.inner.Simulation.{Names, Extends, Setting, Begins, Done}
+use Rattle.flat_ir.proofs.Steps.{steps_do-append}
 
 -- ---- lists one after another
 pub all-left : {A : Type 0} (P : A → Type 0) (xs ys : List A) → All P (xs ++ ys) → All P xs
@@ -130,9 +131,6 @@ pub done-then : (m n : ℕ) (env new last : Env) (fit fit' : Type 0) (now end : 
 done-then m n env new last fit fit' now end h d e = record { sizes = e.sizes; keeps = keeps-then m n env new last h d.keeps e.keeps; fits = e.fits }
 
 -- ---- steps one after another
-pub steps-append : (call : Calls) (ss ts : List Step) (rest : Act) → steps_do call (ss ++ ts) rest ≡ steps_do call ss (steps_do call ts rest)
-steps-append call [] ts rest = refl
-steps-append call (s ∷ ss) ts rest = ap (step_does call s) (steps-append call ss ts rest)
 
 -- ---- words and types of what symbolic values stand for
 truth-word : (w : ℕ) → w ≤ 1 → (if not (w == 0) then 1 else 0) ≡ w

@@ -28,19 +28,15 @@ use Rattle.nv_flatten.specs.inner.Soundness.{AreWords, value_ty, value_tys, Come
 use Rattle.nv_flatten.specs.inner.Simulation.{Names, CallsAgree}
 use Rattle.nv_flatten.specs.inner.Made.{params_in, entry, IsMade, AllMade, IsComplete}
 use Rattle.flat_ir.specs.Reached as flattened
-use Rattle.nv_flatten.proofs.Fresh.{fresh-values, all-fresh-fit}
+use Rattle.nv_flatten.proofs.Fresh.{fresh-values, all-fresh-fit, numbers-length}
 use Rattle.nv_flatten.proofs.Sound.{typed-eval}
 use Rattle.nv_flatten.proofs.Knowing.{not_where, where_not, function-named}
 use Rattle.nv_flatten.proofs.Bodies.{IsBody, bodies, narrow-raised, has-main}
-use Rattle.nv_flatten.proofs.Entering.{type-same, plain-words, word-count, all-word-count, entered-types, entered-words, params-values, params-types, params-fit, params-older, arguments-scope, from-types, all-from-words, plain-bool, take-whole}
+use Rattle.nv_flatten.proofs.Entering.{type-same, word-count, all-word-count, entered-types, entered-words, params-values, params-types, params-fit, params-older, arguments-scope, from-types, all-from-words, plain-bool, take-whole}
 use Rattle.nv_flatten.proofs.NoFaults.{some-same, none-left, none-right, no-kinds, node-of}
+use Rattle.nv_flatten.proofs.WellTypes.{right-of, plain-words}
 
 -- ---- an expression without faults has a type that is right
-
-pub right-type : (p : Place) (w : Wanted) (e : Tree) (t : Ty) → faults p w e ≡ [] → type_at p.known p.vars e ≡ Some t → w.right t ≡ true
-right-type p w e t h q =
-    let kinds : other_type w (type_at p.known p.vars e) ≡ [] = none-left (other_type w (type_at p.known p.vars e)) _ (none-right (low_kinds p e) _ (no-kinds (span_of e) _ (node-of p w e h))) in
-    where_not {A = ℕ} (w.right t) 14 (sym (ap (other_type w) q) ∙ kinds)
 
 retyped : (w : Whole) (o : Option Ty) (want : Ty) (r : Result) → ((t : Ty) → o ≡ Some t → t ≡ want) → ComesTo w o r → ComesTo w (Some want) r
 retyped w o want (Gives v now) h c = (ap (λ t. Some t) (sym (h (value_ty v) c.0)), c.1, c.2)
@@ -60,7 +56,7 @@ body-typed w f g b call typed vs now types are sizes =
     let p = body_place b.known g in
     let wanted = body_wanted b.known g in
     retyped w (type_at b.known p.vars g.body) (type_of w.declared.layouts g.result) (eval w.declared call g.body (entered g.params vs []) now)
-    (λ t q. type-same t (type_of b.known.layouts g.result) (right-type p wanted g.body t b.none q) ∙ b.result)
+    (λ t q. type-same t (type_of b.known.layouts g.result) (right-of p wanted g.body t b.none q) ∙ b.result)
     (typed-eval w b.own call p wanted g.body (entered g.params vs []) now b.part typed
     (ap (λ ts. param_vars ts []) b.params ∙ sym (entered-types w.declared.layouts g.params vs [] types))
     (entered-words g.params vs [] are (tt {0})) sizes b.none)
@@ -172,10 +168,6 @@ main-narrow w g b found =
       result = subst (λ t. words t ≤ 8) b.result (ltb-false 8 (words (type_of k g.result)) ((or_parts (some_named_bool (named_types_of k g.params)) _ rest).1));
     }
 
-length-numbers : (n k : ℕ) → length (numbers_from n k) ≡ k
-length-numbers n zero = refl
-length-numbers n (suc k) = ap suc (length-numbers (suc n) k)
-
 abbrev begun : ℕ → Memories → Running
 begun n p = record { calls = n; packet = p; writes = [] }
 
@@ -218,6 +210,6 @@ module _ (t : ProgramTree) (h : program_faults t ≡ []) (funs : List FlatFun) (
       let c = complete m.fun m.found in
       let r = c.made.by 0 main_name m.fun c.first m.found in
       record {
-        arguments = m.words ∙ sym (ap flattened.params_of r.1 ∙ ap length r.2.params ∙ length-numbers 0 (total_named_words (params_in (whole_of t) m.fun)));
+        arguments = m.words ∙ sym (ap flattened.params_of r.1 ∙ ap length r.2.params ∙ numbers-length 0 (total_named_words (params_in (whole_of t) m.fun)));
         same = λ args p are sizes. same_seen (source t args p) (code.flat_meaning funs 0 args p) (λ n. ap seen (equal args p are sizes n));
       }

@@ -14,6 +14,7 @@ use Rattle.nv_flatten.specs.inner.Well.{AreCalled}
 use Rattle.nv_flatten.proofs.WellProgram.{AreFound, found-first, found-more}
 use Rattle.std.proofs.lemmas.List.{map-append}
 use Rattle.nv_flatten.proofs.NoFaults.{some-same}
+use Rattle.nv_flatten.proofs.CallArms.{get-append}
 
 slice-mapped : (ks : List (Bor (List ℕ))) (i : ℕ) (k : Bor (List ℕ)) → slice_get ks i ≡ Some k → slice_get (map (λ y. y.now) ks) i ≡ Some k.now
 slice-mapped [] i k e = cc
@@ -39,10 +40,6 @@ pub added-extends : (old new : Names) (x : List ℕ) → Added old new x → Ext
 added-extends old new x a = elim a [ inl same ↦ ([], same ∙ sym (append-nil old)) | inr more ↦ (x ∷ [], more) ]
 
 -- ---- numbers that are there stay
-pub slice-front : {A : Type 0} (xs more : List A) (i : ℕ) (x : A) → slice_get xs i ≡ Some x → slice_get (xs ++ more) i ≡ Some x
-slice-front [] more i x e = cc
-slice-front (y ∷ xs) more zero x e = e
-slice-front (y ∷ xs) more (suc i) x e = slice-front xs more i x e
 
 -- what stands in a list with one more
 pub record Seen {A : Type 0} (xs : List A) (last : A) (i : ℕ) (x : A) : Type 0 where
@@ -125,7 +122,7 @@ made-first w main names new i funs none added there empty = record {
 pub made-more : (w : Whole) (main name : List ℕ) (names new : Names) (funs funs' : List FlatFun) (fun : FlatFun) → MadeSoFar w main names funs → slice_get names (length funs) ≡ Some name → Extends names new
     → ((g : FunTree) → function_in w.declared.functions name ≡ Some g → IsMade w new g fun) → IsPlaced w name fun → AreCalled names new (calls fun.body) → funs' ≡ funs ++ fun ∷ [] → MadeSoFar w main new funs'
 made-more w main name names new funs funs' fun so named more made placed calling pushed = record {
-  first = ap (λ l. slice_get l 0) more.1 ∙ slice-front names more.0 0 main so.first;
+  first = ap (λ l. slice_get l 0) more.1 ∙ get-append names more.0 0 main so.first;
   few = few;
   made = record { by = by };
   placed = record { by = stands };
@@ -153,7 +150,7 @@ made-more w main name names new funs funs' fun so named more made placed calling
     earlier : (i : ℕ) → i < length names → (f : List ℕ) → slice_get new i ≡ Some f → slice_get names i ≡ Some f
     earlier i h f e =
         let r = slice-there names i h in
-        let same : r.0 ≡ f = some-same _ _ (sym (ap (λ l. slice_get l i) more.1 ∙ slice-front names more.0 i r.0 r.1) ∙ e) in
+        let same : r.0 ≡ f = some-same _ _ (sym (ap (λ l. slice_get l i) more.1 ∙ get-append names more.0 i r.0 r.1) ∙ e) in
         r.1 ∙ ap (λ x. Some x) same
 
     by : (i : ℕ) (f : List ℕ) (g : FunTree) (d : FlatFun) → slice_get new i ≡ Some f → function_in w.declared.functions f ≡ Some g → slice_get funs' i ≡ Some d → IsMade w new g d

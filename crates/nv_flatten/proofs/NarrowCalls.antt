@@ -21,21 +21,18 @@ use Rattle.nv_flatten.specs.inner.Symbols.{Symbol, Symbols, SymbolScope, form, o
 use Rattle.nv_flatten.specs.inner.Whole.{Whole, Stands, raised_or_none}
 use Rattle.nv_flatten.specs.inner.Simulation.{Names, HasForm, AreValues}
 use Rattle.nv_flatten.specs.inner.Narrow.{IsWithin, written, NarrowSteps, NarrowCode, AreNarrowLets, Room, IsNarrowValue, AreNarrowValues, IsNarrowEnd}
-use Rattle.nv_flatten.proofs.Fresh.{fresh-forms, fresh-operands, all-bound-types}
+use Rattle.nv_flatten.proofs.Fresh.{fresh-forms, fresh-operands, all-bound-types, numbers-length}
 use Rattle.nv_flatten.proofs.Sound.{arguments-are-values}
 use Rattle.nv_flatten.proofs.WellTypes.{some-where, low-of}
 use Rattle.nv_flatten.proofs.Within.{itself, of-none, into-left, into-right, through, behind-same, grows-not}
 use Rattle.nv_flatten.proofs.NarrowSteps.{last, handled, recast, follow, joined, recast-code, raise-code, call-code, CallAtMost, try-code}
-use Rattle.nv_flatten.proofs.NarrowFacts.{written-append, counted, counted-given, vars-of-variables, numbers-length, need-least}
+use Rattle.nv_flatten.proofs.NarrowFacts.{written-append, counted, counted-given, vars-of-variables, need-least}
 use Rattle.nv_flatten.proofs.Bound.{written-all-bound}
-use Rattle.nv_flatten.proofs.NarrowValues.{roomier, stands-inside}
+use Rattle.nv_flatten.proofs.NarrowValues.{roomier}
 use Rattle.nv_flatten.proofs.NarrowEnds.{arguments-counted}
 use Rattle.nv_flatten.proofs.NoFaults.{none-left, none-right, no-kinds}
-
-pub slice-more : {A : Type 0} (xs more : List A) (i : ℕ) (a : A) → slice_get xs i ≡ Some a → slice_get (xs ++ more) i ≡ Some a
-slice-more [] more i a e = cc
-slice-more (x ∷ xs) more zero a e = e
-slice-more (x ∷ xs) more (suc i) a e = slice-more xs more i a e
+use Rattle.nv_flatten.proofs.CallArms.{get-append}
+use Rattle.nv_flatten.proofs.Following.{stands-inside}
 
 module _ (w : Whole) (names others : Names) (low high : ℕ) (scope : SymbolScope) (sp : Span) (es : Trees) (ss : List Step) (us : Symbols) where
   -- arguments, and then code that takes their words
@@ -66,7 +63,7 @@ module _ (w : Whole) (names others : Names) (low high : ℕ) (scope : SymbolScop
       → max (value_at 0 f c.needs) (n + 1) ≤ all → CallAtMost c.funs c.widths c.own o all
   called c f i g n all None named found there results le = tt
   called c f i g n all (Some fun) named found there results le = λ earlier.
-      let named' : slice_get c.all i ≡ Some f = ap (λ l. slice_get l i) c.more.1 ∙ slice-more names c.more.0 i f named in
+      let named' : slice_get c.all i ≡ Some f = ap (λ l. slice_get l i) c.more.1 ∙ get-append names c.more.0 i f named in
       let many : fun.results ≡ n = c.calls.results i f g fun named' found there ∙ results in
       let wide : c.widths fun.group ≤ value_at 0 f c.needs = c.calls.earlier i f g fun named' found there earlier in
       omega arith

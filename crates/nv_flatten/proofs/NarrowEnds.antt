@@ -31,8 +31,9 @@ use Rattle.nv_flatten.proofs.Sound.{values-have-types}
 use Rattle.nv_flatten.proofs.Within.{itself, of-none, one, both, unions, together, behind-same, grows-not}
 use Rattle.nv_flatten.proofs.NarrowSteps.{last, beside, joined, recast-code, give-code, if-code}
 use Rattle.nv_flatten.proofs.NarrowFacts.{written-append, counted-given, words-of-forms, truth-operand-within, need-least}
-use Rattle.nv_flatten.proofs.NarrowValues.{roomier, less-behind, stands-inside, operands-narrow, result-words}
+use Rattle.nv_flatten.proofs.NarrowValues.{roomier, less-behind, operands-narrow, result-words}
 use Rattle.nv_flatten.proofs.NoFaults.{none-left, none-right, some-same}
+use Rattle.nv_flatten.proofs.Following.{stands-inside}
 
 module _ (funs : List FlatFun) (widths : Widths) (own : ℕ) where
   literal-code : (t : Flat) → GivesLiteral t → NarrowCode funs widths own t [] [] 2

@@ -19,6 +19,10 @@ use Rattle.nv_flatten.specs.inner.Narrow.{IsWithin, written}
 use Rattle.nv_flatten.proofs.Within.{itself, of-none, into-left, into-right, through, all-vars-append, vars-length}
 use Rattle.nv_flatten.proofs.Sound.{value-has-type, given-has-type}
 use Rattle.nv_flatten.proofs.NoFaults.{none-left, none-right}
+use Rattle.nv_flatten.proofs.Fresh.{numbers-length}
+use Rattle.nv_flatten.proofs.Listing.{parts-words}
+use Rattle.nv_flatten.proofs.PackedWords.{parts-operands, symbol-operands}
+use Rattle.nv_flatten.proofs.WellBasics.{words-ty-words, words-if}
 
 -- ---- lists without an element
 
@@ -111,33 +115,6 @@ fields-within (Record fs) = itself
 pub vars-of-variables : (xs : List ℕ) → all_vars (variables xs) ≡ xs
 vars-of-variables [] = refl
 vars-of-variables (x ∷ xs) = ap (λ l. x ∷ l) (vars-of-variables xs)
-
-pub numbers-length : (n k : ℕ) → length (numbers_from n k) ≡ k
-numbers-length n zero = refl
-numbers-length n (suc k) = ap suc (numbers-length (suc n) k)
-
-word-symbols-operands : (bs : List Atom) → all_operands (word_symbols bs) ≡ bs
-word-symbols-operands [] = refl
-word-symbols-operands (a ∷ bs) = ap (λ l. a ∷ l) (word-symbols-operands bs)
-
-pub words-symbol-operands : (bs : List Atom) → operands (words_symbol bs) ≡ bs
-words-symbol-operands [] = refl
-words-symbol-operands (a ∷ []) = refl
-words-symbol-operands (a ∷ b ∷ bs) = word-symbols-operands (a ∷ b ∷ bs)
-
-parts-words : (n : ℕ) → total_words (word_parts n) ≡ n
-parts-words zero = refl
-parts-words (suc n) = omega (arith, parts-words n)
-
-choice-words : (b : Bool) (n : ℕ) → (b ≡ true → n ≡ 1) → words (if b then WordTy else TupleTy (word_parts n)) ≡ n
-choice-words true n h = sym (h refl)
-choice-words false n h = parts-words n
-
-pub words-of-words : (n : ℕ) → words (words_ty n) ≡ n
-words-of-words n = choice-words (nat_eq n 1) n (same-one n)
-  where
-    same-one : (n : ℕ) → nat_eq n 1 ≡ true → n ≡ 1
-    same-one n e = same-number n 1 e
 
 -- ---- needs
 

@@ -24,8 +24,9 @@ use Rattle.nv_flatten.proofs.Within.{itself, of-none, both-same, grows-not, grow
 use Rattle.nv_flatten.proofs.NarrowSteps.{no-steps, recast, beside, follow, store-step, stored, joined, recast-code}
 use Rattle.nv_flatten.proofs.NarrowFacts.{written-append, written-right, counted, vars-at-most, word-operand-within}
 use Rattle.nv_flatten.proofs.Bound.{written-bound, bound-pends, same-pends, pends-further}
-use Rattle.nv_flatten.proofs.NarrowValues.{roomier, two-parts, fewer, stands-inside}
+use Rattle.nv_flatten.proofs.NarrowValues.{roomier, two-parts, fewer}
 use Rattle.nv_flatten.proofs.NoFaults.{none-left, none-right}
+use Rattle.nv_flatten.proofs.Following.{stands-inside}
 
 module _ (w : Whole) (names : Names) (scope : SymbolScope) where
   -- ---- lists

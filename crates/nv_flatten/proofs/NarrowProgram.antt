@@ -27,15 +27,12 @@ use Rattle.nv_flatten.proofs.Within.{itself, of-none, one, both, unions, into-le
 use Rattle.nv_flatten.proofs.NarrowFacts.{words-of-named, need-least}
 use Rattle.nv_flatten.proofs.NarrowNeeds.{IsNeeded, need_of_group, needed, need-of}
 use Rattle.nv_flatten.proofs.NoFaults.{some-same}
+use Rattle.nv_flatten.proofs.Bound.{choice-of}
 
 -- ---- the variables in scope where a body begins are those of the parameters
 
 abbrev at_name : SymbolScope → List ℕ → List ℕ
 at_name scope x = all_vars (operands (symbol_in scope x))
-
-choice-of : (b : Bool) (s t : Symbol) → IsWithin (all_vars (operands (if b then s else t))) (all_vars (operands s) ++ all_vars (operands t))
-choice-of true s t = into-left (all_vars (operands s)) (all_vars (operands s)) (all_vars (operands t)) itself
-choice-of false s t = into-right (all_vars (operands t)) (all_vars (operands s)) (all_vars (operands t)) itself
 
 param-name : (ss : NamedSymbols) (scope : SymbolScope) (x : List ℕ) → IsWithin (at_name (params_bound ss scope) x) (all_vars (named_operands ss) ++ at_name scope x)
 param-name no_named_symbols scope x = itself

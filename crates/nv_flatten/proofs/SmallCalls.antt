@@ -29,13 +29,15 @@ use Rattle.nv_flatten.specs.inner.Small.{of_parts, uses, value_rest, Sized, IsSm
 use Rattle.nv_flatten.proofs.Fresh.{fresh-forms, all-bound-types}
 use Rattle.nv_flatten.proofs.Sound.{value-has-type}
 use Rattle.nv_flatten.proofs.WellTypes.{some-where, low-of, right-of}
-use Rattle.nv_flatten.proofs.NarrowFacts.{counted-given, words-of-or-unit, words-of-words}
-use Rattle.nv_flatten.proofs.NarrowValues.{stands-inside}
-use Rattle.nv_flatten.proofs.NarrowCalls.{slice-more, around, behind, handler_faults, handler-none, unknown-none}
+use Rattle.nv_flatten.proofs.NarrowFacts.{counted-given, words-of-or-unit}
+use Rattle.nv_flatten.proofs.NarrowCalls.{around, behind, handler_faults, handler-none, unknown-none}
 use Rattle.nv_flatten.proofs.SmallBulks.{alone-most, jump-most, handled-most, lets-most, steps-then, code-then}
 use Rattle.nv_flatten.proofs.SmallValues.{of_steps, size_of, behind_value}
 use Rattle.nv_flatten.proofs.SmallEnds.{words-of-either}
 use Rattle.nv_flatten.proofs.NoFaults.{none-left, unset, among-known}
+use Rattle.nv_flatten.proofs.CallArms.{get-append}
+use Rattle.nv_flatten.proofs.Following.{stands-inside}
+use Rattle.nv_flatten.proofs.WellBasics.{words-ty-words}
 
 -- ---- what a call counts beside its jump
 returned : (last : Bool) (b : Bulk) (n : ℕ) → IsAtMost (both (both a_label a_jump) b) (of_parts n) → IsAtMost (both (return_bulk last) b) (of_parts n)
@@ -74,7 +76,7 @@ module _ (w : Whole) (names : Names) (scope : SymbolScope) (sp : Span) (es : Tre
         let given : words (type_of w.declared.layouts callable'.fun.result) ≡ n = ap (λ (s : Signature). words s.result) callable'.signed ∙ sym (ap (λ q. words_of_value (option_map (λ (s : Signature). s.result) q)) known.1) in
         let many : words (form_or_unit o) ≡ n =
         words-of-or-unit o ∙ ap words_of_value result ∙ ap (λ q. words_of_value (option_map (λ (g : FunTree). type_of w.declared.layouts g.result) q)) callable'.found ∙ given in
-        let named' : slice_get c.all i ≡ Some f = ap (λ l. slice_get l i) c.more.1 ∙ slice-more names c.more.0 i f named in
+        let named' : slice_get c.all i ≡ Some f = ap (λ l. slice_get l i) c.more.1 ∙ get-append names c.more.0 i f named in
         let size = value_at 0 f c.sizes in
         jump-most (code_bulk c.funs c.bulks c.own last code) (of_steps c ss) (call_bulk c.bulks c.own last (slice_get c.funs i)) (words (form_or_unit o)) (expanded_all c.sizes p.known p.vars es) size (size_of c p (CallTree sp f es))
         (code-then c.funs c.bulks c.own last ss (Call i bs) code nodes) (arguments-small c p args v stands (none-left (list_faults (inside p) args es) (node_faults p wanted (CallTree sp f es)) none))
@@ -158,7 +160,7 @@ module _ (w : Whole) (names : Names) (scope : SymbolScope) (sp : Span) (l : List
         let t : PacksFew o (operands s) ts = packs (subst IsSound (sym known.0) known.1) (subst (λ q. can_pack (form_of q) (form s) ≡ true) (sym known.0) right) in
         let n = words_at p.known p.vars (PackTree sp l a) in
         let size : 4 * length (bit_fields 0 o) ≡ field_size (look_up l p.known.layouts) = ap (λ q. 4 * length (bit_fields 0 q)) known.0 ∙ sym (ap field_size found.1) in
-        let packed : packed_words o ≡ n = sym (ap (λ q. words_of_value (option_map packed_ty q)) found.1 ∙ (words-of-words (packed_words found.0) ∙ ap packed_words (sym known.0))) in
+        let packed : packed_words o ≡ n = sym (ap (λ q. words_of_value (option_map packed_ty q)) found.1 ∙ (words-ty-words (packed_words found.0) ∙ ap packed_words (sym known.0))) in
         let many : length (operands r) ≡ n = counted-given w scope (PackTree sp l a) r g c.own p wanted stands none refl in
         let fit = packs-fit o (operands s) ts n t packed in
         computed c p (PackTree sp l a) (3 * t.fields + 2 * t.across) (1 + n + 4 * length (bit_fields 0 o)) (v.by c (inside p) want stands' clean) t.few (packs-few o (operands s) ts n t packed)

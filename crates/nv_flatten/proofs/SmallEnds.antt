@@ -24,11 +24,12 @@ use Rattle.nv_flatten.specs.inner.Simulation.{Names}
 use Rattle.nv_flatten.specs.inner.Well.{GivesLiteral}
 use Rattle.nv_flatten.specs.inner.Small.{of_parts, uses, test_rest, IsSmallValue, IsSmallTest, IsSmallEnd}
 use Rattle.nv_flatten.proofs.NarrowFacts.{words-of-form}
-use Rattle.nv_flatten.proofs.NarrowValues.{stands-inside, result-words}
+use Rattle.nv_flatten.proofs.NarrowValues.{result-words}
 use Rattle.nv_flatten.proofs.NarrowEnds.{first-none, second-none}
 use Rattle.nv_flatten.proofs.SmallBulks.{decision, alone-most, more-most, most-alone, choice-most, beside-most, given-most, branch-most, decided-most, word-given, code-then}
 use Rattle.nv_flatten.proofs.SmallValues.{of_steps, size_of, behind_value, operands-small}
 use Rattle.nv_flatten.proofs.NoFaults.{none-left, none-right}
+use Rattle.nv_flatten.proofs.Following.{stands-inside}
 
 -- ---- what is left
 decision-most : (e : Tree) → IsAtMost (test_rest e) (of_parts 2)

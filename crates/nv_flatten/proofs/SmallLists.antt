@@ -21,11 +21,11 @@ use Rattle.nv_flatten.specs.inner.Whole.{Whole, Stands}
 use Rattle.nv_flatten.specs.inner.Simulation.{Names, IsStated}
 use Rattle.nv_flatten.specs.inner.Small.{of_parts, uses, value_rest, Sized, IsSmallValue, AreSmallValues, AreSmallFields, IsSmallStated, IsSmallEnd}
 use Rattle.nv_flatten.proofs.NarrowSteps.{stored}
-use Rattle.nv_flatten.proofs.NarrowValues.{stands-inside}
 use Rattle.nv_flatten.proofs.NarrowLists.{stands-after, stands-behind, statements-none, last-none}
 use Rattle.nv_flatten.proofs.SmallBulks.{alone-most, both-most, after-most, front-most, stored-most, stay-most, steps-then, code-then}
 use Rattle.nv_flatten.proofs.SmallValues.{of_steps, size_of, behind_value}
 use Rattle.nv_flatten.proofs.NoFaults.{none-left, none-right}
+use Rattle.nv_flatten.proofs.Following.{stands-inside}
 
 module _ (w : Whole) (names : Names) (scope : SymbolScope) where
   -- ---- lists

@@ -20,9 +20,8 @@ use Rattle.nv_meaning.specs.Running.{Running, Result, Gives, Raises, Stops, Resu
 use Rattle.nv_meaning.specs.Meaning.{combined, binary, shifted}
 use Rattle.nv_flatten.specs.inner.Whole.{Whole, raised_tys}
 use Rattle.nv_flatten.specs.inner.Soundness.{value_ty, value_tys, named_value_tys, scope_tys, AreWords, ScopeWords, ComesTo}
-use Rattle.nv_flatten.proofs.SoundTypes.{same-is}
+use Rattle.nv_flatten.proofs.NoFaults.{same-is, some-same, is-right}
 use Rattle.nv_flatten.proofs.SoundWords.{one-word, words-after, truth-words, word-fits, words-value-type, words-value-fits}
-use Rattle.nv_flatten.proofs.NoFaults.{some-same, is-right}
 
 -- ---- expressions one after another have these types, or what breaks them off has no value
 abbrev pub AllComeTo : Whole → Option Tys → Results → Type 0

@@ -152,7 +152,7 @@ field-among : (env : Env) (x : List ℕ) (fs : NamedSymbols) → value_in env (f
 field-among env x no_named_symbols = refl
 field-among env x (named_symbol_and y s fs) = choose-field env (bytes_eq x y) s (field_named x fs) (meaning.field_named x (named_values_in env fs)) (field-among env x fs)
 
-field-value : (env : Env) (x : List ℕ) (s : Symbol) → value_in env (field_named x (fields_of s)) ≡ meaning.field_named x (meaning.fields_of (value_in env s))
+pub field-value : (env : Env) (x : List ℕ) (s : Symbol) → value_in env (field_named x (fields_of s)) ≡ meaning.field_named x (meaning.fields_of (value_in env s))
 field-value env x (Word a) = refl
 field-value env x (Truth a) = refl
 field-value env x (Tuple ss) = refl
@@ -162,11 +162,11 @@ choose-field_fits : (env : Env) (b : Bool) (s t : Symbol) → Fits env s → Fit
 choose-field_fits env true s t f g = f
 choose-field_fits env false s t f g = g
 
-among-fits : (env : Env) (x : List ℕ) (fs : NamedSymbols) → NamedFit env fs → Fits env (field_named x fs)
+pub among-fits : (env : Env) (x : List ℕ) (fs : NamedSymbols) → NamedFit env fs → Fits env (field_named x fs)
 among-fits env x no_named_symbols f = omega arith
 among-fits env x (named_symbol_and y s fs) f = choose-field_fits env (bytes_eq x y) s (field_named x fs) f.0 (among-fits env x fs f.1)
 
-field-fits : (env : Env) (x : List ℕ) (s : Symbol) → Fits env s → Fits env (field_named x (fields_of s))
+pub field-fits : (env : Env) (x : List ℕ) (s : Symbol) → Fits env s → Fits env (field_named x (fields_of s))
 field-fits env x (Word a) f = omega arith
 field-fits env x (Truth a) f = omega arith
 field-fits env x (Tuple ss) f = omega arith
@@ -176,11 +176,11 @@ choose-field_older : (n : ℕ) (b : Bool) (s t : Symbol) → AreOlder n (operand
 choose-field_older n true s t f g = f
 choose-field_older n false s t f g = g
 
-among-older : (n : ℕ) (x : List ℕ) (fs : NamedSymbols) → AreOlder n (named_operands fs) → AreOlder n (operands (field_named x fs))
+pub among-older : (n : ℕ) (x : List ℕ) (fs : NamedSymbols) → AreOlder n (named_operands fs) → AreOlder n (operands (field_named x fs))
 among-older n x no_named_symbols o = one-older n (Lit 0) tt
 among-older n x (named_symbol_and y s fs) o = choose-field_older n (bytes_eq x y) s (field_named x fs) (older-left n (operands s) (named_operands fs) o) (among-older n x fs (older-right n (operands s) (named_operands fs) o))
 
-field-older : (n : ℕ) (x : List ℕ) (s : Symbol) → AreOlder n (operands s) → AreOlder n (operands (field_named x (fields_of s)))
+pub field-older : (n : ℕ) (x : List ℕ) (s : Symbol) → AreOlder n (operands s) → AreOlder n (operands (field_named x (fields_of s)))
 field-older n x (Word a) o = one-older n (Lit 0) tt
 field-older n x (Truth a) o = one-older n (Lit 0) tt
 field-older n x (Tuple ss) o = one-older n (Lit 0) tt

@@ -32,7 +32,7 @@ pub value-in-scope : (w : Whole) (names : Names) (low high : ℕ) (xs ys : List 
 value-in-scope w names low high xs ys e steps s is v = subst (λ x. IsValue w names low high (scope_of x []) e steps s) is v
 
 -- ---- a shift, whatever the count
-count-cases : (n : ℕ) → (n ≡ 0) ⊎ (1 ≤ n)
+pub count-cases : (n : ℕ) → (n ≡ 0) ⊎ (1 ≤ n)
 count-cases zero = inl refl
 count-cases (suc n) = inr (omega arith)
 

@@ -28,14 +28,19 @@ use Rattle.nv_flatten.specs.inner.Code.{shift_of, variables}
 use Rattle.nv_flatten.specs.inner.Symbols.{Symbol, Symbols, NamedSymbols, SymbolScope, Word, Truth, Tuple, Record, operands, form, word_operand, truth_operand, fields_of, field_named, symbol_in, numbers_from, words_symbol, vars_of}
 use Rattle.nv_flatten.specs.inner.Simulation.{Names, Extends, HasForm}
 use Rattle.nv_flatten.specs.inner.Whole.{Whole, Stands}
-use Rattle.nv_flatten.specs.inner.Well.{ScopeKnown, Rises, WellSteps, Knows, IsWellValue, AreWellValues, AreWellFields, IsWellStated, AreWellLets}
+use Rattle.nv_flatten.specs.inner.Well.{ScopeKnown, Rises, WellSteps, Knows, IsWellValue, AreWellValues, AreWellFields, IsWellStated, AreWellLets, steps_calls, AreCalled}
 use Rattle.nv_flatten.proofs.Sound.{wanted-type, value-has-type}
-use Rattle.nv_flatten.proofs.WellBasics.{knows-both, knows-left, knows-right, knows-one, knows-new, knows-variables, knows-word, knows-truth, knows-field, knows-in, atoms-more, words-operands, operands-words, numbers-length, words-ty-words, rises-numbers}
-use Rattle.nv_flatten.proofs.WellTypes.{low-of, middle-of, right-of, stands-inside, move-same, address-formed}
-use Rattle.nv_flatten.specs.inner.Well.{steps_calls, AreCalled}
+use Rattle.nv_flatten.proofs.WellBasics.{knows-both, knows-left, knows-right, knows-one, knows-new, knows-variables, knows-word, knows-truth, knows-field, knows-in, operands-words, words-ty-words, rises-numbers}
+use Rattle.nv_flatten.proofs.WellTypes.{low-of, middle-of, right-of, move-same, address-formed}
 use Rattle.nv_flatten.proofs.WellNames.{called-none, steps-called-more, steps-called-then}
 use Rattle.nv_flatten.proofs.WellSteps.{steps-none, steps-names, steps-knowing, steps-then, steps-last, steps-compute}
 use Rattle.nv_flatten.proofs.NoFaults.{none-left, none-right, unset, among-known}
+use Rattle.nv_flatten.proofs.Fresh.{numbers-length}
+use Rattle.nv_flatten.proofs.PackedWords.{symbol-operands}
+use Rattle.nv_flatten.proofs.Following.{stands-inside}
+use Rattle.nv_flatten.proofs.WalkArms.{count-cases}
+use Rattle.nv_base.proofs.Operands.{atoms-more}
+use Rattle.nv_flatten.proofs.Lets.{shift-primitive}
 
 -- ---- without steps
 pub number-well : (w : Whole) (names : Names) (low : ℕ) (scope : SymbolScope) (sp : Span) (n : ℕ) → IsWellValue w names names low low scope (NumberTree sp n) [] (Word (Lit n))
@@ -142,10 +147,6 @@ combine-well w old names more low mid high scope sp op bin a b ss ts u v h l r =
 }
 
 -- ---- shifts; by no place it is the word itself
-shift-primitive : (op : ShiftOp) (n : ℕ) (known : List ℕ) (a : Atom) → 1 ≤ n → n ≤ 31 → is_known known a ≡ true → is_primitive known (shift_of op n a) ≡ true
-shift-primitive Left n known a low high e = and_from (nat_le 1 n && nat_le n 31) (is_known known a) (and_from (nat_le 1 n) (nat_le n 31) (le-leb 1 n low) (le-leb n 31 high)) e
-shift-primitive Right n known a low high e = and_from (nat_le 1 n && nat_le n 31) (is_known known a) (and_from (nat_le 1 n) (nat_le n 31) (le-leb 1 n low) (le-leb n 31 high)) e
-shift-primitive Rotate n known a low high e = and_from (nat_le 1 n && nat_le n 31) (is_known known a) (and_from (nat_le 1 n) (nat_le n 31) (le-leb 1 n low) (le-leb n 31 high)) e
 
 -- the operand, and the steps with the shift behind
 pub record IsShift (op : ShiftOp) (n mid high : ℕ) (word x : Atom) (ss ts : List Step) : Type 0 where
@@ -171,16 +172,12 @@ shift-steps w names low mid high own scope op n ss ts v x le s a (inr one) =
     (subst (λ k. WellSteps w names low (mid + 1) own scope k (Knows (x ∷ []))) (sym e.1)
     (subst (λ k. WellSteps w names low (mid + 1) own scope (ss ++ Let mid (shift_of op n (word_operand v)) ∷ []) (Knows (k ∷ []))) (sym e.0) same))
 
-zero-or : (n : ℕ) → (n ≡ 0) ⊎ (1 ≤ n)
-zero-or zero = inl refl
-zero-or (suc n) = inr (omega arith)
-
 pub shift-well : (w : Whole) (old names : Names) (low mid high : ℕ) (scope : SymbolScope) (sp : Span) (op : ShiftOp) (e : Tree) (n : ℕ) (ss ts : List Step) (v : Symbol) (x : Atom) → IsWellValue w old names low mid scope e ss v
     → IsShift op n mid high (word_operand v) x ss ts → IsWellValue w old names low high scope (ShiftTree sp op e n) ts (Word x)
 shift-well w old names low mid high scope sp op e n ss ts v x a s = record {
   well = λ own p wanted st f t.
       let le : n ≤ 31 = ltb-false 31 n (unset (nat_lt 31 n) 21 (middle-of p wanted (ShiftTree sp op e n) f)) in
-      shift-steps w names low mid high own scope op n ss ts v x le s (a.well own (inside p) (of_type WordTy) (stands-inside w own scope p st) (none-left (faults (inside p) (of_type WordTy) e) _ f) refl) (zero-or n);
+      shift-steps w names low mid high own scope op n ss ts v x le s (a.well own (inside p) (of_type WordTy) (stands-inside w own scope p st) (none-left (faults (inside p) (of_type WordTy) e) _ f) refl) (count-cases n);
   literal = tt {0};
   called = subst (λ k. AreCalled old names (steps_calls k)) (sym s.extends.1) (steps-called-more old names ss s.extends.0 a.called);
 }
@@ -248,7 +245,7 @@ fetch-well w old names low mid scope sp m n e ss ts v xs last same a = record {
       (subst (λ k. Rises mid k (mid + n)) (sym same) (rises-numbers mid n (mid + n) (omega arith))) (tt {0})
       (λ known k q.
       subst (Knows (operands (words_symbol (variables (numbers_from mid n))))) (ap (λ l. l ++ known) (sym same))
-      (subst (λ as'. all_known (numbers_from mid n ++ known) as' ≡ true) (sym (words-operands (variables (numbers_from mid n)))) (knows-variables (numbers_from mid n) known))));
+      (subst (λ as'. all_known (numbers_from mid n ++ known) as' ≡ true) (sym (symbol-operands (variables (numbers_from mid n)))) (knows-variables (numbers_from mid n) known))));
   literal = tt {0};
   called = subst (λ k. AreCalled old names (steps_calls k)) (sym last) (steps-called-more old names ss (Fetch m xs (word_operand v) ∷ []) a.called);
 }

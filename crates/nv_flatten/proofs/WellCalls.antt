@@ -20,26 +20,22 @@ use Rattle.nv_flatten.specs.inner.Code.{form_or_unit, variables}
 use Rattle.nv_flatten.specs.inner.Symbols.{Symbol, Symbols, SymbolScope, operands, all_operands, form, forms, fresh, numbers_from, vars_of}
 use Rattle.nv_flatten.specs.inner.Simulation.{Names, Extends}
 use Rattle.nv_flatten.specs.inner.Whole.{Whole, Stands, raised_tys}
-use Rattle.nv_flatten.specs.inner.Well.{ScopeKnown, Rises, WellSteps, Knows, GivesWords, IsLiteral, IsWellValue, AreWellValues, IsWellStated, IsWellEnd}
-use Rattle.nv_flatten.proofs.Fresh.{fresh-operands}
+use Rattle.nv_flatten.specs.inner.Well.{ScopeKnown, Rises, WellSteps, Knows, GivesWords, IsLiteral, IsWellValue, AreWellValues, IsWellStated, IsWellEnd, steps_calls, AreCalled}
+use Rattle.nv_flatten.proofs.Fresh.{fresh-operands, numbers-length}
 use Rattle.nv_flatten.proofs.Sound.{arguments-typed}
-use Rattle.nv_flatten.proofs.WellBasics.{knows-variables, all-operands-words, numbers-length, rises-append, rises-numbers, raised-both}
-use Rattle.nv_flatten.proofs.WellTypes.{some-where, low-of, middle-of, plain-words, stands-inside}
+use Rattle.nv_flatten.proofs.WellBasics.{knows-variables, all-operands-words, rises-append, rises-numbers, raised-both}
+use Rattle.nv_flatten.proofs.WellTypes.{some-where, low-of, middle-of, plain-words}
 use Rattle.flat_ir.specs.Reached.{calls}
-use Rattle.nv_flatten.specs.inner.Well.{steps_calls, AreCalled}
 use Rattle.nv_flatten.proofs.WellNames.{called-more, code-called-more, code-called-then}
 use Rattle.nv_flatten.proofs.WellSteps.{steps-names, code-behind, code-inner}
 use Rattle.nv_flatten.proofs.WellArms.{stands-behind}
 use Rattle.nv_flatten.proofs.WellEnds.{gives-words, raised-from-one}
 use Rattle.nv_flatten.proofs.NoFaults.{none-left, none-right, unset, some-same}
-
-pub get-more : {A : Type 0} (xs ys : List A) (i : ℕ) (x : A) → slice_get xs i ≡ Some x → slice_get (xs ++ ys) i ≡ Some x
-get-more [] ys i x e = cc
-get-more (y ∷ xs) ys zero x e = e
-get-more (y ∷ xs) ys (suc i) x e = get-more xs ys i x e
+use Rattle.nv_flatten.proofs.CallArms.{get-append}
+use Rattle.nv_flatten.proofs.Following.{stands-inside}
 
 pub get-extended : {A : Type 0} (xs zs : List A) (i : ℕ) (x : A) → Extends xs zs → slice_get xs i ≡ Some x → slice_get zs i ≡ Some x
-get-extended xs zs i x h e = ap (λ l. slice_get l i) h.1 ∙ get-more xs h.0 i x e
+get-extended xs zs i x h e = ap (λ l. slice_get l i) h.1 ∙ get-append xs h.0 i x e
 
 may-stand : (inside tail : Bool) (own group : ℕ) → (inside && not tail) ≡ false → (if inside then nat_le group own else nat_lt group own) ≡ true → may_stand tail own group ≡ true
 may-stand true true own group n e = e

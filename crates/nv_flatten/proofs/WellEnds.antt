@@ -26,16 +26,16 @@ use Rattle.nv_flatten.specs.inner.Code.{is_given, is_comparison, variables}
 use Rattle.nv_flatten.specs.inner.Symbols.{Symbol, SymbolScope, operands, all_operands, form, all_fresh, numbers_from, vars_of, all_bound}
 use Rattle.nv_flatten.specs.inner.Simulation.{Names, Extends, HasForm}
 use Rattle.nv_flatten.specs.inner.Whole.{Whole, Stands, raised_tys, raised_or_none}
-use Rattle.nv_flatten.specs.inner.Well.{ScopeKnown, Rises, Knows, GivesWords, WellCode, IsWellValue, IsWellTest, IsWellEnd, GivesLiteral, IsChoice}
-use Rattle.nv_flatten.proofs.Fresh.{fresh-forms, fresh-operands, all-bound-types}
+use Rattle.nv_flatten.specs.inner.Well.{ScopeKnown, Rises, Knows, GivesWords, WellCode, IsWellValue, IsWellTest, IsWellEnd, GivesLiteral, IsChoice, AreCalled}
+use Rattle.nv_flatten.proofs.Fresh.{fresh-forms, fresh-operands, all-bound-types, numbers-length}
 use Rattle.nv_flatten.proofs.Sound.{wanted-type, given-has-type}
-use Rattle.nv_flatten.proofs.WellBasics.{knows-variables, operands-words, numbers-length, rises-append, rises-numbers, raised-both, all-bound-known, scope-more}
-use Rattle.nv_flatten.proofs.WellTypes.{some-where, right-of, same-words, stands-inside, given-inside, comparison-inside}
+use Rattle.nv_flatten.proofs.WellBasics.{knows-variables, operands-words, rises-append, rises-numbers, raised-both, all-bound-known, scope-more}
+use Rattle.nv_flatten.proofs.WellTypes.{some-where, right-of, same-words, given-inside, comparison-inside}
 use Rattle.flat_ir.specs.Reached.{calls}
-use Rattle.nv_flatten.specs.inner.Well.{AreCalled}
 use Rattle.nv_flatten.proofs.WellNames.{called-none, called-then, code-called-more, choice-called}
 use Rattle.nv_flatten.proofs.WellSteps.{steps-names, code-names, code-behind, code-choice}
 use Rattle.nv_flatten.proofs.NoFaults.{none-left, none-right, no-kinds}
+use Rattle.nv_flatten.proofs.Following.{stands-inside}
 
 -- ---- how many words
 pub gives-words : (n : ℕ) (o : Option Ty) (t : Ty) → o ≡ Some t → GivesWords n o → words t ≡ n

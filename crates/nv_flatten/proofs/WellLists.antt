@@ -22,18 +22,16 @@ use Rattle.nv_base.specs.Access.{is_known, all_known}
 use Rattle.nv_flatten.specs.inner.Symbols.{Symbol, Symbols, NamedSymbols, SymbolScope, no_symbols, symbol_and, no_named_symbols, named_symbol_and, operands, all_operands, named_operands, form, word_operand, truth_operand, vars_of, bound}
 use Rattle.nv_flatten.specs.inner.Simulation.{Names, Extends, HasForm}
 use Rattle.nv_flatten.specs.inner.Whole.{Whole, Stands}
-use Rattle.nv_flatten.specs.inner.Well.{ScopeKnown, WellSteps, Knows, IsWellValue, AreWellValues, AreWellFields, IsWellStated, IsWellTest}
+use Rattle.nv_flatten.specs.inner.Well.{ScopeKnown, WellSteps, Knows, IsWellValue, AreWellValues, AreWellFields, IsWellStated, IsWellTest, steps_calls, AreCalled}
 use Rattle.nv_flatten.proofs.Sound.{value-has-type}
 use Rattle.nv_flatten.proofs.WellBasics.{knows-left, knows-right, knows-two, knows-word, knows-truth, operands-words, bound-known}
-use Rattle.nv_flatten.proofs.WellTypes.{stands-inside, move-same, address-formed}
-use Rattle.nv_flatten.specs.inner.Well.{steps_calls, AreCalled}
+use Rattle.nv_flatten.proofs.WellTypes.{move-same, address-formed}
 use Rattle.nv_flatten.proofs.WellNames.{called-none, steps-called-more, steps-called-then}
 use Rattle.nv_flatten.proofs.WellSteps.{steps-none, steps-names, steps-knowing, steps-then, steps-last}
 use Rattle.nv_flatten.proofs.WellArms.{two-values}
 use Rattle.nv_flatten.proofs.NoFaults.{none-left, none-right, no-kinds, unset}
-
-pub take-one : {A : Type 0} (xs : List A) (i : ℕ) (x : A) → i < length xs → x ≡ get_or xs i x → take (i + 1) xs ≡ take i xs ++ x ∷ []
-take-one xs i x h e = take_more xs i x h ∙ ap (λ y. take i xs ++ y ∷ []) (sym e)
+use Rattle.nv_flatten.proofs.Following.{stands-inside}
+use Rattle.nv_layout.proofs.Lists.{take_item}
 
 nil-both : {A : Type 0} (xs ys : List A) → xs ≡ [] → ys ≡ [] → xs ++ ys ≡ []
 nil-both xs ys e f = ap (λ l. l ++ ys) e ∙ f

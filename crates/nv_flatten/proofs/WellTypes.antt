@@ -17,6 +17,7 @@ use Rattle.nv_flatten.specs.inner.Whole.{Whole, Stands}
 use Rattle.nv_flatten.specs.inner.Code.{is_given, is_comparison}
 use Rattle.nv_flatten.specs.inner.Well.{IsLiteral}
 use Rattle.nv_flatten.proofs.NoFaults.{none-left, none-right, no-kinds, unset, node-of}
+use Rattle.nv_flatten.proofs.Following.{stands-inside}
 
 -- ---- kinds
 
@@ -85,8 +86,6 @@ plain-words no_named_tys = refl
 plain-words (named_ty_and x t ts) = let a = plain-words ts in omega arith
 
 -- ---- places
-pub stands-inside : (w : Whole) (own : ℕ) (scope : SymbolScope) (p : Place) → Stands w own scope p → Stands w own scope (inside p)
-stands-inside w own scope p h = record { part = h.part; vars = h.vars }
 
 -- what is given, or a comparison, doesn't ask whether it is the function's value
 pub given-inside : (p : Place) (w : Wanted) (e : Tree) → is_given e ≡ true → faults p w e ≡ faults (inside p) w e
