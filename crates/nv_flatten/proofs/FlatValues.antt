@@ -52,9 +52,9 @@ use Rattle.nv_flatten.proofs.SmallCalls.{unpack-small, pack-small}
 use Rattle.nv_flatten.proofs.SmallViews.{shifted-small}
 
 -- ---- values without steps of their own
-pub number-flat : (w : Whole) (names : Names) (low : ℕ) (scope : SymbolScope) (sp : Span) (n : ℕ) → n < 2 ^ 32 → IsFlatValue w names names low low scope (NumberTree sp n) [] (Word (Lit n))
-number-flat w names low scope sp n small = record {
-  same = number-value w names low low scope sp n small;
+pub number-flat : (w : Whole) (names : Names) (low : ℕ) (scope : SymbolScope) (sp : Span) (n : ℕ) → IsFlatValue w names names low low scope (NumberTree sp n) [] (Word (Lit n))
+number-flat w names low scope sp n = record {
+  same = number-value w names low low scope sp n;
   well = number-well w names low scope sp n;
   narrow = number-narrow w names scope sp n;
   small = number-small w names scope sp n;

@@ -4,6 +4,7 @@ use Rattle.nv_base.specs.declared.term.Atom.TheVariants.{Var, Lit}
 use Rattle.nv_base.specs.declared.term.Bin.TheVariants as bin
 use Rattle.nv_base.specs.declared.term.Una.TheVariants as una
 use Rattle.nv_base.specs.declared.term.Primitive.TheVariants.{Una as UnaOf, Bin as BinOf}
+use Rattle.nv_base.proofs.WordLemmas.{word-fits}
 use Rattle.nv_base.specs.Words.{Env, word, atom_word, word_not}
 use Rattle.nv_ast.specs.declared.token.Span.{Span}
 use Rattle.nv_ast.specs.Tree.{Tree, NumberTree, TruthTree, VarTree, ParenTree, DotTree, InvertTree, NegateTree}
@@ -29,23 +30,20 @@ use Rattle.nv_flatten.proofs.Keeping.{older-left, older-right, older-later, begi
 use Rattle.nv_flatten.proofs.NoFaults.{none-left, some-same, none-some}
 use Rattle.nv_flatten.proofs.Following.{onward-then, steps-then, stands-inside, word-of, truth-of, truth-fits, one-older, assigned-here, defined}
 
-word-same : (n : ℕ) → n < 2 ^ 32 → word n ≡ n
-word-same n h = omega arith
-
 -- ---- values without steps
 module _ (w : Whole) (names : Names) (low high : ℕ) (scope : SymbolScope) where
-  pub number-value : (sp : Span) (n : ℕ) → n < 2 ^ 32 → IsValue w names low high scope (NumberTree sp n) [] (Word (Lit n))
-  number-value sp n small = record {
-    simulates = record { by = λ own p wanted stands none older c env now begins rest next same. same env now (begins-done low env scope now (Fits env (Word (Lit n))) begins small) ∙ ap (λ k. next (meaning.Word k) now) (sym (word-same n small)) };
+  pub number-value : (sp : Span) (n : ℕ) → IsValue w names low high scope (NumberTree sp n) [] (Word (Lit n))
+  number-value sp n = record {
+    simulates = record { by = λ own p wanted stands none older c env now begins rest next same. same env now (begins-done low env scope now (Fits env (Word (Lit n))) begins (word-fits n)) };
     formed = record { by = λ own p wanted stands none t is. some-same WordTy t is };
     older = λ o. one-older high (Lit n) tt;
   }
 
-  bit-fits : (b : Bool) → (if b then 1 else 0) ≤ 1
+  bit-fits : (b : Bool) → word (if b then 1 else 0) ≤ 1
   bit-fits true = omega arith
   bit-fits false = omega arith
 
-  bit-is : (b : Bool) → not ((if b then 1 else 0) == 0) ≡ b
+  bit-is : (b : Bool) → not (word (if b then 1 else 0) == 0) ≡ b
   bit-is true = refl
   bit-is false = refl
 

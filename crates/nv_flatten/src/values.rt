@@ -1,6 +1,6 @@
 // Expressions and statements as steps of flat code.
 
-ghost use Rattle.std.specs.Prelude.{◌≡◌, ◌<◌, ◌≤◌, ◌+◌, ◌^◌, ◌++◌, [], Some, true, if◌then◌else◌, IfOk, OnOk, option_map};
+ghost use Rattle.std.specs.Prelude.{◌≡◌, ◌≤◌, ◌+◌, ◌++◌, [], Some, true, if◌then◌else◌, IfOk, OnOk, option_map};
 ghost use Rattle.nv_base.specs.declared.term.Atom.TheVariants.{Lit};
 ghost use Rattle.nv_ast.specs.declared.token.Span.{Span};
 ghost use Rattle.nv_ast.specs.Types.{words};
@@ -94,8 +94,7 @@ fn constant<'a>(alloc: Global, symbol: Symbol<'a>) -> Valued<'a>
 
 // A number, which is a word.
 fn number<'a>(n: u32) -> Symbol<'a>
-    ensures symbol { view result ≡ Word (Lit n) }
-    ensures small { n < 2 ^ 32 }
+    ensures { view result ≡ Word (Lit n) }
 {
     Symbol::Word(Atom::Lit(n))
 }

@@ -30,7 +30,7 @@ use Rattle.nv_flatten.proofs.+walk.Goals.{endings::compare-then-swapped, endings
 use Rattle.nv_flatten.proofs.+walk.Goals as goal
 
 pub values::value-returns-in-Number-clause-flat : goal.values::value-returns-in-Number-clause-flat
-values::value-returns-in-Number-clause-flat t c = value-tree _ _ _ _ _ _ _ _ _ _ c.in-Number.ensures.1 (value-as _ _ _ _ _ _ _ _ _ _ _ _ refl c.constant.ensures.steps (ap view c.constant.ensures.symbol ∙ c.number.ensures.symbol) (number-flat _ _ _ _ _ _ c.number.ensures.small))
+values::value-returns-in-Number-clause-flat t c = value-tree _ _ _ _ _ _ _ _ _ _ c.in-Number.ensures.1 (value-as _ _ _ _ _ _ _ _ _ _ _ _ refl c.constant.ensures.steps (ap view c.constant.ensures.symbol ∙ c.number.ensures) (number-flat _ _ _ _ _ _))
 
 pub values::value-returns-in-Truth-clause-flat : goal.values::value-returns-in-Truth-clause-flat
 values::value-returns-in-Truth-clause-flat t c = value-tree _ _ _ _ _ _ _ _ _ _ c.in-Truth.ensures.1 (value-as _ _ _ _ _ _ _ _ _ _ _ _ refl c.constant-in-Truth.ensures.steps (ap view c.constant-in-Truth.ensures.symbol ∙ c.bit.ensures) (truth-flat _ _ _ _ _ _))
