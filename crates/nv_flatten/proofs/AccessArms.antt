@@ -1,5 +1,5 @@
 -- Fetches, and packed values.
-use Rattle.std.proofs.Common.{◌≡◌, ◌∙◌, refl, ap, sym, subst, ℕ, zero, suc, ◌+◌, ◌≤◌, ◌==◌, ◌||◌, Bool, true, false, if◌then◌else◌, List, [], ◌∷◌, ◌++◌, length, length-append, Option, Some, None, option_map, bytes_eq, arith, rules, tests}
+use Rattle.std.proofs.Common.{◌≡◌, ◌∙◌, refl, ap, sym, subst, ℕ, zero, suc, ◌+◌, ◌≤◌, ◌==◌, ◌||◌, true, false, if◌then◌else◌, List, [], ◌∷◌, ◌++◌, length, length-append, Option, Some, None, option_map, arith, rules, tests}
 use Rattle.nv_base.specs.declared.term.Atom.{Atom}
 use Rattle.nv_base.specs.declared.term.Mem.{Mem}
 use Rattle.nv_base.specs.Words.{Env, atom_word, atom_words, assigned_all}
@@ -14,7 +14,7 @@ use Rattle.nv_ast.specs.Types.{WordTy, TupleTy, ty_and, words, total_words, tota
 use Rattle.nv_ast.specs.Scope.{Place, inside}
 use Rattle.nv_ast.specs.Typing.{type_at}
 use Rattle.nv_ast.specs.Faults.{Wanted, faults, node_faults, of_type, can_move, wrong_access, wrong_scratch, wanted_packed, wanted_unpacked}
-use Rattle.nv_meaning.specs.Values.{Value, word_of, words_of, words_value}
+use Rattle.nv_meaning.specs.Values.{Value, word_of, words_value}
 use Rattle.nv_meaning.specs.Values as meaning
 use Rattle.nv_meaning.specs.Packing.{value_at, unpacked_value, packed_value}
 use Rattle.nv_meaning.specs.Running.{Running, Gives, after_fetch, fetch}
@@ -33,8 +33,7 @@ use Rattle.nv_flatten.proofs.Fresh.{numbers-keep, numbers-older, words-read, wor
 use Rattle.nv_flatten.proofs.NoFaults.{none-left, set, some-same, value-has-type, clean as is-clean, is-right, wanted-type, among-known}
 use Rattle.nv_flatten.proofs.Following.{stands-inside, word-of}
 use Rattle.nv_flatten.proofs.ValueArms.{unary}
-use Rattle.nv_flatten.proofs.Listing.{parts-words}
-use Rattle.nv_flatten.proofs.PackedWords.{parts-operands, symbol-operands}
+use Rattle.nv_flatten.proofs.PackedWords.{symbol-operands}
 use Rattle.nv_flatten.proofs.WellBasics.{words-ty-words}
 
 -- ---- how many operands a symbolic value has
@@ -110,9 +109,6 @@ module _ (w : Whole) (names : Names) (low high : ℕ) (scope : SymbolScope) (sp 
       (λ o. subst (λ l. AreOlder (high + n) l) (sym (symbol-operands (variables (numbers_from high n)))) (numbers-older (high + n) high n (omega arith)))
 
 -- ---- a layout that is known
-chosen-name : {A : Type 0} (b : Bool) (a : A) (more : Bool) (o : Option A) → (more ≡ true → (c : A) × (o ≡ Some c)) → (b || more) ≡ true → (c : A) × ((if b then Some a else o) ≡ Some c)
-chosen-name true a more o h e = (a, refl)
-chosen-name false a more o h e = h e
 
 unpack-known : (p : Place) (wanted : Wanted) (sp : Span) (l : List ℕ) (a : Tree) → faults p wanted (UnpackTree sp l a) ≡ [] → (o : OutlineTree) × (look_up l p.known.layouts ≡ Some o)
 unpack-known p wanted sp l a none = among-known l p.known.layouts (set (is_among l (names_of p.known.layouts)) 3 (is-clean p wanted (UnpackTree sp l a) none).low)

@@ -1,5 +1,5 @@
 -- The variables that patterns bring into scope.
-use Rattle.std.proofs.Common.{◌≡◌, ◌∙◌, refl, ap, sym, ℕ, ◌+◌, ◌-◌, ◌<◌, ◌≤◌, Bool, true, false, List, [], ◌∷◌, ◌++◌, take, length, get_or, bytes_eq, if◌then◌else◌, append_assoc, arith, Bor, Vec, Global}
+use Rattle.std.proofs.Common.{◌≡◌, ◌∙◌, refl, ap, sym, ℕ, ◌+◌, ◌-◌, ◌<◌, ◌≤◌, List, [], ◌∷◌, ◌++◌, take, length, get_or, bytes_eq, if◌then◌else◌, append_assoc, arith, Bor, Vec, Global}
 use Rattle.std.proofs.lemmas.List.{take_more}
 use Rattle.nv_ast.specs.declared.tree.Pat.{Pat}
 use Rattle.nv_ast.specs.declared.tree.Pat.TheVariants as variants
@@ -12,7 +12,6 @@ use Rattle.nv_flatten.specs.declared.symbol.Symbol as code
 use Rattle.nv_flatten.specs.inner.View.{Named, view, list_symbols, scope_of}
 use Rattle.nv_flatten.specs.inner.Simulation.{Extends}
 use Rattle.nv_flatten.proofs.Rows.{tuple_view}
-use Rattle.nv_meaning.proofs.Bindings.{if-true, if-false}
 
 pub scope-append : (a b : List Named) (outer : SymbolScope) → scope_of (a ++ b) outer ≡ scope_of b (scope_of a outer)
 scope-append [] b outer = refl

@@ -1,8 +1,7 @@
 -- Steps that only compute, one after another.
-use Rattle.std.proofs.Common.{◌≡◌, ◌∙◌, refl, ap, sym, subst, ℕ, zero, suc, ◌+◌, ◌*◌, ◌/◌, ◌^◌, ◌<◌, ◌≤◌, Bool, if◌then◌else◌, eq-eqb, List, [], ◌∷◌, ◌++◌, length, get_or, append_assoc, append-nil, arith, bit_or}
-use Rattle.std.proofs.lemmas.Bool.{ne_eqb}
+use Rattle.std.proofs.Common.{◌≡◌, ◌∙◌, refl, ap, sym, subst, ℕ, zero, suc, ◌+◌, ◌*◌, ◌/◌, ◌^◌, ◌<◌, ◌≤◌, if◌then◌else◌, List, [], ◌∷◌, ◌++◌, length, get_or, append_assoc, append-nil, arith, bit_or}
 use Rattle.std.proofs.lemmas.Nat.{shr_le, or_of_32, mod_below, pow_pos}
-use Rattle.std.proofs.lemmas.List.Elements.{All-nil, All-cons, All-head}
+use Rattle.std.proofs.lemmas.List.Elements.{All-cons, All-head}
 use Rattle.nv_base.specs.declared.term.Atom.{Atom}
 use Rattle.nv_base.specs.declared.term.Atom.TheVariants.{Var}
 use Rattle.nv_base.specs.declared.term.Bin.TheVariants.{Or}
@@ -20,7 +19,6 @@ use Rattle.nv_flatten.specs.inner.Symbols.{IsOlder, AreOlder, Keeps}
 use Rattle.nv_flatten.specs.inner.Reads.{Makes}
 use Rattle.nv_flatten.proofs.Keeping.{older-later, keeps-itself, keeps-then, keeps-operand, keeps-operands}
 use Rattle.nv_flatten.proofs.Following.{assigned-here, one-older}
-use Rattle.nv_base.proofs.WordLemmas.{length-words}
 use Rattle.nv_flatten.proofs.SoundWords.{one-word}
 use Rattle.nv_flatten.proofs.Fresh.{assigned-other}
 use Rattle.flat_ir.proofs.Steps.{steps_do-append}

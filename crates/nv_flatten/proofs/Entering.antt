@@ -1,6 +1,5 @@
 -- A function is entered with values of its parameters' types.
-use Rattle.std.proofs.Common.{◌≡◌, ◌∙◌, refl, sym, ap, ℕ, zero, suc, ◌+◌, ◌≤◌, Bool, true, false, ◌&&◌, ◌||◌, List, [], ◌∷◌, ◌++◌, length, take, drop, bytes_eq, arith, slice_index}
-use Rattle.std.proofs.lemmas.Slice.Eq.{bytes_eq-Decides}
+use Rattle.std.proofs.Common.{◌≡◌, ◌∙◌, refl, sym, ap, ℕ, zero, suc, ◌+◌, ◌≤◌, true, false, ◌&&◌, ◌||◌, List, [], ◌∷◌, ◌++◌, length, take, drop, bytes_eq, arith, slice_index}
 use Rattle.nv_base.specs.Words.{Env}
 use Rattle.nv_ast.specs.Outline.{Layouts}
 use Rattle.nv_ast.specs.Tree.{NamedTypes, no_named_types, named_type_and}
@@ -15,7 +14,6 @@ use Rattle.nv_flatten.proofs.Fresh.{fresh-form, fresh-older}
 use Rattle.std.proofs.lemmas.List.{length-append}
 use Rattle.std.proofs.lemmas.Bool.{and_parts, or_parts}
 use Rattle.nv_flatten.proofs.NoFaults.{is-name}
-use Rattle.nv_flatten.proofs.WellTypes.{plain-words}
 
 -- ---- types are the same where the test says so
 

@@ -9,14 +9,10 @@ use Rattle.nv_ast.specs.Types.{TupleTy, RecordTy, ty_and, named_ty_and}
 use Rattle.nv_meaning.specs.Values.{words_of, all_words, all_named_words}
 use Rattle.nv_meaning.specs.Values as meaning
 use Rattle.nv_meaning.specs.Running.{Running}
-use Rattle.flat_ir.specs.Meaning.{Calls}
-use Rattle.flat_ir.specs.Spine.{Act, step_does, steps_do}
-use Rattle.flat_ir.specs.declared.spine.Step.{Step}
 use Rattle.nv_flatten.specs.inner.Symbols.{Symbol, Word, Truth, Tuple, Record, Symbols, no_symbols, symbol_and, NamedSymbols, no_named_symbols, named_symbol_and, SymbolScope, operands, all_operands, named_operands, form, forms, named_forms, value_in, values_in, named_values_in, Fits, AllFit, NamedFit, IsOlder, AreOlder, Keeps, ScopeFits, ScopeOlder, scope_in, vars_of}
 use Rattle.nv_flatten.specs.inner.Soundness.{AreWords, ScopeWords, value_ty, value_tys, named_value_tys, scope_tys}
 use Rattle.nv_flatten.specs.inner.Whole.{Whole}
 use Rattle.nv_flatten.specs.inner.Simulation.{Names, Extends, Setting, Begins, Done}
-use Rattle.flat_ir.proofs.Steps.{steps_do-append}
 
 -- ---- lists one after another
 pub all-left : {A : Type 0} (P : A → Type 0) (xs ys : List A) → All P (xs ++ ys) → All P xs

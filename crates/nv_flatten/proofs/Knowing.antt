@@ -1,18 +1,16 @@
 -- What is known behind some declarations of a program without faults.
 use Rattle.std.proofs.Common.{◌≡◌, ◌∙◌, refl, sym, ap, subst, ℕ, zero, suc, ◌+◌, ◌≤◌, Bool, true, false, not, ◌||◌, List, [], ◌∷◌, ◌++◌, map, length, All, Some, None, bytes_eq, append_assoc, append-nil, arith, if◌then◌else◌}
 use Rattle.std.specs.Prelude.{nat_lt, slice_get, replicate}
-use Rattle.std.proofs.lemmas.Bool.{ltb-false, or_parts}
-use Rattle.nv_ast.specs.declared.token.Span.{Span}
+use Rattle.std.proofs.lemmas.Bool.{ltb-false}
 use Rattle.nv_ast.specs.Tests.{where_true, is_among, names_of, look_up, value_at}
 use Rattle.nv_ast.specs.Outline.{OutlineTree, PartsOutline, no_named_outlines, Layouts, outline, IsSound}
 use Rattle.nv_ast.specs.Tree.{TypeTree, WordType, BoolType, PackedType, UnpackedType, TupleType, RecordType, TypeTrees, no_types, type_and, NamedTypes, no_named_types, named_type_and, NamedLayout, FunTree, DeclTree, LayoutDecl, ExceptionDecl, GroupDecl}
 use Rattle.nv_ast.specs.Types.{TupleTy, RecordTy, Tys, ty_and, named_ty_and, type_of, types_of, named_types_of, packed_ty, unpacked_ty, total_words}
 use Rattle.nv_ast.specs.Scope.{Signature, signature, signatures}
-use Rattle.nv_ast.specs.Faults.{at_span, type_faults, types_faults, named_types_faults, too_large, no_layout, twice_in_type, type_names, signature_faults, signatures_faults}
+use Rattle.nv_ast.specs.Faults.{type_faults, types_faults, named_types_faults, too_large, no_layout, twice_in_type, type_names, signature_faults, signatures_faults}
 use Rattle.nv_meaning.specs.Meaning.{Declared, with_decl, with_decls, function_in}
 use Rattle.nv_meaning.specs.Running.{number_from}
 use Rattle.nv_meaning.specs.inner.Tables.{place_from}
-use Rattle.std.proofs.lemmas.List.{map-append, length-append, length-replicate}
 use Rattle.nv_flatten.proofs.NoFaults.{some-same, none-left, none-right, no-kinds}
 
 -- ---- no faults

@@ -9,7 +9,7 @@ use Rattle.nv_ast.specs.Types.{Ty, TupleTy, RecordTy, Tys, no_tys, ty_and, named
 use Rattle.nv_ast.specs.Scope.{Place, inside}
 use Rattle.nv_ast.specs.Typing.{type_at, types_at, named_types_at, and_ty, and_named_ty}
 use Rattle.nv_ast.specs.Faults.{Wanted, faults, list_faults, named_faults, node_faults, a_value}
-use Rattle.nv_meaning.specs.Values.{Value, Values, no_values, value_and, NamedValues, no_named_values, named_value_and}
+use Rattle.nv_meaning.specs.Values.{Value, Values, value_and, NamedValues, named_value_and}
 use Rattle.nv_meaning.specs.Values as meaning
 use Rattle.nv_meaning.specs.Running.{Running, Result, Gives, Raises, Stops, Results, GiveAll, Breaks, NamedResults, GiveNamed, BreaksNamed, then_more, then_named, before_rest, before_named}
 use Rattle.nv_meaning.specs.Meaning.{eval, eval_all, eval_named}

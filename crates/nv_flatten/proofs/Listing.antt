@@ -8,9 +8,9 @@ use Rattle.nv_ast.specs.Outline.{Layouts, OutlineTree, PartsOutline, no_named_ou
 use Rattle.nv_ast.specs.Types.{Ty, WordTy, TupleTy, Tys, no_tys, ty_and, NamedTys, no_named_tys, named_ty_and, words, total_words, total_named_words, word_parts, words_ty, Forms, no_forms, form_and, RecordForm, ◌+++◌, form_of, record_forms, unpacked, unpacked_all}
 use Rattle.nv_meaning.specs.inner.Tables.{laid}
 use Rattle.nv_flatten.specs.declared.symbol.Symbol as code
-use Rattle.nv_flatten.specs.declared.symbol.Symbol.TheBlock.{Row_of-Symbol, end_of-Symbol, more_of-Symbol, items-the_row-Symbol, hidden-the_row-Symbol-0, items_hidden-the_row-Symbol-0, Row_of-Symbol-Record-0-2, end_of-Symbol-Record-0-2, more_of-Symbol-Record-0-2, items-the_row-Symbol-Record-0-2, hidden-the_row-Symbol-Record-0-2-1, items_hidden-the_row-Symbol-Record-0-2-1}
+use Rattle.nv_flatten.specs.declared.symbol.Symbol.TheBlock.{hidden-the_row-Symbol-0, items_hidden-the_row-Symbol-0, hidden-the_row-Symbol-Record-0-2-1, items_hidden-the_row-Symbol-Record-0-2-1}
 use Rattle.nv_flatten.specs.inner.Symbols.{Tuple, Record, Symbols, no_symbols, symbol_and, NamedSymbols, no_named_symbols, named_symbol_and, SymbolScope, fresh, all_fresh, named_fresh, numbers_from, params_bound}
-use Rattle.nv_flatten.specs.inner.View.{view, row_symbols, row_named_symbols, list_symbols, list_named_symbols, Named, scope_of}
+use Rattle.nv_flatten.specs.inner.View.{view, list_symbols, list_named_symbols, Named, scope_of}
 use Rattle.nv_flatten.specs.inner.Fields.{◌++_symbols◌}
 use Rattle.nv_flatten.proofs.Rows.{symbols-row, fields-row}
 

@@ -1,7 +1,6 @@
 -- Symbolic values in lists: what is said of a list as far as a loop has come.
-use Rattle.std.proofs.Common.{◌≡◌, ◌∙◌, refl, ap, sym, ℕ, zero, suc, ◌+◌, ◌<◌, ◌≤◌, arith, List, [], ◌∷◌, ◌++◌, take, drop, length, get_or, append_assoc, append-nil, add-one}
+use Rattle.std.proofs.Common.{◌≡◌, ◌∙◌, refl, ap, sym, ℕ, ◌+◌, ◌<◌, ◌≤◌, arith, List, [], ◌∷◌, ◌++◌, take, length, get_or, append_assoc, append-nil}
 use Rattle.std.proofs.Math.Seq.{drop-cons}
-use Rattle.std.proofs.lemmas.List.{take_more}
 use Rattle.nv_base.specs.declared.term.Atom.{Atom}
 use Rattle.nv_base.specs.declared.term.Atom.TheVariants.{Var}
 use Rattle.nv_ast.specs.Types.{words, total_words, total_named_words}
@@ -12,7 +11,6 @@ use Rattle.nv_flatten.specs.inner.View.{Named, view, list_symbols, list_named_sy
 use Rattle.nv_flatten.specs.inner.Code.{variables}
 use Rattle.nv_flatten.proofs.Fresh.{numbers-append, variables-append}
 use Rattle.nv_layout.proofs.Lists.{take_item}
-use Rattle.nv_meaning.proofs.Lists.{dropped, dropped-all}
 
 -- a copy that a loop makes
 pub copied-item : {A : Type 0} (done new xs : List A) (i : ℕ) (x : A) → i < length xs → x ≡ get_or xs i x → done ≡ take i xs → new ≡ done ++ x ∷ [] → new ≡ take (i + 1) xs

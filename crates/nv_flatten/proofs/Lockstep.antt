@@ -8,13 +8,12 @@ use Rattle.nv_base.specs.Memories.{Memories, HasSizes}
 use Rattle.nv_base.specs.Meanings.{KeepsOutcomes, seen, AreEqual}
 use Rattle.nv_base.specs.declared.outcome.Outcome.TheVariants as outcome
 use Rattle.nv_base.proofs.Same.{same_seen}
-use Rattle.nv_ast.specs.Tree.{Tree, NumberTree, TruthTree, VarTree, ParenTree, TupleTree, FieldsTree, DotTree, InvertTree, NegateTree, BinaryTree, ShiftTree, CallTree, UnpackTree, PackTree, RaiseTree, IfTree, TryTree, FetchTree, BlockTree, FunTree, ProgramTree, span_of}
-use Rattle.nv_ast.specs.Tests.{look_up}
-use Rattle.nv_ast.specs.Types.{Ty, WordTy, BoolTy, Tys, type_of, named_types_of, words, total_words, total_named_words, some_named_bool}
+use Rattle.nv_ast.specs.Tree.{FunTree, ProgramTree}
+use Rattle.nv_ast.specs.Types.{Ty, Tys, type_of, named_types_of, words, total_words, total_named_words, some_named_bool}
 use Rattle.nv_ast.specs.Sizes.{main_words}
-use Rattle.nv_ast.specs.Scope.{Known, Place, inside, with_vars, plain_tys, param_vars, bind_raised, signature}
-use Rattle.nv_ast.specs.Typing.{type_at, operand_ty, vars_behind}
-use Rattle.nv_ast.specs.Faults.{Wanted, a_value, anything, of_type, same_as, faults, list_faults, named_faults, statements_faults, node_faults, low_kinds, other_type, at_span, raised_kinds, wanted_arguments, wanted_packed, wanted_unpacked, params_of, named_types_faults, type_faults, type_names, variable_twice, wide_main, program_faults, main_name}
+use Rattle.nv_ast.specs.Scope.{Known, Place, plain_tys, param_vars, signature}
+use Rattle.nv_ast.specs.Typing.{type_at}
+use Rattle.nv_ast.specs.Faults.{Wanted, same_as, named_types_faults, type_faults, type_names, variable_twice, wide_main, program_faults, main_name}
 use Rattle.nv_meaning.specs.Values.{Values, values_from, words_of, all_words}
 use Rattle.nv_meaning.specs.Running.{Running, Result, Gives, Raises, Stops, taken, closed}
 use Rattle.nv_meaning.specs.Meaning.{Calls, eval, enter, entered, calls_within, function_in, run_main, source}
@@ -30,10 +29,10 @@ use Rattle.nv_flatten.specs.inner.Made.{params_in, entry, IsMade, AllMade, IsCom
 use Rattle.flat_ir.specs.Reached as flattened
 use Rattle.nv_flatten.proofs.Fresh.{fresh-values, all-fresh-fit, numbers-length}
 use Rattle.nv_flatten.proofs.Sound.{typed-eval}
-use Rattle.nv_flatten.proofs.Knowing.{not_where, where_not, function-named}
+use Rattle.nv_flatten.proofs.Knowing.{not_where, function-named}
 use Rattle.nv_flatten.proofs.Bodies.{IsBody, bodies, narrow-raised, has-main}
 use Rattle.nv_flatten.proofs.Entering.{type-same, word-count, all-word-count, entered-types, entered-words, params-values, params-types, params-fit, params-older, arguments-scope, from-types, all-from-words, plain-bool, take-whole}
-use Rattle.nv_flatten.proofs.NoFaults.{some-same, none-left, none-right, no-kinds, node-of}
+use Rattle.nv_flatten.proofs.NoFaults.{some-same, none-right, no-kinds}
 use Rattle.nv_flatten.proofs.WellTypes.{right-of, plain-words}
 
 -- ---- an expression without faults has a type that is right

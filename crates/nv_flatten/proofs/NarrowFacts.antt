@@ -1,28 +1,21 @@
 -- What the bounds of narrow code stand on: written names, operands, and needs.
-use Rattle.std.proofs.Common.{◌≡◌, ℕ, zero, suc, ◌+◌, ◌≤◌, nat_eq, Bool, true, false, if◌then◌else◌, List, [], ◌∷◌, ◌++◌, refl, sym, ap, subst, ◌∙◌, append_assoc, length, Option, Some, None, option_map, bytes_eq, arith}
+use Rattle.std.proofs.Common.{◌≡◌, ℕ, ◌+◌, ◌≤◌, Bool, true, false, if◌then◌else◌, List, [], ◌∷◌, ◌++◌, refl, sym, ap, subst, ◌∙◌, append_assoc, length, Option, Some, None, option_map, bytes_eq, arith}
 use Rattle.std.proofs.lemmas.List.{length-append}
-use Rattle.nv_base.specs.declared.term.Atom.{Atom}
 use Rattle.nv_base.specs.Words.{atom_vars}
 use Rattle.nv_ast.specs.Tree.{Tree, NumberTree, TruthTree, VarTree, ParenTree, TupleTree, FieldsTree, DotTree, InvertTree, NegateTree, BinaryTree, ShiftTree, CallTree, UnpackTree, PackTree, RaiseTree, IfTree, TryTree, FetchTree, BlockTree}
-use Rattle.nv_ast.specs.Types.{Ty, WordTy, TupleTy, words, total_words, total_named_words, words_of_value, words_ty, word_parts}
+use Rattle.nv_ast.specs.Types.{Ty, words, total_words, total_named_words, words_of_value}
 use Rattle.nv_ast.specs.Scope.{Known, Vars, Place}
 use Rattle.nv_ast.specs.Typing.{type_at, vars_behind}
 use Rattle.nv_ast.specs.Faults.{Wanted, faults}
 use Rattle.nv_ast.specs.Sizes.{GroupNumbers, words_at, need}
 use Rattle.nv_base.specs.Sets.{all_vars}
-use Rattle.nv_base.proofs.Sets.{same-number}
 use Rattle.nv_flatten.specs.inner.Code.{variables, is_given, form_or_unit}
-use Rattle.nv_flatten.specs.inner.Symbols.{Symbol, Symbols, NamedSymbols, Word, Truth, Tuple, Record, no_symbols, symbol_and, no_named_symbols, named_symbol_and, SymbolScope, operands, all_operands, named_operands, form, forms, named_forms, numbers_from, word_symbols, words_symbol, word_operand, truth_operand, fields_of, field_named, symbol_in}
+use Rattle.nv_flatten.specs.inner.Symbols.{Symbol, Symbols, NamedSymbols, Word, Truth, Tuple, Record, no_symbols, symbol_and, no_named_symbols, named_symbol_and, SymbolScope, operands, all_operands, named_operands, form, forms, named_forms, word_operand, truth_operand, fields_of, field_named, symbol_in}
 use Rattle.nv_flatten.specs.inner.Whole.{Whole, Stands}
 use Rattle.nv_flatten.specs.inner.Simulation.{HasForm}
 use Rattle.nv_flatten.specs.inner.Narrow.{IsWithin, written}
 use Rattle.nv_flatten.proofs.Within.{itself, of-none, into-left, into-right, through, all-vars-append, vars-length}
 use Rattle.nv_flatten.proofs.Sound.{value-has-type, given-has-type}
-use Rattle.nv_flatten.proofs.NoFaults.{none-left, none-right}
-use Rattle.nv_flatten.proofs.Fresh.{numbers-length}
-use Rattle.nv_flatten.proofs.Listing.{parts-words}
-use Rattle.nv_flatten.proofs.PackedWords.{parts-operands, symbol-operands}
-use Rattle.nv_flatten.proofs.WellBasics.{words-ty-words, words-if}
 
 -- ---- lists without an element
 

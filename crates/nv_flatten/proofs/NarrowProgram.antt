@@ -1,5 +1,5 @@
 -- The flat program of a typed one is at most as wide as the program's room.
-use Rattle.std.proofs.Common.{◌≡◌, ◌∙◌, refl, sym, ap, subst, ℕ, ◌+◌, ◌≤◌, max, Bool, true, false, List, [], ◌∷◌, ◌++◌, length, Option, Some, None, bytes_eq, if◌then◌else◌, arith}
+use Rattle.std.proofs.Common.{◌≡◌, ◌∙◌, refl, sym, ap, subst, ℕ, ◌+◌, ◌≤◌, max, true, List, [], ◌∷◌, ◌++◌, length, Option, Some, None, bytes_eq, if◌then◌else◌, arith}
 use Rattle.std.specs.Prelude.{slice_get}
 use Rattle.std.proofs.lemmas.Bool.{ltb-true}
 use Rattle.nv_ast.specs.Tests.{value_at}
@@ -15,7 +15,7 @@ use Rattle.nv_base.specs.Measures.{operands_wide}
 use Rattle.flat_ir.specs.Wide.{Widths, code_wide, function_wide, wide, main_wide, AreWidths}
 use Rattle.nv_base.proofs.Sets.{different-length}
 use Rattle.flat_ir.proofs.Widths.{main-bounded}
-use Rattle.nv_flatten.specs.inner.Symbols.{Symbol, NamedSymbols, no_named_symbols, named_symbol_and, SymbolScope, operands, named_operands, named_fresh, symbol_in, params_bound}
+use Rattle.nv_flatten.specs.inner.Symbols.{NamedSymbols, no_named_symbols, named_symbol_and, SymbolScope, operands, named_operands, named_fresh, symbol_in, params_bound}
 use Rattle.nv_flatten.specs.inner.Whole.{Whole, whole_of, group_of, Stands}
 use Rattle.nv_flatten.specs.inner.Simulation.{Names}
 use Rattle.nv_flatten.specs.inner.Made.{params_in, entry}
@@ -23,7 +23,7 @@ use Rattle.nv_flatten.specs.inner.Narrow.{IsWithin, written, NarrowCode, CallsNa
 use Rattle.nv_flatten.proofs.Fresh.{fresh-form}
 use Rattle.nv_flatten.proofs.Entering.{params-types}
 use Rattle.nv_flatten.proofs.Bodies.{has-main}
-use Rattle.nv_flatten.proofs.Within.{itself, of-none, one, both, unions, into-left, into-right, together, through, behind-same, at-most, all-vars-append, vars-length}
+use Rattle.nv_flatten.proofs.Within.{itself, of-none, one, both, unions, together, through, behind-same, at-most, all-vars-append, vars-length}
 use Rattle.nv_flatten.proofs.NarrowFacts.{words-of-named, need-least}
 use Rattle.nv_flatten.proofs.NarrowNeeds.{IsNeeded, need_of_group, needed, need-of}
 use Rattle.nv_flatten.proofs.NoFaults.{some-same}

@@ -1,6 +1,6 @@
 -- The value of each kind of expression is well formed where its parts are.
-use Rattle.std.proofs.Common.{◌≡◌, ℕ, zero, suc, ◌+◌, ◌≤◌, Bool, true, false, not, nat_le, nat_lt, ◌&&◌, ◌||◌, List, [], ◌∷◌, ◌++◌, refl, sym, ap, subst, ◌∙◌, Option, Some, length, if◌then◌else◌, bytes_eq, ◌⊎◌, inl, inr, arith}
-use Rattle.std.proofs.lemmas.Bool.{and_from, not-false, ltb-false, le-leb}
+use Rattle.std.proofs.Common.{◌≡◌, ℕ, ◌+◌, ◌≤◌, Bool, true, not, nat_lt, ◌&&◌, ◌||◌, List, [], ◌∷◌, ◌++◌, refl, sym, ap, subst, ◌∙◌, Some, length, if◌then◌else◌, ◌⊎◌, inl, inr, arith}
+use Rattle.std.proofs.lemmas.Bool.{and_from, not-false, ltb-false}
 use Rattle.nv_base.specs.declared.term.Mem.{Mem}
 use Rattle.nv_base.specs.declared.term.Atom.{Atom}
 use Rattle.nv_base.specs.declared.term.Atom.TheVariants.{Var, Lit}
@@ -12,7 +12,6 @@ use Rattle.nv_base.specs.declared.term.Primitive.TheVariants.{Una as UnaOf, Bin 
 use Rattle.nv_ast.specs.declared.token.Span.{Span}
 use Rattle.nv_ast.specs.declared.tree.Op.{Op}
 use Rattle.nv_ast.specs.declared.tree.ShiftOp.{ShiftOp}
-use Rattle.nv_ast.specs.declared.tree.ShiftOp.TheVariants.{Left, Right, Rotate}
 use Rattle.nv_ast.specs.Outline.{outline, IsSound}
 use Rattle.nv_ast.specs.Tree.{NamedLayout, Tree, NumberTree, TruthTree, VarTree, ParenTree, TupleTree, FieldsTree, DotTree, InvertTree, NegateTree, BinaryTree, ShiftTree, UnpackTree, PackTree, FetchTree, BlockTree, Trees, NamedTrees, StatementTrees}
 use Rattle.nv_ast.specs.Tests.{is_among, names_of, look_up}
@@ -183,9 +182,6 @@ shift-well w old names low mid high scope sp op e n ss ts v x a s = record {
 }
 
 -- ---- layouts
-found-if : {A : Type 0} (b : Bool) (a : A) (o : Option A) (r : Bool) → (b || r) ≡ true → (r ≡ true → (u : A) × (o ≡ Some u)) → (u : A) × ((if b then Some a else o) ≡ Some u)
-found-if true a o r e h = (a, refl)
-found-if false a o r e h = h e
 
 pub unpack-well : (w : Whole) (old names : Names) (low mid high : ℕ) (scope : SymbolScope) (sp : Span) (l : List ℕ) (e : Tree) (ss ts : List Step) (v u : Symbol) → IsWellValue w old names low mid scope e ss v → HasForm w scope e v
     → (IsSound (outline w.declared.layouts (NamedLayout l)) → length (operands v) ≡ packed_words (outline w.declared.layouts (NamedLayout l)) → AreWellLets mid high (operands v) ts (operands u))

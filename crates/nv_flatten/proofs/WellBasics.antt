@@ -1,8 +1,8 @@
 -- Known variables, rising numbers and raised exceptions along lists.
 use Rattle.std.proofs.Common.{◌≡◌, ℕ, zero, suc, ◌+◌, ◌<◌, ◌≤◌, Bool, true, false, not, nat_eq, ◌&&◌, ◌||◌, List, [], ◌∷◌, ◌++◌, refl, sym, ap, ◌∙◌, length, bytes_eq, if◌then◌else◌, ◌==◌, arith}
-use Rattle.std.proofs.lemmas.Bool.{and_parts, and_from, or_right, or_from, eqb-true, eq-eqb, false_from_ne_true, not_from_false}
+use Rattle.std.proofs.lemmas.Bool.{and_parts, and_from, or_right, or_from, eqb-true, false_from_ne_true, not_from_false}
 use Rattle.nv_base.specs.declared.term.Atom.{Atom}
-use Rattle.nv_base.specs.declared.term.Atom.TheVariants.{Var, Lit}
+use Rattle.nv_base.specs.declared.term.Atom.TheVariants.{Var}
 use Rattle.nv_ast.specs.Types.{WordTy, TupleTy, words, total_words, total_named_words, word_parts, words_ty}
 use Rattle.flat_ir.specs.declared.spine.Step.{Step}
 use Rattle.nv_base.specs.Sets.{is_in, all_different, Within}
@@ -10,17 +10,14 @@ use Rattle.nv_base.specs.Access.{is_known, all_known}
 use Rattle.flat_ir.specs.Pieces.{new_vars, known_behind}
 use Rattle.nv_base.proofs.Sets.{in-append}
 use Rattle.nv_flatten.specs.inner.Code.{variables}
-use Rattle.nv_flatten.specs.inner.Symbols.{Symbol, Symbols, NamedSymbols, Word, Truth, Tuple, Record, no_symbols, symbol_and, no_named_symbols, named_symbol_and, SymbolScope, operands, all_operands, named_operands, form, forms, named_forms, numbers_from, word_operand, truth_operand, fields_of, field_named, symbol_in, words_symbol, word_symbols, bound, all_bound}
+use Rattle.nv_flatten.specs.inner.Symbols.{Symbol, Symbols, NamedSymbols, Word, Truth, Tuple, Record, no_symbols, symbol_and, no_named_symbols, named_symbol_and, SymbolScope, operands, all_operands, named_operands, form, forms, named_forms, numbers_from, word_operand, truth_operand, fields_of, field_named, symbol_in, bound, all_bound}
 use Rattle.nv_ast.specs.Tree.{PatternTree, NamePattern, AnyPattern, TuplePattern, PatternTrees, no_patterns, pattern_and}
 use Rattle.nv_flatten.specs.inner.Whole.{Whole}
 use Rattle.nv_flatten.specs.inner.Well.{ScopeKnown, Rises, RaisedMatch}
 use Rattle.std.proofs.lemmas.List.{length-append}
-use Rattle.nv_flatten.proofs.NoFaults.{none-left, none-right}
-use Rattle.nv_flatten.proofs.Fresh.{numbers-length}
 use Rattle.nv_flatten.proofs.Listing.{parts-words}
-use Rattle.nv_flatten.proofs.PackedWords.{parts-operands, symbol-operands}
 use Rattle.nv_flatten.proofs.Following.{eq-same}
-use Rattle.nv_base.proofs.Operands.{atom-more, atoms-more}
+use Rattle.nv_base.proofs.Operands.{atoms-more}
 
 -- ---- lists of nothing
 

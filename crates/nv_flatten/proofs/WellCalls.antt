@@ -1,5 +1,5 @@
 -- Calls, raises, blocks and named values are well formed where the parts are.
-use Rattle.std.proofs.Common.{◌≡◌, ℕ, zero, suc, ◌+◌, ◌<◌, ◌≤◌, ◌==◌, Bool, true, false, not, nat_le, nat_lt, ◌&&◌, List, [], ◌∷◌, ◌++◌, refl, sym, ap, subst, ◌∙◌, Option, Some, None, option_map, length, slice_get, if◌then◌else◌, arith}
+use Rattle.std.proofs.Common.{◌≡◌, ℕ, ◌+◌, ◌<◌, ◌≤◌, ◌==◌, Bool, true, false, not, nat_le, nat_lt, ◌&&◌, List, [], ◌∷◌, ◌++◌, refl, sym, ap, subst, ◌∙◌, Option, Some, None, option_map, length, slice_get, if◌then◌else◌, arith}
 use Rattle.std.proofs.lemmas.Bool.{and_from, eq-eqb, le-leb, ltb-true}
 use Rattle.nv_ast.specs.declared.token.Span.{Span}
 use Rattle.nv_ast.specs.Tree.{Tree, ParenTree, CallTree, RaiseTree, BlockTree, StatementTrees, Trees}
@@ -30,7 +30,7 @@ use Rattle.nv_flatten.proofs.WellNames.{called-more, code-called-more, code-call
 use Rattle.nv_flatten.proofs.WellSteps.{steps-names, code-behind, code-inner}
 use Rattle.nv_flatten.proofs.WellArms.{stands-behind}
 use Rattle.nv_flatten.proofs.WellEnds.{gives-words, raised-from-one}
-use Rattle.nv_flatten.proofs.NoFaults.{none-left, none-right, unset, some-same}
+use Rattle.nv_flatten.proofs.NoFaults.{none-left, none-right, unset}
 use Rattle.nv_flatten.proofs.CallArms.{get-append}
 use Rattle.nv_flatten.proofs.Following.{stands-inside}
 

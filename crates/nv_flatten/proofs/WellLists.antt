@@ -1,7 +1,6 @@
 -- Expressions one after another, statements and conditions.
-use Rattle.std.proofs.Common.{◌≡◌, ℕ, ◌+◌, ◌<◌, ◌≤◌, Bool, true, false, not, ◌&&◌, List, [], ◌∷◌, ◌++◌, refl, sym, ap, subst, ◌∙◌, append_assoc, append-nil, Option, Some, length, take, get_or, if◌then◌else◌, arith}
+use Rattle.std.proofs.Common.{◌≡◌, ℕ, ◌+◌, ◌<◌, ◌≤◌, Bool, true, false, not, ◌&&◌, List, [], ◌∷◌, ◌++◌, refl, sym, ap, subst, ◌∙◌, append_assoc, append-nil, Option, Some, length, if◌then◌else◌, arith}
 use Rattle.std.proofs.lemmas.Bool.{and_from, not-false}
-use Rattle.std.proofs.lemmas.List.{take_more}
 use Rattle.nv_base.specs.declared.term.Mem.{Mem}
 use Rattle.nv_base.specs.declared.term.Atom.{Atom}
 use Rattle.nv_base.specs.declared.term.Atom.TheVariants.{Lit}
@@ -12,7 +11,7 @@ use Rattle.nv_ast.specs.declared.tree.Stmt.{Stmt}
 use Rattle.nv_ast.specs.ExprView.{tree_of, list_trees, list_named_trees, statement_tree, list_statements}
 use Rattle.nv_ast.specs.Tree.{Tree, ParenTree, NegateTree, BinaryTree, Trees, NamedTrees, PatternTree, LetStatement, StoreStatement, StatementTrees, no_statements, statement_and}
 use Rattle.nv_ast.specs.Types.{Ty, WordTy, BoolTy, words, words_of_value}
-use Rattle.nv_ast.specs.Scope.{Known, Vars, Place, inside, with_vars, bind_value, bind}
+use Rattle.nv_ast.specs.Scope.{Known, Vars, Place, inside, with_vars}
 use Rattle.nv_ast.specs.Typing.{type_at, vars_after, vars_behind, operand_ty}
 use Rattle.nv_ast.specs.Faults.{Wanted, a_value, of_type, wanted_stored, faults, list_faults, named_faults, statement_faults, statements_faults, wrong_access, wrong_scratch, can_move}
 use Rattle.flat_ir.specs.declared.spine.Step.{Step}
@@ -31,7 +30,6 @@ use Rattle.nv_flatten.proofs.WellSteps.{steps-none, steps-names, steps-knowing, 
 use Rattle.nv_flatten.proofs.WellArms.{two-values}
 use Rattle.nv_flatten.proofs.NoFaults.{none-left, none-right, no-kinds, unset}
 use Rattle.nv_flatten.proofs.Following.{stands-inside}
-use Rattle.nv_layout.proofs.Lists.{take_item}
 
 nil-both : {A : Type 0} (xs ys : List A) → xs ≡ [] → ys ≡ [] → xs ++ ys ≡ []
 nil-both xs ys e f = ap (λ l. l ++ ys) e ∙ f
@@ -95,8 +93,6 @@ fields-more w old names more low mid high scope xs e ss ts vs x v h a b = record
 }
 
 -- ---- statements
-bind-formed : (q : PatternTree) (o : Option Ty) (t : Ty) (vars : _) → o ≡ Some t → bind_value q o vars ≡ bind q t vars
-bind-formed q o t vars e = ap (λ x. bind_value q x vars) e
 
 pub let-well : (w : Whole) (old names : Names) (low high : ℕ) (scope : SymbolScope) (sp : Span) (q : PatternTree) (e : Tree) (ss : List Step) (v : Symbol) → IsWellValue w old names low high scope e ss v
     → IsWellStated w old names low high scope (statement_and (LetStatement sp q e) no_statements) ss (bound q v scope)

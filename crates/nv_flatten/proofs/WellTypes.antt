@@ -1,23 +1,20 @@
 -- What an expression without faults says of its parts, for the form of its code.
-use Rattle.std.proofs.Common.{◌≡◌, ℕ, ◌+◌, Bool, true, false, not, nat_lt, ◌&&◌, List, [], ◌∷◌, ◌++◌, refl, sym, ap, subst, ◌∙◌, Option, Some, None, is_none, bytes_eq, arith}
+use Rattle.std.proofs.Common.{◌≡◌, ℕ, ◌+◌, true, false, not, nat_lt, ◌&&◌, [], ◌∷◌, ◌++◌, refl, sym, ap, subst, ◌∙◌, Option, Some, None, is_none, bytes_eq, arith}
 use Rattle.std.proofs.lemmas.Bool.{and_parts, not-false, ltb-false, le-leb, false≢true}
 use Rattle.nv_base.specs.declared.term.Mem.{Mem}
 use Rattle.nv_base.specs.declared.term.Mem.TheVariants.{Sram, Sdram, Scratch}
 use Rattle.nv_base.specs.declared.term.Atom.TheVariants.{Lit}
-use Rattle.nv_ast.specs.declared.token.Span.{Span}
 use Rattle.nv_ast.specs.Tree.{Tree, NumberTree, TruthTree, VarTree, ParenTree, TupleTree, FieldsTree, DotTree, InvertTree, NegateTree, BinaryTree, ShiftTree, CallTree, UnpackTree, PackTree, RaiseTree, IfTree, TryTree, FetchTree, BlockTree, span_of}
-use Rattle.nv_ast.specs.Tests.{where_true, look_up}
+use Rattle.nv_ast.specs.Tests.{where_true}
 use Rattle.nv_ast.specs.Types.{Ty, WordTy, BoolTy, TupleTy, RecordTy, Tys, no_tys, ty_and, NamedTys, no_named_tys, named_ty_and, same_type, same_types, same_named_types, words, total_words, total_named_words}
-use Rattle.nv_ast.specs.Scope.{Place, inside, with_vars, plain_tys, bind_raised}
-use Rattle.nv_ast.specs.Typing.{type_at, operand_ty, vars_behind}
-use Rattle.nv_ast.specs.Faults.{Wanted, anything, of_type, same_as, raised_kinds, at_span, faults, node_faults, low_kinds, middle_kinds, other_type, no_value, too_large_value, wrong_scratch, can_move, statements_faults}
+use Rattle.nv_ast.specs.Scope.{Place, inside, plain_tys}
+use Rattle.nv_ast.specs.Typing.{type_at}
+use Rattle.nv_ast.specs.Faults.{Wanted, faults, low_kinds, middle_kinds, other_type, no_value, too_large_value, wrong_scratch, can_move}
 use Rattle.nv_base.specs.Access as flat
-use Rattle.nv_flatten.specs.inner.Symbols.{Symbol, SymbolScope, Word, word_operand}
-use Rattle.nv_flatten.specs.inner.Whole.{Whole, Stands}
+use Rattle.nv_flatten.specs.inner.Symbols.{Symbol, Word, word_operand}
 use Rattle.nv_flatten.specs.inner.Code.{is_given, is_comparison}
 use Rattle.nv_flatten.specs.inner.Well.{IsLiteral}
 use Rattle.nv_flatten.proofs.NoFaults.{none-left, none-right, no-kinds, unset, node-of}
-use Rattle.nv_flatten.proofs.Following.{stands-inside}
 
 -- ---- kinds
 

@@ -1,6 +1,6 @@
 -- Bits that are written into words, some behind others.
-use Rattle.std.proofs.Common.{◌≡◌, ◌∙◌, refl, ap, sym, subst, ℕ, zero, suc, ◌+◌, ◌-◌, ◌*◌, ◌/◌, ◌%◌, ◌<◌, ◌≤◌, ◌^◌, Bool, true, false, if◌then◌else◌, bytes_eq, List, [], ◌∷◌, ◌++◌, length, get_or, set, replicate, append_assoc, append-nil, length-set, arith, bit_or}
-use Rattle.std.proofs.lemmas.List.Elements.{All-nil, All-cons, All-head, All-tail, All-set, All-get_or}
+use Rattle.std.proofs.Common.{◌≡◌, ◌∙◌, refl, ap, sym, subst, ℕ, zero, suc, ◌+◌, ◌-◌, ◌*◌, ◌/◌, ◌%◌, ◌<◌, ◌≤◌, ◌^◌, Bool, true, if◌then◌else◌, bytes_eq, List, [], ◌∷◌, ◌++◌, length, get_or, set, replicate, append_assoc, append-nil, length-set, arith, bit_or}
+use Rattle.std.proofs.lemmas.List.Elements.{All-cons, All-head, All-tail, All-set, All-get_or}
 use Rattle.std.specs.Int.Bits.{or_zero_l}
 use Rattle.std.proofs.lemmas.Nat.{or_of_32}
 use Rattle.nv_base.specs.declared.term.Atom.{Atom}
@@ -10,22 +10,22 @@ use Rattle.nv_base.specs.declared.term.Primitive.TheVariants.{Bin as BinOf}
 use Rattle.nv_base.specs.Words.{Env, atom_word, atom_words, shifted_left, shifted_right}
 use Rattle.nv_ast.specs.Bits.{bits, packed, replaced}
 use Rattle.nv_layout.proofs.BitLists.{length-packed}
-use Rattle.nv_meaning.specs.Values.{Value, NamedValues, no_named_values, named_value_and, word_of}
+use Rattle.nv_meaning.specs.Values.{Value, word_of}
 use Rattle.nv_meaning.specs.Values as meaning
 use Rattle.nv_meaning.proofs.Packed.{replaced-zeros}
 use Rattle.nv_meaning.proofs.Writing.{written-more, blank-after}
 use Rattle.flat_ir.specs.declared.spine.Step.{Step}
 use Rattle.flat_ir.specs.declared.spine.Step.TheVariants.{Let}
 use Rattle.nv_flatten.specs.inner.Soundness.{AreWords}
-use Rattle.nv_flatten.specs.inner.Symbols.{Symbol, Word, Truth, Tuple, Record, NamedSymbols, no_named_symbols, named_symbol_and, operands, named_operands, value_in, named_values_in, Fits, NamedFit, IsOlder, AreOlder, word_operand, fields_of, field_named}
+use Rattle.nv_flatten.specs.inner.Symbols.{Symbol, Word, Truth, Tuple, Record, NamedSymbols, no_named_symbols, named_symbol_and, operands, value_in, named_values_in, Fits, IsOlder, AreOlder, word_operand, fields_of, field_named}
 use Rattle.nv_flatten.specs.inner.Reads.{Makes, Writes, has_symbol}
-use Rattle.nv_flatten.proofs.Keeping.{older-later, keeps-operand, keeps-operands, keeps-value, keeps-fit, older-left, older-right}
+use Rattle.nv_flatten.proofs.Keeping.{older-later, keeps-operand, keeps-operands, keeps-value, keeps-fit}
 use Rattle.nv_flatten.proofs.Computing.{computes-none, computes-then, computes-so, older-two, words-two, makes-there, makes-let}
 use Rattle.nv_flatten.proofs.Leaves.{older-at, words-small, word-is}
 use Rattle.nv_flatten.proofs.Joining.{one-joined, two-joined}
 use Rattle.nv_base.proofs.WordLemmas.{length-words}
 use Rattle.nv_flatten.proofs.SoundWords.{one-word}
-use Rattle.nv_flatten.proofs.ValueArms.{field-value, among-older, field-older, among-fits, field-fits}
+use Rattle.nv_flatten.proofs.ValueArms.{field-value, field-older, field-fits}
 use Rattle.nv_flatten.proofs.Following.{one-older}
 
 -- ---- parts of a value
@@ -34,14 +34,6 @@ fields-values env (Word a) = refl
 fields-values env (Truth a) = refl
 fields-values env (Tuple ss) = refl
 fields-values env (Record fs) = refl
-
-choice-value : (b : Bool) (env : Env) (s r : Symbol) → (if b then value_in env s else value_in env r) ≡ value_in env (if b then s else r)
-choice-value true env s r = refl
-choice-value false env s r = refl
-
-field-value : (env : Env) (x : List ℕ) (fs : NamedSymbols) → meaning.field_named x (named_values_in env fs) ≡ value_in env (field_named x fs)
-field-value env x no_named_symbols = refl
-field-value env x (named_symbol_and y s fs) = ap (λ (v : Value). if bytes_eq x y then value_in env s else v) (field-value env x fs) ∙ choice-value (bytes_eq x y) env s (field_named x fs)
 
 has-value : (env : Env) (x : List ℕ) (fs : NamedSymbols) → meaning.has_field x (named_values_in env fs) ≡ has_symbol x fs
 has-value env x no_named_symbols = refl
@@ -53,16 +45,8 @@ part-there env x s = ap (meaning.has_field x) (fields-values env s) ∙ has-valu
 older-none : (n : ℕ) → AreOlder n (operands (Word (Lit 0)))
 older-none n = one-older n (Lit 0) tt
 
-choice-older : (b : Bool) (n : ℕ) (s r : Symbol) → AreOlder n (operands s) → AreOlder n (operands r) → AreOlder n (operands (if b then s else r))
-choice-older true n s r o p = o
-choice-older false n s r o p = p
-
 zero-fits : 0 < 2 ^ 32
 zero-fits = omega arith
-
-choice-fits : (b : Bool) (env : Env) (s r : Symbol) → Fits env s → Fits env r → Fits env (if b then s else r)
-choice-fits true env s r f g = f
-choice-fits false env s r f g = g
 
 -- ---- the word that a value is
 pub word-value : (env : Env) (s : Symbol) → word_of (value_in env (Word (word_operand s))) ≡ word_of (value_in env s)
