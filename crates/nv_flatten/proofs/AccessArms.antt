@@ -1,5 +1,5 @@
 -- Fetches, and packed values.
-use Rattle.std.proofs.Common.{◌≡◌, ◌∙◌, refl, ap, sym, subst, ℕ, zero, suc, ◌+◌, ◌≤◌, ◌==◌, ◌||◌, Bool, true, false, if◌then◌else◌, List, [], ◌∷◌, ◌++◌, length, length-append, Option, Some, None, option_map, bytes_eq, arith, rules, tests}
+use Rattle.std.proofs.Common.{◌≡◌, ◌∙◌, refl, ap, sym, subst, ℕ, zero, suc, ◌+◌, ◌≤◌, ◌==◌, ◌||◌, true, false, if◌then◌else◌, List, [], ◌∷◌, ◌++◌, length, length-append, Option, Some, None, option_map, arith, rules, tests}
 use Rattle.nv_base.specs.declared.term.Atom.{Atom}
 use Rattle.nv_base.specs.declared.term.Mem.{Mem}
 use Rattle.nv_base.specs.Words.{Env, atom_word, atom_words, assigned_all}
@@ -14,7 +14,7 @@ use Rattle.nv_ast.specs.Types.{WordTy, TupleTy, ty_and, words, total_words, tota
 use Rattle.nv_ast.specs.Scope.{Place, inside}
 use Rattle.nv_ast.specs.Typing.{type_at}
 use Rattle.nv_ast.specs.Faults.{Wanted, faults, node_faults, of_type, can_move, wrong_access, wrong_scratch, wanted_packed, wanted_unpacked}
-use Rattle.nv_meaning.specs.Values.{Value, word_of, words_of, words_value}
+use Rattle.nv_meaning.specs.Values.{Value, word_of, words_value}
 use Rattle.nv_meaning.specs.Values as meaning
 use Rattle.nv_meaning.specs.Packing.{value_at, unpacked_value, packed_value}
 use Rattle.nv_meaning.specs.Running.{Running, Gives, after_fetch, fetch}
@@ -22,17 +22,19 @@ use Rattle.flat_ir.specs.Running as flat
 use Rattle.flat_ir.specs.Meaning as code
 use Rattle.flat_ir.specs.Spine.{Act, step_does}
 use Rattle.flat_ir.specs.declared.spine.Step.{Step}
-use Rattle.nv_flatten.specs.Code.{Computes, variables}
-use Rattle.nv_flatten.specs.Symbols.{Symbol, Word, Truth, Tuple, Record, Symbols, no_symbols, symbol_and, NamedSymbols, no_named_symbols, named_symbol_and, SymbolScope, operands, all_operands, named_operands, form, forms, named_forms, value_in, Fits, AreOlder, word_operand, word_symbols, words_symbol, numbers_from}
-use Rattle.nv_flatten.specs.Runs.{flat_run, onward}
-use Rattle.nv_flatten.specs.Soundness.{AreWords}
-use Rattle.nv_flatten.specs.Whole.{Whole}
-use Rattle.nv_flatten.specs.Simulation.{Names, Done, IsValue}
+use Rattle.nv_flatten.specs.inner.Code.{Computes, variables}
+use Rattle.nv_flatten.specs.inner.Symbols.{Symbol, Word, Truth, Tuple, Record, Symbols, no_symbols, symbol_and, NamedSymbols, no_named_symbols, named_symbol_and, SymbolScope, operands, all_operands, named_operands, form, forms, named_forms, value_in, Fits, AreOlder, word_operand, word_symbols, words_symbol, numbers_from}
+use Rattle.nv_flatten.specs.inner.Runs.{flat_run, onward}
+use Rattle.nv_flatten.specs.inner.Soundness.{AreWords}
+use Rattle.nv_flatten.specs.inner.Whole.{Whole}
+use Rattle.nv_flatten.specs.inner.Simulation.{Names, Done, IsValue}
 use Rattle.nv_flatten.proofs.Keeping.{keeps-then, words-fit, are-words}
 use Rattle.nv_flatten.proofs.Fresh.{numbers-keep, numbers-older, words-read, words-read-fit}
-use Rattle.nv_flatten.proofs.NoFaults.{none-left, set, some-same, value-has-type, clean as is-clean, is-right, wanted-type}
+use Rattle.nv_flatten.proofs.NoFaults.{none-left, set, some-same, value-has-type, clean as is-clean, is-right, wanted-type, among-known}
 use Rattle.nv_flatten.proofs.Following.{stands-inside, word-of}
 use Rattle.nv_flatten.proofs.ValueArms.{unary}
+use Rattle.nv_flatten.proofs.PackedWords.{symbol-operands}
+use Rattle.nv_flatten.proofs.WellBasics.{words-ty-words}
 
 -- ---- how many operands a symbolic value has
 mutual
@@ -50,21 +52,11 @@ mutual
   named-count no_named_symbols = refl
   named-count (named_symbol_and x s fs) = length-append (operands s) (named_operands fs) ∙ ap (λ n. n + length (named_operands fs)) (operands-count s) ∙ ap (λ n. words (form s) + n) (named-count fs)
 
--- the type of so many words has so many
-parts-count : (n : ℕ) → total_words (word_parts n) ≡ n
-parts-count zero = refl
-parts-count (suc n) = ap (λ k. 1 + k) (parts-count n) ∙ omega arith
-
 not-one : (n : ℕ) → (suc (suc n) == 1) ≡ false
 not-one n = search (tests, rules, arith)
 
 many-words : (n : ℕ) → words_ty (suc (suc n)) ≡ TupleTy (word_parts (suc (suc n)))
 many-words n = ap (λ b. if b then WordTy else TupleTy (word_parts (suc (suc n)))) (not-one n)
-
-pub words-count : (n : ℕ) → words (words_ty n) ≡ n
-words-count zero = refl
-words-count (suc zero) = refl
-words-count (suc (suc n)) = ap words (many-words n) ∙ parts-count (suc (suc n))
 
 -- ---- some words as a symbolic value
 some-forms : (n k : ℕ) → forms (word_symbols (variables (numbers_from n k))) ≡ word_parts k
@@ -75,15 +67,6 @@ pub words-form : (n k : ℕ) → form (words_symbol (variables (numbers_from n k
 words-form n zero = refl
 words-form n (suc zero) = refl
 words-form n (suc (suc k)) = ap (λ ts. TupleTy ts) (some-forms n (suc (suc k))) ∙ sym (many-words k)
-
-some-operands : (as' : List Atom) → all_operands (word_symbols as') ≡ as'
-some-operands [] = refl
-some-operands (a ∷ as') = ap (λ l. a ∷ l) (some-operands as')
-
-pub words-operands : (as' : List Atom) → operands (words_symbol as') ≡ as'
-words-operands [] = refl
-words-operands (a ∷ []) = refl
-words-operands (a ∷ b ∷ as') = some-operands (a ∷ b ∷ as')
 
 -- ---- a fetch that may be
 may-fetch : (m : Mem) (n at : ℕ) (now : Running) → can_move m n ≡ true → fetch m n at now ≡ after_fetch m at (fetched m at n now.packet) now
@@ -123,25 +106,15 @@ module _ (w : Whole) (names : Names) (low high : ℕ) (scope : SymbolScope) (sp 
       ∙ ap (λ r. onward r next) (sym (may-fetch m n at last moves))
       ∙ ap (λ i. onward (fetch m n i last) next) (sym (word-of new s)))
       (record { by = λ own p wanted stands none t is. words-form high n ∙ some-same (words_ty n) t is })
-      (λ o. subst (λ l. AreOlder (high + n) l) (sym (words-operands (variables (numbers_from high n)))) (numbers-older (high + n) high n (omega arith)))
+      (λ o. subst (λ l. AreOlder (high + n) l) (sym (symbol-operands (variables (numbers_from high n)))) (numbers-older (high + n) high n (omega arith)))
 
 -- ---- a layout that is known
-chosen-name : {A : Type 0} (b : Bool) (a : A) (more : Bool) (o : Option A) → (more ≡ true → (c : A) × (o ≡ Some c)) → (b || more) ≡ true → (c : A) × ((if b then Some a else o) ≡ Some c)
-chosen-name true a more o h e = (a, refl)
-chosen-name false a more o h e = h e
-
-known-name : {A : Type 0} (x : List ℕ) (known : List (List ℕ × A)) → is_among x (names_of known) ≡ true → (a : A) × (look_up x known ≡ Some a)
-known-name x [] e = absurd (false-true e)
-  where
-    false-true : false ≡ true → ⊥
-    false-true q = cc
-known-name x ((y, a) ∷ known) e = chosen-name (bytes_eq x y) a (is_among x (names_of known)) (look_up x known) (known-name x known) e
 
 unpack-known : (p : Place) (wanted : Wanted) (sp : Span) (l : List ℕ) (a : Tree) → faults p wanted (UnpackTree sp l a) ≡ [] → (o : OutlineTree) × (look_up l p.known.layouts ≡ Some o)
-unpack-known p wanted sp l a none = known-name l p.known.layouts (set (is_among l (names_of p.known.layouts)) 3 (is-clean p wanted (UnpackTree sp l a) none).low)
+unpack-known p wanted sp l a none = among-known l p.known.layouts (set (is_among l (names_of p.known.layouts)) 3 (is-clean p wanted (UnpackTree sp l a) none).low)
 
 pack-known : (p : Place) (wanted : Wanted) (sp : Span) (l : List ℕ) (a : Tree) → faults p wanted (PackTree sp l a) ≡ [] → (o : OutlineTree) × (look_up l p.known.layouts ≡ Some o)
-pack-known p wanted sp l a none = known-name l p.known.layouts (set (is_among l (names_of p.known.layouts)) 3 (is-clean p wanted (PackTree sp l a) none).low)
+pack-known p wanted sp l a none = among-known l p.known.layouts (set (is_among l (names_of p.known.layouts)) 3 (is-clean p wanted (PackTree sp l a) none).low)
 
 -- ---- packing and unpacking by a layout
 module _ (w : Whole) (names : Names) (low mid high : ℕ) (scope : SymbolScope) (sp : Span) (l : List ℕ) (a : Tree) (ss ts : List Step) (s r : Symbol) where
@@ -161,7 +134,7 @@ module _ (w : Whole) (names : Names) (low mid high : ℕ) (scope : SymbolScope) 
       let known = stands.part.layouts l found.0 found.1 in
       let typed = wanted-type (inside p) (packed_ty found.0) a (subst (λ q. faults (inside p) (wanted_packed q) a ≡ []) found.1 clean) in
       let shaped = v.formed.by own (inside p) (wanted_packed (look_up l p.known.layouts)) (stands-inside w own scope p stands) clean (packed_ty found.0) typed in
-      let count : length (operands s) ≡ packed_words layout = operands-count s ∙ ap words shaped ∙ words-count (packed_words found.0) ∙ ap packed_words (sym known.0) in
+      let count : length (operands s) ≡ packed_words layout = operands-count s ∙ ap words shaped ∙ words-ty-words (packed_words found.0) ∙ ap packed_words (sym known.0) in
       let spelled = words-fit new s done.fits in
       let does = unpacks (subst IsSound (sym known.0) known.1) count (v.older o) new (subst AreWords spelled (are-words new s done.fits)) in
       does.does call rest (flat_run last)

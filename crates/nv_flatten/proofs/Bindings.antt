@@ -1,5 +1,5 @@
 -- The variables that patterns bring into scope.
-use Rattle.std.proofs.Common.{◌≡◌, ◌∙◌, refl, ap, sym, ℕ, ◌+◌, ◌-◌, ◌<◌, ◌≤◌, Bool, true, false, List, [], ◌∷◌, ◌++◌, take, length, get_or, bytes_eq, if◌then◌else◌, append_assoc, arith, Bor, Vec, Global}
+use Rattle.std.proofs.Common.{◌≡◌, ◌∙◌, refl, ap, sym, ℕ, ◌+◌, ◌-◌, ◌<◌, ◌≤◌, List, [], ◌∷◌, ◌++◌, take, length, get_or, bytes_eq, if◌then◌else◌, append_assoc, arith, Bor, Vec, Global}
 use Rattle.std.proofs.lemmas.List.{take_more}
 use Rattle.nv_ast.specs.declared.tree.Pat.{Pat}
 use Rattle.nv_ast.specs.declared.tree.Pat.TheVariants as variants
@@ -7,10 +7,10 @@ use Rattle.nv_ast.specs.declared.tree.Pat.TheViews as patterns
 use Rattle.nv_ast.specs.PatternView.{pattern_tree, list_patterns}
 use Rattle.nv_ast.specs.Tree.{TuplePattern}
 use Rattle.nv_ast.proofs.Reading.{tuple_pattern_is}
-use Rattle.nv_flatten.specs.Symbols.{SymbolScope, symbol_in, bound, all_bound}
+use Rattle.nv_flatten.specs.inner.Symbols.{SymbolScope, symbol_in, bound, all_bound}
 use Rattle.nv_flatten.specs.declared.symbol.Symbol as code
-use Rattle.nv_flatten.specs.View.{Named, view, list_symbols, scope_of}
-use Rattle.nv_flatten.specs.Simulation.{Extends}
+use Rattle.nv_flatten.specs.inner.View.{Named, view, list_symbols, scope_of}
+use Rattle.nv_flatten.specs.inner.Simulation.{Extends}
 use Rattle.nv_flatten.proofs.Rows.{tuple_view}
 
 pub scope-append : (a b : List Named) (outer : SymbolScope) → scope_of (a ++ b) outer ≡ scope_of b (scope_of a outer)
@@ -24,12 +24,6 @@ variable-newest scope x j b some inside is =
     let e : j ≡ j - 1 + 1 = omega arith in
     let m : take (j - 1 + 1) scope ≡ take (j - 1) scope ++ get_or scope (j - 1) b ∷ [] = take_more scope (j - 1) b (omega arith) in
     ap (λ k. symbol_in (scope_of (take k scope) []) x) e ∙ ap (λ l. symbol_in (scope_of l []) x) m ∙ ap (λ y. symbol_in (scope_of (take (j - 1) scope ++ y ∷ []) []) x) (sym is) ∙ ap (λ s. symbol_in s x) (scope-append (take (j - 1) scope) (b ∷ []) [])
-
-pub if-true : {A : Type 0} (b : Bool) (x y : A) → b ≡ true → (if b then x else y) ≡ x
-if-true b x y e = ap (λ t. if t then x else y) e
-
-pub if-false : {A : Type 0} (b : Bool) (x y : A) → b ≡ false → (if b then x else y) ≡ y
-if-false b x y e = ap (λ t. if t then x else y) e
 
 -- one more binding behind the others
 pub pushed-name : (old new : List Named) (x : Bor (List ℕ)) (v : code.Symbol) → new ≡ old ++ (x, v) ∷ [] → scope_of new [] ≡ (x.now, view v) ∷ scope_of old []

@@ -8,8 +8,8 @@ use Rattle.nv_ast.specs.Tests.{is_among}
 use Rattle.nv_ast.specs.Scope.{names_in, names_in_all}
 use Rattle.nv_ast.specs.Sizes.{Lets, pending}
 use Rattle.nv_base.specs.Sets.{all_vars}
-use Rattle.nv_flatten.specs.Symbols.{Symbol, Symbols, Word, Truth, Tuple, Record, no_symbols, symbol_and, SymbolScope, operands, all_operands, symbol_in, bound, all_bound}
-use Rattle.nv_flatten.specs.Narrow.{IsWithin, Grows, written, Pends}
+use Rattle.nv_flatten.specs.inner.Symbols.{Symbol, Symbols, Word, Truth, Tuple, Record, no_symbols, symbol_and, SymbolScope, operands, all_operands, symbol_in, bound, all_bound}
+use Rattle.nv_flatten.specs.inner.Narrow.{IsWithin, Grows, written, Pends}
 use Rattle.nv_flatten.proofs.Within.{itself, of-none, one, both, unions, into-left, into-right, through, behind-same, both-same, grows-by, grows-not, grows-further, all-vars-append, vars-length}
 
 -- the variables of one name
@@ -18,7 +18,7 @@ at_name scope x = all_vars (operands (symbol_in scope x))
 
 -- ---- behind a pattern a name stands for variables of its value, or for what it did
 
-choice-of : (b : Bool) (s t : Symbol) → IsWithin (all_vars (operands (if b then s else t))) (all_vars (operands s) ++ all_vars (operands t))
+pub choice-of : (b : Bool) (s t : Symbol) → IsWithin (all_vars (operands (if b then s else t))) (all_vars (operands s) ++ all_vars (operands t))
 choice-of true s t = into-left (all_vars (operands s)) (all_vars (operands s)) (all_vars (operands t)) itself
 choice-of false s t = into-right (all_vars (operands t)) (all_vars (operands s)) (all_vars (operands t)) itself
 

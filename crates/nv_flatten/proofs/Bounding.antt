@@ -10,23 +10,25 @@ use Rattle.nv_ast.specs.Sizes.{room}
 use Rattle.nv_meaning.specs.Meaning.{function_in}
 use Rattle.flat_ir.specs.declared.flat.FlatFun.{FlatFun}
 use Rattle.flat_ir.specs.Wide.{wide}
-use Rattle.nv_flatten.specs.Symbols.{Symbol, SymbolScope, named_fresh, params_bound}
-use Rattle.nv_flatten.specs.Whole.{Whole, whole_of, group_of}
-use Rattle.nv_flatten.specs.Simulation.{Names, Extends}
+use Rattle.nv_flatten.specs.inner.Symbols.{Symbol, SymbolScope, named_fresh, params_bound}
+use Rattle.nv_flatten.specs.inner.Whole.{Whole, whole_of, group_of}
+use Rattle.nv_flatten.specs.inner.Simulation.{Names, Extends}
 use Rattle.flat_ir.specs.Reached.{calls}
-use Rattle.nv_flatten.specs.Well.{AreCalled}
-use Rattle.nv_flatten.specs.Made.{IsMade, IsPlaced, entry, params_in}
-use Rattle.nv_flatten.specs.Narrow.{IsNarrowEnd, IsNarrowFun, IsEmptyFun, IsNarrowOf, AreNarrowFuns}
-use Rattle.nv_flatten.specs.Small.{IsSmallEnd, IsSmallFun}
-use Rattle.nv_flatten.specs.Bounded.{AreOnce, AreSmallFound, IsBounded}
+use Rattle.nv_flatten.specs.inner.Well.{AreCalled}
+use Rattle.nv_flatten.specs.inner.Made.{IsMade, IsPlaced, entry, params_in}
+use Rattle.nv_flatten.specs.inner.Narrow.{IsNarrowEnd, IsNarrowFun, IsEmptyFun, IsNarrowOf, AreNarrowFuns}
+use Rattle.nv_flatten.specs.inner.Small.{IsSmallEnd, IsSmallFun}
+use Rattle.nv_flatten.specs.inner.Bounded.{AreOnce, AreSmallFound, IsBounded}
 use Rattle.nv_flatten.proofs.Fresh.{numbers-length}
-use Rattle.nv_flatten.proofs.Knowing.{some_same, function-named}
-use Rattle.nv_flatten.proofs.Naming.{Added, MadeSoFar, made-first, made-more, all-made, slice-front, slice-last, slice-there, slice-below}
+use Rattle.nv_flatten.proofs.Knowing.{function-named}
+use Rattle.nv_flatten.proofs.Naming.{Added, MadeSoFar, made-first, made-more, all-made, slice-last, slice-there, slice-below}
 use Rattle.nv_flatten.proofs.WellProgram.{found-reached}
 use Rattle.nv_flatten.proofs.Bodies.{has-main}
-use Rattle.nv_flatten.proofs.NarrowValues.{extends-further}
 use Rattle.nv_flatten.proofs.NarrowFuns.{funs-none, funs-more}
 use Rattle.nv_flatten.proofs.NarrowProgram.{wide-enough}
+use Rattle.nv_flatten.proofs.NoFaults.{some-same}
+use Rattle.nv_flatten.proofs.CallArms.{get-append}
+use Rattle.nv_flatten.proofs.Keeping.{extends-then}
 
 -- ---- the functions that are made so far
 pub record BoundedSoFar (w : Whole) (main : List ℕ) (names : Names) (funs : List FlatFun) : Type 0 where
@@ -35,7 +37,7 @@ pub record BoundedSoFar (w : Whole) (main : List ℕ) (names : Names) (funs : Li
   pub small : AreSmallFound w names funs
 
 small-names : (w : Whole) (names new : Names) (f : List ℕ) (g : FunTree) (fun : FlatFun) → Extends names new → IsSmallFun w names f g fun → IsSmallFun w new f g fun
-small-names w names new f g fun more m = record { names = m.names; more = extends-further m.names names new m.more more; group = m.group; form = m.form; end = m.end }
+small-names w names new f g fun more m = record { names = m.names; more = extends-then m.names names new m.more more; group = m.group; form = m.form; end = m.end }
 
 small-first : (w : Whole) (names : Names) → AreSmallFound w names []
 small-first w names = record { by = λ i f g fun named found e. absurd (none-at i fun e) }
@@ -51,13 +53,13 @@ small-one w name names new funs fun named more small so = record {
       let s = slice-last funs fun i d there in
       let p : i ≤ length funs = s.place in
       let r = slice-there names i (omega arith) in
-      let same : r.0 ≡ f = some_same (sym (ap (λ l. slice_get l i) more.1 ∙ slice-front names more.0 i r.0 r.1) ∙ called) in
+      let same : r.0 ≡ f = some-same _ _ (sym (ap (λ l. slice_get l i) more.1 ∙ get-append names more.0 i r.0 r.1) ∙ called) in
       let named' : slice_get names i ≡ Some f = r.1 ∙ ap (λ x. Some x) same in
       elim (cases_lt i (length funs)) [
         | inl below ↦ small-names w names new f g d more (so.by i f g d named' found (s.before below))
         | inr past ↦ (
             let here : i ≡ length funs = omega arith in
-            let is : name ≡ f = some_same (sym named ∙ ap (slice_get names) (sym here) ∙ named') in
+            let is : name ≡ f = some-same _ _ (sym named ∙ ap (slice_get names) (sym here) ∙ named') in
             subst (λ x. IsSmallFun w new f g x) (sym (s.here here)) (subst (λ x. IsSmallFun w new x g fun) is (small g (ap (function_in w.declared.functions) is ∙ found))))
       ];
 }
@@ -136,7 +138,7 @@ empty-made w names x (Some g) fun none e = absurd (cc)
 
 -- the function that was found is the one that is made
 pub small-found : (w : Whole) (name : List ℕ) (names : Names) (f g : FunTree) (fun : FlatFun) → function_in w.declared.functions name ≡ Some f → IsSmallFun w names name f fun → function_in w.declared.functions name ≡ Some g → IsSmallFun w names name g fun
-small-found w name names f g fun found m e = subst (λ d. IsSmallFun w names name d fun) (some_same (sym found ∙ e)) m
+small-found w name names f g fun found m e = subst (λ d. IsSmallFun w names name d fun) (some-same _ _ (sym found ∙ e)) m
 
 pub narrow-found : (w : Whole) (name : List ℕ) (names : Names) (f : FunTree) (fun : FlatFun) → function_in w.declared.functions name ≡ Some f → IsNarrowFun w names name f fun → IsNarrowOf w names name (function_in w.declared.functions name) fun
 narrow-found w name names f fun found m = subst (λ o. IsNarrowOf w names name o fun) (sym found) m

@@ -19,11 +19,11 @@ use Rattle.flat_ir.specs.Spine.{IsJoined}
 use Rattle.flat_ir.specs.declared.flat.Flat.{Flat}
 use Rattle.flat_ir.specs.declared.flat.Flat.TheVariants.{Call}
 use Rattle.flat_ir.specs.declared.spine.Step.{Step}
-use Rattle.nv_flatten.specs.Symbols.{Symbol, Symbols, SymbolScope, all_operands, form, values_in, scope_in}
-use Rattle.nv_flatten.specs.Runs.{flat_run, ended}
-use Rattle.nv_flatten.specs.Soundness.{value_tys}
-use Rattle.nv_flatten.specs.Whole.{Whole, Stands, result_of}
-use Rattle.nv_flatten.specs.Simulation.{Names, Extends, IsEnd, AreValues, IsStated}
+use Rattle.nv_flatten.specs.inner.Symbols.{Symbol, Symbols, SymbolScope, all_operands, form, values_in, scope_in}
+use Rattle.nv_flatten.specs.inner.Runs.{flat_run, ended}
+use Rattle.nv_flatten.specs.inner.Soundness.{value_tys}
+use Rattle.nv_flatten.specs.inner.Whole.{Whole, Stands, result_of}
+use Rattle.nv_flatten.specs.inner.Simulation.{Names, Extends, IsEnd, AreValues, IsStated}
 use Rattle.nv_flatten.proofs.Keeping.{all-words-fit, all-are-words, forms-of-values}
 use Rattle.nv_flatten.proofs.NoFaults.{none-left, none-right, unset, given, clean, arguments-typed}
 use Rattle.nv_flatten.proofs.Following.{onward-all, onward-stated, stands-inside, values-more, stated-more}
@@ -73,7 +73,7 @@ block-end w names later low mid high scope inner sp sts e steps last t o v end m
     stands-behind own p wanted stands none = record { part = stands.part; vars = v.formed own (inside p) (stands-inside w own scope p stands) (none-statements p wanted none) }
 
 -- ---- a call
-get-append : {A : Type 0} (xs ys : List A) (i : ℕ) (x : A) → slice_get xs i ≡ Some x → slice_get (xs ++ ys) i ≡ Some x
+pub get-append : {A : Type 0} (xs ys : List A) (i : ℕ) (x : A) → slice_get xs i ≡ Some x → slice_get (xs ++ ys) i ≡ Some x
 get-append [] ys i x h = cc
 get-append (y ∷ xs) ys zero x h = h
 get-append (y ∷ xs) ys (suc i) x h = get-append xs ys i x h

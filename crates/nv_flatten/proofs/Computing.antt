@@ -1,8 +1,7 @@
 -- Steps that only compute, one after another.
-use Rattle.std.proofs.Common.{◌≡◌, ◌∙◌, refl, ap, sym, subst, ℕ, zero, suc, ◌+◌, ◌*◌, ◌/◌, ◌^◌, ◌<◌, ◌≤◌, Bool, if◌then◌else◌, eq-eqb, List, [], ◌∷◌, ◌++◌, length, get_or, append_assoc, append-nil, arith, bit_or}
-use Rattle.std.proofs.lemmas.Bool.{ne_eqb}
+use Rattle.std.proofs.Common.{◌≡◌, ◌∙◌, refl, ap, sym, subst, ℕ, zero, suc, ◌+◌, ◌*◌, ◌/◌, ◌^◌, ◌<◌, ◌≤◌, if◌then◌else◌, List, [], ◌∷◌, ◌++◌, length, get_or, append_assoc, append-nil, arith, bit_or}
 use Rattle.std.proofs.lemmas.Nat.{shr_le, or_of_32, mod_below, pow_pos}
-use Rattle.std.proofs.lemmas.List.Elements.{All-nil, All-cons, All-head}
+use Rattle.std.proofs.lemmas.List.Elements.{All-cons, All-head}
 use Rattle.nv_base.specs.declared.term.Atom.{Atom}
 use Rattle.nv_base.specs.declared.term.Atom.TheVariants.{Var}
 use Rattle.nv_base.specs.declared.term.Bin.TheVariants.{Or}
@@ -14,18 +13,17 @@ use Rattle.nv_ast.specs.declared.tree.ShiftOp.TheVariants.{Left, Right, Rotate}
 use Rattle.flat_ir.specs.Spine.{Act, steps_do}
 use Rattle.flat_ir.specs.declared.spine.Step.{Step}
 use Rattle.flat_ir.specs.declared.spine.Step.TheVariants.{Let}
-use Rattle.nv_flatten.specs.Code.{Computes, shift_of}
-use Rattle.nv_flatten.specs.Soundness.{AreWords}
-use Rattle.nv_flatten.specs.Symbols.{IsOlder, AreOlder, Keeps}
-use Rattle.nv_flatten.specs.Reads.{Makes}
-use Rattle.nv_flatten.proofs.Keeping.{older-later, keeps-itself, keeps-then, keeps-operand, keeps-operands, steps-append}
+use Rattle.nv_flatten.specs.inner.Code.{Computes, shift_of}
+use Rattle.nv_flatten.specs.inner.Soundness.{AreWords}
+use Rattle.nv_flatten.specs.inner.Symbols.{IsOlder, AreOlder, Keeps}
+use Rattle.nv_flatten.specs.inner.Reads.{Makes}
+use Rattle.nv_flatten.proofs.Keeping.{older-later, keeps-itself, keeps-then, keeps-operand, keeps-operands}
+use Rattle.nv_flatten.proofs.Following.{assigned-here, one-older}
+use Rattle.nv_flatten.proofs.SoundWords.{one-word}
+use Rattle.nv_flatten.proofs.Fresh.{assigned-other}
+use Rattle.flat_ir.proofs.Steps.{steps_do-append}
 
 -- ---- assignments
-assigned-there : (env : Env) (x w : ℕ) → assigned env x w x ≡ w
-assigned-there env x w = ap (λ (b : Bool). if b then w else env x) (eq-eqb x x refl)
-
-assigned-other : (env : Env) (x w y : ℕ) → y < x → assigned env x w y ≡ env y
-assigned-other env x w y h = ap (λ (b : Bool). if b then w else env y) (ne_eqb y x (λ e. absurd (omega arith)))
 
 -- ---- steps
 pub computes-none : (low : ℕ) (env : Env) (Holds : Env → Type 0) → Holds env → Computes low [] env Holds
@@ -40,7 +38,7 @@ computes-then low mid xs ys env P Q h c f =
     let d : Computes mid ys c.new Q = f c.new c.keeps c.holds in
     record {
       new = d.new;
-      does = λ call rest now. ap (λ (act : Act). act env now) (steps-append call xs ys rest) ∙ c.does call (steps_do call ys rest) now ∙ d.does call rest now;
+      does = λ call rest now. ap (λ (act : Act). act env now) (steps_do-append call xs ys rest) ∙ c.does call (steps_do call ys rest) now ∙ d.does call rest now;
       keeps = keeps-then low mid env c.new d.new h c.keeps d.keeps;
       holds = d.holds;
     }
@@ -49,26 +47,17 @@ pub computes-so : (low : ℕ) (xs : List Step) (env : Env) (P Q : Env → Type 0
 computes-so low xs env P Q c f = record { new = c.new; does = c.does; keeps = c.keeps; holds = f c.new c.keeps c.holds }
 
 -- ---- one operand
-pub older-one : (n : ℕ) (a : Atom) → IsOlder n a → AreOlder n (a ∷ [])
-older-one n a h = All-cons (IsOlder n) a [] h (All-nil (IsOlder n))
-
-pub words-one : (w : ℕ) → w < 2 ^ 32 → AreWords (w ∷ [])
-words-one w h = All-cons (λ w. w < 2 ^ 32) w [] h (All-nil (λ w. w < 2 ^ 32))
 
 pub older-two : (n : ℕ) (a b : Atom) → IsOlder n a → IsOlder n b → AreOlder n (a ∷ b ∷ [])
-older-two n a b h k = All-cons (IsOlder n) a (b ∷ []) h (older-one n b k)
+older-two n a b h k = All-cons (IsOlder n) a (b ∷ []) h (one-older n b k)
 
 pub words-two : (w v : ℕ) → w < 2 ^ 32 → v < 2 ^ 32 → AreWords (w ∷ v ∷ [])
-words-two w v h k = All-cons (λ w. w < 2 ^ 32) w (v ∷ []) h (words-one v k)
+words-two w v h k = All-cons (λ w. w < 2 ^ 32) w (v ∷ []) h (one-word v k)
 
 pub words-at : (env : Env) (ws : List Atom) (q : ℕ) (d : Atom) → q < length ws → get_or (atom_words env ws) q 0 ≡ atom_word env (get_or ws q d)
 words-at env [] q d h = absurd (omega arith)
 words-at env (a ∷ ws) zero d h = refl
 words-at env (a ∷ ws) (suc q) d h = words-at env ws q d (omega arith)
-
-pub length-atom_words : (env : Env) (ws : List Atom) → length (atom_words env ws) ≡ length ws
-length-atom_words env [] = refl
-length-atom_words env (a ∷ ws) = ap suc (length-atom_words env ws)
 
 -- the same, by the words of other operands
 pub makes-of : (fit fit' : Type 0) (low high : ℕ) (few all : List Atom) (old new : List Step) (a : Atom) (f g : List ℕ → ℕ) → Makes fit low high few old new a f → (fit' → fit) → (AreOlder low all → AreOlder low few) → ((env : Env) → AreWords (atom_words env all) → AreWords (atom_words env few)) → (fit' → (env : Env) → AreWords (atom_words env all) → f (atom_words env few) ≡ g (atom_words env all)) → Makes fit' low high all old new a g
@@ -99,7 +88,7 @@ makes-let fit low needs old p f h = record {
   later = omega arith;
   older = λ o. (let e : low < low + 1 = omega arith in e);
   by = λ q o env ws.
-      let there : assigned env low (prim_word env p) low ≡ prim_word env p = assigned-there env low (prim_word env p) in
+      let there : assigned env low (prim_word env p) low ≡ prim_word env p = assigned-here env low (prim_word env p) in
       computes-let low p env (λ last. (last low ≡ f (atom_words env needs)) × (last low < 2 ^ 32)) (there ∙ (h q env ws).0, subst (λ w. w < 2 ^ 32) (sym there) (h q env ws).1);
 }
 
@@ -161,10 +150,10 @@ makes-then fit low mid high needs old middle new a b f g m n = record {
   steps = m.steps ++ n.steps;
   added = n.added ∙ ap (λ ss. ss ++ n.steps) m.added ∙ append_assoc old m.steps n.steps;
   later = (let p : low ≤ mid = m.later in let q : mid ≤ high = n.later in omega arith);
-  older = λ o. n.older (older-one mid a (m.older o));
+  older = λ o. n.older (one-older mid a (m.older o));
   by = λ q o env ws. computes-then low mid m.steps n.steps env (λ last. (atom_word last a ≡ f (atom_words env needs)) × (atom_word last a < 2 ^ 32)) (λ last. (atom_word last b ≡ g (f (atom_words env needs) ∷ [])) × (atom_word last b < 2 ^ 32)) m.later (m.by q o env ws)
       (λ new k r. computes-so mid n.steps new (λ last. (atom_word last b ≡ g (atom_word new a ∷ [])) × (atom_word last b < 2 ^ 32)) (λ last. (atom_word last b ≡ g (f (atom_words env needs) ∷ [])) × (atom_word last b < 2 ^ 32))
-      (n.by (omega arith) (older-one mid a (m.older o)) new (words-one (atom_word new a) r.1)) (λ last l s. (s.0 ∙ ap (λ w. g (w ∷ [])) r.0, s.1)));
+      (n.by (omega arith) (one-older mid a (m.older o)) new (one-word (atom_word new a) r.1)) (λ last l s. (s.0 ∙ ap (λ w. g (w ∷ [])) r.0, s.1)));
 }
 
 -- both, one behind the other, and then both joined
@@ -188,6 +177,6 @@ makes-or fit low mid last needs old middle new a b f g m n =
           let af : atom_word e2 a < 2 ^ 32 = subst (λ w. w < 2 ^ 32) (sym (keeps-operand mid e1 e2 a k2 (m.older o))) h1.1 in
           let bv : atom_word e2 b ≡ g (atom_words env needs) = h2.0 ∙ ap g same in
           let w : ℕ = bit_or (atom_word e2 a) (atom_word e2 b) in
-          let there : assigned e2 last w last ≡ w = assigned-there e2 last w in
+          let there : assigned e2 last w last ≡ w = assigned-here e2 last w in
           computes-let last (BinOf Or a b) e2 H (there ∙ ap (λ x. bit_or x (atom_word e2 b)) av ∙ ap (λ x. bit_or (f (atom_words env needs)) x) bv, subst (λ x. x < 2 ^ 32) (sym there) (or_of_32 (atom_word e2 a) (atom_word e2 b) af h2.1))));
     }

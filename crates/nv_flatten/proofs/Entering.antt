@@ -1,6 +1,5 @@
 -- A function is entered with values of its parameters' types.
-use Rattle.std.proofs.Common.{◌≡◌, ◌∙◌, refl, sym, ap, ℕ, zero, suc, ◌+◌, ◌≤◌, Bool, true, false, ◌&&◌, ◌||◌, List, [], ◌∷◌, ◌++◌, length, take, drop, bytes_eq, arith, slice_index}
-use Rattle.std.proofs.lemmas.Slice.Eq.{bytes_eq-Decides}
+use Rattle.std.proofs.Common.{◌≡◌, ◌∙◌, refl, sym, ap, ℕ, zero, suc, ◌+◌, ◌≤◌, true, false, ◌&&◌, ◌||◌, List, [], ◌∷◌, ◌++◌, length, take, drop, bytes_eq, arith, slice_index}
 use Rattle.nv_base.specs.Words.{Env}
 use Rattle.nv_ast.specs.Outline.{Layouts}
 use Rattle.nv_ast.specs.Tree.{NamedTypes, no_named_types, named_type_and}
@@ -8,22 +7,15 @@ use Rattle.nv_ast.specs.Types.{Ty, WordTy, BoolTy, TupleTy, RecordTy, Tys, no_ty
 use Rattle.nv_ast.specs.Scope.{plain_tys, param_vars}
 use Rattle.nv_meaning.specs.Values.{Value, Word, Truth, Tuple, Record, Values, no_values, value_and, NamedValues, no_named_values, named_value_and, words_of, all_words, all_named_words, value_from, values_from, named_values_from, Scope}
 use Rattle.nv_meaning.specs.Meaning.{entered, named_scope}
-use Rattle.nv_flatten.specs.Symbols.{SymbolScope, operands, values_in, AllFit, fresh, all_fresh, named_fresh, ScopeFits, ScopeOlder, scope_in, vars_of, params_bound}
-use Rattle.nv_flatten.specs.Soundness.{AreWords, ScopeWords, value_ty, value_tys, named_value_tys, scope_tys}
+use Rattle.nv_flatten.specs.inner.Symbols.{SymbolScope, operands, values_in, AllFit, fresh, all_fresh, named_fresh, ScopeFits, ScopeOlder, scope_in, vars_of, params_bound}
+use Rattle.nv_flatten.specs.inner.Soundness.{AreWords, ScopeWords, value_ty, value_tys, named_value_tys, scope_tys}
 use Rattle.nv_flatten.proofs.Keeping.{older-later}
 use Rattle.nv_flatten.proofs.Fresh.{fresh-form, fresh-older}
+use Rattle.std.proofs.lemmas.List.{length-append}
+use Rattle.std.proofs.lemmas.Bool.{and_parts, or_parts}
+use Rattle.nv_flatten.proofs.NoFaults.{is-name}
 
 -- ---- types are the same where the test says so
-name-same : (x y : List ℕ) → bytes_eq x y ≡ true → x ≡ y
-name-same x y e = (bytes_eq-Decides x y).0 e
-
-both-first : (a b : Bool) → (a && b) ≡ true → a ≡ true
-both-first true b e = refl
-both-first false b e = e
-
-both-second : (a b : Bool) → (a && b) ≡ true → b ≡ true
-both-second true b e = e
-both-second false b e = cc
 
 mutual
   pub type-same : (t u : Ty) → same_type t u ≡ true → t ≡ u
@@ -48,26 +40,19 @@ mutual
   types-same no_tys no_tys e = refl
   types-same no_tys (ty_and u us) e = cc
   types-same (ty_and t ts) no_tys e = cc
-  types-same (ty_and t ts) (ty_and u us) e = ap (λ v. ty_and v ts) (type-same t u (both-first (same_type t u) (same_types ts us) e)) ∙ ap (ty_and u) (types-same ts us (both-second (same_type t u) (same_types ts us) e))
+  types-same (ty_and t ts) (ty_and u us) e = ap (λ v. ty_and v ts) (type-same t u ((and_parts (same_type t u) (same_types ts us) e).0)) ∙ ap (ty_and u) (types-same ts us ((and_parts (same_type t u) (same_types ts us) e).1))
 
   pub named-types-same : (ts us : NamedTys) → same_named_types ts us ≡ true → ts ≡ us
   named-types-same no_named_tys no_named_tys e = refl
   named-types-same no_named_tys (named_ty_and y u us) e = cc
   named-types-same (named_ty_and x t ts) no_named_tys e = cc
   named-types-same (named_ty_and x t ts) (named_ty_and y u us) e =
-      let rest : (same_type t u && same_named_types ts us) ≡ true = both-second (bytes_eq x y) (same_type t u && same_named_types ts us) e in
-      ap (λ n. named_ty_and n t ts) (name-same x y (both-first (bytes_eq x y) (same_type t u && same_named_types ts us) e))
-      ∙ ap (λ v. named_ty_and y v ts) (type-same t u (both-first (same_type t u) (same_named_types ts us) rest))
-      ∙ ap (named_ty_and y u) (named-types-same ts us (both-second (same_type t u) (same_named_types ts us) rest))
+      let rest : (same_type t u && same_named_types ts us) ≡ true = (and_parts (bytes_eq x y) (same_type t u && same_named_types ts us) e).1 in
+      ap (λ n. named_ty_and n t ts) (is-name x y ((and_parts (bytes_eq x y) (same_type t u && same_named_types ts us) e).0))
+      ∙ ap (λ v. named_ty_and y v ts) (type-same t u ((and_parts (same_type t u) (same_named_types ts us) rest).0))
+      ∙ ap (named_ty_and y u) (named-types-same ts us ((and_parts (same_type t u) (same_named_types ts us) rest).1))
 
 -- ---- words
-pub plain-words : (ts : NamedTys) → total_words (plain_tys ts) ≡ total_named_words ts
-plain-words no_named_tys = refl
-plain-words (named_ty_and x t ts) = ap (λ n. words t + n) (plain-words ts)
-
-length-both : (xs ys : List ℕ) → length (xs ++ ys) ≡ length xs + length ys
-length-both [] ys = omega arith
-length-both (x ∷ xs) ys = let h = length-both xs ys in omega arith
 
 mutual
   pub word-count : (v : Value) → length (words_of v) ≡ words (value_ty v)
@@ -78,11 +63,11 @@ mutual
 
   pub all-word-count : (vs : Values) → length (all_words vs) ≡ total_words (value_tys vs)
   all-word-count no_values = refl
-  all-word-count (value_and v vs) = let a = length-both (words_of v) (all_words vs) in let b = word-count v in let c = all-word-count vs in omega arith
+  all-word-count (value_and v vs) = let a = length-append (words_of v) (all_words vs) in let b = word-count v in let c = all-word-count vs in omega arith
 
   pub named-word-count : (fs : NamedValues) → length (all_named_words fs) ≡ total_named_words (named_value_tys fs)
   named-word-count no_named_values = refl
-  named-word-count (named_value_and x v fs) = let a = length-both (words_of v) (all_named_words fs) in let b = word-count v in let c = named-word-count fs in omega arith
+  named-word-count (named_value_and x v fs) = let a = length-append (words_of v) (all_named_words fs) in let b = word-count v in let c = named-word-count fs in omega arith
 
 pub words-front : (xs ys : List ℕ) → AreWords (xs ++ ys) → AreWords xs
 words-front [] ys a i d h = absurd (omega arith)
@@ -147,14 +132,6 @@ mutual
   from-named-types no_named_tys ws = refl
   from-named-types (named_ty_and x t ts) ws = ap (λ u. named_ty_and x u (named_value_tys (named_values_from ts (drop (words t) ws)))) (from-type t ws) ∙ ap (named_ty_and x t) (from-named-types ts (drop (words t) ws))
 
-neither-first : (a b : Bool) → (a || b) ≡ false → a ≡ false
-neither-first true b e = e
-neither-first false b e = refl
-
-neither-second : (a b : Bool) → (a || b) ≡ false → b ≡ false
-neither-second true b e = cc
-neither-second false b e = e
-
 -- some words, and then those behind them
 take-empty : (k : ℕ) (ws : List ℕ) → ws ≡ [] → take k ws ≡ []
 take-empty zero ws e = refl
@@ -186,16 +163,16 @@ mutual
   all-from-words no_tys ws b h = refl
   all-from-words (ty_and t ts) ws b h =
       let e : total_words (ty_and t ts) ≡ words t + total_words ts = refl in
-      ap (λ l. l ++ all_words (values_from ts (drop (words t) ws))) (from-words t ws (neither-first (has_bool t) (some_bool ts) b) (omega arith))
-      ∙ ap (λ l. take (words t) ws ++ l) (all-from-words ts (drop (words t) ws) (neither-second (has_bool t) (some_bool ts) b) (short (words t) (total_words ts) ws h))
+      ap (λ l. l ++ all_words (values_from ts (drop (words t) ws))) (from-words t ws ((or_parts (has_bool t) (some_bool ts) b).0) (omega arith))
+      ∙ ap (λ l. take (words t) ws ++ l) (all-from-words ts (drop (words t) ws) ((or_parts (has_bool t) (some_bool ts) b).1) (short (words t) (total_words ts) ws h))
       ∙ take-sum (words t) (total_words ts) ws
 
   pub named-from-words : (ts : NamedTys) (ws : List ℕ) → some_named_bool ts ≡ false → total_named_words ts ≤ length ws → all_named_words (named_values_from ts ws) ≡ take (total_named_words ts) ws
   named-from-words no_named_tys ws b h = refl
   named-from-words (named_ty_and x t ts) ws b h =
       let e : total_named_words (named_ty_and x t ts) ≡ words t + total_named_words ts = refl in
-      ap (λ l. l ++ all_named_words (named_values_from ts (drop (words t) ws))) (from-words t ws (neither-first (has_bool t) (some_named_bool ts) b) (omega arith))
-      ∙ ap (λ l. take (words t) ws ++ l) (named-from-words ts (drop (words t) ws) (neither-second (has_bool t) (some_named_bool ts) b) (short (words t) (total_named_words ts) ws h))
+      ap (λ l. l ++ all_named_words (named_values_from ts (drop (words t) ws))) (from-words t ws ((or_parts (has_bool t) (some_named_bool ts) b).0) (omega arith))
+      ∙ ap (λ l. take (words t) ws ++ l) (named-from-words ts (drop (words t) ws) ((or_parts (has_bool t) (some_named_bool ts) b).1) (short (words t) (total_named_words ts) ws h))
       ∙ take-sum (words t) (total_named_words ts) ws
 
 pub plain-bool : (ts : NamedTys) → some_bool (plain_tys ts) ≡ some_named_bool ts

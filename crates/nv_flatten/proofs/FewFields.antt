@@ -4,20 +4,17 @@ use Rattle.nv_base.specs.declared.term.Atom.{Atom}
 use Rattle.nv_base.specs.Words.{atom_vars}
 use Rattle.flat_ir.specs.declared.spine.Step.{Step}
 use Rattle.nv_base.specs.Sets.{all_vars}
-use Rattle.nv_flatten.specs.Symbols.{Symbol, Word, Record, NamedSymbols, no_named_symbols, named_symbol_and, operands, named_operands}
-use Rattle.nv_flatten.specs.View.{Named, list_named_symbols}
-use Rattle.nv_flatten.specs.Reads.{◌++_symbols◌}
-use Rattle.nv_flatten.specs.Narrow.{IsWithin, AreNarrowLets}
-use Rattle.nv_flatten.specs.Small.{AreFewLets}
-use Rattle.nv_flatten.specs.Adds.{AddsWord}
-use Rattle.nv_flatten.specs.FewReads.{ReadsFew}
+use Rattle.nv_flatten.specs.inner.Symbols.{Symbol, Word, Record, NamedSymbols, no_named_symbols, named_symbol_and, operands, named_operands}
+use Rattle.nv_flatten.specs.inner.View.{Named, list_named_symbols}
+use Rattle.nv_flatten.specs.inner.Reads.{◌++_symbols◌}
+use Rattle.nv_flatten.specs.inner.Narrow.{IsWithin, AreNarrowLets}
+use Rattle.nv_flatten.specs.inner.Small.{AreFewLets}
+use Rattle.nv_flatten.specs.inner.Adds.{AddsWord}
+use Rattle.nv_flatten.specs.inner.FewReads.{ReadsFew}
 use Rattle.nv_flatten.proofs.Within.{itself, together, into-left, into-right, grows-by, grows-not, all-vars-append, vars-length, one-operand-back}
 use Rattle.nv_flatten.proofs.NarrowSteps.{no-steps, recast, follow, beside}
 use Rattle.nv_flatten.proofs.WordSteps.{few-none, few-then}
-
-operands-both : (rs ss : NamedSymbols) → named_operands (rs ++_symbols ss) ≡ named_operands rs ++ named_operands ss
-operands-both no_named_symbols ss = refl
-operands-both (named_symbol_and x r rs) ss = ap (λ l. operands r ++ l) (operands-both rs ss) ∙ sym (append_assoc (operands r) (named_operands rs) (named_operands ss))
+use Rattle.nv_flatten.proofs.Reading.{operands-append}
 
 -- the variables of operands, and of both parts of some
 vars-left : (a b : List Atom) → IsWithin (all_vars a) (all_vars (a ++ b))
@@ -31,7 +28,7 @@ vars-both a b c p q = subst (λ l. IsWithin l c) (sym (all-vars-append a b)) (to
 
 -- what comes behind the fields
 last-field : (before after : NamedSymbols) (x : List ℕ) (s : Symbol) → after ≡ before ++_symbols named_symbol_and x s no_named_symbols → named_operands after ≡ named_operands before ++ operands s
-last-field before after x s is = ap named_operands is ∙ operands-both before (named_symbol_and x s no_named_symbols) ∙ ap (λ l. named_operands before ++ l) (append-nil (operands s))
+last-field before after x s is = ap named_operands is ∙ operands-append before (named_symbol_and x s no_named_symbols) ∙ ap (λ l. named_operands before ++ l) (append-nil (operands s))
 
 pub reads-few-none : (words : List Atom) (steps : List Step) (fields : NamedSymbols) (n : ℕ) → ReadsFew words steps steps fields fields n
 reads-few-none words steps fields n = record {

@@ -12,13 +12,12 @@ use Rattle.flat_ir.specs.Running as flat
 use Rattle.flat_ir.specs.declared.spine.Step.{Step}
 use Rattle.flat_ir.specs.declared.spine.Step.TheVariants.{Store}
 use Rattle.nv_flatten.specs.declared.symbol.Symbol.{Symbol as CodeSymbol}
-use Rattle.nv_flatten.specs.Symbols.{Symbol, SymbolScope, word_operand, operands, bound}
-use Rattle.nv_flatten.specs.View.{Named, view, list_symbols, list_named_symbols, scope_of}
-use Rattle.nv_flatten.specs.Whole.{Whole}
-use Rattle.nv_flatten.specs.Simulation.{Names, Extends}
-use Rattle.nv_flatten.specs.Well.{AreWellValues, AreWellFields, IsWellStated}
-use Rattle.nv_flatten.specs.Flat.{IsFlatValue, AreFlatValues, AreFlatFields, IsFlatStatement, IsFlatStated}
-use Rattle.nv_flatten.proofs.Lists.{dropped, dropped-all}
+use Rattle.nv_flatten.specs.inner.Symbols.{Symbol, SymbolScope, word_operand, operands, bound}
+use Rattle.nv_flatten.specs.inner.View.{Named, view, list_symbols, list_named_symbols, scope_of}
+use Rattle.nv_flatten.specs.inner.Whole.{Whole}
+use Rattle.nv_flatten.specs.inner.Simulation.{Names, Extends}
+use Rattle.nv_flatten.specs.inner.Well.{AreWellValues, AreWellFields, IsWellStated}
+use Rattle.nv_flatten.specs.inner.Flat.{IsFlatValue, AreFlatValues, AreFlatFields, IsFlatStatement, IsFlatStated}
 use Rattle.nv_flatten.proofs.ListArms.{Front, FrontNamed, front-none, front-more, front-all, named-none, named-more, named-all}
 use Rattle.nv_flatten.proofs.StatementArms.{Led, let-stated, store-stated, led-none, led-more, led-all}
 use Rattle.nv_flatten.proofs.WalkArms.{value-in-scope}
@@ -31,6 +30,7 @@ use Rattle.nv_flatten.proofs.NarrowViews as narrow
 use Rattle.nv_flatten.proofs.SmallValues.{value-small-more}
 use Rattle.nv_flatten.proofs.SmallLists.{let-small, store-small}
 use Rattle.nv_flatten.proofs.SmallViews.{SmallFront, SmallFields, SmallLed, small-front-first, small-front-more, small-front-last, small-row-first, small-row-more, small-row-last, small-led-first, small-led-more, small-led-last}
+use Rattle.nv_meaning.proofs.Lists.{dropped, dropped-all}
 
 -- ---- statements
 pub let-flat : (w : Whole) (old names : Names) (low high : ℕ) (scope : SymbolScope) (sp : Span) (q : PatternTree) (e : Tree) (ss : List Step) (s : Symbol) → low ≤ high → IsFlatValue w old names low high scope e ss s

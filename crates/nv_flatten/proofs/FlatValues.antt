@@ -20,15 +20,15 @@ use Rattle.flat_ir.specs.Running as flat
 use Rattle.flat_ir.specs.declared.flat.Flat.{Flat}
 use Rattle.flat_ir.specs.declared.spine.Step.{Step}
 use Rattle.flat_ir.specs.declared.spine.Step.TheVariants.{Let, Fetch, Bind}
-use Rattle.nv_flatten.specs.Arms.{is_named}
-use Rattle.nv_flatten.specs.Code.{Computes, arithmetic_of, shift_of, variables, form_or_unit}
-use Rattle.nv_flatten.specs.Symbols.{Symbol, Symbols, NamedSymbols, SymbolScope, Word, Truth, Tuple, Record, word_operand, truth_operand, fields_of, field_named, symbol_in, operands, form, fresh, numbers_from, words_symbol, value_in, Fits, AreOlder}
-use Rattle.nv_flatten.specs.Soundness.{AreWords}
-use Rattle.nv_flatten.specs.Whole.{Whole}
-use Rattle.nv_flatten.specs.Simulation.{Names, Extends}
-use Rattle.nv_flatten.specs.Well.{AreWellLets}
-use Rattle.nv_flatten.specs.Narrow.{AreNarrowLets, IsNarrowValue}
-use Rattle.nv_flatten.specs.Flat.{IsFlatValue, AreFlatValues, AreFlatFields, IsFlatStated, IsFlatEnd}
+use Rattle.nv_flatten.specs.inner.Arms.{is_named}
+use Rattle.nv_flatten.specs.inner.Code.{Computes, arithmetic_of, shift_of, variables, form_or_unit}
+use Rattle.nv_flatten.specs.inner.Symbols.{Symbol, Symbols, NamedSymbols, SymbolScope, Word, Truth, Tuple, Record, word_operand, truth_operand, fields_of, field_named, symbol_in, operands, form, fresh, numbers_from, words_symbol, value_in, Fits, AreOlder}
+use Rattle.nv_flatten.specs.inner.Soundness.{AreWords}
+use Rattle.nv_flatten.specs.inner.Whole.{Whole}
+use Rattle.nv_flatten.specs.inner.Simulation.{Names, Extends}
+use Rattle.nv_flatten.specs.inner.Well.{AreWellLets}
+use Rattle.nv_flatten.specs.inner.Narrow.{AreNarrowLets, IsNarrowValue}
+use Rattle.nv_flatten.specs.inner.Flat.{IsFlatValue, AreFlatValues, AreFlatFields, IsFlatStated, IsFlatEnd}
 use Rattle.nv_flatten.proofs.Fresh.{numbers-length}
 use Rattle.nv_flatten.proofs.Ways.{named-literal, named-given}
 use Rattle.nv_flatten.proofs.ValueArms.{number-value, truth-value, var-value, paren-value, dot-value, invert-value, negate-value}
@@ -45,16 +45,16 @@ use Rattle.nv_flatten.proofs.NarrowValues.{value-narrow-more, number-narrow, tru
 use Rattle.nv_flatten.proofs.NarrowLists.{stated-narrow-more, block-narrow}
 use Rattle.nv_flatten.proofs.NarrowCalls.{unpack-form, pack-form, unpack-narrow, pack-narrow}
 use Rattle.nv_flatten.proofs.NarrowViews.{shifted-narrow, lets-from}
-use Rattle.nv_flatten.specs.Small.{AreFewLets, PacksFew, IsSmallValue}
+use Rattle.nv_flatten.specs.inner.Small.{AreFewLets, PacksFew, IsSmallValue}
 use Rattle.nv_flatten.proofs.SmallValues.{value-small-more, stated-small-more, number-small, truth-small, var-small, paren-small, tuple-small, record-small, dot-small, invert-small, negate-small, combine-small, fetch-small, named-small}
 use Rattle.nv_flatten.proofs.SmallLists.{block-small}
 use Rattle.nv_flatten.proofs.SmallCalls.{unpack-small, pack-small}
 use Rattle.nv_flatten.proofs.SmallViews.{shifted-small}
 
 -- ---- values without steps of their own
-pub number-flat : (w : Whole) (names : Names) (low : ℕ) (scope : SymbolScope) (sp : Span) (n : ℕ) → n < 2 ^ 32 → IsFlatValue w names names low low scope (NumberTree sp n) [] (Word (Lit n))
-number-flat w names low scope sp n small = record {
-  same = number-value w names low low scope sp n small;
+pub number-flat : (w : Whole) (names : Names) (low : ℕ) (scope : SymbolScope) (sp : Span) (n : ℕ) → IsFlatValue w names names low low scope (NumberTree sp n) [] (Word (Lit n))
+number-flat w names low scope sp n = record {
+  same = number-value w names low low scope sp n;
   well = number-well w names low scope sp n;
   narrow = number-narrow w names scope sp n;
   small = number-small w names scope sp n;

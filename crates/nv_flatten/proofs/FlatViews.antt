@@ -5,11 +5,11 @@ use Rattle.nv_base.specs.declared.term.Cmp.{Cmp}
 use Rattle.nv_ast.specs.Tree.{Tree, StatementTree}
 use Rattle.flat_ir.specs.declared.flat.Flat.{Flat}
 use Rattle.flat_ir.specs.declared.spine.Step.{Step}
-use Rattle.nv_flatten.specs.Symbols.{Symbol, SymbolScope}
-use Rattle.nv_flatten.specs.View.{Named, scope_of}
-use Rattle.nv_flatten.specs.Whole.{Whole}
-use Rattle.nv_flatten.specs.Simulation.{Names}
-use Rattle.nv_flatten.specs.Flat.{IsFlatValue, IsFlatStatement, IsFlatTest, IsFlatEnd}
+use Rattle.nv_flatten.specs.inner.Symbols.{Symbol, SymbolScope}
+use Rattle.nv_flatten.specs.inner.View.{Named, scope_of}
+use Rattle.nv_flatten.specs.inner.Whole.{Whole}
+use Rattle.nv_flatten.specs.inner.Simulation.{Names}
+use Rattle.nv_flatten.specs.inner.Flat.{IsFlatValue, IsFlatStatement, IsFlatTest, IsFlatEnd}
 
 -- what follows for a value, where there is one
 pub mapped : {X E : Type 0} {P Q : X → Type 0} (r : Result X E) → ((x : X) → P x → Q x) → IfOk r P → IfOk r Q

@@ -10,11 +10,12 @@ use Rattle.flat_ir.specs.Running as flat
 use Rattle.flat_ir.specs.Meaning as code
 use Rattle.flat_ir.specs.Spine.{Act, steps_do}
 use Rattle.flat_ir.specs.declared.spine.Step.{Step}
-use Rattle.nv_flatten.specs.Symbols.{Symbol, Word, Truth, Tuple, Record, SymbolScope, value_in, Fits, IsOlder, AreOlder, Keeps, word_operand, truth_operand}
-use Rattle.nv_flatten.specs.Runs.{flat_run, onward}
-use Rattle.nv_flatten.specs.Whole.{Whole, Stands}
-use Rattle.nv_flatten.specs.Simulation.{Names, Extends, Setting, Done, IsValue, AreValues, AreFields, IsStated, onward_all, onward_named, onward_stated}
-use Rattle.nv_flatten.proofs.Keeping.{steps-append, extends-then}
+use Rattle.nv_flatten.specs.inner.Symbols.{Symbol, Word, Truth, Tuple, Record, SymbolScope, value_in, Fits, IsOlder, AreOlder, Keeps, word_operand, truth_operand}
+use Rattle.nv_flatten.specs.inner.Runs.{flat_run, onward}
+use Rattle.nv_flatten.specs.inner.Whole.{Whole, Stands}
+use Rattle.nv_flatten.specs.inner.Simulation.{Names, Extends, Setting, Done, IsValue, AreValues, AreFields, IsStated, onward_all, onward_named, onward_stated}
+use Rattle.nv_flatten.proofs.Keeping.{extends-then}
+use Rattle.flat_ir.proofs.Steps.{steps_do-append}
 
 -- ---- what follows, and then what follows that
 pub onward-then : (r : Result) (k : Value → Running → Result) (next : Value → Running → flat.Result) → onward (and_then r k) next ≡ onward r (λ v now. onward (k v now) next)
@@ -40,7 +41,7 @@ onward-further (StopsAt how) k next never = refl
 
 -- ---- steps and then others
 pub steps-then : (call : code.Calls) (ss ts : List Step) (rest : Act) (env : Env) (now : flat.Running) → steps_do call (ss ++ ts) rest env now ≡ steps_do call ss (steps_do call ts rest) env now
-steps-then call ss ts rest env now = ap (λ (f : Act). f env now) (steps-append call ss ts rest)
+steps-then call ss ts rest env now = ap (λ (f : Act). f env now) (steps_do-append call ss ts rest)
 
 -- ---- a place inside, and one with the variables of another scope
 pub stands-inside : (w : Whole) (own : ℕ) (scope : SymbolScope) (p : Place) → Stands w own scope p → Stands w own scope (inside p)
@@ -108,7 +109,7 @@ pub one-older : (n : ℕ) (a : Atom) → IsOlder n a → AreOlder n (a ∷ [])
 one-older n a o = All-cons (IsOlder n) a [] o (All-nil (IsOlder n))
 
 -- ---- one new variable
-eq-same : (x : ℕ) → nat_eq x x ≡ true
+pub eq-same : (x : ℕ) → nat_eq x x ≡ true
 eq-same x = search (tests, rules, arith)
 
 eq-below : (x n : ℕ) → x < n → nat_eq x n ≡ false

@@ -10,21 +10,22 @@ use Rattle.nv_ast.specs.Scope.{param_vars}
 use Rattle.nv_ast.specs.Typing.{type_at}
 use Rattle.nv_ast.specs.Faults.{program_faults, main_name}
 use Rattle.nv_meaning.specs.Meaning.{function_in}
-use Rattle.nv_flatten.specs.Code.{variables}
-use Rattle.nv_flatten.specs.Symbols.{SymbolScope, fresh, named_fresh, numbers_from, params_bound}
-use Rattle.nv_flatten.specs.Whole.{Whole, whole_of, Stands}
-use Rattle.nv_flatten.specs.Simulation.{Names}
-use Rattle.nv_flatten.specs.Made.{params_in, entry, IsMade, IsPlaced, IsComplete}
+use Rattle.nv_flatten.specs.inner.Code.{variables}
+use Rattle.nv_flatten.specs.inner.Symbols.{SymbolScope, fresh, named_fresh, numbers_from, params_bound}
+use Rattle.nv_flatten.specs.inner.Whole.{Whole, whole_of, Stands}
+use Rattle.nv_flatten.specs.inner.Simulation.{Names}
+use Rattle.nv_flatten.specs.inner.Made.{params_in, entry, IsMade, IsPlaced, IsComplete}
 use Rattle.flat_ir.specs.Reached.{AreReached}
-use Rattle.nv_flatten.specs.Well.{FunsMatch, ScopeKnown, GivesWords, IsWellFun}
+use Rattle.nv_flatten.specs.inner.Well.{FunsMatch, ScopeKnown, GivesWords, IsWellFun}
 use Rattle.nv_flatten.proofs.Fresh.{numbers-append, numbers-length, variables-append, fresh-operands}
 use Rattle.nv_flatten.proofs.WellBasics.{knows-left, knows-right, knows-variables}
 use Rattle.nv_flatten.proofs.WellProgram.{walked-fun, fun-names, program-formed}
-use Rattle.nv_flatten.proofs.Knowing.{some_same}
 use Rattle.nv_flatten.proofs.Naming.{slice-there, slice-below}
 use Rattle.nv_flatten.proofs.Bodies.{IsBody, bodies, narrow-raised, has-main}
 use Rattle.nv_flatten.proofs.Entering.{type-same, params-types}
-use Rattle.nv_flatten.proofs.Lockstep.{right-type, body_place, body_wanted, main-narrow}
+use Rattle.nv_flatten.proofs.Lockstep.{body_place, body_wanted, main-narrow}
+use Rattle.nv_flatten.proofs.NoFaults.{some-same}
+use Rattle.nv_flatten.proofs.WellTypes.{right-of}
 
 -- ---- the parameters are known in a body
 params-known : (known : List ℕ) (n : ℕ) (ts : NamedTys) (scope : SymbolScope) → all_known known (variables (numbers_from n (total_named_words ts))) ≡ true → ScopeKnown known scope → ScopeKnown known (params_bound (named_fresh n ts) scope)
@@ -45,7 +46,7 @@ entry-known w g =
 words-given : (w : Whole) (f : List ℕ) (g : FunTree) (b : IsBody w f g) (n : ℕ) → n ≡ words (type_of w.declared.layouts g.result) → (o : Option Ty) → type_at b.known (body_place b.known g).vars g.body ≡ o → GivesWords n o
 words-given w f g b n results None q = tt {0}
 words-given w f g b n results (Some t) q =
-    let same : t ≡ type_of w.declared.layouts g.result = type-same t (type_of b.known.layouts g.result) (right-type (body_place b.known g) (body_wanted b.known g) g.body t b.none q) ∙ b.result in
+    let same : t ≡ type_of w.declared.layouts g.result = type-same t (type_of b.known.layouts g.result) (right-of (body_place b.known g) (body_wanted b.known g) g.body t b.none q) ∙ b.result in
     ap words same ∙ sym results
 
 made-well : (w : Whole) (f : List ℕ) (g : FunTree) → IsBody w f g → function_in w.declared.functions f ≡ Some g → (all : Names) (fun : FlatFun) → IsMade w all g fun → IsPlaced w f fun → IsWellFun w all fun
@@ -84,7 +85,7 @@ all-well t h main funs c i fun here = by (function_in (whole_of t).declared.func
     by None q = placed.absent q c.all
     by (Some g) q =
         let r = c.made.by i name.0 g name.1 q in
-        let same : r.0 ≡ fun = some_same (sym r.1 ∙ here) in
+        let same : r.0 ≡ fun = some-same _ _ (sym r.1 ∙ here) in
         made-well (whole_of t) name.0 g (bodies t h name.0 g q) q c.all fun (subst (IsMade (whole_of t) c.all g) same r.2) placed
 
 abbrev pub IsCompleteMain : ProgramTree → List FlatFun → Type 0

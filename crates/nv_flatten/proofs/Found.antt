@@ -2,9 +2,9 @@
 use Rattle.std.proofs.Common.{◌≡◌, ◌∙◌, ap, ℕ, ◌+◌, ◌<◌, ◌≤◌, Bool, true, false, if◌then◌else◌, bytes_eq, List, drop, length, get_or}
 use Rattle.nv_base.specs.declared.term.Atom.TheVariants.{Lit}
 use Rattle.nv_meaning.proofs.Lists.{dropped, dropped-all}
-use Rattle.nv_flatten.specs.Symbols.{Word, field_named}
-use Rattle.nv_flatten.specs.View.{Named, view, list_named_symbols}
-use Rattle.nv_flatten.specs.Reads.{has_symbol}
+use Rattle.nv_flatten.specs.inner.Symbols.{Word, field_named}
+use Rattle.nv_flatten.specs.inner.View.{Named, view, list_named_symbols}
+use Rattle.nv_flatten.specs.inner.Reads.{has_symbol}
 
 module _ (x : List ℕ) (xs : List Named) (i : ℕ) where
   pub has-there : (p : Named) → i < length xs → p ≡ get_or xs i p → bytes_eq x p.0.now ≡ true → has_symbol x (list_named_symbols (drop i xs)) ≡ true

@@ -1,6 +1,6 @@
 -- Symbolic values of new variables, and patterns that take symbolic values apart.
 use Rattle.std.proofs.Common.{◌≡◌, ℕ, zero, suc, ◌+◌, ◌<◌, ◌≤◌, ◌^◌, ◌==◌, not, Bool, true, false, if◌then◌else◌, List, [], ◌∷◌, ◌++◌, refl, sym, ap, subst, ◌∙◌, length, arith, length-append}
-use Rattle.std.proofs.lemmas.Bool.{eq-eqb, ne_eqb}
+use Rattle.std.proofs.lemmas.Bool.{ne_eqb}
 use Rattle.std.proofs.lemmas.List.Elements.{All-nil, All-cons, All-head}
 use Rattle.nv_base.specs.declared.term.Atom.TheVariants.{Var}
 use Rattle.nv_base.specs.Words.{Env, assigned, assigned_all}
@@ -9,10 +9,11 @@ use Rattle.nv_ast.specs.Scope.{bind, bind_all}
 use Rattle.nv_ast.specs.Tree.{PatternTree, NamePattern, AnyPattern, TuplePattern, PatternTrees, no_patterns, pattern_and}
 use Rattle.nv_meaning.specs.Values.{Value, Values, NamedValues, words_of, all_words, all_named_words, word_values, words_value, matched, all_matched}
 use Rattle.nv_meaning.specs.Values as meaning
-use Rattle.nv_flatten.specs.Code.{variables}
-use Rattle.nv_flatten.specs.Symbols.{Symbol, Word, Truth, Tuple, Record, Symbols, no_symbols, symbol_and, SymbolScope, operands, all_operands, named_operands, form, forms, named_forms, value_in, values_in, named_values_in, Fits, AllFit, NamedFit, IsOlder, AreOlder, Keeps, fresh, all_fresh, named_fresh, numbers_from, word_symbols, words_symbol, ScopeFits, ScopeOlder, scope_in, vars_of, bound, all_bound}
-use Rattle.nv_flatten.specs.Soundness.{AreWords, value_ty, value_tys, named_value_tys}
+use Rattle.nv_flatten.specs.inner.Code.{variables}
+use Rattle.nv_flatten.specs.inner.Symbols.{Symbol, Word, Truth, Tuple, Record, Symbols, no_symbols, symbol_and, SymbolScope, operands, all_operands, named_operands, form, forms, named_forms, value_in, values_in, named_values_in, Fits, AllFit, NamedFit, IsOlder, AreOlder, Keeps, fresh, all_fresh, named_fresh, numbers_from, word_symbols, words_symbol, ScopeFits, ScopeOlder, scope_in, vars_of, bound, all_bound}
+use Rattle.nv_flatten.specs.inner.Soundness.{AreWords, value_ty, value_tys, named_value_tys}
 use Rattle.nv_flatten.proofs.Keeping.{all-left, all-right, older-left, older-right, keeps-value, keeps-fit}
+use Rattle.nv_flatten.proofs.Following.{assigned-here}
 
 -- ---- the form of new variables
 mutual
@@ -84,8 +85,6 @@ pub named-fresh-older : (n : ℕ) (ts : NamedTys) → AreOlder (n + total_named_
 named-fresh-older n ts = subst (λ l. AreOlder (n + total_named_words ts) l) (sym (named-fresh-operands n ts)) (numbers-older (n + total_named_words ts) n (total_named_words ts) (omega arith))
 
 -- ---- what new variables are assigned
-pub assigned-same : (env : Env) (n w : ℕ) → assigned env n w n ≡ w
-assigned-same env n w = ap (λ b. if b then w else env n) (eq-eqb n n refl)
 
 pub assigned-other : (env : Env) (n w x : ℕ) → x < n → assigned env n w x ≡ env x
 assigned-other env n w x h = ap (λ b. if b then w else env x) (ne_eqb x n (λ e. omega arith))
@@ -144,8 +143,8 @@ first-value n k env v vs h =
 
 mutual
   pub fresh-value : (n : ℕ) (env : Env) (v : Value) → value_in (assigned_all env (numbers_from n (words (value_ty v))) (words_of v)) (fresh n (value_ty v)) ≡ v
-  fresh-value n env (meaning.Word w) = ap (λ u. meaning.Word u) (assigned-same env n w)
-  fresh-value n env (meaning.Truth b) = ap (λ u. meaning.Truth (not (u == 0))) (assigned-same env n (if b then 1 else 0)) ∙ ap (λ u. meaning.Truth u) (truth-again b)
+  fresh-value n env (meaning.Word w) = ap (λ u. meaning.Word u) (assigned-here env n w)
+  fresh-value n env (meaning.Truth b) = ap (λ u. meaning.Truth (not (u == 0))) (assigned-here env n (if b then 1 else 0)) ∙ ap (λ u. meaning.Truth u) (truth-again b)
   fresh-value n env (meaning.Tuple vs) = ap (λ us. meaning.Tuple us) (fresh-values n env vs)
   fresh-value n env (meaning.Record vs) = ap (λ us. meaning.Record us) (fresh-named-values n env vs)
 
@@ -177,8 +176,8 @@ first-fits n k env v vs h =
 
 mutual
   pub fresh-fits : (n : ℕ) (env : Env) (v : Value) → AreWords (words_of v) → Fits (assigned_all env (numbers_from n (words (value_ty v))) (words_of v)) (fresh n (value_ty v))
-  fresh-fits n env (meaning.Word w) h = subst (λ u. u < 2 ^ 32) (sym (assigned-same env n w)) (All-head (λ u. u < 2 ^ 32) w [] h)
-  fresh-fits n env (meaning.Truth b) h = subst (λ u. u ≤ 1) (sym (assigned-same env n (if b then 1 else 0))) (truth-small b)
+  fresh-fits n env (meaning.Word w) h = subst (λ u. u < 2 ^ 32) (sym (assigned-here env n w)) (All-head (λ u. u < 2 ^ 32) w [] h)
+  fresh-fits n env (meaning.Truth b) h = subst (λ u. u ≤ 1) (sym (assigned-here env n (if b then 1 else 0))) (truth-small b)
   fresh-fits n env (meaning.Tuple vs) h = all-fresh-fit n env vs h
   fresh-fits n env (meaning.Record vs) h = named-fresh-fit n env vs h
 
@@ -202,7 +201,7 @@ mutual
 
 -- the first of new variables
 first-number : (n k : ℕ) (env : Env) (w : ℕ) (ws : List ℕ) → assigned_all (assigned env n w) (numbers_from (suc n) k) ws n ≡ w
-first-number n k env w ws = numbers-keep (suc n) k (assigned env n w) ws n (omega arith) ∙ assigned-same env n w
+first-number n k env w ws = numbers-keep (suc n) k (assigned env n w) ws n (omega arith) ∙ assigned-here env n w
 
 word-values-read : (n : ℕ) (env : Env) (ws : List ℕ) → values_in (assigned_all env (numbers_from n (length ws)) ws) (word_symbols (variables (numbers_from n (length ws)))) ≡ word_values ws
 word-values-read n env [] = refl
@@ -212,7 +211,7 @@ word-values-read n env (w ∷ ws) =
 
 pub words-read : (n : ℕ) (env : Env) (ws : List ℕ) → value_in (assigned_all env (numbers_from n (length ws)) ws) (words_symbol (variables (numbers_from n (length ws)))) ≡ words_value ws
 words-read n env [] = refl
-words-read n env (w ∷ []) = ap (λ u. meaning.Word u) (assigned-same env n w)
+words-read n env (w ∷ []) = ap (λ u. meaning.Word u) (assigned-here env n w)
 words-read n env (w ∷ v ∷ ws) = ap (λ us. meaning.Tuple us) (word-values-read n env (w ∷ v ∷ ws))
 
 word-values-fit : (n : ℕ) (env : Env) (ws : List ℕ) → AreWords ws → AllFit (assigned_all env (numbers_from n (length ws)) ws) (word_symbols (variables (numbers_from n (length ws))))
@@ -222,7 +221,7 @@ word-values-fit n env (w ∷ ws) h =
 
 pub words-read-fit : (n : ℕ) (env : Env) (ws : List ℕ) → AreWords ws → Fits (assigned_all env (numbers_from n (length ws)) ws) (words_symbol (variables (numbers_from n (length ws))))
 words-read-fit n env [] h = tt
-words-read-fit n env (w ∷ []) h = subst (λ u. u < 2 ^ 32) (sym (assigned-same env n w)) (All-head (λ u. u < 2 ^ 32) w [] h)
+words-read-fit n env (w ∷ []) h = subst (λ u. u < 2 ^ 32) (sym (assigned-here env n w)) (All-head (λ u. u < 2 ^ 32) w [] h)
 words-read-fit n env (w ∷ v ∷ ws) h = word-values-fit n env (w ∷ v ∷ ws) h
 
 -- ---- patterns

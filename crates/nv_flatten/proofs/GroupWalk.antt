@@ -8,10 +8,11 @@ use Rattle.nv_ast.specs.Sizes.{GroupNumbers, numbered}
 use Rattle.nv_ast.specs.Scope.{Known, nothing_known, in_group, known_after}
 use Rattle.nv_ast.specs.Faults.{signature_faults, signatures_faults, bodies_faults, body_faults, name_faults, decl_faults, decls_faults, program_faults}
 use Rattle.nv_meaning.specs.Meaning.{function_in}
-use Rattle.nv_meaning.specs.Tables.{place_from}
-use Rattle.nv_flatten.specs.Whole.{Whole, whole_of, groups_from, group_of, group_at, IsPart}
-use Rattle.nv_flatten.proofs.Knowing.{no_front, no_rest, some_same, params-stay, function-front, function-behind, with-functions}
+use Rattle.nv_meaning.specs.inner.Tables.{place_from}
+use Rattle.nv_flatten.specs.inner.Whole.{Whole, whole_of, groups_from, group_of, group_at, IsPart}
+use Rattle.nv_flatten.proofs.Knowing.{params-stay, function-front, function-behind, with-functions}
 use Rattle.nv_flatten.proofs.Bodies.{SoFar, so_far, numbers, at-first, layouts-front, functions-front, layout-step, exception-step, group-step, part-of, body-found, signed-found, group-exact}
+use Rattle.nv_flatten.proofs.NoFaults.{some-same, none-left, none-right}
 
 -- a group: the numbers of the groups before, what is known in its bodies, and its functions
 pub record Group : Type 0 where
@@ -107,21 +108,21 @@ tag-of w v k funs gs n ds so f g found m grouped =
     let z : 0 + r.place ≡ r.place = omega arith in
     let there : group_of w f ≡ Some r.group =
     ap (λ l. group_at w (place_from 0 f (map (λ h. h.name) l))) functions ∙ (ap (group_at w) r.stands ∙ (ap (slice_get w.groups) z ∙ (ap (λ l. slice_get l r.place) so.groups ∙ r.grouped))) in
-    r.tag ∙ ap v (some_same (sym there ∙ grouped))
+    r.tag ∙ ap v (some-same _ _ (sym there ∙ grouped))
 
 -- a function that isn't there so far is in a later group
 later-group : (w : Whole) (k : Known) (funs : List FunTree) (gs : List ℕ) (n : ℕ) (ds : List DeclTree) → SoFar w k funs gs n ds → decls_faults k ds ≡ [] → (f : List ℕ) (g : FunTree) → function_in funs f ≡ None → function_in w.declared.functions f ≡ Some g
     → (m : ℕ) × (group_of w f ≡ Some m) × (n ≤ m)
 later-group w k funs gs n [] so h f g none found = let e : None ≡ Some g = sym none ∙ (ap (λ d. function_in d.functions f) so.declared ∙ found) in cc
 later-group w k funs gs n (LayoutDecl x l s ∷ ds) so h f g none found =
-    later-group w (known_after k (LayoutDecl x l s)) funs gs n ds (layout-step w k funs gs n x l s ds so (no_front (decl_faults k (LayoutDecl x l s)) _ h)) (no_rest (decl_faults k (LayoutDecl x l s)) _ h) f g none found
+    later-group w (known_after k (LayoutDecl x l s)) funs gs n ds (layout-step w k funs gs n x l s ds so (none-left (decl_faults k (LayoutDecl x l s)) _ h)) (none-right (decl_faults k (LayoutDecl x l s)) _ h) f g none found
 later-group w k funs gs n (ExceptionDecl x ts s ∷ ds) so h f g none found =
-    later-group w (known_after k (ExceptionDecl x ts s)) funs gs n ds (exception-step w k funs gs n x ts s ds so (no_front (decl_faults k (ExceptionDecl x ts s)) _ h)) (no_rest (decl_faults k (ExceptionDecl x ts s)) _ h) f g none found
+    later-group w (known_after k (ExceptionDecl x ts s)) funs gs n ds (exception-step w k funs gs n x ts s ds so (none-left (decl_faults k (ExceptionDecl x ts s)) _ h)) (none-right (decl_faults k (ExceptionDecl x ts s)) _ h) f g none found
 later-group w k funs gs n (GroupDecl fs ∷ ds) so h f g none found =
-    by (function_in fs f) refl (λ missing. later-group w (known_after k (GroupDecl fs)) (funs ++ fs) (numbers gs n fs) (suc n) ds (group-step w k funs gs n fs ds so signs) (no_rest (decl_faults k (GroupDecl fs)) _ h) f g missing found)
+    by (function_in fs f) refl (λ missing. later-group w (known_after k (GroupDecl fs)) (funs ++ fs) (numbers gs n fs) (suc n) ds (group-step w k funs gs n fs ds so signs) (none-right (decl_faults k (GroupDecl fs)) _ h) f g missing found)
   where
     signs : signatures_faults k.layouts fs ≡ []
-    signs = no_front (signatures_faults k.layouts fs) _ (no_rest (name_faults (names_of k.functions) fs) _ (no_front (decl_faults k (GroupDecl fs)) _ h))
+    signs = none-left (signatures_faults k.layouts fs) _ (none-right (name_faults (names_of k.functions) fs) _ (none-left (decl_faults k (GroupDecl fs)) _ h))
 
     by : (o : Option FunTree) → function_in fs f ≡ o → (function_in (funs ++ fs) f ≡ None → (m : ℕ) × (group_of w f ≡ Some m) × (suc n ≤ m)) → (m : ℕ) × (group_of w f ≡ Some m) × (n ≤ m)
     by (Some d) q next = (n, group-exact w k funs gs n fs ds so f d none q, omega arith)
@@ -160,9 +161,9 @@ next-group count at nums k funs gs n fs ds many groups =
 in-this : (w : Whole) (count : Count) (at : ℕ → Group) (nums : GroupNumbers) (k : Known) (funs : List FunTree) (gs : List ℕ) (n : ℕ) (fs : List FunTree) (ds : List DeclTree) → SoFar w k funs gs n (GroupDecl fs ∷ ds) → GroupsSoFar count at nums k funs gs n (GroupDecl fs ∷ ds)
     → decls_faults k (GroupDecl fs ∷ ds) ≡ [] → (f : List ℕ) (g : FunTree) → function_in funs f ≡ None → function_in fs f ≡ Some g → IsIn w count at f g
 in-this w count at nums k funs gs n fs ds so groups all f g none found =
-    let h = no_front (decl_faults k (GroupDecl fs)) (decls_faults (known_after k (GroupDecl fs)) ds) all in
-    let rest : signatures_faults k.layouts fs ++ bodies_faults (in_group k fs) fs ≡ [] = no_rest (name_faults (names_of k.functions) fs) _ h in
-    let signs : signatures_faults k.layouts fs ≡ [] = no_front (signatures_faults k.layouts fs) _ rest in
+    let h = none-left (decl_faults k (GroupDecl fs)) (decls_faults (known_after k (GroupDecl fs)) ds) all in
+    let rest : signatures_faults k.layouts fs ++ bodies_faults (in_group k fs) fs ≡ [] = none-right (name_faults (names_of k.functions) fs) _ h in
+    let signs : signatures_faults k.layouts fs ≡ [] = none-left (signatures_faults k.layouts fs) _ rest in
     let front = layouts-front w k funs gs n (GroupDecl fs ∷ ds) so in
     let sign : signature_faults k.layouts g ≡ [] = signed-found k.layouts fs f g signs found in
     let here : this_group nums k fs ≡ at n = this-one count at nums k funs gs n fs ds groups in
@@ -171,7 +172,7 @@ in-this w count at nums k funs gs n fs ds so groups all f g none found =
       part = subst (λ (d : Group). IsPart w n d.known) here (part-of w k funs gs n fs ds so signs);
       grouped = group-exact w k funs gs n fs ds so f g none found;
       found = subst (λ (d : Group). function_in d.funs f ≡ Some g) here found;
-      none = subst (λ (d : Group). body_faults d.known g ≡ []) here (body-found (in_group k fs) fs f g (no_rest (signatures_faults k.layouts fs) _ rest) found);
+      none = subst (λ (d : Group). body_faults d.known g ≡ []) here (body-found (in_group k fs) fs f g (none-right (signatures_faults k.layouts fs) _ rest) found);
       params = subst (λ (d : Group). named_types_of d.known.layouts g.params ≡ named_types_of w.declared.layouts g.params) here (sym (ap (λ l. named_types_of l g.params) front.1 ∙ params-stay k.layouts front.0 g sign));
       earlier = λ x d m there grouped before. subst (λ (e : Group). value_at 0 x e.before ≡ number_of count (at m)) here (earlier x d m there grouped before (function_in funs x) refl);
     }
@@ -180,7 +181,7 @@ in-this w count at nums k funs gs n fs ds so groups all f g none found =
     earlier x d m there grouped before (Some c) q = ap (value_at 0 x) groups.tags ∙ tag-of w (λ i. number_of count (at i)) k funs gs n (GroupDecl fs ∷ ds) so x c q m grouped
     earlier x d m there grouped before None q =
         let r = later-group w k funs gs n (GroupDecl fs ∷ ds) so all x d q there in
-        let same : r.0 ≡ m = some_same (sym r.1 ∙ grouped) in
+        let same : r.0 ≡ m = some-same _ _ (sym r.1 ∙ grouped) in
         let le : n ≤ r.0 = r.2 in
         absurd (omega arith)
 
@@ -188,23 +189,23 @@ in-from : (w : Whole) (count : Count) (at : ℕ → Group) (nums : GroupNumbers)
     → (f : List ℕ) (g : FunTree) → function_in funs f ≡ None → function_in w.declared.functions f ≡ Some g → IsIn w count at f g
 in-from w count at nums k funs gs n [] so groups h f g none found = let e : None ≡ Some g = sym none ∙ (ap (λ d. function_in d.functions f) so.declared ∙ found) in absurd (cc)
 in-from w count at nums k funs gs n (LayoutDecl x l s ∷ ds) so groups h f g none found =
-    in-from w count at nums (known_after k (LayoutDecl x l s)) funs gs n ds (layout-step w k funs gs n x l s ds so (no_front (decl_faults k (LayoutDecl x l s)) _ h)) (record { tags = groups.tags; ahead = groups.ahead }) (no_rest (decl_faults k (LayoutDecl x l s)) _ h) f g none found
+    in-from w count at nums (known_after k (LayoutDecl x l s)) funs gs n ds (layout-step w k funs gs n x l s ds so (none-left (decl_faults k (LayoutDecl x l s)) _ h)) (record { tags = groups.tags; ahead = groups.ahead }) (none-right (decl_faults k (LayoutDecl x l s)) _ h) f g none found
 in-from w count at nums k funs gs n (ExceptionDecl x ts s ∷ ds) so groups h f g none found =
-    in-from w count at nums (known_after k (ExceptionDecl x ts s)) funs gs n ds (exception-step w k funs gs n x ts s ds so (no_front (decl_faults k (ExceptionDecl x ts s)) _ h)) (record { tags = groups.tags; ahead = groups.ahead })
-    (no_rest (decl_faults k (ExceptionDecl x ts s)) _ h) f g none found
+    in-from w count at nums (known_after k (ExceptionDecl x ts s)) funs gs n ds (exception-step w k funs gs n x ts s ds so (none-left (decl_faults k (ExceptionDecl x ts s)) _ h)) (record { tags = groups.tags; ahead = groups.ahead })
+    (none-right (decl_faults k (ExceptionDecl x ts s)) _ h) f g none found
 in-from w count at nums k funs gs n (GroupDecl fs ∷ ds) so groups h f g none found =
     by (function_in fs f) refl
     (λ missing. in-from w count at (with_group count nums k fs) (known_after k (GroupDecl fs)) (funs ++ fs) (numbers gs n fs) (suc n) ds (group-step w k funs gs n fs ds so signs) (next-group count at nums k funs gs n fs ds so.as_many groups)
-    (no_rest (decl_faults k (GroupDecl fs)) _ h) f g missing found)
+    (none-right (decl_faults k (GroupDecl fs)) _ h) f g missing found)
   where
     signs : signatures_faults k.layouts fs ≡ []
-    signs = no_front (signatures_faults k.layouts fs) _ (no_rest (name_faults (names_of k.functions) fs) _ (no_front (decl_faults k (GroupDecl fs)) _ h))
+    signs = none-left (signatures_faults k.layouts fs) _ (none-right (name_faults (names_of k.functions) fs) _ (none-left (decl_faults k (GroupDecl fs)) _ h))
 
     by : (o : Option FunTree) → function_in fs f ≡ o → (function_in (funs ++ fs) f ≡ None → IsIn w count at f g) → IsIn w count at f g
     by (Some d) q next =
         let front = functions-front w k funs gs n fs ds so in
         let there : function_in w.declared.functions f ≡ Some d = ap (λ l. function_in l f) front.1 ∙ function-front (funs ++ fs) front.0 f d (function-behind funs fs f none ∙ q) in
-        subst (IsIn w count at f) (some_same (sym there ∙ found)) (in-this w count at nums k funs gs n fs ds so groups h f d none q)
+        subst (IsIn w count at f) (some-same _ _ (sym there ∙ found)) (in-this w count at nums k funs gs n fs ds so groups h f d none q)
     by None q next = next (function-behind funs fs f none ∙ q)
 
 -- ---- all numbers together
@@ -213,15 +214,15 @@ last-number : (w : Whole) (count : Count) (at : ℕ → Group) (nums : GroupNumb
 last-number w count at nums k funs gs n [] so groups h f g found m grouped =
     ap (value_at 0 f) groups.tags ∙ tag-of w (λ i. number_of count (at i)) k funs gs n [] so f g (ap (λ d. function_in d.functions f) so.declared ∙ found) m grouped
 last-number w count at nums k funs gs n (LayoutDecl x l s ∷ ds) so groups h f g found m grouped =
-    last-number w count at nums (known_after k (LayoutDecl x l s)) funs gs n ds (layout-step w k funs gs n x l s ds so (no_front (decl_faults k (LayoutDecl x l s)) _ h)) (record { tags = groups.tags; ahead = groups.ahead })
-    (no_rest (decl_faults k (LayoutDecl x l s)) _ h) f g found m grouped
+    last-number w count at nums (known_after k (LayoutDecl x l s)) funs gs n ds (layout-step w k funs gs n x l s ds so (none-left (decl_faults k (LayoutDecl x l s)) _ h)) (record { tags = groups.tags; ahead = groups.ahead })
+    (none-right (decl_faults k (LayoutDecl x l s)) _ h) f g found m grouped
 last-number w count at nums k funs gs n (ExceptionDecl x ts s ∷ ds) so groups h f g found m grouped =
-    last-number w count at nums (known_after k (ExceptionDecl x ts s)) funs gs n ds (exception-step w k funs gs n x ts s ds so (no_front (decl_faults k (ExceptionDecl x ts s)) _ h)) (record { tags = groups.tags; ahead = groups.ahead })
-    (no_rest (decl_faults k (ExceptionDecl x ts s)) _ h) f g found m grouped
+    last-number w count at nums (known_after k (ExceptionDecl x ts s)) funs gs n ds (exception-step w k funs gs n x ts s ds so (none-left (decl_faults k (ExceptionDecl x ts s)) _ h)) (record { tags = groups.tags; ahead = groups.ahead })
+    (none-right (decl_faults k (ExceptionDecl x ts s)) _ h) f g found m grouped
 last-number w count at nums k funs gs n (GroupDecl fs ∷ ds) so groups h f g found m grouped =
     last-number w count at (with_group count nums k fs) (known_after k (GroupDecl fs)) (funs ++ fs) (numbers gs n fs) (suc n) ds
-    (group-step w k funs gs n fs ds so (no_front (signatures_faults k.layouts fs) _ (no_rest (name_faults (names_of k.functions) fs) _ (no_front (decl_faults k (GroupDecl fs)) _ h))))
-    (next-group count at nums k funs gs n fs ds so.as_many groups) (no_rest (decl_faults k (GroupDecl fs)) _ h) f g found m grouped
+    (group-step w k funs gs n fs ds so (none-left (signatures_faults k.layouts fs) _ (none-right (name_faults (names_of k.functions) fs) _ (none-left (decl_faults k (GroupDecl fs)) _ h))))
+    (next-group count at nums k funs gs n fs ds so.as_many groups) (none-right (decl_faults k (GroupDecl fs)) _ h) f g found m grouped
 
 -- ---- of a whole program
 abbrev pub group_in : Count → ProgramTree → ℕ → Group
@@ -231,10 +232,10 @@ groups-first : (count : Count) (t : ProgramTree) → GroupsSoFar count (group_in
 groups-first count t = record { tags = refl; ahead = λ i. let z : i ≡ 0 + i = omega arith in ap (group_in count t) z }
 
 pub stands-in : (count : Count) (t : ProgramTree) → program_faults t ≡ [] → (f : List ℕ) (g : FunTree) → function_in (whole_of t).declared.functions f ≡ Some g → IsIn (whole_of t) count (group_in count t) f g
-stands-in count t h f g found = in-from (whole_of t) count (group_in count t) [] nothing_known [] [] 0 t.decls (at-first t) (groups-first count t) (no_front (decls_faults nothing_known t.decls) _ h) f g refl found
+stands-in count t h f g found = in-from (whole_of t) count (group_in count t) [] nothing_known [] [] 0 t.decls (at-first t) (groups-first count t) (none-left (decls_faults nothing_known t.decls) _ h) f g refl found
 
 -- the number of a function among all numbers is that of its group
 pub number-in : (count : Count) (t : ProgramTree) → program_faults t ≡ [] → (f : List ℕ) (g : FunTree) → function_in (whole_of t).declared.functions f ≡ Some g → (m : ℕ) → group_of (whole_of t) f ≡ Some m
     → value_at 0 f (numbers_behind count [] nothing_known t.decls) ≡ number_of count (group_in count t m)
 number-in count t h f g found m grouped =
-    last-number (whole_of t) count (group_in count t) [] nothing_known [] [] 0 t.decls (at-first t) (groups-first count t) (no_front (decls_faults nothing_known t.decls) _ h) f g found m grouped
+    last-number (whole_of t) count (group_in count t) [] nothing_known [] [] 0 t.decls (at-first t) (groups-first count t) (none-left (decls_faults nothing_known t.decls) _ h) f g found m grouped

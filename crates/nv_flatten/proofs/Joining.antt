@@ -7,7 +7,7 @@ use Rattle.std.proofs.lemmas.Nat.{shr-shr, shl-shr, shr_split, field_of, or_shif
 use Rattle.nv_base.specs.Words.{shifted_left, shifted_right}
 use Rattle.nv_ast.specs.Bits.{bits, number, packed, slice, replaced}
 use Rattle.nv_layout.proofs.BitLists.{length-bits, bits-split, number-bits, packed-append, packed-cons, length-packed, length-front, slice-bits, replaced-middle, replaced-bits}
-use Rattle.nv_meaning.specs.Packing.{IsBlankFrom}
+use Rattle.nv_meaning.specs.inner.Blanks.{IsBlankFrom}
 use Rattle.nv_meaning.proofs.Packed.{replaced-more}
 use Rattle.nv_flatten.proofs.Cutting.{no-rest, raised-low, raised-again, small-number, one-cut}
 

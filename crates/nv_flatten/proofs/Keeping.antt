@@ -9,13 +9,10 @@ use Rattle.nv_ast.specs.Types.{TupleTy, RecordTy, ty_and, named_ty_and}
 use Rattle.nv_meaning.specs.Values.{words_of, all_words, all_named_words}
 use Rattle.nv_meaning.specs.Values as meaning
 use Rattle.nv_meaning.specs.Running.{Running}
-use Rattle.flat_ir.specs.Meaning.{Calls}
-use Rattle.flat_ir.specs.Spine.{Act, step_does, steps_do}
-use Rattle.flat_ir.specs.declared.spine.Step.{Step}
-use Rattle.nv_flatten.specs.Symbols.{Symbol, Word, Truth, Tuple, Record, Symbols, no_symbols, symbol_and, NamedSymbols, no_named_symbols, named_symbol_and, SymbolScope, operands, all_operands, named_operands, form, forms, named_forms, value_in, values_in, named_values_in, Fits, AllFit, NamedFit, IsOlder, AreOlder, Keeps, ScopeFits, ScopeOlder, scope_in, vars_of}
-use Rattle.nv_flatten.specs.Soundness.{AreWords, ScopeWords, value_ty, value_tys, named_value_tys, scope_tys}
-use Rattle.nv_flatten.specs.Whole.{Whole}
-use Rattle.nv_flatten.specs.Simulation.{Names, Extends, Setting, Begins, Done}
+use Rattle.nv_flatten.specs.inner.Symbols.{Symbol, Word, Truth, Tuple, Record, Symbols, no_symbols, symbol_and, NamedSymbols, no_named_symbols, named_symbol_and, SymbolScope, operands, all_operands, named_operands, form, forms, named_forms, value_in, values_in, named_values_in, Fits, AllFit, NamedFit, IsOlder, AreOlder, Keeps, ScopeFits, ScopeOlder, scope_in, vars_of}
+use Rattle.nv_flatten.specs.inner.Soundness.{AreWords, ScopeWords, value_ty, value_tys, named_value_tys, scope_tys}
+use Rattle.nv_flatten.specs.inner.Whole.{Whole}
+use Rattle.nv_flatten.specs.inner.Simulation.{Names, Extends, Setting, Begins, Done}
 
 -- ---- lists one after another
 pub all-left : {A : Type 0} (P : A → Type 0) (xs ys : List A) → All P (xs ++ ys) → All P xs
@@ -130,9 +127,6 @@ pub done-then : (m n : ℕ) (env new last : Env) (fit fit' : Type 0) (now end : 
 done-then m n env new last fit fit' now end h d e = record { sizes = e.sizes; keeps = keeps-then m n env new last h d.keeps e.keeps; fits = e.fits }
 
 -- ---- steps one after another
-pub steps-append : (call : Calls) (ss ts : List Step) (rest : Act) → steps_do call (ss ++ ts) rest ≡ steps_do call ss (steps_do call ts rest)
-steps-append call [] ts rest = refl
-steps-append call (s ∷ ss) ts rest = ap (step_does call s) (steps-append call ss ts rest)
 
 -- ---- words and types of what symbolic values stand for
 truth-word : (w : ℕ) → w ≤ 1 → (if not (w == 0) then 1 else 0) ≡ w

@@ -2,29 +2,18 @@
 use Rattle.std.proofs.Common.{◌≡◌, ◌∙◌, refl, sym, ap, subst, ℕ, zero, suc, ◌+◌, ◌≤◌, Bool, true, false, not, ◌||◌, List, [], ◌∷◌, ◌++◌, map, length, All, Some, None, bytes_eq, append_assoc, append-nil, arith, if◌then◌else◌}
 use Rattle.std.specs.Prelude.{nat_lt, slice_get, replicate}
 use Rattle.std.proofs.lemmas.Bool.{ltb-false}
-use Rattle.nv_ast.specs.declared.token.Span.{Span}
 use Rattle.nv_ast.specs.Tests.{where_true, is_among, names_of, look_up, value_at}
 use Rattle.nv_ast.specs.Outline.{OutlineTree, PartsOutline, no_named_outlines, Layouts, outline, IsSound}
 use Rattle.nv_ast.specs.Tree.{TypeTree, WordType, BoolType, PackedType, UnpackedType, TupleType, RecordType, TypeTrees, no_types, type_and, NamedTypes, no_named_types, named_type_and, NamedLayout, FunTree, DeclTree, LayoutDecl, ExceptionDecl, GroupDecl}
 use Rattle.nv_ast.specs.Types.{TupleTy, RecordTy, Tys, ty_and, named_ty_and, type_of, types_of, named_types_of, packed_ty, unpacked_ty, total_words}
 use Rattle.nv_ast.specs.Scope.{Signature, signature, signatures}
-use Rattle.nv_ast.specs.Faults.{at_span, type_faults, types_faults, named_types_faults, too_large, no_layout, twice_in_type, type_names, signature_faults, signatures_faults}
+use Rattle.nv_ast.specs.Faults.{type_faults, types_faults, named_types_faults, too_large, no_layout, twice_in_type, type_names, signature_faults, signatures_faults}
 use Rattle.nv_meaning.specs.Meaning.{Declared, with_decl, with_decls, function_in}
 use Rattle.nv_meaning.specs.Running.{number_from}
-use Rattle.nv_meaning.specs.Tables.{place_from}
+use Rattle.nv_meaning.specs.inner.Tables.{place_from}
+use Rattle.nv_flatten.proofs.NoFaults.{some-same, none-left, none-right, no-kinds}
 
 -- ---- no faults
-pub no_front : {A : Type 0} (xs ys : List A) → xs ++ ys ≡ [] → xs ≡ []
-no_front [] ys e = refl
-no_front (x ∷ xs) ys e = cc
-
-pub no_rest : {A : Type 0} (xs ys : List A) → xs ++ ys ≡ [] → ys ≡ []
-no_rest [] ys e = e
-no_rest (x ∷ xs) ys e = cc
-
-pub no_kinds : (s : Span) (kinds : List ℕ) → at_span s kinds ≡ [] → kinds ≡ []
-no_kinds s [] e = refl
-no_kinds s (x ∷ xs) e = cc
 
 pub not_where : {A : Type 0} (b : Bool) (x : A) → where_true b x ≡ [] → b ≡ false
 not_where true x e = cc
@@ -33,17 +22,6 @@ not_where false x e = refl
 pub where_not : {A : Type 0} (b : Bool) (x : A) → where_true (not b) x ≡ [] → b ≡ true
 where_not true x e = refl
 where_not false x e = cc
-
-pub neither_first : (a b : Bool) → (a || b) ≡ false → a ≡ false
-neither_first true b e = e
-neither_first false b e = refl
-
-pub neither_second : (a b : Bool) → (a || b) ≡ false → b ≡ false
-neither_second true b e = cc
-neither_second false b e = e
-
-pub some_same : {A : Type 0} {x y : A} → Some x ≡ Some y → x ≡ y
-some_same e = cc
 
 pub at_most : (m n : ℕ) → where_true {A = ℕ} (nat_lt m n) 23 ≡ [] → n ≤ m
 at_most m n e = ltb-false m n (not_where {A = ℕ} (nat_lt m n) 23 e)
@@ -62,7 +40,7 @@ value-found none x [] more o h = cc
 value-found none x ((y, p) ∷ k) more o h = by (bytes_eq x y) refl (λ g. value-found none x k more o g)
   where
     by : (b : Bool) → bytes_eq x y ≡ b → (look_up x k ≡ Some o → value_at none x (k ++ more) ≡ o) → value_at none x ((y, p) ∷ k ++ more) ≡ o
-    by true e next = ap (λ b. if b then p else value_at none x (k ++ more)) e ∙ some_same (sym (ap (λ b. if b then Some p else look_up x k) e) ∙ h)
+    by true e next = ap (λ b. if b then p else value_at none x (k ++ more)) e ∙ some-same _ _ (sym (ap (λ b. if b then Some p else look_up x k) e) ∙ h)
     by false e next = ap (λ b. if b then p else value_at none x (k ++ more)) e ∙ next (sym (ap (λ b. if b then Some p else look_up x k) e) ∙ h)
 
 pub sound-found : (x : List ℕ) (k : Layouts) (o : OutlineTree) → All (λ p. IsSound p.1) k → look_up x k ≡ Some o → IsSound o
@@ -70,7 +48,7 @@ sound-found x [] o s h = absurd (cc)
 sound-found x ((y, p) ∷ k) o s h = by (bytes_eq x y) refl (λ g. sound-found x k o (λ i d l. s (suc i) d (omega arith)) g)
   where
     by : (b : Bool) → bytes_eq x y ≡ b → (look_up x k ≡ Some o → IsSound o) → IsSound o
-    by true e next = subst IsSound (some_same (sym (ap (λ b. if b then Some p else look_up x k) e) ∙ h)) (s 0 (y, p) (omega arith))
+    by true e next = subst IsSound (some-same _ _ (sym (ap (λ b. if b then Some p else look_up x k) e) ∙ h)) (s 0 (y, p) (omega arith))
     by false e next = next (sym (ap (λ b. if b then Some p else look_up x k) e) ∙ h)
 
 -- ---- types in the text without faults stay what they are
@@ -78,7 +56,7 @@ abbrev outline_in : Layouts → List ℕ → OutlineTree
 outline_in k x = outline k (NamedLayout x)
 
 named-stays : (k more : Layouts) (x : List ℕ) (others : List ℕ) → no_layout k x ++ others ≡ [] → outline_in (k ++ more) x ≡ outline_in k x
-named-stays k more x others h = value-front (PartsOutline no_named_outlines) x k more (where_not (is_among x (names_of k)) 8 (no_front (no_layout k x) others h))
+named-stays k more x others h = value-front (PartsOutline no_named_outlines) x k more (where_not (is_among x (names_of k)) 8 (none-left (no_layout k x) others h))
 
 mutual
   pub type-stays : (k more : Layouts) (t : TypeTree) → type_faults k t ≡ [] → type_of (k ++ more) t ≡ type_of k t
@@ -86,22 +64,22 @@ mutual
   type-stays k more BoolType h = refl
   type-stays k more (PackedType x) h = ap packed_ty (named-stays k more x (too_large (type_of k (PackedType x))) h)
   type-stays k more (UnpackedType x) h = ap unpacked_ty (named-stays k more x (too_large (type_of k (UnpackedType x))) h)
-  type-stays k more (TupleType ts) h = ap TupleTy (types-stay k more ts (no_front (types_faults k ts) (too_large (type_of k (TupleType ts))) h))
-  type-stays k more (RecordType ts) h = ap RecordTy (named-types-stay k more ts (no_front (named_types_faults k ts) (twice_in_type (type_names ts) ++ too_large (type_of k (RecordType ts))) h))
+  type-stays k more (TupleType ts) h = ap TupleTy (types-stay k more ts (none-left (types_faults k ts) (too_large (type_of k (TupleType ts))) h))
+  type-stays k more (RecordType ts) h = ap RecordTy (named-types-stay k more ts (none-left (named_types_faults k ts) (twice_in_type (type_names ts) ++ too_large (type_of k (RecordType ts))) h))
 
   pub types-stay : (k more : Layouts) (ts : TypeTrees) → types_faults k ts ≡ [] → types_of (k ++ more) ts ≡ types_of k ts
   types-stay k more no_types h = refl
-  types-stay k more (type_and t ts) h = ap (λ u. ty_and u (types_of (k ++ more) ts)) (type-stays k more t (no_front (type_faults k t) (types_faults k ts) h)) ∙ ap (ty_and (type_of k t)) (types-stay k more ts (no_rest (type_faults k t) (types_faults k ts) h))
+  types-stay k more (type_and t ts) h = ap (λ u. ty_and u (types_of (k ++ more) ts)) (type-stays k more t (none-left (type_faults k t) (types_faults k ts) h)) ∙ ap (ty_and (type_of k t)) (types-stay k more ts (none-right (type_faults k t) (types_faults k ts) h))
 
   pub named-types-stay : (k more : Layouts) (ts : NamedTypes) → named_types_faults k ts ≡ [] → named_types_of (k ++ more) ts ≡ named_types_of k ts
   named-types-stay k more no_named_types h = refl
-  named-types-stay k more (named_type_and x t ts) h = ap (λ u. named_ty_and x u (named_types_of (k ++ more) ts)) (type-stays k more t (no_front (type_faults k t) (named_types_faults k ts) h)) ∙ ap (named_ty_and x (type_of k t)) (named-types-stay k more ts (no_rest (type_faults k t) (named_types_faults k ts) h))
+  named-types-stay k more (named_type_and x t ts) h = ap (λ u. named_ty_and x u (named_types_of (k ++ more) ts)) (type-stays k more t (none-left (type_faults k t) (named_types_faults k ts) h)) ∙ ap (named_ty_and x (type_of k t)) (named-types-stay k more ts (none-right (type_faults k t) (named_types_faults k ts) h))
 
 pub params-stay : (k more : Layouts) (g : FunTree) → signature_faults k g ≡ [] → named_types_of (k ++ more) g.params ≡ named_types_of k g.params
-params-stay k more g h = named-types-stay k more g.params (no_front (named_types_faults k g.params) _ (no_kinds g.span _ h))
+params-stay k more g h = named-types-stay k more g.params (none-left (named_types_faults k g.params) _ (no-kinds g.span _ h))
 
 pub result-stays : (k more : Layouts) (g : FunTree) → signature_faults k g ≡ [] → type_of (k ++ more) g.result ≡ type_of k g.result
-result-stays k more g h = type-stays k more g.result (no_front (type_faults k g.result) _ (no_rest (named_types_faults k g.params) _ (no_kinds g.span _ h)))
+result-stays k more g h = type-stays k more g.result (none-left (type_faults k g.result) _ (none-right (named_types_faults k g.params) _ (no-kinds g.span _ h)))
 
 pub signature-stays : (k more : Layouts) (g : FunTree) → signature_faults k g ≡ [] → signature (k ++ more) g ≡ signature k g
 signature-stays k more g h = ap (λ t. record { params = t; result = type_of (k ++ more) g.result }) (params-stay k more g h) ∙ ap (λ t. record { params = named_types_of k g.params; result = t }) (result-stays k more g h)
@@ -109,8 +87,8 @@ signature-stays k more g h = ap (λ t. record { params = t; result = type_of (k 
 pub signatures-stay : (k more : Layouts) (fs : List FunTree) → signatures_faults k fs ≡ [] → signatures (k ++ more) fs ≡ signatures k fs
 signatures-stay k more [] h = refl
 signatures-stay k more (f ∷ fs) h =
-    ap (λ g. (f.name, g) ∷ signatures (k ++ more) fs) (signature-stays k more f (no_front (signature_faults k f) (signatures_faults k fs) h))
-    ∙ ap (λ l. (f.name, signature k f) ∷ l) (signatures-stay k more fs (no_rest (signature_faults k f) (signatures_faults k fs) h))
+    ap (λ g. (f.name, g) ∷ signatures (k ++ more) fs) (signature-stays k more f (none-left (signature_faults k f) (signatures_faults k fs) h))
+    ∙ ap (λ l. (f.name, signature k f) ∷ l) (signatures-stay k more fs (none-right (signature_faults k f) (signatures_faults k fs) h))
 
 -- ---- functions by name
 pub function-front : (fs more : List FunTree) (f : List ℕ) (g : FunTree) → function_in fs f ≡ Some g → function_in (fs ++ more) f ≡ Some g
@@ -135,7 +113,7 @@ function-named [] f g h = cc
 function-named (h' ∷ fs) f g h = by (bytes_eq f h'.name) refl (λ e. function-named fs f g e)
   where
     by : (b : Bool) → bytes_eq f h'.name ≡ b → (function_in fs f ≡ Some g → bytes_eq f g.name ≡ true) → bytes_eq f g.name ≡ true
-    by true e next = subst (λ k. bytes_eq f k.name ≡ true) (some_same (sym (ap (λ b. if b then Some h' else function_in fs f) e) ∙ h)) e
+    by true e next = subst (λ k. bytes_eq f k.name ≡ true) (some-same _ _ (sym (ap (λ b. if b then Some h' else function_in fs f) e) ∙ h)) e
     by false e next = next (sym (ap (λ b. if b then Some h' else function_in fs f) e) ∙ h)
 
 -- what is looked up among signatures is a function's
@@ -144,7 +122,7 @@ signature-found k [] f s h = absurd (cc)
 signature-found k (h' ∷ fs) f s h = by (bytes_eq f h'.name) refl (λ e. signature-found k fs f s e)
   where
     by : (b : Bool) → bytes_eq f h'.name ≡ b → (look_up f (signatures k fs) ≡ Some s → (g : FunTree) × (function_in fs f ≡ Some g) × (signature k g ≡ s)) → (g : FunTree) × (function_in (h' ∷ fs) f ≡ Some g) × (signature k g ≡ s)
-    by true e next = (h', ap (λ b. if b then Some h' else function_in fs f) e, some_same (sym (ap (λ b. if b then Some (signature k h') else look_up f (signatures k fs)) e) ∙ h))
+    by true e next = (h', ap (λ b. if b then Some h' else function_in fs f) e, some-same _ _ (sym (ap (λ b. if b then Some (signature k h') else look_up f (signatures k fs)) e) ∙ h))
     by false e next = let r = next (sym (ap (λ b. if b then Some (signature k h') else look_up f (signatures k fs)) e) ∙ h) in (r.0, ap (λ b. if b then Some h' else function_in fs f) e ∙ r.1, r.2)
 
 pub signature-there : (k : Layouts) (fs : List FunTree) (f : List ℕ) (g : FunTree) → function_in fs f ≡ Some g → look_up f (signatures k fs) ≡ Some (signature k g)
@@ -152,7 +130,7 @@ signature-there k [] f g h = cc
 signature-there k (h' ∷ fs) f g h = by (bytes_eq f h'.name) refl (λ e. signature-there k fs f g e)
   where
     by : (b : Bool) → bytes_eq f h'.name ≡ b → (function_in fs f ≡ Some g → look_up f (signatures k fs) ≡ Some (signature k g)) → look_up f (signatures k (h' ∷ fs)) ≡ Some (signature k g)
-    by true e next = ap (λ b. if b then Some (signature k h') else look_up f (signatures k fs)) e ∙ ap (λ d. Some (signature k d)) (some_same (sym (ap (λ b. if b then Some h' else function_in fs f) e) ∙ h))
+    by true e next = ap (λ b. if b then Some (signature k h') else look_up f (signatures k fs)) e ∙ ap (λ d. Some (signature k d)) (some-same _ _ (sym (ap (λ b. if b then Some h' else function_in fs f) e) ∙ h))
     by false e next = ap (λ b. if b then Some (signature k h') else look_up f (signatures k fs)) e ∙ next (sym (ap (λ b. if b then Some h' else function_in fs f) e) ∙ h)
 
 -- a function that is found is among the names
@@ -192,14 +170,6 @@ are-both P (g ∷ gs) hs a b = (a.0, are-both P gs hs a.1 b)
 pub are-replicate : (P : ℕ → Type 0) (n k : ℕ) → P n → AllAre P (replicate k n)
 are-replicate P n zero p = tt {0}
 are-replicate P n (suc k) p = (p, are-replicate P n k p)
-
-pub length-replicate : (n k : ℕ) → length (replicate k n) ≡ k
-length-replicate n zero = refl
-length-replicate n (suc k) = ap suc (length-replicate n k)
-
-pub length-both : {A : Type 0} (xs ys : List A) → length (xs ++ ys) ≡ length xs + length ys
-length-both [] ys = omega arith
-length-both (x ∷ xs) ys = let h = length-both xs ys in omega arith
 
 pub slice-behind : {A : Type 0} (xs ys : List A) (i j : ℕ) → j ≡ length xs + i → slice_get (xs ++ ys) j ≡ slice_get ys i
 slice-behind [] ys i j e = let k : j ≡ i = omega arith in ap (slice_get ys) k
@@ -280,10 +250,6 @@ pub names-append : {A : Type 0} (xs ys : List (List ℕ × A)) → names_of (xs 
 names-append [] ys = refl
 names-append ((x, a) ∷ xs) ys = ap (λ l. x ∷ l) (names-append xs ys)
 
-pub mapped : {A B : Type 0} (f : A → B) (xs ys : List A) → map f (xs ++ ys) ≡ map f xs ++ map f ys
-mapped f [] ys = refl
-mapped f (x ∷ xs) ys = ap (λ l. f x ∷ l) (mapped f xs ys)
-
 -- at most eight words each
 abbrev pub AllNarrow : List (List ℕ × Tys) → Type 0
 AllNarrow [] = Unit {0}
@@ -295,7 +261,7 @@ narrow-append (e ∷ es) x ts a h = (a.0, narrow-append es x ts a.1 h)
 
 pub narrow-found : (es : List (List ℕ × Tys)) (i : ℕ) (ts : Tys) → AllNarrow es → slice_get (map (λ e. e.1) es ++ []) i ≡ Some ts → total_words ts ≤ 8
 narrow-found [] i ts a h = absurd (cc)
-narrow-found (e ∷ es) zero ts a h = subst (λ us. total_words us ≤ 8) (some_same h) a.0
+narrow-found (e ∷ es) zero ts a h = subst (λ us. total_words us ≤ 8) (some-same _ _ h) a.0
 narrow-found (e ∷ es) (suc i) ts a h = narrow-found es i ts a.1 h
 
 -- ---- what declarations add stands behind what was there

@@ -10,11 +10,14 @@ use Rattle.nv_base.specs.Words.{Env, atom_word, atom_words, shifted_left, shifte
 use Rattle.nv_ast.specs.Bits.{bits, number, packed, slice}
 use Rattle.flat_ir.specs.declared.spine.Step.{Step}
 use Rattle.flat_ir.specs.declared.spine.Step.TheVariants.{Let}
-use Rattle.nv_flatten.specs.Symbols.{IsOlder, AreOlder}
-use Rattle.nv_flatten.specs.Soundness.{AreWords}
-use Rattle.nv_flatten.specs.Reads.{Makes}
-use Rattle.nv_flatten.proofs.Computing.{older-one, older-two, words-one, words-two, words-at, length-atom_words, makes-of, makes-or}
+use Rattle.nv_flatten.specs.inner.Symbols.{IsOlder, AreOlder}
+use Rattle.nv_flatten.specs.inner.Soundness.{AreWords}
+use Rattle.nv_flatten.specs.inner.Reads.{Makes}
+use Rattle.nv_flatten.proofs.Computing.{older-two, words-two, words-at, makes-of, makes-or}
 use Rattle.nv_flatten.proofs.Cutting.{between-number, across-number, one-cut, two-cut, packed-two}
+use Rattle.nv_base.proofs.WordLemmas.{length-words}
+use Rattle.nv_flatten.proofs.SoundWords.{one-word}
+use Rattle.nv_flatten.proofs.Following.{one-older}
 
 -- over two words
 pub across-makes : (word following high low : Atom) (first n from mid last end x : ℕ) (old m1 m2 new : List Step) → first ≤ 31 → n ≤ 32 → 33 ≤ first + n
@@ -28,8 +31,8 @@ across-makes word following high low first n from mid last end x old m1 m2 new p
     let g : List ℕ → ℕ = λ ws. shifted_right (64 - first - n) (get_or ws 1 0) in
     let left : Makes (1 ≤ 1) from mid two old m1 high f =
     makes-of (1 ≤ 1) (1 ≤ 1) from mid (word ∷ []) two old m1 high f f m (λ h. h)
-    (λ o. older-one from word (All-head (IsOlder from) word (following ∷ []) o))
-    (λ env ws. words-one (atom_word env word) (All-head (λ w. w < 2 ^ 32) (atom_word env word) (atom_word env following ∷ []) ws))
+    (λ o. one-older from word (All-head (IsOlder from) word (following ∷ []) o))
+    (λ env ws. one-word (atom_word env word) (All-head (λ w. w < 2 ^ 32) (atom_word env word) (atom_word env following ∷ []) ws))
     (λ h env ws. refl) in
     let right : Makes (1 ≤ 1) mid last two m1 m2 low g =
     makes-of (1 ≤ 1) (1 ≤ 1) mid last (following ∷ []) two m1 m2 low (λ ws. shifted_right (64 - first - n) (get_or ws 0 0)) g k (λ h. h)
@@ -51,7 +54,7 @@ older-at low q words word e h o = subst (IsOlder low) (sym e) (All-get_or (IsOld
 pub words-small : (env : Env) (q : ℕ) (words : List Atom) (word : Atom) → word ≡ get_or words q word → q < length words → AreWords (atom_words env words) → atom_word env word < 2 ^ 32
 words-small env q words word e h ws =
     let at : get_or (atom_words env words) q 0 ≡ atom_word env word = words-at env words q word h ∙ ap (atom_word env) (sym e) in
-    let long : length (atom_words env words) ≡ length words = length-atom_words env words in
+    let long : length (atom_words env words) ≡ length words = length-words env words in
     subst (λ w. w < 2 ^ 32) at (All-get_or (λ w. w < 2 ^ 32) (atom_words env words) q 0 (omega arith) ws)
 
 pub word-is : (env : Env) (q : ℕ) (words : List Atom) (word : Atom) → word ≡ get_or words q word → q < length words → atom_word env word ≡ get_or (atom_words env words) q 0
@@ -64,10 +67,10 @@ pub one-makes : (fit : Type 0) (words : List Atom) (word a : Atom) (at n q s low
 one-makes fit words word a at n q s low high old new e f few is inside m =
     makes-of (1 ≤ 1) fit low high (word ∷ []) words old new a (λ ws. shifted_right (32 - n) (shifted_left s (get_or ws 0 0))) (λ ws. number (slice at n (packed ws))) m
     (λ h. (let t : 1 ≤ 1 = omega arith in t))
-    (λ o. older-one low word (older-at low q words word is inside o))
-    (λ env ws. words-one (atom_word env word) (words-small env q words word is inside ws))
+    (λ o. one-older low word (older-at low q words word is inside o))
+    (λ env ws. one-word (atom_word env word) (words-small env q words word is inside ws))
     (λ h env ws.
-    let long : length (atom_words env words) ≡ length words = length-atom_words env words in
+    let long : length (atom_words env words) ≡ length words = length-words env words in
     between-number (atom_word env word) s n few
     ∙ ap (λ w. number (slice s n (bits 32 w))) (word-is env q words word is inside)
     ∙ ap number (sym (one-cut (atom_words env words) at n q s e f few (omega arith))))
@@ -83,7 +86,7 @@ two-makes fit words word following a at n q s low high old new e f few is next i
     (λ o. older-two low word following (older-at low q words word is first o) (older-at low (suc q) words following next inside o))
     (λ env ws. words-two (atom_word env word) (atom_word env following) (words-small env q words word is first ws) (words-small env (suc q) words following next inside ws))
     (λ h env ws.
-    let long : length (atom_words env words) ≡ length words = length-atom_words env words in
+    let long : length (atom_words env words) ≡ length words = length-words env words in
     ap (λ l. number (slice s n l)) (packed-two (atom_word env word) (atom_word env following))
     ∙ ap (λ w. number (slice s n (bits 32 w ++ bits 32 (atom_word env following)))) (word-is env q words word is first)
     ∙ ap (λ w. number (slice s n (bits 32 (get_or (atom_words env words) q 0) ++ bits 32 w))) (word-is env (suc q) words following next inside)

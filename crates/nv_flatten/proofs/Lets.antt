@@ -13,13 +13,14 @@ use Rattle.flat_ir.specs.declared.spine.Step.TheVariants.{Let}
 use Rattle.nv_base.specs.Access.{is_known, all_known, is_primitive}
 use Rattle.flat_ir.specs.Pieces.{known_behind, steps_formed, steps_defined, steps_raised}
 use Rattle.flat_ir.proofs.Appended.{known-append, formed-append, defined-append, raised-append}
-use Rattle.nv_flatten.specs.Code.{shift_of}
-use Rattle.nv_flatten.specs.Symbols.{Symbol, Record, NamedSymbols, no_named_symbols, named_symbol_and, operands, named_operands}
-use Rattle.nv_flatten.specs.View.{Named, list_named_symbols}
-use Rattle.nv_flatten.specs.Reads.{◌++_symbols◌}
-use Rattle.nv_flatten.specs.Well.{Rises, AreWellLets}
-use Rattle.nv_flatten.specs.Adds.{AddsLets, AddsFields}
-use Rattle.nv_flatten.proofs.WellBasics.{known-more, atoms-more, knows-both, knows-left, knows-right, knows-one, knows-two, knows-first, knows-rest, knows-new, rises-append}
+use Rattle.nv_flatten.specs.inner.Code.{shift_of}
+use Rattle.nv_flatten.specs.inner.Symbols.{Symbol, Record, NamedSymbols, no_named_symbols, named_symbol_and, operands, named_operands}
+use Rattle.nv_flatten.specs.inner.View.{Named, list_named_symbols}
+use Rattle.nv_flatten.specs.inner.Reads.{◌++_symbols◌}
+use Rattle.nv_flatten.specs.inner.Well.{Rises, AreWellLets}
+use Rattle.nv_flatten.specs.inner.Adds.{AddsLets, AddsFields}
+use Rattle.nv_flatten.proofs.WellBasics.{known-more, knows-both, knows-left, knows-right, knows-one, knows-two, knows-first, knows-rest, knows-new, rises-append}
+use Rattle.nv_base.proofs.Operands.{atoms-more}
 
 -- ---- steps alone
 pub lets-none : (low : ℕ) (given found : List Atom) → ((known : List ℕ) → all_known known given ≡ true → all_known known found ≡ true) → AreWellLets low low given [] found
@@ -89,7 +90,7 @@ adds-turn low mid high ws xs ys zs old middle new m n =
     (adds-so low mid (ws ++ xs) (ws ++ xs) ys (ws ++ ys) old middle m (λ known k. k) (λ known k f. knows-both known ws ys (knows-left known ws xs k) f)) n
 
 -- ---- shifts
-shift-primitive : (op : ShiftOp) (n : ℕ) (known : List ℕ) (a : Atom) → 1 ≤ n → n ≤ 31 → is_known known a ≡ true → is_primitive known (shift_of op n a) ≡ true
+pub shift-primitive : (op : ShiftOp) (n : ℕ) (known : List ℕ) (a : Atom) → 1 ≤ n → n ≤ 31 → is_known known a ≡ true → is_primitive known (shift_of op n a) ≡ true
 shift-primitive Left n known a low high e = and_from (nat_le 1 n && nat_le n 31) (is_known known a) (and_from (nat_le 1 n) (nat_le n 31) (le-leb 1 n low) (le-leb n 31 high)) e
 shift-primitive Right n known a low high e = and_from (nat_le 1 n && nat_le n 31) (is_known known a) (and_from (nat_le 1 n) (nat_le n 31) (le-leb 1 n low) (le-leb n 31 high)) e
 shift-primitive Rotate n known a low high e = and_from (nat_le 1 n && nat_le n 31) (is_known known a) (and_from (nat_le 1 n) (nat_le n 31) (le-leb 1 n low) (le-leb n 31 high)) e

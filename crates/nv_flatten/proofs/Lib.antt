@@ -1,6 +1,5 @@
 pub mod Keeping
 pub mod Fresh
-pub mod SoundTypes
 pub mod SoundWords
 pub mod SoundArms
 pub mod Sound

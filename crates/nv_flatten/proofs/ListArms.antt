@@ -9,7 +9,7 @@ use Rattle.nv_ast.specs.Types.{Ty, TupleTy, RecordTy, Tys, no_tys, ty_and, named
 use Rattle.nv_ast.specs.Scope.{Place, inside}
 use Rattle.nv_ast.specs.Typing.{type_at, types_at, named_types_at, and_ty, and_named_ty}
 use Rattle.nv_ast.specs.Faults.{Wanted, faults, list_faults, named_faults, node_faults, a_value}
-use Rattle.nv_meaning.specs.Values.{Value, Values, no_values, value_and, NamedValues, no_named_values, named_value_and}
+use Rattle.nv_meaning.specs.Values.{Value, Values, value_and, NamedValues, named_value_and}
 use Rattle.nv_meaning.specs.Values as meaning
 use Rattle.nv_meaning.specs.Running.{Running, Result, Gives, Raises, Stops, Results, GiveAll, Breaks, NamedResults, GiveNamed, BreaksNamed, then_more, then_named, before_rest, before_named}
 use Rattle.nv_meaning.specs.Meaning.{eval, eval_all, eval_named}
@@ -17,11 +17,11 @@ use Rattle.flat_ir.specs.Running as flat
 use Rattle.flat_ir.specs.Spine.{steps_do}
 use Rattle.flat_ir.specs.declared.spine.Step.{Step}
 use Rattle.nv_flatten.specs.declared.symbol.Symbol as coded
-use Rattle.nv_flatten.specs.Symbols.{Symbol, Tuple, Record, Symbols, no_symbols, symbol_and, NamedSymbols, no_named_symbols, named_symbol_and, SymbolScope, operands, all_operands, named_operands, form, forms, named_forms, value_in, values_in, named_values_in, Fits, AllFit, NamedFit, IsOlder, scope_in}
-use Rattle.nv_flatten.specs.View.{view, list_symbols, Named, list_named_symbols}
-use Rattle.nv_flatten.specs.Runs.{flat_run, onward}
-use Rattle.nv_flatten.specs.Whole.{Whole}
-use Rattle.nv_flatten.specs.Simulation.{Names, Extends, IsValue, AreValues, AreFields, onward_all, onward_named}
+use Rattle.nv_flatten.specs.inner.Symbols.{Symbol, Tuple, Record, Symbols, no_symbols, symbol_and, NamedSymbols, no_named_symbols, named_symbol_and, SymbolScope, operands, all_operands, named_operands, form, forms, named_forms, value_in, values_in, named_values_in, Fits, AllFit, NamedFit, IsOlder, scope_in}
+use Rattle.nv_flatten.specs.inner.View.{view, list_symbols, Named, list_named_symbols}
+use Rattle.nv_flatten.specs.inner.Runs.{flat_run, onward}
+use Rattle.nv_flatten.specs.inner.Whole.{Whole}
+use Rattle.nv_flatten.specs.inner.Simulation.{Names, Extends, IsValue, AreValues, AreFields, onward_all, onward_named}
 use Rattle.nv_flatten.proofs.Keeping.{older-later, scope-later, keeps-value, keeps-fit, keeps-scope, begins-then, begins-done, done-then, extends-itself, extends-then}
 use Rattle.nv_flatten.proofs.NoFaults.{none-left, none-right, some-same, none-some, value-has-type}
 use Rattle.nv_flatten.proofs.Following.{onward-all, onward-named, steps-then, stands-inside, fewer}

@@ -6,21 +6,15 @@ use Rattle.nv_ast.specs.Tests.{value_at as found_at}
 use Rattle.nv_ast.specs.Tree.{LayoutTree, NamedLayout, GapLayout, PartsLayout, JoinedLayout}
 use Rattle.nv_ast.specs.Outline.{Layouts, OutlineTree, PartsOutline, no_named_outlines, outline}
 use Rattle.nv_ast.specs.Types.{Ty, WordTy, TupleTy, Tys, no_tys, ty_and, NamedTys, no_named_tys, named_ty_and, words, total_words, total_named_words, word_parts, words_ty, Forms, no_forms, form_and, RecordForm, ◌+++◌, form_of, record_forms, unpacked, unpacked_all}
-use Rattle.nv_meaning.specs.Tables.{laid}
+use Rattle.nv_meaning.specs.inner.Tables.{laid}
 use Rattle.nv_flatten.specs.declared.symbol.Symbol as code
-use Rattle.nv_flatten.specs.declared.symbol.Symbol.TheBlock.{Row_of-Symbol, end_of-Symbol, more_of-Symbol, items-the_row-Symbol, hidden-the_row-Symbol-0, items_hidden-the_row-Symbol-0, Row_of-Symbol-Record-0-2, end_of-Symbol-Record-0-2, more_of-Symbol-Record-0-2, items-the_row-Symbol-Record-0-2, hidden-the_row-Symbol-Record-0-2-1, items_hidden-the_row-Symbol-Record-0-2-1}
-use Rattle.nv_flatten.specs.Symbols.{Tuple, Record, Symbols, no_symbols, symbol_and, NamedSymbols, no_named_symbols, named_symbol_and, SymbolScope, fresh, all_fresh, named_fresh, numbers_from, params_bound}
-use Rattle.nv_flatten.specs.View.{view, row_symbols, row_named_symbols, list_symbols, list_named_symbols, Named, scope_of}
-use Rattle.nv_flatten.specs.Fields.{◌++_symbols◌}
+use Rattle.nv_flatten.specs.declared.symbol.Symbol.TheBlock.{hidden-the_row-Symbol-0, items_hidden-the_row-Symbol-0, hidden-the_row-Symbol-Record-0-2-1, items_hidden-the_row-Symbol-Record-0-2-1}
+use Rattle.nv_flatten.specs.inner.Symbols.{Tuple, Record, Symbols, no_symbols, symbol_and, NamedSymbols, no_named_symbols, named_symbol_and, SymbolScope, fresh, all_fresh, named_fresh, numbers_from, params_bound}
+use Rattle.nv_flatten.specs.inner.View.{view, list_symbols, list_named_symbols, Named, scope_of}
+use Rattle.nv_flatten.specs.inner.Fields.{◌++_symbols◌}
+use Rattle.nv_flatten.proofs.Rows.{symbols-row, fields-row}
 
 -- ---- what a vector inside a symbolic value holds is the list of its items
-symbols-row : {n : _} (row : Row_of-Symbol n) → row_symbols row ≡ list_symbols (items-the_row-Symbol n row)
-symbols-row end_of-Symbol = refl
-symbols-row (more_of-Symbol s row) = ap (symbol_and (view s)) (symbols-row row)
-
-fields-row : {n : _} (row : Row_of-Symbol-Record-0-2 n) → row_named_symbols row ≡ list_named_symbols (items-the_row-Symbol-Record-0-2 n row)
-fields-row end_of-Symbol-Record-0-2 = refl
-fields-row (more_of-Symbol-Record-0-2 x s row) = ap (named_symbol_and x.now (view s)) (fields-row row)
 
 pub tuple-view : (v : Vec code.Symbol Global) → view (code.Tuple v) ≡ Tuple (list_symbols v.items)
 tuple-view v = ap Tuple (symbols-row (hidden-the_row-Symbol-0 v) ∙ ap list_symbols (items_hidden-the_row-Symbol-0 v))
@@ -76,11 +70,11 @@ pub symbols-done : (n : ℕ) (all : Tys) (done : List code.Symbol) (whole : Symb
 symbols-done n all done whole e h = sym (all-none (list_symbols done)) ∙ ap (λ ts. all_then (list_symbols done) (all_fresh n ts)) (sym e) ∙ h
 
 -- ---- the same with names
-named-none : (ss : NamedSymbols) → ss ++_symbols no_named_symbols ≡ ss
+pub named-none : (ss : NamedSymbols) → ss ++_symbols no_named_symbols ≡ ss
 named-none no_named_symbols = refl
 named-none (named_symbol_and x s ss) = ap (named_symbol_and x s) (named-none ss)
 
-named-assoc : (ss ts us : NamedSymbols) → (ss ++_symbols ts) ++_symbols us ≡ ss ++_symbols (ts ++_symbols us)
+pub named-assoc : (ss ts us : NamedSymbols) → (ss ++_symbols ts) ++_symbols us ≡ ss ++_symbols (ts ++_symbols us)
 named-assoc no_named_symbols ts us = refl
 named-assoc (named_symbol_and x s ss) ts us = ap (named_symbol_and x s) (named-assoc ss ts us)
 

@@ -1,20 +1,16 @@
 -- Symbolic values in lists: what is said of a list as far as a loop has come.
-use Rattle.std.proofs.Common.{◌≡◌, ◌∙◌, refl, ap, sym, ℕ, zero, suc, ◌+◌, ◌<◌, ◌≤◌, arith, List, [], ◌∷◌, ◌++◌, take, drop, length, get_or, append_assoc, append-nil, add-one}
+use Rattle.std.proofs.Common.{◌≡◌, ◌∙◌, refl, ap, sym, ℕ, ◌+◌, ◌<◌, ◌≤◌, arith, List, [], ◌∷◌, ◌++◌, take, length, get_or, append_assoc, append-nil}
 use Rattle.std.proofs.Math.Seq.{drop-cons}
-use Rattle.std.proofs.lemmas.List.{take_more}
 use Rattle.nv_base.specs.declared.term.Atom.{Atom}
 use Rattle.nv_base.specs.declared.term.Atom.TheVariants.{Var}
 use Rattle.nv_ast.specs.Types.{words, total_words, total_named_words}
 use Rattle.nv_flatten.specs.declared.symbol.Symbol.{Symbol}
-use Rattle.nv_flatten.specs.Symbols.{no_symbols, symbol_and, no_named_symbols, named_symbol_and, operands, all_operands, named_operands, form, forms, named_forms, fresh, all_fresh, named_fresh, numbers_from, word_symbols}
-use Rattle.nv_flatten.specs.Symbols as symbols
-use Rattle.nv_flatten.specs.View.{Named, view, list_symbols, list_named_symbols}
-use Rattle.nv_flatten.specs.Code.{variables}
+use Rattle.nv_flatten.specs.inner.Symbols.{no_symbols, symbol_and, no_named_symbols, named_symbol_and, operands, all_operands, named_operands, form, forms, named_forms, fresh, all_fresh, named_fresh, numbers_from, word_symbols}
+use Rattle.nv_flatten.specs.inner.Symbols as symbols
+use Rattle.nv_flatten.specs.inner.View.{Named, view, list_symbols, list_named_symbols}
+use Rattle.nv_flatten.specs.inner.Code.{variables}
 use Rattle.nv_flatten.proofs.Fresh.{numbers-append, variables-append}
-
--- what a turn of a loop takes on
-pub take_item : {A : Type 0} (xs : List A) (i : ℕ) (x : A) → i < length xs → x ≡ get_or xs i x → take (i + 1) xs ≡ take i xs ++ x ∷ []
-take_item xs i x h e = take_more xs i x h ∙ ap (λ y. take i xs ++ y ∷ []) (sym e)
+use Rattle.nv_layout.proofs.Lists.{take_item}
 
 -- a copy that a loop makes
 pub copied-item : {A : Type 0} (done new xs : List A) (i : ℕ) (x : A) → i < length xs → x ≡ get_or xs i x → done ≡ take i xs → new ≡ done ++ x ∷ [] → new ≡ take (i + 1) xs
@@ -155,11 +151,3 @@ variable-item n i x old now new e is m =
     ∙ ap (λ l. old ++ l) (ap (λ y. variables (numbers_from n i) ++ Var y ∷ []) is ∙ sym (variables-append (numbers_from n i) ((n + i) ∷ [])) ∙ ap variables (sym (numbers-append n i 1)))
 
 -- ---- what is left of a list
-pub dropped : {A : Type 0} (xs : List A) (i : ℕ) (x : A) → i < length xs → x ≡ get_or xs i x → drop i xs ≡ x ∷ drop (i + 1) xs
-dropped xs i x h e = drop-cons xs i x h ∙ ap (λ y. y ∷ drop (suc i) xs) (sym e) ∙ ap (λ k. x ∷ drop k xs) (sym (add-one i))
-
-pub dropped-all : {A : Type 0} (xs : List A) (i : ℕ) → length xs ≤ i → drop i xs ≡ []
-dropped-all [] zero h = refl
-dropped-all [] (suc i) h = refl
-dropped-all (x ∷ xs) zero h = absurd (omega arith)
-dropped-all (x ∷ xs) (suc i) h = dropped-all xs i (omega arith)

@@ -1,67 +1,41 @@
 -- A program and its flat program do the same, call by call.
 use Rattle.std.proofs.Common.{◌≡◌, ◌∙◌, refl, sym, ap, subst, ℕ, zero, suc, ◌≤◌, true, false, ◌||◌, List, [], length, Option, Some, bytes_eq, arith, if◌then◌else◌}
 use Rattle.std.specs.Prelude.{nat_lt, slice_get}
-use Rattle.std.proofs.lemmas.Bool.{ltb-false}
+use Rattle.std.proofs.lemmas.Bool.{ltb-false, or_parts}
 use Rattle.std.proofs.lemmas.Slice.Eq.{bytes_eq-Decides}
 use Rattle.nv_base.specs.Words.{Env, assigned_all}
 use Rattle.nv_base.specs.Memories.{Memories, HasSizes}
 use Rattle.nv_base.specs.Meanings.{KeepsOutcomes, seen, AreEqual}
 use Rattle.nv_base.specs.declared.outcome.Outcome.TheVariants as outcome
 use Rattle.nv_base.proofs.Same.{same_seen}
-use Rattle.nv_ast.specs.Tree.{Tree, NumberTree, TruthTree, VarTree, ParenTree, TupleTree, FieldsTree, DotTree, InvertTree, NegateTree, BinaryTree, ShiftTree, CallTree, UnpackTree, PackTree, RaiseTree, IfTree, TryTree, FetchTree, BlockTree, FunTree, ProgramTree, span_of}
-use Rattle.nv_ast.specs.Tests.{look_up}
-use Rattle.nv_ast.specs.Types.{Ty, WordTy, BoolTy, Tys, type_of, named_types_of, words, total_words, total_named_words, some_named_bool}
+use Rattle.nv_ast.specs.Tree.{FunTree, ProgramTree}
+use Rattle.nv_ast.specs.Types.{Ty, Tys, type_of, named_types_of, words, total_words, total_named_words, some_named_bool}
 use Rattle.nv_ast.specs.Sizes.{main_words}
-use Rattle.nv_ast.specs.Scope.{Known, Place, inside, with_vars, plain_tys, param_vars, bind_raised, signature}
-use Rattle.nv_ast.specs.Typing.{type_at, operand_ty, vars_behind}
-use Rattle.nv_ast.specs.Faults.{Wanted, a_value, anything, of_type, same_as, faults, list_faults, named_faults, statements_faults, node_faults, low_kinds, other_type, at_span, raised_kinds, wanted_arguments, wanted_packed, wanted_unpacked, params_of, named_types_faults, type_faults, type_names, variable_twice, wide_main, program_faults, main_name}
+use Rattle.nv_ast.specs.Scope.{Known, Place, plain_tys, param_vars, signature}
+use Rattle.nv_ast.specs.Typing.{type_at}
+use Rattle.nv_ast.specs.Faults.{Wanted, same_as, named_types_faults, type_faults, type_names, variable_twice, wide_main, program_faults, main_name}
 use Rattle.nv_meaning.specs.Values.{Values, values_from, words_of, all_words}
 use Rattle.nv_meaning.specs.Running.{Running, Result, Gives, Raises, Stops, taken, closed}
 use Rattle.nv_meaning.specs.Meaning.{Calls, eval, enter, entered, calls_within, function_in, run_main, source}
 use Rattle.flat_ir.specs.declared.flat.FlatFun.{FlatFun}
 use Rattle.flat_ir.specs.Running as flat
 use Rattle.flat_ir.specs.Meaning as code
-use Rattle.nv_flatten.specs.Symbols.{values_in, AllFit, all_fresh, numbers_from, scope_in}
-use Rattle.nv_flatten.specs.Runs.{flat_run, ended}
-use Rattle.nv_flatten.specs.Whole.{Whole, whole_of, raised_tys}
-use Rattle.nv_flatten.specs.Soundness.{AreWords, value_ty, value_tys, ComesTo, CallsTyped}
-use Rattle.nv_flatten.specs.Simulation.{Names, CallsAgree}
-use Rattle.nv_flatten.specs.Made.{params_in, entry, IsMade, AllMade, IsComplete}
+use Rattle.nv_flatten.specs.inner.Symbols.{values_in, AllFit, all_fresh, numbers_from, scope_in}
+use Rattle.nv_flatten.specs.inner.Runs.{flat_run, ended}
+use Rattle.nv_flatten.specs.inner.Whole.{Whole, whole_of, raised_tys}
+use Rattle.nv_flatten.specs.inner.Soundness.{AreWords, value_ty, value_tys, ComesTo, CallsTyped}
+use Rattle.nv_flatten.specs.inner.Simulation.{Names, CallsAgree}
+use Rattle.nv_flatten.specs.inner.Made.{params_in, entry, IsMade, AllMade, IsComplete}
 use Rattle.flat_ir.specs.Reached as flattened
-use Rattle.nv_flatten.proofs.Fresh.{fresh-values, all-fresh-fit}
+use Rattle.nv_flatten.proofs.Fresh.{fresh-values, all-fresh-fit, numbers-length}
 use Rattle.nv_flatten.proofs.Sound.{typed-eval}
-use Rattle.nv_flatten.proofs.Knowing.{no_front, no_rest, no_kinds, not_where, where_not, neither_first, neither_second, some_same, function-named}
+use Rattle.nv_flatten.proofs.Knowing.{not_where, function-named}
 use Rattle.nv_flatten.proofs.Bodies.{IsBody, bodies, narrow-raised, has-main}
-use Rattle.nv_flatten.proofs.Entering.{type-same, plain-words, word-count, all-word-count, entered-types, entered-words, params-values, params-types, params-fit, params-older, arguments-scope, from-types, all-from-words, plain-bool, take-whole}
+use Rattle.nv_flatten.proofs.Entering.{type-same, word-count, all-word-count, entered-types, entered-words, params-values, params-types, params-fit, params-older, arguments-scope, from-types, all-from-words, plain-bool, take-whole}
+use Rattle.nv_flatten.proofs.NoFaults.{some-same, none-right, no-kinds}
+use Rattle.nv_flatten.proofs.WellTypes.{right-of, plain-words}
 
 -- ---- an expression without faults has a type that is right
-own-faults : (p : Place) (w : Wanted) (e : Tree) → faults p w e ≡ [] → node_faults p w e ≡ []
-own-faults p w (NumberTree s n) h = h
-own-faults p w (TruthTree s b) h = h
-own-faults p w (VarTree s x) h = h
-own-faults p w (ParenTree s e) h = no_rest (faults p a_value e) _ h
-own-faults p w (TupleTree s es) h = no_rest (list_faults (inside p) [] es) _ h
-own-faults p w (FieldsTree s es) h = no_rest (named_faults (inside p) es) _ h
-own-faults p w (DotTree s e x) h = no_rest (faults (inside p) a_value e) _ h
-own-faults p w (InvertTree s e) h = no_rest (faults (inside p) (of_type WordTy) e) _ h
-own-faults p w (NegateTree s e) h = no_rest (faults (inside p) (of_type BoolTy) e) _ h
-own-faults p w (BinaryTree s op a b) h = no_rest (faults (inside p) (of_type (operand_ty op)) b) _ (no_rest (faults (inside p) (of_type (operand_ty op)) a) _ h)
-own-faults p w (ShiftTree s op e n) h = no_rest (faults (inside p) (of_type WordTy) e) _ h
-own-faults p w (CallTree s f es) h = no_rest (list_faults (inside p) (wanted_arguments (params_of p.known f) es) es) _ h
-own-faults p w (UnpackTree s l e) h = no_rest (faults (inside p) (wanted_packed (look_up l p.known.layouts)) e) _ h
-own-faults p w (PackTree s l e) h = no_rest (faults (inside p) (wanted_unpacked (look_up l p.known.layouts)) e) _ h
-own-faults p w (RaiseTree s x es) h = no_rest (list_faults (inside p) (wanted_arguments (look_up x p.known.exceptions) es) es) _ h
-own-faults p w (IfTree s c a b) h = no_rest (faults p (same_as (type_at p.known p.vars a)) b) _ (no_rest (faults p anything a) _ (no_rest (faults (inside p) (of_type BoolTy) c) _ h))
-own-faults p w (TryTree s a x ps b) h =
-    no_rest (faults (with_vars (bind_raised ps (look_up x p.known.exceptions) p.vars) p) (same_as (type_at p.known p.vars a)) b) _
-    (no_rest (at_span s (raised_kinds p.known x ps)) _ (no_rest (faults (inside p) anything a) _ h))
-own-faults p w (FetchTree s m n a) h = no_rest (faults (inside p) (of_type WordTy) a) _ h
-own-faults p w (BlockTree s sts e) h = no_rest (faults (with_vars (vars_behind p.known p.vars sts) p) anything e) _ (no_rest (statements_faults (inside p) sts) _ h)
-
-pub right-type : (p : Place) (w : Wanted) (e : Tree) (t : Ty) → faults p w e ≡ [] → type_at p.known p.vars e ≡ Some t → w.right t ≡ true
-right-type p w e t h q =
-    let kinds : other_type w (type_at p.known p.vars e) ≡ [] = no_front (other_type w (type_at p.known p.vars e)) _ (no_rest (low_kinds p e) _ (no_kinds (span_of e) _ (own-faults p w e h))) in
-    where_not {A = ℕ} (w.right t) 14 (sym (ap (other_type w) q) ∙ kinds)
 
 retyped : (w : Whole) (o : Option Ty) (want : Ty) (r : Result) → ((t : Ty) → o ≡ Some t → t ≡ want) → ComesTo w o r → ComesTo w (Some want) r
 retyped w o want (Gives v now) h c = (ap (λ t. Some t) (sym (h (value_ty v) c.0)), c.1, c.2)
@@ -81,7 +55,7 @@ body-typed w f g b call typed vs now types are sizes =
     let p = body_place b.known g in
     let wanted = body_wanted b.known g in
     retyped w (type_at b.known p.vars g.body) (type_of w.declared.layouts g.result) (eval w.declared call g.body (entered g.params vs []) now)
-    (λ t q. type-same t (type_of b.known.layouts g.result) (right-type p wanted g.body t b.none q) ∙ b.result)
+    (λ t q. type-same t (type_of b.known.layouts g.result) (right-of p wanted g.body t b.none q) ∙ b.result)
     (typed-eval w b.own call p wanted g.body (entered g.params vs []) now b.part typed
     (ap (λ ts. param_vars ts []) b.params ∙ sym (entered-types w.declared.layouts g.params vs [] types))
     (entered-words g.params vs [] are (tt {0})) sizes b.none)
@@ -164,7 +138,7 @@ lockstep w bs all funs made (suc depth) =
 -- ---- main
 closed-same : (w : Whole) (t : Ty) → words t ≤ 8 → ((k : ℕ) (ts : Tys) → raised_tys w k ≡ Some ts → total_words ts ≤ 8) → (r : Result) → ComesTo w (Some t) r → closed r ≡ flat.closed (ended r)
 closed-same w t few narrow (Gives v now) c =
-    let same : t ≡ value_ty v = some_same c.0 in
+    let same : t ≡ value_ty v = some-same _ _ c.0 in
     let count : length (words_of v) ≡ words t = word-count v ∙ ap words (sym same) in
     ap (λ ws. record { outcome = outcome.Ended ws; packet = now.packet; writes = now.writes }) (take-whole 8 (words_of v) (omega arith))
 closed-same w t few narrow (Raises k vs now) c =
@@ -184,18 +158,14 @@ main-narrow w g b found =
     let named : bytes_eq g.name main_name ≡ true = (bytes_eq-Decides g.name main_name).1 (sym ((bytes_eq-Decides main_name g.name).0 (function-named w.declared.functions main_name g found))) in
     let k = b.known.layouts in
     let last : (if bytes_eq g.name main_name then wide_main (signature k g) else []) ≡ [] =
-    no_rest (variable_twice (type_names g.params)) _ (no_rest (type_faults k g.result) _ (no_rest (named_types_faults k g.params) _ (no_kinds g.span _ b.signed))) in
+    none-right (variable_twice (type_names g.params)) _ (none-right (type_faults k g.result) _ (none-right (named_types_faults k g.params) _ (no-kinds g.span _ b.signed))) in
     let wide : wide_main (signature k g) ≡ [] = sym (ap (λ c. if c then wide_main (signature k g) else []) named) ∙ last in
-    let rest : (some_named_bool (named_types_of k g.params) || nat_lt 8 (words (type_of k g.result))) ≡ false = neither_second (nat_lt 8 (total_named_words (named_types_of k g.params))) _ (not_where {A = ℕ} _ 23 wide) in
+    let rest : (some_named_bool (named_types_of k g.params) || nat_lt 8 (words (type_of k g.result))) ≡ false = (or_parts (nat_lt 8 (total_named_words (named_types_of k g.params))) _ (not_where {A = ℕ} _ 23 wide)).1 in
     record {
-      params = subst (λ ts. total_named_words ts ≤ 8) b.params (ltb-false 8 (total_named_words (named_types_of k g.params)) (neither_first (nat_lt 8 (total_named_words (named_types_of k g.params))) _ (not_where {A = ℕ} _ 23 wide)));
-      bools = ap some_named_bool (sym b.params) ∙ neither_first (some_named_bool (named_types_of k g.params)) _ rest;
-      result = subst (λ t. words t ≤ 8) b.result (ltb-false 8 (words (type_of k g.result)) (neither_second (some_named_bool (named_types_of k g.params)) _ rest));
+      params = subst (λ ts. total_named_words ts ≤ 8) b.params (ltb-false 8 (total_named_words (named_types_of k g.params)) ((or_parts (nat_lt 8 (total_named_words (named_types_of k g.params))) _ (not_where {A = ℕ} _ 23 wide)).0));
+      bools = ap some_named_bool (sym b.params) ∙ (or_parts (some_named_bool (named_types_of k g.params)) _ rest).0;
+      result = subst (λ t. words t ≤ 8) b.result (ltb-false 8 (words (type_of k g.result)) ((or_parts (some_named_bool (named_types_of k g.params)) _ rest).1));
     }
-
-length-numbers : (n k : ℕ) → length (numbers_from n k) ≡ k
-length-numbers n zero = refl
-length-numbers n (suc k) = ap suc (length-numbers (suc n) k)
 
 abbrev begun : ℕ → Memories → Running
 begun n p = record { calls = n; packet = p; writes = [] }
@@ -239,6 +209,6 @@ module _ (t : ProgramTree) (h : program_faults t ≡ []) (funs : List FlatFun) (
       let c = complete m.fun m.found in
       let r = c.made.by 0 main_name m.fun c.first m.found in
       record {
-        arguments = m.words ∙ sym (ap flattened.params_of r.1 ∙ ap length r.2.params ∙ length-numbers 0 (total_named_words (params_in (whole_of t) m.fun)));
+        arguments = m.words ∙ sym (ap flattened.params_of r.1 ∙ ap length r.2.params ∙ numbers-length 0 (total_named_words (params_in (whole_of t) m.fun)));
         same = λ args p are sizes. same_seen (source t args p) (code.flat_meaning funs 0 args p) (λ n. ap seen (equal args p are sizes n));
       }

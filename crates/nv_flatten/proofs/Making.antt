@@ -5,11 +5,12 @@ use Rattle.nv_ast.specs.Tree.{FunTree, NamedTypes}
 use Rattle.nv_ast.specs.Types.{type_of, named_types_of, words, total_named_words}
 use Rattle.nv_meaning.specs.Meaning.{function_in}
 use Rattle.flat_ir.specs.declared.flat.FlatFun.{FlatFun}
-use Rattle.nv_flatten.specs.Symbols.{Symbol, SymbolScope, named_fresh, numbers_from, params_bound}
-use Rattle.nv_flatten.specs.Whole.{Whole, group_of}
-use Rattle.nv_flatten.specs.Simulation.{Names, IsEnd}
-use Rattle.nv_flatten.specs.Made.{IsMade, IsPlaced}
-use Rattle.nv_flatten.specs.Well.{IsWellEnd}
+use Rattle.nv_flatten.specs.inner.Symbols.{Symbol, SymbolScope, named_fresh, numbers_from, params_bound}
+use Rattle.nv_flatten.specs.inner.Whole.{Whole, group_of}
+use Rattle.nv_flatten.specs.inner.Simulation.{Names, IsEnd}
+use Rattle.nv_flatten.specs.inner.Made.{IsMade, IsPlaced}
+use Rattle.nv_flatten.specs.inner.Well.{IsWellEnd}
+use Rattle.nv_flatten.proofs.NoFaults.{some-same}
 
 -- what holds where there is an answer
 pub if-ok : {A E : Type 0} (r : Result A E) (P Q : A → Type 0) → ((a : A) → P a → Q a) → IfOk r P → IfOk r Q
@@ -38,12 +39,9 @@ made-of w g fun old names low high scope form types same scopes lows params end 
       results = results;
     }
 
-some_same : {A : Type 0} {x y : A} → Some x ≡ Some y → x ≡ y
-some_same e = cc
-
 -- the function that was found is the one that is made
 pub made-found : (w : Whole) (name : List ℕ) (names : Names) (f g : FunTree) (fun : FlatFun) → function_in w.declared.functions name ≡ Some f → IsMade w names f fun → function_in w.declared.functions name ≡ Some g → IsMade w names g fun
-made-found w name names f g fun found m e = subst (λ d. IsMade w names d fun) (some_same (sym found ∙ e)) m
+made-found w name names f g fun found m e = subst (λ d. IsMade w names d fun) (some-same _ _ (sym found ∙ e)) m
 
 pub none-found : {A : Type 0} (o : Option FunTree) (g : FunTree) → o ≡ None → o ≡ Some g → A
 none-found o g e f = absurd (no (sym e ∙ f))
@@ -54,6 +52,6 @@ none-found o g e f = absurd (no (sym e ∙ f))
 -- the function that was found is in its group
 pub placed-found : (w : Whole) (name : List ℕ) (f : FunTree) (group : ℕ) (fun : FlatFun) → function_in w.declared.functions name ≡ Some f → group_of w name ≡ Some group → fun.group ≡ group → IsPlaced w name fun
 placed-found w name f group fun found numbered same = record {
-  group = λ g n e at. same ∙ some_same (sym numbered ∙ at);
+  group = λ g n e at. same ∙ some-same _ _ (sym numbered ∙ at);
   absent = λ none. none-found (function_in w.declared.functions name) f none found;
 }

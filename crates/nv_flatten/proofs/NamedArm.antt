@@ -12,12 +12,12 @@ use Rattle.flat_ir.specs.Running as flat
 use Rattle.flat_ir.specs.Spine.{Act}
 use Rattle.flat_ir.specs.declared.flat.Flat.{Flat}
 use Rattle.flat_ir.specs.declared.spine.Step.TheVariants.{Bind}
-use Rattle.nv_flatten.specs.Code.{form_or_unit}
-use Rattle.nv_flatten.specs.Symbols.{Symbol, SymbolScope, form, value_in, scope_in, Fits, fresh, numbers_from}
-use Rattle.nv_flatten.specs.Runs.{flat_run, onward, ended}
-use Rattle.nv_flatten.specs.Soundness.{ComesTo, AreWords, value_ty}
-use Rattle.nv_flatten.specs.Whole.{Whole}
-use Rattle.nv_flatten.specs.Simulation.{Names, Done, IsValue, IsEnd}
+use Rattle.nv_flatten.specs.inner.Code.{form_or_unit}
+use Rattle.nv_flatten.specs.inner.Symbols.{Symbol, SymbolScope, form, value_in, scope_in, Fits, fresh, numbers_from}
+use Rattle.nv_flatten.specs.inner.Runs.{flat_run, onward, ended}
+use Rattle.nv_flatten.specs.inner.Soundness.{ComesTo, AreWords, value_ty}
+use Rattle.nv_flatten.specs.inner.Whole.{Whole}
+use Rattle.nv_flatten.specs.inner.Simulation.{Names, Done, IsValue, IsEnd}
 use Rattle.nv_flatten.proofs.Keeping.{keeps-earlier, types-of-scope, scope-words}
 use Rattle.nv_flatten.proofs.Fresh.{fresh-form, fresh-older, numbers-keep, fresh-value, fresh-fits}
 use Rattle.nv_flatten.proofs.Sound.{typed-eval}

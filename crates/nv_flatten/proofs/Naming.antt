@@ -6,28 +6,24 @@ use Rattle.std.proofs.lemmas.Slice.Eq.{bytes_eq-Decides}
 use Rattle.nv_ast.specs.Tree.{FunTree}
 use Rattle.nv_meaning.specs.Meaning.{function_in}
 use Rattle.flat_ir.specs.declared.flat.FlatFun.{FlatFun}
-use Rattle.nv_flatten.specs.Whole.{Whole}
-use Rattle.nv_flatten.specs.Simulation.{Names, Extends}
+use Rattle.nv_flatten.specs.inner.Whole.{Whole}
+use Rattle.nv_flatten.specs.inner.Simulation.{Names, Extends}
 use Rattle.flat_ir.specs.Reached.{calls}
-use Rattle.nv_flatten.specs.Made.{IsMade, AreMade, AllMade, IsPlaced, ArePlaced}
-use Rattle.nv_flatten.specs.Well.{AreCalled}
+use Rattle.nv_flatten.specs.inner.Made.{IsMade, AreMade, AllMade, IsPlaced, ArePlaced}
+use Rattle.nv_flatten.specs.inner.Well.{AreCalled}
 use Rattle.nv_flatten.proofs.WellProgram.{AreFound, found-first, found-more}
-
-some_same : {A : Type 0} {x y : A} → Some x ≡ Some y → x ≡ y
-some_same e = cc
+use Rattle.std.proofs.lemmas.List.{map-append}
+use Rattle.nv_flatten.proofs.NoFaults.{some-same}
+use Rattle.nv_flatten.proofs.CallArms.{get-append}
 
 slice-mapped : (ks : List (Bor (List ℕ))) (i : ℕ) (k : Bor (List ℕ)) → slice_get ks i ≡ Some k → slice_get (map (λ y. y.now) ks) i ≡ Some k.now
 slice-mapped [] i k e = cc
-slice-mapped (y ∷ ks) zero k e = ap (λ z. Some z.now) (some_same e)
+slice-mapped (y ∷ ks) zero k e = ap (λ z. Some z.now) (some-same _ _ e)
 slice-mapped (y ∷ ks) (suc i) k e = slice-mapped ks i k e
 
 -- the number of a name
 pub name-at : (ks : List (Bor (List ℕ))) (i : ℕ) (k : Bor (List ℕ)) (x : List ℕ) → slice_get ks i ≡ Some k → bytes_eq x k.now ≡ true → slice_get (map (λ y. y.now) ks) i ≡ Some x
 name-at ks i k x e q = slice-mapped ks i k e ∙ ap (λ y. Some y) (sym ((bytes_eq-Decides x k.now).0 q))
-
-mapped : {A B : Type 0} (f : A → B) (xs ys : List A) → map f (xs ++ ys) ≡ map f xs ++ map f ys
-mapped f [] ys = refl
-mapped f (x ∷ xs) ys = ap (λ l. f x ∷ l) (mapped f xs ys)
 
 -- a name more, or the same names
 abbrev pub Added : Names → Names → List ℕ → Type 0
@@ -35,7 +31,7 @@ Added old new x = (new ≡ old) ⊎ (new ≡ old ++ x ∷ [])
 
 key-added : (b : Bool) (ks : List (Bor (List ℕ))) (k : Bor (List ℕ)) → Added (map (λ y. y.now) ks) (map (λ y. y.now) (if b then ks else ks ++ k ∷ [])) k.now
 key-added true ks k = inl refl
-key-added false ks k = inr (mapped (λ y. y.now) ks (k ∷ []))
+key-added false ks k = inr (map-append (λ y. y.now) ks (k ∷ []))
 
 pub names-added : (b : Bool) (ks new : List (Bor (List ℕ))) (k : Bor (List ℕ)) → new ≡ (if b then ks else ks ++ k ∷ []) → Added (map (λ y. y.now) ks) (map (λ y. y.now) new) k.now
 names-added b ks new k e = subst (λ l. Added (map (λ y. y.now) ks) (map (λ y. y.now) l) k.now) (sym e) (key-added b ks k)
@@ -44,10 +40,6 @@ pub added-extends : (old new : Names) (x : List ℕ) → Added old new x → Ext
 added-extends old new x a = elim a [ inl same ↦ ([], same ∙ sym (append-nil old)) | inr more ↦ (x ∷ [], more) ]
 
 -- ---- numbers that are there stay
-pub slice-front : {A : Type 0} (xs more : List A) (i : ℕ) (x : A) → slice_get xs i ≡ Some x → slice_get (xs ++ more) i ≡ Some x
-slice-front [] more i x e = cc
-slice-front (y ∷ xs) more zero x e = e
-slice-front (y ∷ xs) more (suc i) x e = slice-front xs more i x e
 
 -- what stands in a list with one more
 pub record Seen {A : Type 0} (xs : List A) (last : A) (i : ℕ) (x : A) : Type 0 where
@@ -56,7 +48,7 @@ pub record Seen {A : Type 0} (xs : List A) (last : A) (i : ℕ) (x : A) : Type 0
   pub here : i ≡ length xs → x ≡ last
 
 pub slice-last : {A : Type 0} (xs : List A) (last : A) (i : ℕ) (x : A) → slice_get (xs ++ last ∷ []) i ≡ Some x → Seen xs last i x
-slice-last [] last zero x e = record { place = omega arith; before = λ h. absurd (omega arith); here = λ h. sym (some_same e) }
+slice-last [] last zero x e = record { place = omega arith; before = λ h. absurd (omega arith); here = λ h. sym (some-same _ _ e) }
 slice-last [] last (suc i) x e = absurd (cc)
 slice-last (y ∷ xs) last zero x e = record { place = omega arith; before = λ h. e; here = λ h. absurd (omega arith) }
 slice-last (y ∷ xs) last (suc i) x e =
@@ -130,7 +122,7 @@ made-first w main names new i funs none added there empty = record {
 pub made-more : (w : Whole) (main name : List ℕ) (names new : Names) (funs funs' : List FlatFun) (fun : FlatFun) → MadeSoFar w main names funs → slice_get names (length funs) ≡ Some name → Extends names new
     → ((g : FunTree) → function_in w.declared.functions name ≡ Some g → IsMade w new g fun) → IsPlaced w name fun → AreCalled names new (calls fun.body) → funs' ≡ funs ++ fun ∷ [] → MadeSoFar w main new funs'
 made-more w main name names new funs funs' fun so named more made placed calling pushed = record {
-  first = ap (λ l. slice_get l 0) more.1 ∙ slice-front names more.0 0 main so.first;
+  first = ap (λ l. slice_get l 0) more.1 ∙ get-append names more.0 0 main so.first;
   few = few;
   made = record { by = by };
   placed = record { by = stands };
@@ -158,7 +150,7 @@ made-more w main name names new funs funs' fun so named more made placed calling
     earlier : (i : ℕ) → i < length names → (f : List ℕ) → slice_get new i ≡ Some f → slice_get names i ≡ Some f
     earlier i h f e =
         let r = slice-there names i h in
-        let same : r.0 ≡ f = some_same (sym (ap (λ l. slice_get l i) more.1 ∙ slice-front names more.0 i r.0 r.1) ∙ e) in
+        let same : r.0 ≡ f = some-same _ _ (sym (ap (λ l. slice_get l i) more.1 ∙ get-append names more.0 i r.0 r.1) ∙ e) in
         r.1 ∙ ap (λ x. Some x) same
 
     by : (i : ℕ) (f : List ℕ) (g : FunTree) (d : FlatFun) → slice_get new i ≡ Some f → function_in w.declared.functions f ≡ Some g → slice_get funs' i ≡ Some d → IsMade w new g d
@@ -171,7 +163,7 @@ made-more w main name names new funs funs' fun so named more made placed calling
           | inl below ↦ more-names w names new g d more (so.made.by i f g d named' found (s.before below))
           | inr past ↦ (
               let here : i ≡ length funs = omega arith in
-              let same : name ≡ f = some_same (sym named ∙ ap (slice_get names) (sym here) ∙ named') in
+              let same : name ≡ f = some-same _ _ (sym named ∙ ap (slice_get names) (sym here) ∙ named') in
               subst (IsMade w new g) (sym (s.here here)) (made g (ap (function_in w.declared.functions) same ∙ found)))
         ]
 
@@ -185,7 +177,7 @@ made-more w main name names new funs funs' fun so named more made placed calling
           | inl below ↦ so.placed.by i f d named' (s.before below)
           | inr past ↦ (
               let here : i ≡ length funs = omega arith in
-              let same : name ≡ f = some_same (sym named ∙ ap (slice_get names) (sym here) ∙ named') in
+              let same : name ≡ f = some-same _ _ (sym named ∙ ap (slice_get names) (sym here) ∙ named') in
               subst (λ x. IsPlaced w x d) same (subst (IsPlaced w name) (sym (s.here here)) placed))
         ]
 

@@ -5,7 +5,7 @@ use Rattle.nv_base.specs.Words.{prim_vars}
 use Rattle.flat_ir.specs.declared.flat.FlatFun.{FlatFun}
 use Rattle.flat_ir.specs.declared.spine.Step.TheVariants.{Let}
 use Rattle.flat_ir.specs.Wide.{Widths}
-use Rattle.nv_flatten.specs.Narrow.{IsWithin, NarrowSteps}
+use Rattle.nv_flatten.specs.inner.Narrow.{IsWithin, NarrowSteps}
 use Rattle.nv_flatten.proofs.Within.{itself, into-left, together, grows-by}
 use Rattle.nv_flatten.proofs.NarrowSteps.{recast, beside, let-step}
 

@@ -1,5 +1,5 @@
 -- How wide calls, exceptions and handlers are, and what unpacks and packs.
-use Rattle.std.proofs.Common.{◌≡◌, ℕ, zero, suc, ◌+◌, ◌≤◌, max, true, List, [], ◌∷◌, ◌++◌, refl, sym, ap, subst, ◌∙◌, length, Option, Some, None, option_map, slice_get, unwrap_or, arith}
+use Rattle.std.proofs.Common.{◌≡◌, ℕ, ◌+◌, ◌≤◌, max, true, List, [], ◌∷◌, ◌++◌, refl, sym, ap, subst, ◌∙◌, length, Option, Some, None, option_map, slice_get, unwrap_or, arith}
 use Rattle.nv_ast.specs.declared.token.Span.{Span}
 use Rattle.nv_ast.specs.Tree.{NamedLayout, Tree, CallTree, UnpackTree, PackTree, RaiseTree, TryTree, Trees, PatternTrees, FunTree}
 use Rattle.nv_ast.specs.Tests.{look_up, value_at}
@@ -17,24 +17,22 @@ use Rattle.flat_ir.specs.declared.flat.FlatFun.{FlatFun}
 use Rattle.flat_ir.specs.declared.spine.Step.{Step}
 use Rattle.flat_ir.specs.Spine.{AreNodes}
 use Rattle.nv_base.specs.Sets.{all_vars}
-use Rattle.nv_flatten.specs.Symbols.{Symbol, Symbols, SymbolScope, form, operands, all_operands, all_fresh, numbers_from, vars_of, all_bound}
-use Rattle.nv_flatten.specs.Whole.{Whole, Stands, raised_or_none}
-use Rattle.nv_flatten.specs.Simulation.{Names, HasForm, AreValues}
-use Rattle.nv_flatten.specs.Narrow.{IsWithin, written, NarrowSteps, NarrowCode, AreNarrowLets, Room, IsNarrowValue, AreNarrowValues, IsNarrowEnd}
-use Rattle.nv_flatten.proofs.Fresh.{fresh-forms, fresh-operands, all-bound-types}
+use Rattle.nv_flatten.specs.inner.Symbols.{Symbol, Symbols, SymbolScope, form, operands, all_operands, all_fresh, numbers_from, vars_of, all_bound}
+use Rattle.nv_flatten.specs.inner.Whole.{Whole, Stands, raised_or_none}
+use Rattle.nv_flatten.specs.inner.Simulation.{Names, HasForm, AreValues}
+use Rattle.nv_flatten.specs.inner.Narrow.{IsWithin, written, NarrowSteps, NarrowCode, AreNarrowLets, Room, IsNarrowValue, AreNarrowValues, IsNarrowEnd}
+use Rattle.nv_flatten.proofs.Fresh.{fresh-forms, fresh-operands, all-bound-types, numbers-length}
 use Rattle.nv_flatten.proofs.Sound.{arguments-are-values}
-use Rattle.nv_flatten.proofs.WellTypes.{no-kinds, some-where, low-of}
+use Rattle.nv_flatten.proofs.WellTypes.{some-where, low-of}
 use Rattle.nv_flatten.proofs.Within.{itself, of-none, into-left, into-right, through, behind-same, grows-not}
 use Rattle.nv_flatten.proofs.NarrowSteps.{last, handled, recast, follow, joined, recast-code, raise-code, call-code, CallAtMost, try-code}
-use Rattle.nv_flatten.proofs.NarrowFacts.{none-left, none-right, written-append, counted, counted-given, vars-of-variables, numbers-length, need-least}
+use Rattle.nv_flatten.proofs.NarrowFacts.{written-append, counted, counted-given, vars-of-variables, need-least}
 use Rattle.nv_flatten.proofs.Bound.{written-all-bound}
-use Rattle.nv_flatten.proofs.NarrowValues.{roomier, stands-inside}
+use Rattle.nv_flatten.proofs.NarrowValues.{roomier}
 use Rattle.nv_flatten.proofs.NarrowEnds.{arguments-counted}
-
-pub slice-more : {A : Type 0} (xs more : List A) (i : ℕ) (a : A) → slice_get xs i ≡ Some a → slice_get (xs ++ more) i ≡ Some a
-slice-more [] more i a e = cc
-slice-more (x ∷ xs) more zero a e = e
-slice-more (x ∷ xs) more (suc i) a e = slice-more xs more i a e
+use Rattle.nv_flatten.proofs.NoFaults.{none-left, none-right, no-kinds}
+use Rattle.nv_flatten.proofs.CallArms.{get-append}
+use Rattle.nv_flatten.proofs.Following.{stands-inside}
 
 module _ (w : Whole) (names others : Names) (low high : ℕ) (scope : SymbolScope) (sp : Span) (es : Trees) (ss : List Step) (us : Symbols) where
   -- arguments, and then code that takes their words
@@ -65,7 +63,7 @@ module _ (w : Whole) (names others : Names) (low high : ℕ) (scope : SymbolScop
       → max (value_at 0 f c.needs) (n + 1) ≤ all → CallAtMost c.funs c.widths c.own o all
   called c f i g n all None named found there results le = tt
   called c f i g n all (Some fun) named found there results le = λ earlier.
-      let named' : slice_get c.all i ≡ Some f = ap (λ l. slice_get l i) c.more.1 ∙ slice-more names c.more.0 i f named in
+      let named' : slice_get c.all i ≡ Some f = ap (λ l. slice_get l i) c.more.1 ∙ get-append names c.more.0 i f named in
       let many : fun.results ≡ n = c.calls.results i f g fun named' found there ∙ results in
       let wide : c.widths fun.group ≤ value_at 0 f c.needs = c.calls.earlier i f g fun named' found there earlier in
       omega arith

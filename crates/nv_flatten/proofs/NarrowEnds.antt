@@ -21,17 +21,19 @@ use Rattle.flat_ir.specs.declared.spine.Step.{Step}
 use Rattle.flat_ir.specs.Spine.{AreNodes}
 use Rattle.nv_base.specs.Sets.{all_vars}
 use Rattle.flat_ir.specs.Wide.{Widths}
-use Rattle.nv_flatten.specs.Code.{is_given, is_comparison}
-use Rattle.nv_flatten.specs.Symbols.{Symbol, Symbols, SymbolScope, operands, all_operands, truth_operand}
-use Rattle.nv_flatten.specs.Whole.{Whole, Stands}
-use Rattle.nv_flatten.specs.Simulation.{Names, HasForm, AreValues}
-use Rattle.nv_flatten.specs.Narrow.{IsWithin, written, NarrowSteps, NarrowCode, IsNarrowValue, IsNarrowTest, IsNarrowEnd}
-use Rattle.nv_flatten.specs.Well.{GivesLiteral}
+use Rattle.nv_flatten.specs.inner.Code.{is_given, is_comparison}
+use Rattle.nv_flatten.specs.inner.Symbols.{Symbol, Symbols, SymbolScope, operands, all_operands, truth_operand}
+use Rattle.nv_flatten.specs.inner.Whole.{Whole, Stands}
+use Rattle.nv_flatten.specs.inner.Simulation.{Names, HasForm, AreValues}
+use Rattle.nv_flatten.specs.inner.Narrow.{IsWithin, written, NarrowSteps, NarrowCode, IsNarrowValue, IsNarrowTest, IsNarrowEnd}
+use Rattle.nv_flatten.specs.inner.Well.{GivesLiteral}
 use Rattle.nv_flatten.proofs.Sound.{values-have-types}
 use Rattle.nv_flatten.proofs.Within.{itself, of-none, one, both, unions, together, behind-same, grows-not}
 use Rattle.nv_flatten.proofs.NarrowSteps.{last, beside, joined, recast-code, give-code, if-code}
-use Rattle.nv_flatten.proofs.NarrowFacts.{none-left, none-right, written-append, counted-given, words-of-forms, truth-operand-within, need-least}
-use Rattle.nv_flatten.proofs.NarrowValues.{roomier, less-behind, stands-inside, operands-narrow, result-words}
+use Rattle.nv_flatten.proofs.NarrowFacts.{written-append, counted-given, words-of-forms, truth-operand-within, need-least}
+use Rattle.nv_flatten.proofs.NarrowValues.{roomier, less-behind, operands-narrow, result-words}
+use Rattle.nv_flatten.proofs.NoFaults.{none-left, none-right, some-same}
+use Rattle.nv_flatten.proofs.Following.{stands-inside}
 
 module _ (funs : List FlatFun) (widths : Widths) (own : ℕ) where
   literal-code : (t : Flat) → GivesLiteral t → NarrowCode funs widths own t [] [] 2
@@ -67,9 +69,6 @@ words-and (Some t) None ts n h e = cc
 words-and (Some t) (Some u) ts n h e =
     let same : ty_and t u ≡ ts = cc in
     subst (λ l. words t + n ≡ total_words l) same (ap (λ k. words t + k) (h u refl))
-
-some-same : {A : Type 0} (a b : A) → Some a ≡ Some b → a ≡ b
-some-same a b e = cc
 
 words-of-types : (k : Known) (vars : Vars) (es : Trees) (ts : Tys) → types_at k vars es ≡ Some ts → words_all k vars es ≡ total_words ts
 words-of-types k vars no_trees ts e = empty ts e

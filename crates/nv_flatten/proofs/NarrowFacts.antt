@@ -1,32 +1,23 @@
 -- What the bounds of narrow code stand on: written names, operands, and needs.
-use Rattle.std.proofs.Common.{◌≡◌, ℕ, zero, suc, ◌+◌, ◌≤◌, nat_eq, Bool, true, false, if◌then◌else◌, List, [], ◌∷◌, ◌++◌, refl, sym, ap, subst, ◌∙◌, append_assoc, length, Option, Some, None, option_map, bytes_eq, arith}
+use Rattle.std.proofs.Common.{◌≡◌, ℕ, ◌+◌, ◌≤◌, Bool, true, false, if◌then◌else◌, List, [], ◌∷◌, ◌++◌, refl, sym, ap, subst, ◌∙◌, append_assoc, length, Option, Some, None, option_map, bytes_eq, arith}
 use Rattle.std.proofs.lemmas.List.{length-append}
-use Rattle.nv_base.specs.declared.term.Atom.{Atom}
 use Rattle.nv_base.specs.Words.{atom_vars}
 use Rattle.nv_ast.specs.Tree.{Tree, NumberTree, TruthTree, VarTree, ParenTree, TupleTree, FieldsTree, DotTree, InvertTree, NegateTree, BinaryTree, ShiftTree, CallTree, UnpackTree, PackTree, RaiseTree, IfTree, TryTree, FetchTree, BlockTree}
-use Rattle.nv_ast.specs.Types.{Ty, WordTy, TupleTy, words, total_words, total_named_words, words_of_value, words_ty, word_parts}
+use Rattle.nv_ast.specs.Types.{Ty, words, total_words, total_named_words, words_of_value}
 use Rattle.nv_ast.specs.Scope.{Known, Vars, Place}
 use Rattle.nv_ast.specs.Typing.{type_at, vars_behind}
 use Rattle.nv_ast.specs.Faults.{Wanted, faults}
 use Rattle.nv_ast.specs.Sizes.{GroupNumbers, words_at, need}
 use Rattle.nv_base.specs.Sets.{all_vars}
-use Rattle.nv_base.proofs.Sets.{same-number}
-use Rattle.nv_flatten.specs.Code.{variables, is_given, form_or_unit}
-use Rattle.nv_flatten.specs.Symbols.{Symbol, Symbols, NamedSymbols, Word, Truth, Tuple, Record, no_symbols, symbol_and, no_named_symbols, named_symbol_and, SymbolScope, operands, all_operands, named_operands, form, forms, named_forms, numbers_from, word_symbols, words_symbol, word_operand, truth_operand, fields_of, field_named, symbol_in}
-use Rattle.nv_flatten.specs.Whole.{Whole, Stands}
-use Rattle.nv_flatten.specs.Simulation.{HasForm}
-use Rattle.nv_flatten.specs.Narrow.{IsWithin, written}
+use Rattle.nv_flatten.specs.inner.Code.{variables, is_given, form_or_unit}
+use Rattle.nv_flatten.specs.inner.Symbols.{Symbol, Symbols, NamedSymbols, Word, Truth, Tuple, Record, no_symbols, symbol_and, no_named_symbols, named_symbol_and, SymbolScope, operands, all_operands, named_operands, form, forms, named_forms, word_operand, truth_operand, fields_of, field_named, symbol_in}
+use Rattle.nv_flatten.specs.inner.Whole.{Whole, Stands}
+use Rattle.nv_flatten.specs.inner.Simulation.{HasForm}
+use Rattle.nv_flatten.specs.inner.Narrow.{IsWithin, written}
 use Rattle.nv_flatten.proofs.Within.{itself, of-none, into-left, into-right, through, all-vars-append, vars-length}
 use Rattle.nv_flatten.proofs.Sound.{value-has-type, given-has-type}
 
 -- ---- lists without an element
-pub none-left : {A : Type 0} (a b : List A) → a ++ b ≡ [] → a ≡ []
-none-left [] b e = refl
-none-left (x ∷ a) b e = cc
-
-pub none-right : {A : Type 0} (a b : List A) → a ++ b ≡ [] → b ≡ []
-none-right [] b e = e
-none-right (x ∷ a) b e = cc
 
 -- ---- written names
 pub written-append : (scope : SymbolScope) (xs ys : List (List ℕ)) → written scope (xs ++ ys) ≡ written scope xs ++ written scope ys
@@ -117,33 +108,6 @@ fields-within (Record fs) = itself
 pub vars-of-variables : (xs : List ℕ) → all_vars (variables xs) ≡ xs
 vars-of-variables [] = refl
 vars-of-variables (x ∷ xs) = ap (λ l. x ∷ l) (vars-of-variables xs)
-
-pub numbers-length : (n k : ℕ) → length (numbers_from n k) ≡ k
-numbers-length n zero = refl
-numbers-length n (suc k) = ap suc (numbers-length (suc n) k)
-
-word-symbols-operands : (bs : List Atom) → all_operands (word_symbols bs) ≡ bs
-word-symbols-operands [] = refl
-word-symbols-operands (a ∷ bs) = ap (λ l. a ∷ l) (word-symbols-operands bs)
-
-pub words-symbol-operands : (bs : List Atom) → operands (words_symbol bs) ≡ bs
-words-symbol-operands [] = refl
-words-symbol-operands (a ∷ []) = refl
-words-symbol-operands (a ∷ b ∷ bs) = word-symbols-operands (a ∷ b ∷ bs)
-
-parts-words : (n : ℕ) → total_words (word_parts n) ≡ n
-parts-words zero = refl
-parts-words (suc n) = omega (arith, parts-words n)
-
-choice-words : (b : Bool) (n : ℕ) → (b ≡ true → n ≡ 1) → words (if b then WordTy else TupleTy (word_parts n)) ≡ n
-choice-words true n h = sym (h refl)
-choice-words false n h = parts-words n
-
-pub words-of-words : (n : ℕ) → words (words_ty n) ≡ n
-words-of-words n = choice-words (nat_eq n 1) n (same-one n)
-  where
-    same-one : (n : ℕ) → nat_eq n 1 ≡ true → n ≡ 1
-    same-one n e = same-number n 1 e
 
 -- ---- needs
 

@@ -4,10 +4,11 @@ use Rattle.std.specs.Prelude.{slice_get}
 use Rattle.nv_ast.specs.Tree.{FunTree}
 use Rattle.nv_meaning.specs.Meaning.{function_in}
 use Rattle.flat_ir.specs.declared.flat.FlatFun.{FlatFun}
-use Rattle.nv_flatten.specs.Whole.{Whole}
-use Rattle.nv_flatten.specs.Simulation.{Names, Extends}
-use Rattle.nv_flatten.specs.Narrow.{IsNarrowOf, AreNarrowFuns}
-use Rattle.nv_flatten.proofs.NarrowValues.{extends-further}
+use Rattle.nv_flatten.specs.inner.Whole.{Whole}
+use Rattle.nv_flatten.specs.inner.Simulation.{Names, Extends}
+use Rattle.nv_flatten.specs.inner.Narrow.{IsNarrowOf, AreNarrowFuns}
+use Rattle.nv_flatten.proofs.CallArms.{get-append}
+use Rattle.nv_flatten.proofs.Keeping.{extends-then}
 
 -- what stands at a place of a list with one more element
 at-last : {A : Type 0} (P : A → ℕ → Type 0) (xs : List A) (x y : A) (i j : ℕ) → slice_get (xs ++ x ∷ []) i ≡ Some y → ((z : A) (k : ℕ) → slice_get xs k ≡ Some z → P z (j + k)) → P x (j + length xs) → P y (j + i)
@@ -19,14 +20,9 @@ at-last P (z ∷ xs) x y (suc i) j e h p =
     let t : j + length (z ∷ xs) ≡ suc j + length xs = omega arith in
     subst (P y) s (at-last P xs x y i (suc j) e (λ v k f. let r : j + suc k ≡ suc j + k = omega arith in subst (P v) r (h v (suc k) f)) (subst (P x) t p))
 
-names-more : {A : Type 0} (xs more : List A) (i : ℕ) (a : A) → slice_get xs i ≡ Some a → slice_get (xs ++ more) i ≡ Some a
-names-more [] more i a e = cc
-names-more (x ∷ xs) more zero a e = e
-names-more (x ∷ xs) more (suc i) a e = names-more xs more i a e
-
 pub fun-more : (w : Whole) (names more : Names) → Extends names more → (f : List ℕ) (o : Option FunTree) (fun : FlatFun) → IsNarrowOf w names f o fun → IsNarrowOf w more f o fun
 fun-more w names more h f None fun e = e
-fun-more w names more h f (Some g) fun m = record { names = m.names; more = extends-further m.names names more m.more h; group = m.group; params = m.params; results = m.results; end = m.end }
+fun-more w names more h f (Some g) fun m = record { names = m.names; more = extends-then m.names names more m.more h; group = m.group; params = m.params; results = m.results; end = m.end }
 
 pub funs-none : (w : Whole) (names : Names) → AreNarrowFuns w names []
 funs-none w names = record { by = λ i fun e. absurd (none-at i fun e) }
@@ -43,7 +39,7 @@ pub funs-more : (w : Whole) (names more : Names) (funs : List FlatFun) (f : List
     → AreNarrowFuns w more (funs ++ fun ∷ [])
 funs-more w names more funs f fun h a named new = record {
   by = λ i g e.
-      let further : (j : ℕ) (x : List ℕ) → slice_get names j ≡ Some x → slice_get more j ≡ Some x = λ j x there. ap (λ l. slice_get l j) h.1 ∙ names-more names h.0 j x there in
+      let further : (j : ℕ) (x : List ℕ) → slice_get names j ≡ Some x → slice_get more j ≡ Some x = λ j x there. ap (λ l. slice_get l j) h.1 ∙ get-append names h.0 j x there in
       let z : 0 + length funs ≡ length funs = omega arith in
       let y : 0 + i ≡ i = omega arith in
       subst (IsMadeAt w more g) y

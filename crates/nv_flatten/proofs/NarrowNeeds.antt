@@ -7,9 +7,9 @@ use Rattle.nv_ast.specs.Sizes.{GroupNumbers, param_words, body_vars, need, group
 use Rattle.nv_ast.specs.Scope.{Known, nothing_known, known_after}
 use Rattle.nv_ast.specs.Faults.{body_faults, program_faults}
 use Rattle.nv_meaning.specs.Meaning.{function_in}
-use Rattle.nv_flatten.specs.Whole.{Whole, whole_of, group_of, IsPart}
-use Rattle.nv_flatten.proofs.Knowing.{some_same}
+use Rattle.nv_flatten.specs.inner.Whole.{Whole, whole_of, group_of, IsPart}
 use Rattle.nv_flatten.proofs.GroupWalk.{Group, group_in, number_of, with_group, numbers_behind, stands-in, number-in}
+use Rattle.nv_flatten.proofs.NoFaults.{some-same}
 
 -- ---- a function's body and the needs of the groups before
 pub record IsNeeded (w : Whole) (v : ℕ → ℕ) (f : List ℕ) (g : FunTree) : Type 0 where
@@ -31,7 +31,7 @@ need-found needs k (d ∷ fs) f g e = by (bytes_eq f d.name) refl (λ q. need-fo
         → param_words k g + need needs k (body_vars k g) g.body ≤ max (param_words k d + need needs k (body_vars k d) d.body) (group_need needs k fs)
     by true q next =
         subst (λ c. param_words k c + need needs k (body_vars k c) c.body ≤ max (param_words k d + need needs k (body_vars k d) d.body) (group_need needs k fs))
-        (some_same (sym (ap (λ b. if b then Some d else function_in fs f) q) ∙ e)) (omega arith)
+        (some-same _ _ (sym (ap (λ b. if b then Some d else function_in fs f) q) ∙ e)) (omega arith)
     by false q next = let le = next (sym (ap (λ b. if b then Some d else function_in fs f) q) ∙ e) in omega arith
 
 -- ---- of a whole program

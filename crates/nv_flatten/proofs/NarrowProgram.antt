@@ -1,5 +1,5 @@
 -- The flat program of a typed one is at most as wide as the program's room.
-use Rattle.std.proofs.Common.{◌≡◌, ◌∙◌, refl, sym, ap, subst, ℕ, ◌+◌, ◌≤◌, max, Bool, true, false, List, [], ◌∷◌, ◌++◌, length, Option, Some, None, bytes_eq, if◌then◌else◌, arith}
+use Rattle.std.proofs.Common.{◌≡◌, ◌∙◌, refl, sym, ap, subst, ℕ, ◌+◌, ◌≤◌, max, true, List, [], ◌∷◌, ◌++◌, length, Option, Some, None, bytes_eq, if◌then◌else◌, arith}
 use Rattle.std.specs.Prelude.{slice_get}
 use Rattle.std.proofs.lemmas.Bool.{ltb-true}
 use Rattle.nv_ast.specs.Tests.{value_at}
@@ -15,27 +15,24 @@ use Rattle.nv_base.specs.Measures.{operands_wide}
 use Rattle.flat_ir.specs.Wide.{Widths, code_wide, function_wide, wide, main_wide, AreWidths}
 use Rattle.nv_base.proofs.Sets.{different-length}
 use Rattle.flat_ir.proofs.Widths.{main-bounded}
-use Rattle.nv_flatten.specs.Symbols.{Symbol, NamedSymbols, no_named_symbols, named_symbol_and, SymbolScope, operands, named_operands, named_fresh, symbol_in, params_bound}
-use Rattle.nv_flatten.specs.Whole.{Whole, whole_of, group_of, Stands}
-use Rattle.nv_flatten.specs.Simulation.{Names}
-use Rattle.nv_flatten.specs.Made.{params_in, entry}
-use Rattle.nv_flatten.specs.Narrow.{IsWithin, written, NarrowCode, CallsNarrow, Room, IsNarrowFun, IsEmptyFun, IsNarrowOf, AreNarrowFuns}
+use Rattle.nv_flatten.specs.inner.Symbols.{NamedSymbols, no_named_symbols, named_symbol_and, SymbolScope, operands, named_operands, named_fresh, symbol_in, params_bound}
+use Rattle.nv_flatten.specs.inner.Whole.{Whole, whole_of, group_of, Stands}
+use Rattle.nv_flatten.specs.inner.Simulation.{Names}
+use Rattle.nv_flatten.specs.inner.Made.{params_in, entry}
+use Rattle.nv_flatten.specs.inner.Narrow.{IsWithin, written, NarrowCode, CallsNarrow, Room, IsNarrowFun, IsEmptyFun, IsNarrowOf, AreNarrowFuns}
 use Rattle.nv_flatten.proofs.Fresh.{fresh-form}
 use Rattle.nv_flatten.proofs.Entering.{params-types}
-use Rattle.nv_flatten.proofs.Knowing.{some_same}
 use Rattle.nv_flatten.proofs.Bodies.{has-main}
-use Rattle.nv_flatten.proofs.Within.{itself, of-none, one, both, unions, into-left, into-right, together, through, behind-same, at-most, all-vars-append, vars-length}
+use Rattle.nv_flatten.proofs.Within.{itself, of-none, one, both, unions, together, through, behind-same, at-most, all-vars-append, vars-length}
 use Rattle.nv_flatten.proofs.NarrowFacts.{words-of-named, need-least}
 use Rattle.nv_flatten.proofs.NarrowNeeds.{IsNeeded, need_of_group, needed, need-of}
+use Rattle.nv_flatten.proofs.NoFaults.{some-same}
+use Rattle.nv_flatten.proofs.Bound.{choice-of}
 
 -- ---- the variables in scope where a body begins are those of the parameters
 
 abbrev at_name : SymbolScope → List ℕ → List ℕ
 at_name scope x = all_vars (operands (symbol_in scope x))
-
-choice-of : (b : Bool) (s t : Symbol) → IsWithin (all_vars (operands (if b then s else t))) (all_vars (operands s) ++ all_vars (operands t))
-choice-of true s t = into-left (all_vars (operands s)) (all_vars (operands s)) (all_vars (operands t)) itself
-choice-of false s t = into-right (all_vars (operands t)) (all_vars (operands s)) (all_vars (operands t)) itself
 
 param-name : (ss : NamedSymbols) (scope : SymbolScope) (x : List ℕ) → IsWithin (at_name (params_bound ss scope) x) (all_vars (named_operands ss) ++ at_name scope x)
 param-name no_named_symbols scope x = itself
@@ -74,14 +71,14 @@ need-there t h f g m found grouped =
     let least = need-least n.needs n.known (body_vars n.known g) g.body in
     let enough = n.enough in
     let some : 2 ≤ need_of_group t n.own = omega arith in
-    subst (λ i. 2 ≤ need_of_group t i) (some_same (sym n.grouped ∙ grouped)) some
+    subst (λ i. 2 ≤ need_of_group t i) (some-same _ _ (sym n.grouped ∙ grouped)) some
 
 module _ (t : ProgramTree) (h : program_faults t ≡ []) (all : Names) (funs : List FlatFun) (made : AreNarrowFuns (whole_of t) all funs) where
   -- the flat function of a function's number
   made-of : (i : ℕ) (f : List ℕ) (g : FunTree) (fun : FlatFun) → slice_get all i ≡ Some f → function_in (whole_of t).declared.functions f ≡ Some g → slice_get funs i ≡ Some fun → IsNarrowFun (whole_of t) all f g fun
   made-of i f g fun named found there =
       let r = made.by i fun there in
-      let same : r.0 ≡ f = some_same (sym r.1 ∙ named) in
+      let same : r.0 ≡ f = some-same _ _ (sym r.1 ∙ named) in
       let at : IsNarrowOf (whole_of t) all f (function_in (whole_of t).declared.functions f) fun = subst (λ x. IsNarrowOf (whole_of t) all x (function_in (whole_of t).declared.functions x) fun) same r.2 in
       subst (λ o. IsNarrowOf (whole_of t) all f o fun) found at
 
@@ -99,7 +96,7 @@ module _ (t : ProgramTree) (h : program_faults t ≡ []) (all : Names) (funs : L
   body-wide f g fun found m =
       let w = whole_of t in
       let n = needed t h f g found in
-      let own : n.own ≡ fun.group = some_same (sym n.grouped ∙ m.group) in
+      let own : n.own ≡ fun.group = some-same _ _ (sym n.grouped ∙ m.group) in
       let p : Place = record { known = n.known; vars = param_vars (named_types_of n.known.layouts g.params) []; tail = true } in
       let wanted : Wanted = same_as (Some (type_of n.known.layouts g.result)) in
       let stands : Stands w n.own (entry w g) p = record { part = n.part; vars = ap (λ ts. param_vars ts []) n.params ∙ sym (params-types 0 (params_in w g) []) } in

@@ -16,7 +16,7 @@ use Rattle.flat_ir.specs.Wide.{live, Widths, call_wide, code_wide}
 use Rattle.flat_ir.specs.Pieces.{new_vars, steps_live, steps_wide}
 use Rattle.flat_ir.proofs.Parts.{nodes-live, nodes-wide}
 use Rattle.flat_ir.proofs.Appended.{live-append, wide-append}
-use Rattle.nv_flatten.specs.Narrow.{IsWithin, Grows, NarrowSteps, NarrowCode}
+use Rattle.nv_flatten.specs.inner.Narrow.{IsWithin, Grows, NarrowSteps, NarrowCode}
 use Rattle.nv_flatten.proofs.Within.{itself, of-none, one, both, unions, into-left, together, through, behind-same, before-same, both-same, turned, aside, aside-back, taken, at-most, at-most-more, grows-by, grows-not, grows-at, operands-at-most}
 
 two-at-most : (m n limit : ℕ) → m ≤ limit → n ≤ limit → max m n ≤ limit

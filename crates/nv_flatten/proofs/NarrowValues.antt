@@ -1,5 +1,5 @@
 -- How wide the steps of each expression's value are.
-use Rattle.std.proofs.Common.{◌≡◌, ℕ, ◌+◌, ◌≤◌, max, Bool, true, List, [], ◌∷◌, ◌++◌, refl, sym, ap, subst, ◌∙◌, append_assoc, length, Option, Vec, Global, arith}
+use Rattle.std.proofs.Common.{◌≡◌, ℕ, ◌+◌, ◌≤◌, max, Bool, true, List, [], ◌∷◌, ◌++◌, refl, sym, ap, subst, ◌∙◌, length, Option, Vec, Global, arith}
 use Rattle.std.proofs.lemmas.List.Elements.{All-nil}
 use Rattle.nv_base.specs.declared.term.Atom.{Atom}
 use Rattle.nv_base.specs.declared.term.Atom.TheVariants.{Var, Lit}
@@ -24,15 +24,20 @@ use Rattle.flat_ir.specs.declared.spine.Step.TheVariants.{Let, Fetch, Bind}
 use Rattle.flat_ir.specs.Pieces.{new_vars}
 use Rattle.nv_base.specs.Sets.{all_vars}
 use Rattle.flat_ir.specs.Wide.{Widths}
-use Rattle.nv_flatten.specs.Code.{variables as var_operands, form_or_unit, shift_of}
-use Rattle.nv_flatten.specs.Symbols.{Symbol, Symbols, NamedSymbols, Word, Truth, Tuple, Record, SymbolScope, operands, all_operands, named_operands, fresh, numbers_from, words_symbol, word_operand, truth_operand, fields_of, field_named, symbol_in}
-use Rattle.nv_flatten.specs.Whole.{Whole, Stands}
-use Rattle.nv_flatten.specs.Simulation.{Names, Extends, HasForm, IsEnd}
-use Rattle.nv_flatten.specs.Narrow.{IsWithin, written, NarrowSteps, Room, IsNarrowValue, AreNarrowValues, AreNarrowFields, IsNarrowTest, IsNarrowEnd}
-use Rattle.nv_flatten.proofs.Fresh.{fresh-operands}
+use Rattle.nv_flatten.specs.inner.Code.{variables as var_operands, form_or_unit, shift_of}
+use Rattle.nv_flatten.specs.inner.Symbols.{Symbol, Symbols, NamedSymbols, Word, Truth, Tuple, Record, SymbolScope, operands, all_operands, named_operands, fresh, numbers_from, words_symbol, word_operand, truth_operand, fields_of, field_named, symbol_in}
+use Rattle.nv_flatten.specs.inner.Whole.{Whole, Stands}
+use Rattle.nv_flatten.specs.inner.Simulation.{Names, Extends, HasForm, IsEnd}
+use Rattle.nv_flatten.specs.inner.Narrow.{IsWithin, written, NarrowSteps, Room, IsNarrowValue, AreNarrowValues, AreNarrowFields, IsNarrowTest, IsNarrowEnd}
+use Rattle.nv_flatten.proofs.Fresh.{fresh-operands, numbers-length}
 use Rattle.nv_flatten.proofs.Within.{itself, of-none, into-left, together, through, both-same, grows-by, grows-not}
 use Rattle.nv_flatten.proofs.NarrowSteps.{no-steps, recast, follow, in-turn, let-step, fetch-step, bind-step}
-use Rattle.nv_flatten.proofs.NarrowFacts.{none-left, none-right, written-append, counted, words-of-or-unit, vars-at-most, word-operand-within, truth-operand-within, field-within, fields-within, vars-of-variables, numbers-length, words-symbol-operands, words-of-words, need-least}
+use Rattle.nv_flatten.proofs.NarrowFacts.{written-append, counted, words-of-or-unit, vars-at-most, word-operand-within, truth-operand-within, field-within, fields-within, vars-of-variables, need-least}
+use Rattle.nv_flatten.proofs.NoFaults.{none-left, none-right}
+use Rattle.nv_flatten.proofs.PackedWords.{symbol-operands}
+use Rattle.nv_flatten.proofs.Following.{stands-inside}
+use Rattle.nv_flatten.proofs.Keeping.{extends-then}
+use Rattle.nv_flatten.proofs.WellBasics.{words-ty-words}
 
 -- ---- steps and then a primitive of their results
 prim-length : (q : Primitive) → length (prim_vars q) ≤ 2
@@ -66,15 +71,10 @@ module _ (funs : List FlatFun) (widths : Widths) (own : ℕ) where
   two-parts scope a b xs ys s u m k n all v w le p q =
       subst (λ l. NarrowSteps funs widths own (a ++ b) l l (s ++ u) all) (sym (written-append scope xs ys)) (in-turn funs widths own a b (written scope xs) (written scope ys) s u m k n all v w le p q)
 
-pub stands-inside : (w : Whole) (own : ℕ) (scope : SymbolScope) (p : Place) → Stands w own scope p → Stands w own scope (inside p)
-stands-inside w own scope p s = record { part = s.part; vars = s.vars }
-
 -- ---- further names
-pub extends-further : {A : Type 0} (xs ys zs : List A) → Extends xs ys → Extends ys zs → Extends xs zs
-extends-further xs ys zs h k = (h.0 ++ k.0, k.1 ∙ ap (λ l. l ++ k.0) h.1 ∙ append_assoc xs h.0 k.0)
 
 abbrev pub fewer : (w : Whole) (names more : Names) → Extends names more → Room w more → Room w names
-fewer w names more h c = record { own = c.own; needs = c.needs; all = c.all; more = extends-further names more c.all h c.more; funs = c.funs; widths = c.widths; calls = c.calls }
+fewer w names more h c = record { own = c.own; needs = c.needs; all = c.all; more = extends-then names more c.all h c.more; funs = c.funs; widths = c.widths; calls = c.calls }
 
 module _ (w : Whole) (names more : Names) (h : Extends names more) (scope : SymbolScope) where
   pub value-narrow-more : (e : Tree) (ss : List Step) (s : Symbol) → IsNarrowValue w names scope e ss s → IsNarrowValue w more scope e ss s
@@ -238,9 +238,9 @@ module _ (w : Whole) (names : Names) (scope : SymbolScope) where
         let result = all_vars (operands (words_symbol (var_operands made'))) in
         let all = need c.needs p.known p.vars (FetchTree sp m n a) in
         let least : 2 + words_at p.known p.vars a ≤ need c.needs p.known p.vars a = need-least c.needs p.known p.vars a in
-        let many : words (words_ty n) ≡ n = words-of-words n in
+        let many : words (words_ty n) ≡ n = words-ty-words n in
         let long : length xs.items ≡ n = ap length made ∙ numbers-length first n in
-        let these : result ≡ xs.items = ap all_vars (words-symbol-operands (var_operands made')) ∙ (vars-of-variables made' ∙ sym made) in
+        let these : result ≡ xs.items = ap all_vars (symbol-operands (var_operands made')) ∙ (vars-of-variables made' ∙ sym made) in
         follow c.funs c.widths c.own ss (Fetch m xs (word_operand s) ∷ []) v0 v0 s0 result all
         (roomier c.funs c.widths c.own ss v0 v0 s0 (need c.needs p.known p.vars a) all
         (v.by c (inside p) (of_type WordTy) (stands-inside w c.own scope p stands) (none-left (faults (inside p) (of_type WordTy) a) (node_faults p wanted (FetchTree sp m n a)) none)) (omega arith))

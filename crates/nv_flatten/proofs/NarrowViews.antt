@@ -15,17 +15,20 @@ use Rattle.nv_base.specs.Sets.{all_vars}
 use Rattle.flat_ir.specs.declared.spine.Step.{Step}
 use Rattle.flat_ir.specs.declared.spine.Step.TheVariants.{Let}
 use Rattle.nv_flatten.specs.declared.symbol.Symbol.{Symbol as CodeSymbol}
-use Rattle.nv_flatten.specs.Code.{shift_of}
-use Rattle.nv_flatten.specs.Symbols.{Symbol, SymbolScope, Word, operands, word_operand}
-use Rattle.nv_flatten.specs.Simulation.{Names, Extends, HasForm, IsStated}
-use Rattle.nv_flatten.specs.View.{view, list_symbols, list_named_symbols, scope_of, Named}
-use Rattle.nv_flatten.specs.Whole.{Whole}
-use Rattle.nv_flatten.specs.Narrow.{IsWithin, AreNarrowLets, IsNarrowValue, AreNarrowValues, AreNarrowFields, IsNarrowStatement, IsNarrowStated}
-use Rattle.nv_flatten.proofs.WellTypes.{middle-of, not-where}
+use Rattle.nv_flatten.specs.inner.Code.{shift_of}
+use Rattle.nv_flatten.specs.inner.Symbols.{Symbol, SymbolScope, Word, operands, word_operand}
+use Rattle.nv_flatten.specs.inner.Simulation.{Names, Extends, HasForm, IsStated}
+use Rattle.nv_flatten.specs.inner.View.{view, list_symbols, list_named_symbols, scope_of, Named}
+use Rattle.nv_flatten.specs.inner.Whole.{Whole}
+use Rattle.nv_flatten.specs.inner.Narrow.{IsWithin, AreNarrowLets, IsNarrowValue, AreNarrowValues, AreNarrowFields, IsNarrowStatement, IsNarrowStated}
+use Rattle.nv_flatten.proofs.WellTypes.{middle-of}
 use Rattle.nv_flatten.proofs.Within.{of-none, into-left, into-right, together, through, turned}
 use Rattle.nv_flatten.proofs.NarrowFacts.{word-operand-within}
-use Rattle.nv_flatten.proofs.NarrowValues.{extends-further, value-narrow-more, shift-none-narrow, shift-narrow}
+use Rattle.nv_flatten.proofs.NarrowValues.{value-narrow-more, shift-none-narrow, shift-narrow}
 use Rattle.nv_flatten.proofs.NarrowLists.{values-cons, fields-cons, values-nil, fields-nil, stated-cons, stated-nil, statement-narrow-more}
+use Rattle.nv_flatten.proofs.NoFaults.{unset}
+use Rattle.nv_flatten.proofs.Keeping.{extends-then}
+use Rattle.nv_meaning.proofs.Lists.{dropped, dropped-all}
 
 -- ---- at an equal scope, an equal tree and equal operands
 pub narrow-at : (w : Whole) (names : Names) (scope : SymbolScope) (e : Tree) (ss ss' : List Step) (v v' : Symbol) → ss' ≡ ss → v' ≡ v → IsNarrowValue w names scope e ss v → IsNarrowValue w names scope e ss' v'
@@ -51,7 +54,7 @@ pub shifted-narrow : (w : Whole) (names : Names) (scope : SymbolScope) (sp : Spa
     → (1 ≤ n → n ≤ 31 → (b ≡ Var x) × (ss' ≡ ss ++ Let x (shift_of op n (word_operand s)) ∷ [])) → IsNarrowValue w names scope a ss s → IsNarrowValue w names scope (ShiftTree sp op a n) ss' (Word b)
 shifted-narrow w names scope sp op a n ss ss' s b x none some v = record {
   by = λ c p wanted stands clean.
-      let le : n ≤ 31 = ltb-false 31 n (not-where (nat_lt 31 n) 21 (middle-of p wanted (ShiftTree sp op a n) clean)) in
+      let le : n ≤ 31 = ltb-false 31 n (unset (nat_lt 31 n) 21 (middle-of p wanted (ShiftTree sp op a n) clean)) in
       (shift-by w names scope sp op a n ss ss' s b x none some v le).by c p wanted stands clean;
 }
 
@@ -65,9 +68,6 @@ front-first w scope es names ss vs e f = record {
       subst (λ k. AreNarrowValues w later scope (list_trees es) (k ++ ts) (list_symbols (vs ++ us))) (sym e) (subst (λ k. AreNarrowValues w later scope (list_trees es) ts (list_symbols (k ++ us))) (sym f) a);
 }
 
-pub rest-at : {A : Type 0} (xs : List A) (i : ℕ) (x : A) → i < length xs → x ≡ get_or xs i x → drop i xs ≡ x ∷ drop (i + 1) xs
-rest-at xs i x h e = let s : suc i ≡ i + 1 = omega arith in drop-cons xs i x h ∙ (ap (λ y. y ∷ drop (suc i) xs) (sym e) ∙ ap (λ j. x ∷ drop j xs) s)
-
 pub front-more : (w : Whole) (l l' : List Named) (es : List Expr) (names more : Names) (i : ℕ) (e : Expr) (ss ts ss' : List Step) (vs vs' : List CodeSymbol) (v : CodeSymbol) → i < length es → e ≡ get_or es i e → ss' ≡ ss ++ ts → vs' ≡ vs ++ v ∷ [] → l ≡ l' → Extends names more
     → NarrowFront w (scope_of l' []) es names ss vs (drop i es) → HasForm w (scope_of l []) (tree_of e) (view v) → IsNarrowValue w more (scope_of l []) (tree_of e) ts (view v) → NarrowFront w (scope_of l' []) es more ss' vs' (drop (i + 1) es)
 front-more w l l' es names more i e ss ts ss' vs vs' v h is es' ev same ext a f b = record {
@@ -76,22 +76,16 @@ front-more w l l' es names more i e ss ts ss' vs vs' v h is es' ev same ext a f 
       let here : AreNarrowValues w later scope (list_trees (e ∷ drop (i + 1) es)) (ts ++ ts') (list_symbols (v ∷ us)) =
       values-cons w later scope (tree_of e) (list_trees (drop (i + 1) es)) ts ts' (view v) (list_symbols us) (narrow-form-in w l l' (tree_of e) (view v) same f)
       (value-narrow-more w more later ext' scope (tree_of e) ts (view v) (narrow-in w more l l' (tree_of e) ts (view v) same b)) rest in
-      let there = a.by later (ts ++ ts') (v ∷ us) (extends-further names more later ext ext') (subst (λ k. AreNarrowValues w later scope (list_trees k) (ts ++ ts') (list_symbols (v ∷ us))) (sym (rest-at es i e h is)) here) in
+      let there = a.by later (ts ++ ts') (v ∷ us) (extends-then names more later ext ext') (subst (λ k. AreNarrowValues w later scope (list_trees k) (ts ++ ts') (list_symbols (v ∷ us))) (sym (dropped es i e h is)) here) in
       subst (λ k. AreNarrowValues w later scope (list_trees es) k (list_symbols (vs' ++ us))) (sym (append_assoc ss ts ts') ∙ ap (λ k. k ++ ts') (sym es'))
       (subst (λ k. AreNarrowValues w later scope (list_trees es) (ss ++ (ts ++ ts')) (list_symbols k)) (sym (append_assoc vs (v ∷ []) us) ∙ ap (λ k. k ++ us) (sym ev)) there);
 }
-
-pub no-rest : {A : Type 0} (xs : List A) (i : ℕ) → length xs ≤ i → drop i xs ≡ []
-no-rest [] zero h = refl
-no-rest [] (suc i) h = refl
-no-rest (x ∷ xs) zero h = absurd (omega arith)
-no-rest (x ∷ xs) (suc i) h = no-rest xs i (omega arith)
 
 pub front-last : (w : Whole) (scope : SymbolScope) (es : List Expr) (names : Names) (i : ℕ) (ss : List Step) (vs : List CodeSymbol) → length es ≤ i → NarrowFront w scope es names ss vs (drop i es) → AreNarrowValues w names scope (list_trees es) ss (list_symbols vs)
 front-last w scope es names i ss vs h a =
     subst (λ k. AreNarrowValues w names scope (list_trees es) k (list_symbols vs)) (append-nil ss)
     (subst (λ k. AreNarrowValues w names scope (list_trees es) (ss ++ []) (list_symbols k)) (append-nil vs)
-    (a.by names [] [] ([], sym (append-nil names)) (subst (λ k. AreNarrowValues w names scope (list_trees k) [] (list_symbols [])) (sym (no-rest es i h)) (values-nil w names scope))))
+    (a.by names [] [] ([], sym (append-nil names)) (subst (λ k. AreNarrowValues w names scope (list_trees k) [] (list_symbols [])) (sym (dropped-all es i h)) (values-nil w names scope))))
 
 -- fields
 pub record NarrowFields (w : Whole) (scope : SymbolScope) (es : List (List ℕ × Expr)) (names : Names) (ss : List Step) (vs : List Named) (rest : List (List ℕ × Expr)) : Type 0 where
@@ -111,7 +105,7 @@ row-more w l l' es names more i e ss ts ss' vs vs' f h is es' ev same ext a g b 
       let here : AreNarrowFields w later scope (list_named_trees (e ∷ drop (i + 1) es)) (ts ++ ts') (list_named_symbols (f ∷ us)) =
       fields-cons w later scope e.0 f.0.now (tree_of e.1) (list_named_trees (drop (i + 1) es)) ts ts' (view f.1) (list_named_symbols us) (narrow-form-in w l l' (tree_of e.1) (view f.1) same g)
       (value-narrow-more w more later ext' scope (tree_of e.1) ts (view f.1) (narrow-in w more l l' (tree_of e.1) ts (view f.1) same b)) rest in
-      let there = a.by later (ts ++ ts') (f ∷ us) (extends-further names more later ext ext') (subst (λ k. AreNarrowFields w later scope (list_named_trees k) (ts ++ ts') (list_named_symbols (f ∷ us))) (sym (rest-at es i e h is)) here) in
+      let there = a.by later (ts ++ ts') (f ∷ us) (extends-then names more later ext ext') (subst (λ k. AreNarrowFields w later scope (list_named_trees k) (ts ++ ts') (list_named_symbols (f ∷ us))) (sym (dropped es i e h is)) here) in
       subst (λ k. AreNarrowFields w later scope (list_named_trees es) k (list_named_symbols (vs' ++ us))) (sym (append_assoc ss ts ts') ∙ ap (λ k. k ++ ts') (sym es'))
       (subst (λ k. AreNarrowFields w later scope (list_named_trees es) (ss ++ (ts ++ ts')) (list_named_symbols k)) (sym (append_assoc vs (f ∷ []) us) ∙ ap (λ k. k ++ us) (sym ev)) there);
 }
@@ -120,7 +114,7 @@ pub row-last : (w : Whole) (scope : SymbolScope) (es : List (List ℕ × Expr)) 
 row-last w scope es names i ss vs h a =
     subst (λ k. AreNarrowFields w names scope (list_named_trees es) k (list_named_symbols vs)) (append-nil ss)
     (subst (λ k. AreNarrowFields w names scope (list_named_trees es) (ss ++ []) (list_named_symbols k)) (append-nil vs)
-    (a.by names [] [] ([], sym (append-nil names)) (subst (λ k. AreNarrowFields w names scope (list_named_trees k) [] (list_named_symbols [])) (sym (no-rest es i h)) (fields-nil w names scope))))
+    (a.by names [] [] ([], sym (append-nil names)) (subst (λ k. AreNarrowFields w names scope (list_named_trees k) [] (list_named_symbols [])) (sym (dropped-all es i h)) (fields-nil w names scope))))
 
 -- statements
 pub record NarrowLed (w : Whole) (scope : SymbolScope) (sts : List Stmt) (names : Names) (ss : List Step) (now : SymbolScope) (rest : List Stmt) : Type 0 where
@@ -136,13 +130,13 @@ led-more w scope now behind sts names more low high i st ss ts ss' h is es' ext 
       let here : IsNarrowStated w later now (list_statements (st ∷ drop (i + 1) sts)) (ts ++ ts') inner =
       stated-cons w later now more low high behind inner (statement_tree st) (list_statements (drop (i + 1) sts)) ts ts' f (statement-narrow-more w more later ext' now (statement_tree st) ts behind b) rest in
       subst (λ k. IsNarrowStated w later scope (list_statements sts) k inner) (sym (append_assoc ss ts ts') ∙ ap (λ k. k ++ ts') (sym es'))
-      (a.by later (ts ++ ts') inner (extends-further names more later ext ext') (subst (λ k. IsNarrowStated w later now (list_statements k) (ts ++ ts') inner) (sym (rest-at sts i st h is)) here));
+      (a.by later (ts ++ ts') inner (extends-then names more later ext ext') (subst (λ k. IsNarrowStated w later now (list_statements k) (ts ++ ts') inner) (sym (dropped sts i st h is)) here));
 }
 
 pub led-last : (w : Whole) (scope now : SymbolScope) (sts : List Stmt) (names : Names) (i : ℕ) (ss : List Step) → length sts ≤ i → NarrowLed w scope sts names ss now (drop i sts) → IsNarrowStated w names scope (list_statements sts) ss now
 led-last w scope now sts names i ss h a =
     subst (λ k. IsNarrowStated w names scope (list_statements sts) k now) (append-nil ss)
-    (a.by names [] now ([], sym (append-nil names)) (subst (λ k. IsNarrowStated w names now (list_statements k) [] now) (sym (no-rest sts i h)) (stated-nil w names now)))
+    (a.by names [] now ([], sym (append-nil names)) (subst (λ k. IsNarrowStated w names now (list_statements k) [] now) (sym (dropped-all sts i h)) (stated-nil w names now)))
 
 -- ---- the operands of a comparison, in their order and turned
 pub two-operands : (s u : Symbol) → IsWithin (all_vars (word_operand s ∷ word_operand u ∷ [])) (all_vars (operands s) ++ all_vars (operands u))

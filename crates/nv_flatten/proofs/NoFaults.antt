@@ -10,7 +10,8 @@ use Rattle.nv_ast.specs.Types.{Ty, WordTy, BoolTy, TupleTy, RecordTy, Tys, no_ty
 use Rattle.nv_ast.specs.Scope.{Place, inside, with_vars, bind_raised}
 use Rattle.nv_ast.specs.Typing.{field_ty, and_ty, and_named_ty, operand_ty, result_ty, type_at, types_at, named_types_at, vars_behind}
 use Rattle.nv_ast.specs.Faults.{Wanted, anything, a_value, of_type, same_as, at_span, as_many, all_wanted, wanted_arguments, wrong_number, low_kinds, other_type, middle_kinds, no_value, no_field, too_large_value, node_faults, raised_kinds, wanted_packed, wanted_unpacked, params_of, faults, list_faults, named_faults, statements_faults}
-use Rattle.nv_flatten.specs.Code.{is_given}
+use Rattle.nv_flatten.specs.inner.Code.{is_given}
+use Rattle.std.proofs.lemmas.Bool.{and_parts}
 
 -- ---- lists of faults
 pub none-left : {A : Type 0} (a b : List A) → a ++ b ≡ [] → a ≡ []
@@ -32,10 +33,6 @@ unset false k h = refl
 pub set : (b : Bool) (k : ℕ) → where_true (not b) k ≡ [] → b ≡ true
 set true k h = refl
 set false k h = cc
-
-pub both-set : (a b : Bool) → (a && b) ≡ true → (a ≡ true) × (b ≡ true)
-both-set true b h = (refl, h)
-both-set false b h = absurd (true≢false (sym h))
 
 pub given : {A : Type 0} (o : Option A) → is_none o ≡ false → (a : A) × (o ≡ Some a)
 given None h = absurd (true≢false h)
@@ -75,7 +72,7 @@ mutual
   same-are no_tys (ty_and u us) h = absurd (true≢false (sym h))
   same-are (ty_and t ts) no_tys h = absurd (true≢false (sym h))
   same-are (ty_and t ts) (ty_and u us) h =
-      let both = both-set (same_type t u) (same_types ts us) h in
+      let both = and_parts (same_type t u) (same_types ts us) h in
       ap (λ a. ty_and a ts) (same-is t u both.0) ∙ ap (λ l. ty_and u l) (same-are ts us both.1)
 
   pub same-named : (ts us : NamedTys) → same_named_types ts us ≡ true → ts ≡ us
@@ -83,8 +80,8 @@ mutual
   same-named no_named_tys (named_ty_and y u us) h = absurd (true≢false (sym h))
   same-named (named_ty_and x t ts) no_named_tys h = absurd (true≢false (sym h))
   same-named (named_ty_and x t ts) (named_ty_and y u us) h =
-      let first = both-set (bytes_eq x y) (same_type t u && same_named_types ts us) h in
-      let both = both-set (same_type t u) (same_named_types ts us) first.1 in
+      let first = and_parts (bytes_eq x y) (same_type t u && same_named_types ts us) h in
+      let both = and_parts (same_type t u) (same_named_types ts us) first.1 in
       ap (λ z. named_ty_and z t ts) (is-name x y first.0) ∙ ap (λ a. named_ty_and y a ts) (same-is t u both.0) ∙ ap (λ l. named_ty_and y u l) (same-named ts us both.1)
 
 -- ---- the node of an expression
@@ -108,7 +105,7 @@ node-clean p w e h =
       value = none-left (no_value w t) (too_large_value t) (none-right (middle_kinds p e) ends last);
     }
 
-node-of : (p : Place) (w : Wanted) (e : Tree) → faults p w e ≡ [] → node_faults p w e ≡ []
+pub node-of : (p : Place) (w : Wanted) (e : Tree) → faults p w e ≡ [] → node_faults p w e ≡ []
 node-of p w (NumberTree s n) h = h
 node-of p w (TruthTree s b) h = h
 node-of p w (VarTree s x) h = h

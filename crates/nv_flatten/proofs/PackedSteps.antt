@@ -12,16 +12,17 @@ use Rattle.flat_ir.specs.declared.spine.Step.{Step}
 use Rattle.flat_ir.specs.declared.spine.Step.TheVariants.{Let}
 use Rattle.nv_base.specs.Sets.{all_vars}
 use Rattle.flat_ir.specs.Wide.{Widths}
-use Rattle.nv_flatten.specs.Symbols.{Symbol, Word, operands, form, fields_of, field_named, word_operand, words_symbol}
-use Rattle.nv_flatten.specs.Narrow.{IsWithin, NarrowSteps, AreNarrowLets}
-use Rattle.nv_flatten.specs.Small.{PacksFew}
-use Rattle.nv_flatten.specs.Adds.{AddsWord}
-use Rattle.nv_flatten.specs.Written.{packed_layout, WritesFew}
+use Rattle.nv_flatten.specs.inner.Symbols.{Symbol, Word, operands, form, fields_of, field_named, word_operand, words_symbol}
+use Rattle.nv_flatten.specs.inner.Narrow.{IsWithin, NarrowSteps, AreNarrowLets}
+use Rattle.nv_flatten.specs.inner.Small.{PacksFew}
+use Rattle.nv_flatten.specs.inner.Adds.{AddsWord}
+use Rattle.nv_flatten.specs.inner.Written.{packed_layout, WritesFew}
 use Rattle.nv_flatten.proofs.Within.{itself, of-none, one, both, unions, into-left, into-right, together, through, behind-same, grows-not, vars-length, one-operand, one-operand-back}
 use Rattle.nv_flatten.proofs.NarrowSteps.{no-steps, recast, follow}
 use Rattle.nv_flatten.proofs.WordSteps.{few-none, few-then, few-so, atom-length, word-none, word-define, within-at}
-use Rattle.nv_flatten.proofs.NarrowFacts.{field-within, fields-within, word-operand-within, words-symbol-operands}
+use Rattle.nv_flatten.proofs.NarrowFacts.{field-within, fields-within, word-operand-within}
 use Rattle.nv_flatten.proofs.PackedFields.{layout-few, layout-fields, fields-fine}
+use Rattle.nv_flatten.proofs.PackedWords.{symbol-operands}
 
 -- less behind, and more room
 less : (funs : List FlatFun) (widths : Widths) (own : ℕ) (ss : List Step) (v behind behind' : List ℕ) (m all : ℕ) → NarrowSteps funs widths own ss v [] behind m → IsWithin behind' behind → m ≤ all → NarrowSteps funs widths own ss v [] behind' all
@@ -184,7 +185,7 @@ pub narrow-written : (m n : ℕ) (s r : Symbol) (none steps : List Step) (before
     → AreNarrowLets (operands s) steps (operands r)
 narrow-written m n s r none steps before after at behind a noneis zeros is =
     let st : a.steps ≡ steps = sym (a.added ∙ ap (λ e. e ++ a.steps) noneis) in
-    let found : operands r ≡ after = ap operands is ∙ words-symbol-operands after in
+    let found : operands r ≡ after = ap operands is ∙ symbol-operands after in
     let kept : List ℕ = all_vars (operands s) in
     let long : length (operands r) ≡ length before = ap length found ∙ a.long in
     let empty : all_vars before ≡ [] = ap all_vars zeros ∙ zero-vars n in

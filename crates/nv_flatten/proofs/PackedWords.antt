@@ -14,12 +14,13 @@ use Rattle.nv_meaning.specs.Values as meaning
 use Rattle.nv_meaning.specs.Packing.{bits_of, words_of_bits, packed_value}
 use Rattle.nv_meaning.proofs.Writing.{bits-within, blank-zeros, words-written}
 use Rattle.flat_ir.specs.declared.spine.Step.{Step}
-use Rattle.nv_flatten.specs.Code.{Computes}
-use Rattle.nv_flatten.specs.Soundness.{AreWords}
-use Rattle.nv_flatten.specs.Symbols.{Symbol, operands, all_operands, form, forms, value_in, values_in, Fits, AllFit, IsOlder, AreOlder, word_symbols, words_symbol}
-use Rattle.nv_flatten.specs.Reads.{Writes, Packs}
-use Rattle.nv_flatten.proofs.Computing.{computes-so, length-atom_words}
+use Rattle.nv_flatten.specs.inner.Code.{Computes}
+use Rattle.nv_flatten.specs.inner.Soundness.{AreWords}
+use Rattle.nv_flatten.specs.inner.Symbols.{Symbol, operands, all_operands, form, forms, value_in, values_in, Fits, AllFit, IsOlder, AreOlder, word_symbols, words_symbol}
+use Rattle.nv_flatten.specs.inner.Reads.{Writes, Packs}
+use Rattle.nv_flatten.proofs.Computing.{computes-so}
 use Rattle.nv_flatten.proofs.Writing.{writes-none}
+use Rattle.nv_base.proofs.WordLemmas.{length-words}
 
 -- ---- some words as a symbolic value
 parts-values : (env : Env) (ws : List Atom) → values_in env (word_symbols ws) ≡ word_values (atom_words env ws)
@@ -42,11 +43,11 @@ symbol-form (a ∷ b ∷ ws) =
     ap (λ ts. TupleTy ts) (parts-forms (a ∷ b ∷ ws))
     ∙ sym (ap (λ (t : Bool). if t then WordTy else TupleTy (word_parts (length (a ∷ b ∷ ws)))) (ne_eqb (length (a ∷ b ∷ ws)) 1 (λ e. absurd (omega arith))))
 
-parts-operands : (ws : List Atom) → all_operands (word_symbols ws) ≡ ws
+pub parts-operands : (ws : List Atom) → all_operands (word_symbols ws) ≡ ws
 parts-operands [] = refl
 parts-operands (a ∷ ws) = ap (λ l. a ∷ l) (parts-operands ws)
 
-symbol-operands : (ws : List Atom) → operands (words_symbol ws) ≡ ws
+pub symbol-operands : (ws : List Atom) → operands (words_symbol ws) ≡ ws
 symbol-operands [] = refl
 symbol-operands (a ∷ []) = refl
 symbol-operands (a ∷ b ∷ ws) = parts-operands (a ∷ b ∷ ws)
@@ -89,7 +90,7 @@ packs o low high n s none steps zeros after r m noneis zerosis count is =
           (computes-so low m.steps env (λ last. (packed (atom_words last after) ≡ replaced 0 (bits_of o v) (packed (atom_words env zeros))) × AreWords (atom_words last after)) (λ last. (value_in last r ≡ packed_value o v) × Fits last r)
           (m.by sound o' oz env fits small (blank-zeros n (atom_words env zeros) zs))
           (λ last k h.
-          let lw : length (atom_words last after) ≡ n = length-atom_words last after ∙ la in
+          let lw : length (atom_words last after) ≡ n = length-words last after ∙ la in
           let words : atom_words last after ≡ words_of_bits n (bits_of o v) = words-written n (atom_words env zeros) (atom_words last after) (bits_of o v) zs lw (all-small (atom_words last after) h.1) short h.0 in (
             ap (value_in last) is ∙ symbol-value last after ∙ ap words_value words ∙ ap (λ j. words_value (words_of_bits j (bits_of o v))) count,
             subst (Fits last) (sym is) (symbol-fits last after h.1),

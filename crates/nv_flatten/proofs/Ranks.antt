@@ -3,8 +3,8 @@ use Rattle.std.proofs.Common.{◌≡◌, ℕ, ◌+◌, ◌<◌, true, false, not
 use Rattle.nv_ast.specs.Tree.{Tree, BinaryTree, NumberTree, TruthTree, VarTree, ParenTree, TupleTree, FieldsTree, DotTree, InvertTree, NegateTree, ShiftTree, CallTree, UnpackTree, PackTree, RaiseTree, IfTree, TryTree, FetchTree, BlockTree}
 use Rattle.nv_flatten.specs.declared.parts.Ends.{Ends}
 use Rattle.nv_flatten.specs.declared.parts.Ends.TheVariants as ends
-use Rattle.nv_flatten.specs.Arms.{is_named}
-use Rattle.nv_flatten.specs.Code.{ends_of, gives, tests, is_given, is_comparison}
+use Rattle.nv_flatten.specs.inner.Arms.{is_named}
+use Rattle.nv_flatten.specs.inner.Code.{ends_of, gives, tests, is_given, is_comparison}
 
 -- a value is made by its own function, or by way of code that ends with its words: a comparison's, or another's
 abbrev value_by : Ends → ℕ

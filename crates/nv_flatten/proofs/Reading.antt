@@ -12,31 +12,27 @@ use Rattle.nv_layout.proofs.BitLists.{length-packed}
 use Rattle.nv_meaning.specs.Values.{NamedValues, no_named_values, named_value_and, ◌++_fields◌, fields_of}
 use Rattle.nv_meaning.specs.Values as meaning
 use Rattle.nv_meaning.specs.Packing.{value_at, parts_at, alternatives_at, joined_at}
-use Rattle.nv_meaning.proofs.Lists.{take_item}
 use Rattle.nv_meaning.proofs.Unpacking.{FieldItem, outlines_of, joined_of, drop-at, parts_more, alternatives_more, joined_more, total_named_within, longest_within, total_within}
 use Rattle.flat_ir.specs.declared.spine.Step.{Step}
-use Rattle.nv_flatten.specs.Code.{Computes}
-use Rattle.nv_flatten.specs.Soundness.{AreWords}
-use Rattle.nv_flatten.specs.Symbols.{Symbol, Word, Record, NamedSymbols, no_named_symbols, named_symbol_and, form, named_forms, operands, named_operands, value_in, named_values_in, Fits, NamedFit, IsOlder, AreOlder}
-use Rattle.nv_flatten.specs.View.{Named, view, list_named_symbols}
-use Rattle.nv_flatten.specs.Reads.{◌++_symbols◌, Makes, Reads, ReadsRecord, ReadsField, Unpacks}
+use Rattle.nv_flatten.specs.inner.Code.{Computes}
+use Rattle.nv_flatten.specs.inner.Soundness.{AreWords}
+use Rattle.nv_flatten.specs.inner.Symbols.{Symbol, Word, Record, NamedSymbols, no_named_symbols, named_symbol_and, form, named_forms, operands, named_operands, value_in, named_values_in, Fits, NamedFit, IsOlder, AreOlder}
+use Rattle.nv_flatten.specs.inner.View.{Named, view, list_named_symbols}
+use Rattle.nv_flatten.specs.inner.Reads.{◌++_symbols◌, Makes, Reads, ReadsRecord, ReadsField, Unpacks}
 use Rattle.nv_flatten.proofs.Keeping.{older-later, keeps-operands, keeps-named, keeps-named_fit}
-use Rattle.nv_flatten.proofs.Computing.{computes-none, computes-then, computes-so, length-atom_words, older-one}
+use Rattle.nv_flatten.proofs.Computing.{computes-none, computes-then, computes-so}
+use Rattle.nv_layout.proofs.Lists.{take_item}
+use Rattle.nv_base.proofs.WordLemmas.{length-words}
+use Rattle.nv_flatten.proofs.Listing.{named-none, named-assoc}
+use Rattle.nv_flatten.proofs.Following.{one-older}
 
 -- ---- the fields of one record and then those of another
-pub symbols-none : (ss : NamedSymbols) → ss ++_symbols no_named_symbols ≡ ss
-symbols-none no_named_symbols = refl
-symbols-none (named_symbol_and x s ss) = ap (named_symbol_and x s) (symbols-none ss)
-
-symbols-assoc : (rs ss ts : NamedSymbols) → (rs ++_symbols ss) ++_symbols ts ≡ rs ++_symbols (ss ++_symbols ts)
-symbols-assoc no_named_symbols ss ts = refl
-symbols-assoc (named_symbol_and x r rs) ss ts = ap (named_symbol_and x r) (symbols-assoc rs ss ts)
 
 pub symbols-append : (xs ys : List Named) → list_named_symbols (xs ++ ys) ≡ list_named_symbols xs ++_symbols list_named_symbols ys
 symbols-append [] ys = refl
 symbols-append (x ∷ xs) ys = ap (named_symbol_and x.0.now (view x.1)) (symbols-append xs ys)
 
-operands-append : (rs ss : NamedSymbols) → named_operands (rs ++_symbols ss) ≡ named_operands rs ++ named_operands ss
+pub operands-append : (rs ss : NamedSymbols) → named_operands (rs ++_symbols ss) ≡ named_operands rs ++ named_operands ss
 operands-append no_named_symbols ss = refl
 operands-append (named_symbol_and x r rs) ss = ap (λ l. operands r ++ l) (operands-append rs ss) ∙ sym (append_assoc (operands r) (named_operands rs) (named_operands ss))
 
@@ -64,7 +60,7 @@ reads-none fit low words steps fields values e = record {
   steps = [];
   fields = no_named_symbols;
   added = sym (append-nil steps);
-  behind = sym (symbols-none fields);
+  behind = sym (named-none fields);
   later = omega arith;
   formed = refl;
   older = λ o. All-nil (IsOlder low);
@@ -85,7 +81,7 @@ reads-then fit one two low mid high words old middle new before between after fs
       steps = m.steps ++ n.steps;
       fields = m.fields ++_symbols n.fields;
       added = n.added ∙ ap (λ ss. ss ++ n.steps) m.added ∙ append_assoc old m.steps n.steps;
-      behind = n.behind ∙ ap (λ ss. ss ++_symbols n.fields) m.behind ∙ symbols-assoc before m.fields n.fields;
+      behind = n.behind ∙ ap (λ ss. ss ++_symbols n.fields) m.behind ∙ named-assoc before m.fields n.fields;
       later = omega arith;
       formed = forms-append m.fields n.fields fs gs m.formed n.formed ∙ ap unpacked_all (sym shaped);
       older = λ o. subst (λ as'. AreOlder high as') (sym (operands-append m.fields n.fields))
@@ -100,7 +96,7 @@ reads-then fit one two low mid high words old middle new before between after fs
             values-append e2 m.fields n.fields
                 ∙ ap (λ l. l ++_fields named_values_in e2 n.fields) (keeps-named mid e1 e2 m.fields k2 (m.older o) ∙ h1.0)
                 ∙ ap (λ l. us (atom_words env words) ++_fields l) (h2.0 ∙ ap vs same)
-                ∙ sym (e (atom_words env words) (length-atom_words env words)),
+                ∙ sym (e (atom_words env words) (length-words env words)),
             fit-append e2 m.fields n.fields (keeps-named_fit mid e1 e2 m.fields k2 (m.older o) h1.1) h2.1,
           )));
     }
@@ -116,7 +112,7 @@ reads-word fit fit' low high words old new a f x before after values m p added e
   behind = added;
   later = m.later;
   formed = refl;
-  older = λ o. older-one high a (m.older o);
+  older = λ o. one-older high a (m.older o);
   by = λ q o env small. computes-so low m.steps env (λ last. (atom_word last a ≡ f (atom_words env words)) × (atom_word last a < 2 ^ 32))
       (λ last. (named_values_in last (named_symbol_and x (Word a) no_named_symbols) ≡ values (atom_words env words)) × NamedFit last (named_symbol_and x (Word a) no_named_symbols))
       (m.by (p q) o env small) (λ last k h. (ap (λ w. named_value_and x (meaning.Word w) no_named_values) h.0 ∙ sym (e (atom_words env words) q), (h.1, tt)));

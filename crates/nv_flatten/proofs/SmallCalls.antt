@@ -21,21 +21,23 @@ use Rattle.flat_ir.specs.Spine.{AreNodes}
 use Rattle.nv_base.specs.Measures.{Bulk, nothing, a_label, a_jump, both, IsAtMost}
 use Rattle.flat_ir.specs.Bulk.{Bulks, return_bulk, call_bulk, code_bulk}
 use Rattle.nv_base.proofs.Measures.{most-none}
-use Rattle.nv_flatten.specs.Code.{form_or_unit}
-use Rattle.nv_flatten.specs.Symbols.{Symbol, Symbols, SymbolScope, form, operands, all_operands, all_fresh, vars_of, all_bound}
-use Rattle.nv_flatten.specs.Whole.{Whole, Stands, raised_or_none, result_of}
-use Rattle.nv_flatten.specs.Simulation.{Names, HasForm}
-use Rattle.nv_flatten.specs.Small.{of_parts, uses, value_rest, Sized, IsSmallValue, AreSmallValues, IsSmallEnd, AreFewLets, PacksFew}
+use Rattle.nv_flatten.specs.inner.Code.{form_or_unit}
+use Rattle.nv_flatten.specs.inner.Symbols.{Symbol, Symbols, SymbolScope, form, operands, all_operands, all_fresh, vars_of, all_bound}
+use Rattle.nv_flatten.specs.inner.Whole.{Whole, Stands, raised_or_none, result_of}
+use Rattle.nv_flatten.specs.inner.Simulation.{Names, HasForm}
+use Rattle.nv_flatten.specs.inner.Small.{of_parts, uses, value_rest, Sized, IsSmallValue, AreSmallValues, IsSmallEnd, AreFewLets, PacksFew}
 use Rattle.nv_flatten.proofs.Fresh.{fresh-forms, all-bound-types}
 use Rattle.nv_flatten.proofs.Sound.{value-has-type}
-use Rattle.nv_flatten.proofs.WellTypes.{not-where, some-where, low-of, right-of}
-use Rattle.nv_flatten.proofs.WellArms.{among-found}
-use Rattle.nv_flatten.proofs.NarrowFacts.{none-left, counted-given, words-of-or-unit, words-of-words}
-use Rattle.nv_flatten.proofs.NarrowValues.{stands-inside}
-use Rattle.nv_flatten.proofs.NarrowCalls.{slice-more, around, behind, handler_faults, handler-none, unknown-none}
+use Rattle.nv_flatten.proofs.WellTypes.{some-where, low-of, right-of}
+use Rattle.nv_flatten.proofs.NarrowFacts.{counted-given, words-of-or-unit}
+use Rattle.nv_flatten.proofs.NarrowCalls.{around, behind, handler_faults, handler-none, unknown-none}
 use Rattle.nv_flatten.proofs.SmallBulks.{alone-most, jump-most, handled-most, lets-most, steps-then, code-then}
 use Rattle.nv_flatten.proofs.SmallValues.{of_steps, size_of, behind_value}
 use Rattle.nv_flatten.proofs.SmallEnds.{words-of-either}
+use Rattle.nv_flatten.proofs.NoFaults.{none-left, unset, among-known}
+use Rattle.nv_flatten.proofs.CallArms.{get-append}
+use Rattle.nv_flatten.proofs.Following.{stands-inside}
+use Rattle.nv_flatten.proofs.WellBasics.{words-ty-words}
 
 -- ---- what a call counts beside its jump
 returned : (last : Bool) (b : Bulk) (n : ℕ) → IsAtMost (both (both a_label a_jump) b) (of_parts n) → IsAtMost (both (return_bulk last) b) (of_parts n)
@@ -74,7 +76,7 @@ module _ (w : Whole) (names : Names) (scope : SymbolScope) (sp : Span) (es : Tre
         let given : words (type_of w.declared.layouts callable'.fun.result) ≡ n = ap (λ (s : Signature). words s.result) callable'.signed ∙ sym (ap (λ q. words_of_value (option_map (λ (s : Signature). s.result) q)) known.1) in
         let many : words (form_or_unit o) ≡ n =
         words-of-or-unit o ∙ ap words_of_value result ∙ ap (λ q. words_of_value (option_map (λ (g : FunTree). type_of w.declared.layouts g.result) q)) callable'.found ∙ given in
-        let named' : slice_get c.all i ≡ Some f = ap (λ l. slice_get l i) c.more.1 ∙ slice-more names c.more.0 i f named in
+        let named' : slice_get c.all i ≡ Some f = ap (λ l. slice_get l i) c.more.1 ∙ get-append names c.more.0 i f named in
         let size = value_at 0 f c.sizes in
         jump-most (code_bulk c.funs c.bulks c.own last code) (of_steps c ss) (call_bulk c.bulks c.own last (slice_get c.funs i)) (words (form_or_unit o)) (expanded_all c.sizes p.known p.vars es) size (size_of c p (CallTree sp f es))
         (code-then c.funs c.bulks c.own last ss (Call i bs) code nodes) (arguments-small c p args v stands (none-left (list_faults (inside p) args es) (node_faults p wanted (CallTree sp f es)) none))
@@ -130,7 +132,7 @@ module _ (w : Whole) (names : Names) (scope : SymbolScope) (sp : Span) (l : List
   unpack-small g v t = record {
     by = λ c p wanted stands none.
         let names' = names_of p.known.layouts in
-        let found = among-found l p.known.layouts (not-false (is_among l names') (not-where (not (is_among l names')) 3 (low-of p wanted (UnpackTree sp l a) none))) in
+        let found = among-known l p.known.layouts (not-false (is_among l names') (unset (not (is_among l names')) 3 (low-of p wanted (UnpackTree sp l a) none))) in
         let known = stands.part.layouts l found.0 found.1 in
         let fields = 4 * length (bit_fields 0 (outline w.declared.layouts (NamedLayout l))) in
         let size : fields ≡ field_size (look_up l p.known.layouts) = ap (λ o. 4 * length (bit_fields 0 o)) known.0 ∙ sym (ap field_size found.1) in
@@ -146,7 +148,7 @@ module _ (w : Whole) (names : Names) (scope : SymbolScope) (sp : Span) (l : List
   pack-small f g v packs = record {
     by = λ c p wanted stands none.
         let names' = names_of p.known.layouts in
-        let found = among-found l p.known.layouts (not-false (is_among l names') (not-where (not (is_among l names')) 3 (low-of p wanted (PackTree sp l a) none))) in
+        let found = among-known l p.known.layouts (not-false (is_among l names') (unset (not (is_among l names')) 3 (low-of p wanted (PackTree sp l a) none))) in
         let known = stands.part.layouts l found.0 found.1 in
         let o = outline w.declared.layouts (NamedLayout l) in
         let stands' = stands-inside w c.own scope p stands in
@@ -158,7 +160,7 @@ module _ (w : Whole) (names : Names) (scope : SymbolScope) (sp : Span) (l : List
         let t : PacksFew o (operands s) ts = packs (subst IsSound (sym known.0) known.1) (subst (λ q. can_pack (form_of q) (form s) ≡ true) (sym known.0) right) in
         let n = words_at p.known p.vars (PackTree sp l a) in
         let size : 4 * length (bit_fields 0 o) ≡ field_size (look_up l p.known.layouts) = ap (λ q. 4 * length (bit_fields 0 q)) known.0 ∙ sym (ap field_size found.1) in
-        let packed : packed_words o ≡ n = sym (ap (λ q. words_of_value (option_map packed_ty q)) found.1 ∙ (words-of-words (packed_words found.0) ∙ ap packed_words (sym known.0))) in
+        let packed : packed_words o ≡ n = sym (ap (λ q. words_of_value (option_map packed_ty q)) found.1 ∙ (words-ty-words (packed_words found.0) ∙ ap packed_words (sym known.0))) in
         let many : length (operands r) ≡ n = counted-given w scope (PackTree sp l a) r g c.own p wanted stands none refl in
         let fit = packs-fit o (operands s) ts n t packed in
         computed c p (PackTree sp l a) (3 * t.fields + 2 * t.across) (1 + n + 4 * length (bit_fields 0 o)) (v.by c (inside p) want stands' clean) t.few (packs-few o (operands s) ts n t packed)

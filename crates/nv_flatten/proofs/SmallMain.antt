@@ -9,19 +9,19 @@ use Rattle.flat_ir.specs.declared.flat.FlatFun.{FlatFun}
 use Rattle.nv_base.specs.Measures.{of_size, IsAtMost}
 use Rattle.flat_ir.specs.Bulk.{bulk}
 use Rattle.nv_base.specs.Sets.{is_in}
-use Rattle.nv_flatten.specs.Whole.{whole_of}
+use Rattle.nv_flatten.specs.inner.Whole.{whole_of}
 use Rattle.flat_ir.specs.Reached.{calls, Reached, itself, called}
-use Rattle.nv_flatten.specs.Well.{Linked}
-use Rattle.nv_flatten.specs.Made.{IsComplete}
-use Rattle.nv_flatten.specs.Small.{AreSmallFuns}
-use Rattle.nv_flatten.specs.Bounded.{IsBounded}
-use Rattle.nv_flatten.proofs.Knowing.{some_same}
+use Rattle.nv_flatten.specs.inner.Well.{Linked}
+use Rattle.nv_flatten.specs.inner.Made.{IsComplete}
+use Rattle.nv_flatten.specs.inner.Small.{AreSmallFuns}
+use Rattle.nv_flatten.specs.inner.Bounded.{IsBounded}
 use Rattle.nv_flatten.proofs.Naming.{slice-there, slice-below}
 use Rattle.nv_flatten.proofs.Bodies.{narrow-raised, has-main}
 use Rattle.nv_flatten.proofs.WellProgram.{calls-formed}
 use Rattle.nv_flatten.proofs.FormedProgram.{matched, all-well}
 use Rattle.nv_flatten.proofs.SmallProgram.{small-enough-size}
 use Rattle.nv_flatten.proofs.Bounding.{IsBoundedMain}
+use Rattle.nv_flatten.proofs.NoFaults.{some-same}
 
 -- ---- another function in place of that of a number
 abbrev replaced : ℕ → FlatFun → List FlatFun → List FlatFun
@@ -59,7 +59,7 @@ module _ (t : ProgramTree) (h : program_faults t ≡ []) (funs : List FlatFun) (
           let r = (matched (whole_of t) main_name funs c).found j y g n there found at in
           record {
             fun = r.fun;
-            there = replaced-other funs i j x (λ same. no-function (function_in (whole_of t).declared.functions y) g (ap (function_in (whole_of t).declared.functions) (some_same (sym there ∙ ap (slice_get c.all) same ∙ named)) ∙ none) found) ∙ r.there;
+            there = replaced-other funs i j x (λ same. no-function (function_in (whole_of t).declared.functions y) g (ap (function_in (whole_of t).declared.functions) (some-same _ _ (sym there ∙ ap (slice_get c.all) same ∙ named)) ∙ none) found) ∙ r.there;
             params = r.params;
             results = r.results;
             group = r.group;
@@ -80,7 +80,7 @@ module _ (t : ProgramTree) (h : program_faults t ≡ []) (funs : List FlatFun) (
 
   -- a flat function is made of a function of the program
   has-function : (i : ℕ) (f : List ℕ) (fun : FlatFun) → slice_get c.all i ≡ Some f → slice_get funs i ≡ Some fun → Reached funs 0 i → (g : FunTree) × (function_in (whole_of t).declared.functions f ≡ Some g)
-  has-function i f fun named here itself = let m = has-main t h in (m.fun, ap (function_in (whole_of t).declared.functions) (some_same (sym named ∙ c.first)) ∙ m.found)
+  has-function i f fun named here itself = let m = has-main t h in (m.fun, ap (function_in (whole_of t).declared.functions) (some-same _ _ (sym named ∙ c.first)) ∙ m.found)
   has-function i f fun named here (called k j d reached there calling) = by (function_in (whole_of t).declared.functions f) refl
     where
       by : (o : Option FunTree) → function_in (whole_of t).declared.functions f ≡ o → (g : FunTree) × (function_in (whole_of t).declared.functions f ≡ Some g)

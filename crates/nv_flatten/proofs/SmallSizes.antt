@@ -8,10 +8,10 @@ use Rattle.nv_ast.specs.Sizes.{GroupNumbers, param_words, body_vars, expanded, g
 use Rattle.nv_ast.specs.Scope.{Known, nothing_known, known_after}
 use Rattle.nv_ast.specs.Faults.{program_faults}
 use Rattle.nv_meaning.specs.Meaning.{function_in}
-use Rattle.nv_flatten.specs.Whole.{whole_of, group_of}
-use Rattle.nv_flatten.specs.Simulation.{Names}
-use Rattle.nv_flatten.proofs.Knowing.{some_same}
+use Rattle.nv_flatten.specs.inner.Whole.{whole_of, group_of}
+use Rattle.nv_flatten.specs.inner.Simulation.{Names}
 use Rattle.nv_flatten.proofs.GroupWalk.{Group, IsIn, group_in, number_of, with_group, numbers_behind, stands-in, number-in}
+use Rattle.nv_flatten.proofs.NoFaults.{some-same}
 
 -- ---- the parts of a group's size, one for each function
 abbrev pub part : GroupNumbers → Known → FunTree → ℕ
@@ -35,7 +35,7 @@ part-found sizes k [] f g e = absurd (cc)
 part-found sizes k (d ∷ fs) f g e = by (bytes_eq f d.name) refl (λ q. part-found sizes k fs f g q)
   where
     by : (b : Bool) → bytes_eq f d.name ≡ b → (function_in fs f ≡ Some g → value_at 0 f (parts_of sizes k fs) ≡ part sizes k g) → value_at 0 f (parts_of sizes k (d ∷ fs)) ≡ part sizes k g
-    by true q next = ap (λ b. if b then part sizes k d else value_at 0 f (parts_of sizes k fs)) q ∙ ap (part sizes k) (some_same (sym (ap (λ b. if b then Some d else function_in fs f) q) ∙ e))
+    by true q next = ap (λ b. if b then part sizes k d else value_at 0 f (parts_of sizes k fs)) q ∙ ap (part sizes k) (some-same _ _ (sym (ap (λ b. if b then Some d else function_in fs f) q) ∙ e))
     by false q next = ap (λ b. if b then part sizes k d else value_at 0 f (parts_of sizes k fs)) q ∙ next (sym (ap (λ b. if b then Some d else function_in fs f) q) ∙ e)
 
 -- one number is at most all together
@@ -135,7 +135,7 @@ size-there t h f g m found grouped =
     let below = value-below (group_parts t n.own) f in
     let total = group-total t n.own in
     let some : 1 ≤ size_of_group t n.own = omega (arith, here, below, total) in
-    subst (λ i. 1 ≤ size_of_group t i) (some_same (sym n.grouped ∙ grouped)) some
+    subst (λ i. 1 ≤ size_of_group t i) (some-same _ _ (sym n.grouped ∙ grouped)) some
 
 sizes-same : (sizes : GroupNumbers) (k : Known) (ds : List DeclTree) → sizes_behind sizes k ds ≡ numbers_behind group_size sizes k ds
 sizes-same sizes k [] = refl

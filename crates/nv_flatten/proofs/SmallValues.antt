@@ -20,19 +20,24 @@ use Rattle.flat_ir.specs.declared.spine.Step.TheVariants.{Let, Fetch, Bind}
 use Rattle.nv_base.specs.Measures.{Bulk, nothing, a_label, a_jump, a_node, both, IsAtMost}
 use Rattle.flat_ir.specs.Bulk.{code_bulk}
 use Rattle.flat_ir.specs.Pieces.{new_vars, steps_bulk}
-use Rattle.nv_flatten.specs.Code.{variables as var_operands, is_given, form_or_unit, shift_of}
-use Rattle.nv_flatten.specs.Symbols.{Symbol, Symbols, NamedSymbols, Word, Truth, Tuple, Record, no_named_symbols, named_symbol_and, SymbolScope, operands, all_operands, named_operands, form, fresh, numbers_from, words_symbol, word_operand, truth_operand, fields_of, field_named, symbol_in, vars_of}
-use Rattle.nv_flatten.specs.Whole.{Whole, Stands}
-use Rattle.nv_flatten.specs.Simulation.{Names, Extends}
-use Rattle.nv_flatten.specs.Small.{of_parts, uses, value_rest, Sized, IsSmallValue, AreSmallValues, AreSmallFields, IsSmallStated, IsSmallTest, IsSmallEnd}
+use Rattle.nv_flatten.specs.inner.Code.{variables as var_operands, is_given, form_or_unit, shift_of}
+use Rattle.nv_flatten.specs.inner.Symbols.{Symbol, Symbols, NamedSymbols, Word, Truth, Tuple, Record, no_named_symbols, named_symbol_and, SymbolScope, operands, all_operands, named_operands, form, fresh, numbers_from, words_symbol, word_operand, truth_operand, fields_of, field_named, symbol_in, vars_of}
+use Rattle.nv_flatten.specs.inner.Whole.{Whole, Stands}
+use Rattle.nv_flatten.specs.inner.Simulation.{Names, Extends}
+use Rattle.nv_flatten.specs.inner.Small.{of_parts, uses, value_rest, Sized, IsSmallValue, AreSmallValues, AreSmallFields, IsSmallStated, IsSmallTest, IsSmallEnd}
 use Rattle.nv_flatten.proofs.Fresh.{fresh-operands, numbers-length}
-use Rattle.nv_flatten.proofs.NarrowFacts.{none-left, none-right, words-of-form, words-symbol-operands, words-of-words}
-use Rattle.nv_flatten.proofs.NarrowValues.{extends-further, stands-inside, result-words}
+use Rattle.nv_flatten.proofs.NarrowFacts.{words-of-form}
+use Rattle.nv_flatten.proofs.NarrowValues.{result-words}
 use Rattle.nv_flatten.proofs.SmallBulks.{then-most, paid, stay-most, let-most, most-alone, most-words, bound-most, operands-most, steps-then}
+use Rattle.nv_flatten.proofs.NoFaults.{none-left, none-right}
+use Rattle.nv_flatten.proofs.PackedWords.{symbol-operands}
+use Rattle.nv_flatten.proofs.Following.{stands-inside}
+use Rattle.nv_flatten.proofs.Keeping.{extends-then}
+use Rattle.nv_flatten.proofs.WellBasics.{words-ty-words}
 
 -- ---- further names
 abbrev pub fewer-sized : (w : Whole) (names more : Names) → Extends names more → Sized w more → Sized w names
-fewer-sized w names more h c = record { own = c.own; sizes = c.sizes; all = c.all; more = extends-further names more c.all h c.more; funs = c.funs; bulks = c.bulks; calls = c.calls }
+fewer-sized w names more h c = record { own = c.own; sizes = c.sizes; all = c.all; more = extends-then names more c.all h c.more; funs = c.funs; bulks = c.bulks; calls = c.calls }
 
 module _ (w : Whole) (names more : Names) (h : Extends names more) (scope : SymbolScope) where
   pub value-small-more : (e : Tree) (ss : List Step) (s : Symbol) → IsSmallValue w names scope e ss s → IsSmallValue w more scope e ss s
@@ -201,9 +206,9 @@ module _ (w : Whole) (names : Names) (scope : SymbolScope) where
   fetch-small sp m n a ss s first xs v made = record {
     by = λ c p wanted stands none.
         let result = words_symbol (var_operands (numbers_from first n)) in
-        let many : words (words_ty n) ≡ n = words-of-words n in
+        let many : words (words_ty n) ≡ n = words-ty-words n in
         let long : length xs.items ≡ n = ap length made ∙ numbers-length first n in
-        let few : length (operands result) ≡ n = ap length (words-symbol-operands (var_operands (numbers_from first n))) ∙ variables-length (numbers_from first n) ∙ numbers-length first n in
+        let few : length (operands result) ≡ n = ap length (symbol-operands (var_operands (numbers_from first n))) ∙ variables-length (numbers_from first n) ∙ numbers-length first n in
         let last = Fetch m xs (word_operand s) ∷ [] in
         then-most (of_steps c (ss ++ last)) (of_steps c ss) (behind_value a s) (both (a_node (length xs.items) 1) nothing) (behind_value (FetchTree sp m n a) result) (size_of c p a) (1 + n) (size_of c p (FetchTree sp m n a)) (steps-then c.funs c.bulks c.own ss last)
         (v.by c (inside p) (of_type WordTy) (stands-inside w c.own scope p stands) (none-left (faults (inside p) (of_type WordTy) a) (node_faults p wanted (FetchTree sp m n a)) none))

@@ -17,13 +17,13 @@ use Rattle.nv_meaning.specs.Values.{Values, all_words, Word, Truth, Tuple, Recor
 use Rattle.nv_meaning.specs.Packing.{unpacked_value, packed_value}
 use Rattle.nv_meaning.specs.Running.{Running, Result, Gives, Raises, GoesOn, before_rest, before_named, store, then_stated, exception_number, fetch}
 use Rattle.nv_meaning.specs.Meaning.{Calls, eval, eval_all, eval_named, run_one, run_all, shifted}
-use Rattle.nv_flatten.specs.Whole.{Whole, IsPart, raised_tys}
-use Rattle.nv_flatten.specs.Soundness.{value_ty, value_tys, ComesTo, CallsTyped, scope_tys, AreWords, ScopeWords}
-use Rattle.nv_flatten.proofs.SoundTypes.{none-left, none-right, no-kinds, unset, set, given, some-same, among-known, clean}
+use Rattle.nv_flatten.specs.inner.Whole.{Whole, IsPart, raised_tys}
+use Rattle.nv_flatten.specs.inner.Soundness.{value_ty, value_tys, ComesTo, CallsTyped, scope_tys, AreWords, ScopeWords}
+use Rattle.nv_flatten.proofs.NoFaults.{given, clean, none-left, none-right, no-kinds, unset, set, some-same, among-known}
 use Rattle.nv_flatten.proofs.SoundWords.{no-words, word-fits, variable-type, variable-words, field-type, field-words, matched-types, matched-words, all-matched-types, all-matched-words, unpacked-type, unpacked-words, packed-type, packed-value-words}
 use Rattle.nv_flatten.proofs.SoundArms.{AllComeTo, NamedComeTo, StatedComesTo, as-type, gives-word, gives-truth, then-typed, all-typed, named-typed, stated-typed, further-typed, more-typed, more-named-typed, then-stated-typed, before-typed, before-named-typed, first-typed, second-typed, choice-typed, binary-typed, handled-typed, fetch-typed, store-typed, shifted-fits, not-fits}
 -- expressions without faults have types
-pub use Rattle.nv_flatten.proofs.SoundTypes.{value-has-type, wanted-type, given-has-type, values-have-types, arguments-are-values, fields-have-types, arguments-typed}
+pub use Rattle.nv_flatten.proofs.NoFaults.{value-has-type, wanted-type, given-has-type, values-have-types, arguments-are-values, fields-have-types, arguments-typed}
 
 -- a place of a body, with values of its variables
 pub record Inside (w : Whole) (own : ℕ) (p : Place) (scope : Scope) : Type 0 where

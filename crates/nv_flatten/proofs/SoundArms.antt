@@ -18,9 +18,9 @@ use Rattle.nv_ast.specs.Faults.{same_as, other_type, can_move}
 use Rattle.nv_meaning.specs.Values.{Value, Word, Truth, Values, NamedValues, words_of, all_words, all_named_words, word_of, truth_of, Scope}
 use Rattle.nv_meaning.specs.Running.{Running, Result, Gives, Raises, Stops, Results, GiveAll, Breaks, NamedResults, GiveNamed, BreaksNamed, Stated, GoesOn, StopsAt, and_then, and_all, and_named, and_stated, and_further, then_more, then_named, then_stated, before_rest, before_named, handled, after_fetch, fetch, after_store, store}
 use Rattle.nv_meaning.specs.Meaning.{combined, binary, shifted}
-use Rattle.nv_flatten.specs.Whole.{Whole, raised_tys}
-use Rattle.nv_flatten.specs.Soundness.{value_ty, value_tys, named_value_tys, scope_tys, AreWords, ScopeWords, ComesTo}
-use Rattle.nv_flatten.proofs.SoundTypes.{same-is, some-same, is-right}
+use Rattle.nv_flatten.specs.inner.Whole.{Whole, raised_tys}
+use Rattle.nv_flatten.specs.inner.Soundness.{value_ty, value_tys, named_value_tys, scope_tys, AreWords, ScopeWords, ComesTo}
+use Rattle.nv_flatten.proofs.NoFaults.{same-is, some-same, is-right}
 use Rattle.nv_flatten.proofs.SoundWords.{one-word, words-after, truth-words, word-fits, words-value-type, words-value-fits}
 
 -- ---- expressions one after another have these types, or what breaks them off has no value

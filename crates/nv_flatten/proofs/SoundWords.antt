@@ -10,7 +10,8 @@ use Rattle.nv_ast.specs.Scope.{bind, bind_all}
 use Rattle.nv_ast.specs.Typing.{field_ty, fields_of as type_fields}
 use Rattle.nv_meaning.specs.Values.{Value, Word, Truth, Tuple, Record, Values, no_values, value_and, NamedValues, no_named_values, named_value_and, words_of, all_words, all_named_words, word_values, words_value, word_of, fields_of, field_named, has_field, ◌++_fields◌, Scope, variable_in, matched, all_matched}
 use Rattle.nv_meaning.specs.Packing.{value_at, parts_at, alternatives_at, joined_at, unpacked_value, bits_of, parts_bits, chosen_bits, joined_bits, words_of_bits, packed_value}
-use Rattle.nv_flatten.specs.Soundness.{value_ty, value_tys, named_value_tys, scope_tys, AreWords, ScopeWords}
+use Rattle.nv_flatten.specs.inner.Soundness.{value_ty, value_tys, named_value_tys, scope_tys, AreWords, ScopeWords}
+use Rattle.nv_meaning.proofs.Writing.{length-words}
 
 -- ---- words
 pub no-words : AreWords []
@@ -301,10 +302,6 @@ mutual
   joined-bits-are no_outlines v = no-bits
   joined-bits-are (outline_and o os) v = bits-after (bits_of o v) (joined_bits os v) (bits-of-are o v) (joined-bits-are os v)
 
-words-of-bits-length : (n : ℕ) (bs : List ℕ) → length (words_of_bits n bs) ≡ n
-words-of-bits-length zero bs = refl
-words-of-bits-length (suc n) bs = ap suc (words-of-bits-length n (drop 32 bs))
-
 pub words-of-bits-fit : (n : ℕ) (bs : List ℕ) → AreBits bs → AreWords (words_of_bits n bs)
 words-of-bits-fit zero bs h = no-words
 words-of-bits-fit (suc n) bs h =
@@ -312,7 +309,7 @@ words-of-bits-fit (suc n) bs h =
 
 pub packed-type : (o : OutlineTree) (v : Value) → value_ty (packed_value o v) ≡ packed_ty o
 packed-type o v =
-    words-value-type (words_of_bits (packed_words o) (bits_of o v)) ∙ ap words_ty (words-of-bits-length (packed_words o) (bits_of o v))
+    words-value-type (words_of_bits (packed_words o) (bits_of o v)) ∙ ap words_ty (length-words (packed_words o) (bits_of o v))
 
 pub packed-value-words : (o : OutlineTree) (v : Value) → AreWords (words_of (packed_value o v))
 packed-value-words o v = words-value-fits (words_of_bits (packed_words o) (bits_of o v)) (words-of-bits-fit (packed_words o) (bits_of o v) (bits-of-are o v))

@@ -12,10 +12,11 @@ use Rattle.nv_ast.specs.Tree.{DeclTree, LayoutDecl, ExceptionDecl, GroupDecl, Pr
 use Rattle.nv_ast.specs.Outline.{Layouts}
 use Rattle.nv_ast.specs.Types.{no_tys, types_of}
 use Rattle.nv_meaning.specs.Meaning.{Declared, declared}
-use Rattle.nv_meaning.specs.Tables.{place_from, functions_in}
+use Rattle.nv_meaning.specs.inner.Tables.{place_from, functions_in}
 use Rattle.nv_meaning.proofs.Places.{declared-functions}
 use Rattle.nv_meaning.proofs.Lists.{dropped, dropped-all}
-use Rattle.nv_flatten.specs.Whole.{Whole, whole_of, groups_from, raised_in, raised_or_none, group_at, group_of}
+use Rattle.nv_flatten.specs.inner.Whole.{Whole, whole_of, groups_from, raised_in, raised_or_none, group_at, group_of}
+use Rattle.std.proofs.lemmas.List.{map-append, length-append, length-replicate, length-map}
 
 -- a number more
 pub replicate-more : (i n : ℕ) → replicate i n ++ n ∷ [] ≡ replicate (i + 1) n
@@ -45,37 +46,20 @@ raised-turn decls i d now new whole h is step before = step (map decl_tree (drop
 pub raised-done : (decls : List Decl) (i : ℕ) (now whole : List TypeTrees) → length decls ≤ i → now ++ raised_in (map decl_tree (drop i decls)) ≡ whole → now ≡ whole
 raised-done decls i now whole h before = sym (append-nil now) ∙ ap (λ l. now ++ raised_in (map decl_tree l)) (sym (dropped-all decls i h)) ∙ before
 
-mapped : {A B : Type 0} (f : A → B) (xs ys : List A) → map f (xs ++ ys) ≡ map f xs ++ map f ys
-mapped f [] ys = refl
-mapped f (x ∷ xs) ys = ap (λ l. f x ∷ l) (mapped f xs ys)
-
-length-mapped : {A B : Type 0} (f : A → B) (xs : List A) → length (map f xs) ≡ length xs
-length-mapped f [] = refl
-length-mapped f (x ∷ xs) = ap suc (length-mapped f xs)
-
--- a group's numbers
-length-replicate : (n k : ℕ) → length (replicate k n) ≡ k
-length-replicate n zero = refl
-length-replicate n (suc k) = ap suc (length-replicate n k)
-
-length-both : {A : Type 0} (xs ys : List A) → length (xs ++ ys) ≡ length xs + length ys
-length-both [] ys = omega arith
-length-both (x ∷ xs) ys = let h = length-both xs ys in omega arith
-
 pub as-many : (n : ℕ) (ds : List DeclTree) → length (groups_from n ds) ≡ length (functions_in ds)
 as-many n [] = refl
 as-many n (LayoutDecl x l s ∷ ds) = as-many n ds
 as-many n (ExceptionDecl x ts s ∷ ds) = as-many n ds
 as-many n (GroupDecl fs ∷ ds) =
-    let a : length (replicate (length fs) n ++ groups_from (suc n) ds) ≡ length (replicate (length fs) n) + length (groups_from (suc n) ds) = length-both (replicate (length fs) n) (groups_from (suc n) ds) in
-    let b : length (replicate (length fs) n) ≡ length fs = length-replicate n (length fs) in
-    let c : length (fs ++ functions_in ds) ≡ length fs + length (functions_in ds) = length-both fs (functions_in ds) in
+    let a : length (replicate (length fs) n ++ groups_from (suc n) ds) ≡ length (replicate (length fs) n) + length (groups_from (suc n) ds) = length-append (replicate (length fs) n) (groups_from (suc n) ds) in
+    let b : length (replicate (length fs) n) ≡ length fs = length-replicate (length fs) n in
+    let c : length (fs ++ functions_in ds) ≡ length fs + length (functions_in ds) = length-append fs (functions_in ds) in
     let d : length (groups_from (suc n) ds) ≡ length (functions_in ds) = as-many (suc n) ds in
     omega arith
 
 pub group-added : (decl : Decl) (fs : Vec Fun Global) (old new : List ℕ) (count n : ℕ) → decl ≡ decls.Group fs → count ≡ length fs.items → new ≡ old ++ replicate count n → (ds : List DeclTree) → new ++ groups_from (n + 1) ds ≡ old ++ groups_from n (decl_tree decl ∷ ds)
 group-added decl fs old new count n is many e ds =
-    let long : count ≡ length (map fun_tree fs.items) = many ∙ sym (length-mapped fun_tree fs.items) in
+    let long : count ≡ length (map fun_tree fs.items) = many ∙ sym (length-map fs.items fun_tree) in
     ap (λ l. l ++ groups_from (n + 1) ds) e
     ∙ append_assoc old (replicate count n) (groups_from (n + 1) ds)
     ∙ ap (λ k. old ++ (replicate k n ++ groups_from (n + 1) ds)) long
@@ -86,7 +70,7 @@ pub raised-added : (decl : Decl) (x : List ℕ) (tys : Vec TyText Global) (s : S
     → (ds : List DeclTree) → map (λ t. list_types t.now.items) new ++ raised_in ds ≡ map (λ t. list_types t.now.items) old ++ raised_in (decl_tree decl ∷ ds)
 raised-added decl x tys s t old new is same e ds =
     ap (λ l. map (λ t. list_types t.now.items) l ++ raised_in ds) e
-    ∙ ap (λ l. l ++ raised_in ds) (mapped (λ t. list_types t.now.items) old (t ∷ []))
+    ∙ ap (λ l. l ++ raised_in ds) (map-append (λ t. list_types t.now.items) old (t ∷ []))
     ∙ append_assoc (map (λ t. list_types t.now.items) old) (list_types t.now.items ∷ []) (raised_in ds)
     ∙ ap (λ v. map (λ t. list_types t.now.items) old ++ (list_types v.items ∷ raised_in ds)) same
     ∙ sym (ap (λ d. map (λ t. list_types t.now.items) old ++ raised_in (decl_tree d ∷ ds)) is)
@@ -108,7 +92,7 @@ as-many-groups t d functions groups e f g =
     ap length g ∙ as-many 0 t.decls
     ∙ sym (ap length (declared-functions (record { layouts = []; exceptions = []; functions = [] }) t.decls))
     ∙ sym (ap (λ k. length k.functions) e)
-    ∙ ap length f ∙ length-mapped (λ f. fun_tree f.now) functions
+    ∙ ap length f ∙ length-map functions (λ f. fun_tree f.now)
 
 -- ---- functions and their groups
 names-mapped : (fs : List (Bor Fun)) → map (λ g. g.name) (map (λ f. fun_tree f.now) fs) ≡ map (λ f. f.now.name) fs

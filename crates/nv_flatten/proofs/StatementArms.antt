@@ -1,5 +1,5 @@
 -- Statements, and blocks.
-use Rattle.std.proofs.Common.{◌≡◌, ◌∙◌, refl, ap, sym, subst, ℕ, suc, ◌≤◌, true, if◌then◌else◌, List, [], ◌∷◌, ◌++◌, append_assoc, append-nil, length, Option, Some, None, arith}
+use Rattle.std.proofs.Common.{◌≡◌, ◌∙◌, refl, ap, sym, subst, ℕ, ◌≤◌, true, if◌then◌else◌, List, [], ◌∷◌, ◌++◌, append_assoc, append-nil, length, Option, Some, None, arith}
 use Rattle.nv_base.specs.declared.term.Atom.{Atom}
 use Rattle.nv_base.specs.declared.term.Mem.{Mem}
 use Rattle.nv_base.specs.Words.{Env, atom_word, atom_words}
@@ -9,10 +9,9 @@ use Rattle.nv_ast.specs.declared.token.Span.{Span}
 use Rattle.nv_ast.specs.declared.tree.Stmt.{Stmt}
 use Rattle.nv_ast.specs.ExprView.{list_statements, statement_tree}
 use Rattle.nv_ast.specs.Tree.{Tree, BlockTree, PatternTree, StatementTree, LetStatement, StoreStatement, StatementTrees, no_statements, statement_and}
-use Rattle.nv_ast.specs.Types.{Ty, WordTy, words}
+use Rattle.nv_ast.specs.Types.{Ty, WordTy, words, words_of_value}
 use Rattle.nv_ast.specs.Scope.{Place, inside, with_vars, bind, bind_value, names_in}
 use Rattle.nv_ast.specs.Typing.{type_at, vars_after, vars_behind}
-use Rattle.nv_ast.specs.Types.{words_of_value}
 use Rattle.nv_ast.specs.Faults.{Fault, Wanted, faults, statement_faults, statements_faults, node_faults, at_span, a_value, anything, of_type, wanted_stored, variable_twice, not_fitting, can_move, wrong_access, wrong_scratch}
 use Rattle.nv_meaning.specs.Values.{Value, Scope, word_of, words_of, matched}
 use Rattle.nv_meaning.specs.Running.{Running, Result, Gives, Raises, Stops, Stated, GoesOn, StopsAt, and_further, then_stated, after_store, store}
@@ -21,15 +20,16 @@ use Rattle.flat_ir.specs.Running as flat
 use Rattle.flat_ir.specs.Meaning as code
 use Rattle.flat_ir.specs.Spine.{Act, step_does, steps_do}
 use Rattle.flat_ir.specs.declared.spine.Step.{Step}
-use Rattle.nv_flatten.specs.Symbols.{Symbol, SymbolScope, operands, value_in, Fits, word_operand, ScopeFits, scope_in, vars_of, bound}
-use Rattle.nv_flatten.specs.Runs.{flat_run, onward}
-use Rattle.nv_flatten.specs.Whole.{Whole, Stands}
-use Rattle.nv_flatten.specs.Simulation.{Names, Extends, Done, IsValue, IsStated, onward_stated}
+use Rattle.nv_flatten.specs.inner.Symbols.{Symbol, SymbolScope, operands, value_in, Fits, word_operand, ScopeFits, scope_in, vars_of, bound}
+use Rattle.nv_flatten.specs.inner.Runs.{flat_run, onward}
+use Rattle.nv_flatten.specs.inner.Whole.{Whole, Stands}
+use Rattle.nv_flatten.specs.inner.Simulation.{Names, Extends, Done, IsValue, IsStated, onward_stated}
 use Rattle.nv_flatten.proofs.Keeping.{scope-later, keeps-value, keeps-scope, keeps-scope_fits, begins-then, begins-done, done-then, words-fit, are-words, extends-itself, extends-then}
 use Rattle.nv_flatten.proofs.Fresh.{bound-values, bound-types, bound-fits, bound-older}
 use Rattle.nv_flatten.proofs.NoFaults.{none-left, none-right, no-kinds, set, value-has-type}
 use Rattle.nv_flatten.proofs.Following.{onward-stated, onward-further, steps-then, stands-inside, fewer, word-of}
 use Rattle.nv_flatten.proofs.AccessArms.{operands-count}
+use Rattle.nv_base.proofs.WordLemmas.{length-words}
 
 -- ---- what follows a statement
 onward-alone : (r : Stated) (next : Scope → Running → flat.Result) (never : Value → Running → flat.Result) → onward_stated (and_further r (λ m now. GoesOn m now)) next never ≡ onward_stated r next never
@@ -74,10 +74,6 @@ module _ (w : Whole) (names : Names) (low high : ℕ) (scope : SymbolScope) (sp 
 -- ---- a store that may be
 may-store : (m' : Scope) (m : Mem) (at : ℕ) (ws : List ℕ) (now : Running) → can_move m (length ws) ≡ true → store m' m at ws now ≡ after_store m' m at ws (stored m at ws now.packet) now
 may-store m' m at ws now e = ap (λ b. if b then after_store m' m at ws (stored m at ws now.packet) now else GoesOn m' now) e
-
-atoms-count : (env : Env) (as' : List Atom) → length (atom_words env as') ≡ length as'
-atoms-count env [] = refl
-atoms-count env (a ∷ as') = ap (λ n. suc n) (atoms-count env as')
 
 -- the step of a store: the operands' words from an operand's address on
 abbrev pub StoresTo : Mem → Atom → List Atom → Step → Type 0
@@ -140,7 +136,7 @@ module _ (w : Whole) (names more : Names) (low mid high : ℕ) (scope : SymbolSc
         let spelled = words-fit after u done'.fits in
         let both = done-then low mid env new after (Fits new s) (Fits after u) last end le done done' in
         let t = value-has-type p wanted_stored e refl (value-clean p none) in
-        let count : length (words_of y) ≡ words t.0 = ap length spelled ∙ atoms-count after (operands u) ∙ operands-count u ∙ ap words (v'.formed.by own p wanted_stored stands (value-clean p none) t.0 t.1) in
+        let count : length (words_of y) ≡ words t.0 = ap length spelled ∙ length-words after (operands u) ∙ operands-count u ∙ ap words (v'.formed.by own p wanted_stored stands (value-clean p none) t.0 t.1) in
         let moves : can_move m (length (words_of y)) ≡ true = ap (can_move m) count ∙ moves-words p t.0 none t.1 in
         stores c.fcall rest after (flat_run end)
         ∙ ap (λ l. flat.store m at l (flat_run end) (λ now'. rest after now')) (sym spelled)

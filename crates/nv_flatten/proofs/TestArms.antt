@@ -22,11 +22,11 @@ use Rattle.nv_meaning.specs.Meaning.{eval, binary, combined}
 use Rattle.flat_ir.specs.Running as flat
 use Rattle.flat_ir.specs.Spine.{Act, steps_do}
 use Rattle.flat_ir.specs.declared.spine.Step.{Step}
-use Rattle.nv_flatten.specs.Symbols.{Symbol, Word, Truth, Tuple, Record, SymbolScope, operands, form, value_in, scope_in, Fits, IsOlder, AreOlder, ScopeOlder, word_operand, truth_operand}
-use Rattle.nv_flatten.specs.Code.{comparison_of}
-use Rattle.nv_flatten.specs.Runs.{flat_run, onward}
-use Rattle.nv_flatten.specs.Whole.{Whole, Stands}
-use Rattle.nv_flatten.specs.Simulation.{Names, Extends, Setting, Begins, Done, IsValue, IsTest}
+use Rattle.nv_flatten.specs.inner.Symbols.{Symbol, Word, Truth, Tuple, Record, SymbolScope, operands, form, value_in, scope_in, Fits, IsOlder, AreOlder, ScopeOlder, word_operand, truth_operand}
+use Rattle.nv_flatten.specs.inner.Code.{comparison_of}
+use Rattle.nv_flatten.specs.inner.Runs.{flat_run, onward}
+use Rattle.nv_flatten.specs.inner.Whole.{Whole, Stands}
+use Rattle.nv_flatten.specs.inner.Simulation.{Names, Extends, Setting, Begins, Done, IsValue, IsTest}
 use Rattle.nv_flatten.proofs.Keeping.{older-later, scope-later, keeps-then, keeps-value, keeps-fit, keeps-scope, begins-then, extends-then}
 use Rattle.nv_flatten.proofs.NoFaults.{none-left, none-right, wanted-type}
 use Rattle.nv_flatten.proofs.Following.{onward-then, steps-then, stands-inside, value-more, word-of}

@@ -17,11 +17,11 @@ use Rattle.nv_meaning.specs.Meaning.{eval}
 use Rattle.flat_ir.specs.Running as flat
 use Rattle.flat_ir.specs.Meaning as code
 use Rattle.flat_ir.specs.declared.flat.Flat.{Flat}
-use Rattle.nv_flatten.specs.Symbols.{Symbol, Symbols, SymbolScope, form, vars_of, scope_in, ScopeOlder, all_fresh, all_bound, numbers_from}
-use Rattle.nv_flatten.specs.Runs.{flat_run, ended}
-use Rattle.nv_flatten.specs.Soundness.{ComesTo, AreWords, value_tys}
-use Rattle.nv_flatten.specs.Whole.{Whole, Stands, raised_tys, raised_or_none}
-use Rattle.nv_flatten.specs.Simulation.{Names, Extends, Begins, IsEnd}
+use Rattle.nv_flatten.specs.inner.Symbols.{Symbol, Symbols, SymbolScope, form, vars_of, scope_in, ScopeOlder, all_fresh, all_bound, numbers_from}
+use Rattle.nv_flatten.specs.inner.Runs.{flat_run, ended}
+use Rattle.nv_flatten.specs.inner.Soundness.{ComesTo, AreWords, value_tys}
+use Rattle.nv_flatten.specs.inner.Whole.{Whole, Stands, raised_tys, raised_or_none}
+use Rattle.nv_flatten.specs.inner.Simulation.{Names, Extends, Begins, IsEnd}
 use Rattle.nv_flatten.proofs.Keeping.{scope-later, keeps-scope, keeps-scope_fits, types-of-scope, scope-words}
 use Rattle.nv_flatten.proofs.Fresh.{fresh-forms, all-fresh-older, numbers-keep, fresh-values, all-fresh-fit, all-bound-values, all-bound-types, all-bound-fit, all-bound-older}
 use Rattle.nv_flatten.proofs.Sound.{typed-eval}

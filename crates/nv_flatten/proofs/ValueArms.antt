@@ -4,6 +4,7 @@ use Rattle.nv_base.specs.declared.term.Atom.TheVariants.{Var, Lit}
 use Rattle.nv_base.specs.declared.term.Bin.TheVariants as bin
 use Rattle.nv_base.specs.declared.term.Una.TheVariants as una
 use Rattle.nv_base.specs.declared.term.Primitive.TheVariants.{Una as UnaOf, Bin as BinOf}
+use Rattle.nv_base.proofs.WordLemmas.{word-fits}
 use Rattle.nv_base.specs.Words.{Env, word, atom_word, word_not}
 use Rattle.nv_ast.specs.declared.token.Span.{Span}
 use Rattle.nv_ast.specs.Tree.{Tree, NumberTree, TruthTree, VarTree, ParenTree, DotTree, InvertTree, NegateTree}
@@ -21,31 +22,28 @@ use Rattle.flat_ir.specs.Meaning as code
 use Rattle.flat_ir.specs.Spine.{Act, steps_do}
 use Rattle.flat_ir.specs.declared.spine.Step.{Step}
 use Rattle.flat_ir.specs.declared.spine.Step.TheVariants.{Let}
-use Rattle.nv_flatten.specs.Symbols.{Symbol, Word, Truth, Tuple, Record, NamedSymbols, no_named_symbols, named_symbol_and, SymbolScope, operands, named_operands, form, named_forms, value_in, named_values_in, Fits, NamedFit, AreOlder, word_operand, truth_operand, fields_of, field_named, symbol_in, ScopeFits, ScopeOlder, scope_in, vars_of}
-use Rattle.nv_flatten.specs.Runs.{flat_run, onward}
-use Rattle.nv_flatten.specs.Whole.{Whole, Stands}
-use Rattle.nv_flatten.specs.Simulation.{Names, Done, HasForm, IsValue}
+use Rattle.nv_flatten.specs.inner.Symbols.{Symbol, Word, Truth, Tuple, Record, NamedSymbols, no_named_symbols, named_symbol_and, SymbolScope, operands, named_operands, form, named_forms, value_in, named_values_in, Fits, NamedFit, AreOlder, word_operand, truth_operand, fields_of, field_named, symbol_in, ScopeFits, ScopeOlder, scope_in, vars_of}
+use Rattle.nv_flatten.specs.inner.Runs.{flat_run, onward}
+use Rattle.nv_flatten.specs.inner.Whole.{Whole, Stands}
+use Rattle.nv_flatten.specs.inner.Simulation.{Names, Done, HasForm, IsValue}
 use Rattle.nv_flatten.proofs.Keeping.{older-left, older-right, older-later, begins-done}
 use Rattle.nv_flatten.proofs.NoFaults.{none-left, some-same, none-some}
 use Rattle.nv_flatten.proofs.Following.{onward-then, steps-then, stands-inside, word-of, truth-of, truth-fits, one-older, assigned-here, defined}
 
-word-same : (n : ℕ) → n < 2 ^ 32 → word n ≡ n
-word-same n h = omega arith
-
 -- ---- values without steps
 module _ (w : Whole) (names : Names) (low high : ℕ) (scope : SymbolScope) where
-  pub number-value : (sp : Span) (n : ℕ) → n < 2 ^ 32 → IsValue w names low high scope (NumberTree sp n) [] (Word (Lit n))
-  number-value sp n small = record {
-    simulates = record { by = λ own p wanted stands none older c env now begins rest next same. same env now (begins-done low env scope now (Fits env (Word (Lit n))) begins small) ∙ ap (λ k. next (meaning.Word k) now) (sym (word-same n small)) };
+  pub number-value : (sp : Span) (n : ℕ) → IsValue w names low high scope (NumberTree sp n) [] (Word (Lit n))
+  number-value sp n = record {
+    simulates = record { by = λ own p wanted stands none older c env now begins rest next same. same env now (begins-done low env scope now (Fits env (Word (Lit n))) begins (word-fits n)) };
     formed = record { by = λ own p wanted stands none t is. some-same WordTy t is };
     older = λ o. one-older high (Lit n) tt;
   }
 
-  bit-fits : (b : Bool) → (if b then 1 else 0) ≤ 1
+  bit-fits : (b : Bool) → word (if b then 1 else 0) ≤ 1
   bit-fits true = omega arith
   bit-fits false = omega arith
 
-  bit-is : (b : Bool) → not ((if b then 1 else 0) == 0) ≡ b
+  bit-is : (b : Bool) → not (word (if b then 1 else 0) == 0) ≡ b
   bit-is true = refl
   bit-is false = refl
 
@@ -152,7 +150,7 @@ field-among : (env : Env) (x : List ℕ) (fs : NamedSymbols) → value_in env (f
 field-among env x no_named_symbols = refl
 field-among env x (named_symbol_and y s fs) = choose-field env (bytes_eq x y) s (field_named x fs) (meaning.field_named x (named_values_in env fs)) (field-among env x fs)
 
-field-value : (env : Env) (x : List ℕ) (s : Symbol) → value_in env (field_named x (fields_of s)) ≡ meaning.field_named x (meaning.fields_of (value_in env s))
+pub field-value : (env : Env) (x : List ℕ) (s : Symbol) → value_in env (field_named x (fields_of s)) ≡ meaning.field_named x (meaning.fields_of (value_in env s))
 field-value env x (Word a) = refl
 field-value env x (Truth a) = refl
 field-value env x (Tuple ss) = refl
@@ -162,11 +160,11 @@ choose-field_fits : (env : Env) (b : Bool) (s t : Symbol) → Fits env s → Fit
 choose-field_fits env true s t f g = f
 choose-field_fits env false s t f g = g
 
-among-fits : (env : Env) (x : List ℕ) (fs : NamedSymbols) → NamedFit env fs → Fits env (field_named x fs)
+pub among-fits : (env : Env) (x : List ℕ) (fs : NamedSymbols) → NamedFit env fs → Fits env (field_named x fs)
 among-fits env x no_named_symbols f = omega arith
 among-fits env x (named_symbol_and y s fs) f = choose-field_fits env (bytes_eq x y) s (field_named x fs) f.0 (among-fits env x fs f.1)
 
-field-fits : (env : Env) (x : List ℕ) (s : Symbol) → Fits env s → Fits env (field_named x (fields_of s))
+pub field-fits : (env : Env) (x : List ℕ) (s : Symbol) → Fits env s → Fits env (field_named x (fields_of s))
 field-fits env x (Word a) f = omega arith
 field-fits env x (Truth a) f = omega arith
 field-fits env x (Tuple ss) f = omega arith
@@ -176,11 +174,11 @@ choose-field_older : (n : ℕ) (b : Bool) (s t : Symbol) → AreOlder n (operand
 choose-field_older n true s t f g = f
 choose-field_older n false s t f g = g
 
-among-older : (n : ℕ) (x : List ℕ) (fs : NamedSymbols) → AreOlder n (named_operands fs) → AreOlder n (operands (field_named x fs))
+pub among-older : (n : ℕ) (x : List ℕ) (fs : NamedSymbols) → AreOlder n (named_operands fs) → AreOlder n (operands (field_named x fs))
 among-older n x no_named_symbols o = one-older n (Lit 0) tt
 among-older n x (named_symbol_and y s fs) o = choose-field_older n (bytes_eq x y) s (field_named x fs) (older-left n (operands s) (named_operands fs) o) (among-older n x fs (older-right n (operands s) (named_operands fs) o))
 
-field-older : (n : ℕ) (x : List ℕ) (s : Symbol) → AreOlder n (operands s) → AreOlder n (operands (field_named x (fields_of s)))
+pub field-older : (n : ℕ) (x : List ℕ) (s : Symbol) → AreOlder n (operands s) → AreOlder n (operands (field_named x (fields_of s)))
 field-older n x (Word a) o = one-older n (Lit 0) tt
 field-older n x (Truth a) o = one-older n (Lit 0) tt
 field-older n x (Tuple ss) o = one-older n (Lit 0) tt

@@ -14,12 +14,12 @@ use Rattle.nv_ast.specs.Types.{packed_words, unpacked_ty}
 use Rattle.nv_meaning.specs.Packing.{value_at}
 use Rattle.flat_ir.specs.declared.spine.Step.{Step}
 use Rattle.flat_ir.specs.declared.spine.Step.TheVariants.{Let}
-use Rattle.nv_flatten.specs.Code.{Computes, shift_of}
-use Rattle.nv_flatten.specs.Symbols.{Symbol, Word, SymbolScope, operands, form, value_in, Fits, AreOlder, word_operand}
-use Rattle.nv_flatten.specs.Soundness.{AreWords}
-use Rattle.nv_flatten.specs.View.{Named, scope_of}
-use Rattle.nv_flatten.specs.Whole.{Whole}
-use Rattle.nv_flatten.specs.Simulation.{Names, Extends, IsValue}
+use Rattle.nv_flatten.specs.inner.Code.{Computes, shift_of}
+use Rattle.nv_flatten.specs.inner.Symbols.{Symbol, Word, SymbolScope, operands, form, value_in, Fits, AreOlder, word_operand}
+use Rattle.nv_flatten.specs.inner.Soundness.{AreWords}
+use Rattle.nv_flatten.specs.inner.View.{Named, scope_of}
+use Rattle.nv_flatten.specs.inner.Whole.{Whole}
+use Rattle.nv_flatten.specs.inner.Simulation.{Names, Extends, IsValue}
 use Rattle.nv_flatten.proofs.WordArms.{shift-same, shift-value}
 use Rattle.nv_flatten.proofs.AccessArms.{unpack-value}
 
@@ -32,7 +32,7 @@ pub value-in-scope : (w : Whole) (names : Names) (low high : ℕ) (xs ys : List 
 value-in-scope w names low high xs ys e steps s is v = subst (λ x. IsValue w names low high (scope_of x []) e steps s) is v
 
 -- ---- a shift, whatever the count
-count-cases : (n : ℕ) → (n ≡ 0) ⊎ (1 ≤ n)
+pub count-cases : (n : ℕ) → (n ≡ 0) ⊎ (1 ≤ n)
 count-cases zero = inl refl
 count-cases (suc n) = inr (omega arith)
 

@@ -4,10 +4,10 @@ use Rattle.nv_ast.specs.declared.tree.Op.{Op}
 use Rattle.nv_ast.specs.declared.tree.Op.TheVariants.{Add, Sub, And, Or, Xor, Eq, Ne, Lt, Le, Gt, Ge, Both, Either}
 use Rattle.nv_ast.specs.Tree.{Tree, NumberTree, TruthTree, VarTree, ParenTree, TupleTree, FieldsTree, DotTree, InvertTree, NegateTree, BinaryTree, ShiftTree, CallTree, UnpackTree, PackTree, RaiseTree, IfTree, TryTree, FetchTree, BlockTree}
 use Rattle.nv_flatten.specs.declared.parts.Ends.TheVariants as ends
-use Rattle.nv_flatten.specs.Arms.{is_named}
-use Rattle.nv_flatten.specs.Code.{ends_of, gives, is_given}
-use Rattle.nv_flatten.specs.Symbols.{Symbol}
-use Rattle.nv_flatten.specs.Well.{IsLiteral}
+use Rattle.nv_flatten.specs.inner.Arms.{is_named}
+use Rattle.nv_flatten.specs.inner.Code.{ends_of, gives, is_given}
+use Rattle.nv_flatten.specs.inner.Symbols.{Symbol}
+use Rattle.nv_flatten.specs.inner.Well.{IsLiteral}
 
 -- ---- the operators that end as themselves
 pub both-op : (op : Op) → ends_of op ≡ ends.Both → op ≡ Both

@@ -1,42 +1,30 @@
 -- Known variables, rising numbers and raised exceptions along lists.
 use Rattle.std.proofs.Common.{◌≡◌, ℕ, zero, suc, ◌+◌, ◌<◌, ◌≤◌, Bool, true, false, not, nat_eq, ◌&&◌, ◌||◌, List, [], ◌∷◌, ◌++◌, refl, sym, ap, ◌∙◌, length, bytes_eq, if◌then◌else◌, ◌==◌, arith}
-use Rattle.std.proofs.lemmas.Bool.{and_parts, and_from, or_right, or_from, eqb-true, eq-eqb, false_from_ne_true, not_from_false}
+use Rattle.std.proofs.lemmas.Bool.{and_parts, and_from, or_right, or_from, eqb-true, false_from_ne_true, not_from_false}
 use Rattle.nv_base.specs.declared.term.Atom.{Atom}
-use Rattle.nv_base.specs.declared.term.Atom.TheVariants.{Var, Lit}
+use Rattle.nv_base.specs.declared.term.Atom.TheVariants.{Var}
 use Rattle.nv_ast.specs.Types.{WordTy, TupleTy, words, total_words, total_named_words, word_parts, words_ty}
 use Rattle.flat_ir.specs.declared.spine.Step.{Step}
 use Rattle.nv_base.specs.Sets.{is_in, all_different, Within}
 use Rattle.nv_base.specs.Access.{is_known, all_known}
 use Rattle.flat_ir.specs.Pieces.{new_vars, known_behind}
 use Rattle.nv_base.proofs.Sets.{in-append}
-use Rattle.nv_flatten.specs.Code.{variables}
-use Rattle.nv_flatten.specs.Symbols.{Symbol, Symbols, NamedSymbols, Word, Truth, Tuple, Record, no_symbols, symbol_and, no_named_symbols, named_symbol_and, SymbolScope, operands, all_operands, named_operands, form, forms, named_forms, numbers_from, word_operand, truth_operand, fields_of, field_named, symbol_in, words_symbol, word_symbols, bound, all_bound}
+use Rattle.nv_flatten.specs.inner.Code.{variables}
+use Rattle.nv_flatten.specs.inner.Symbols.{Symbol, Symbols, NamedSymbols, Word, Truth, Tuple, Record, no_symbols, symbol_and, no_named_symbols, named_symbol_and, SymbolScope, operands, all_operands, named_operands, form, forms, named_forms, numbers_from, word_operand, truth_operand, fields_of, field_named, symbol_in, bound, all_bound}
 use Rattle.nv_ast.specs.Tree.{PatternTree, NamePattern, AnyPattern, TuplePattern, PatternTrees, no_patterns, pattern_and}
-use Rattle.nv_flatten.specs.Whole.{Whole}
-use Rattle.nv_flatten.specs.Well.{ScopeKnown, Rises, RaisedMatch}
+use Rattle.nv_flatten.specs.inner.Whole.{Whole}
+use Rattle.nv_flatten.specs.inner.Well.{ScopeKnown, Rises, RaisedMatch}
+use Rattle.std.proofs.lemmas.List.{length-append}
+use Rattle.nv_flatten.proofs.Listing.{parts-words}
+use Rattle.nv_flatten.proofs.Following.{eq-same}
+use Rattle.nv_base.proofs.Operands.{atoms-more}
 
 -- ---- lists of nothing
-pub nil-left : {A : Type 0} (xs ys : List A) → xs ++ ys ≡ [] → xs ≡ []
-nil-left [] ys e = refl
-nil-left (x ∷ xs) ys e = cc
-
-pub nil-right : {A : Type 0} (xs ys : List A) → xs ++ ys ≡ [] → ys ≡ []
-nil-right [] ys e = e
-nil-right (x ∷ xs) ys e = cc
 
 -- ---- known variables
 pub known-more : (known : List ℕ) (ss : List Step) → Within known (known_behind known ss)
 known-more known [] = λ x e. e
 known-more known (s ∷ ss) = λ x e. known-more (new_vars s ++ known) ss x (in-append x (new_vars s) known ∙ or_right (is_in x (new_vars s)) (is_in x known) e)
-
-atom-more : (known known' : List ℕ) (a : Atom) → Within known known' → is_known known a ≡ true → is_known known' a ≡ true
-atom-more known known' (Var x) h e = h x e
-atom-more known known' (Lit v) h e = refl
-
-pub atoms-more : (known known' : List ℕ) (as' : List Atom) → Within known known' → all_known known as' ≡ true → all_known known' as' ≡ true
-atoms-more known known' [] h e = refl
-atoms-more known known' (a ∷ as') h e =
-    let parts = and_parts (is_known known a) (all_known known as') e in and_from (is_known known' a) (all_known known' as') (atom-more known known' a h parts.0) (atoms-more known known' as' h parts.1)
 
 pub scope-more : (known known' : List ℕ) (scope : SymbolScope) → Within known known' → ScopeKnown known scope → ScopeKnown known' scope
 scope-more known known' [] h k = tt {0}
@@ -66,12 +54,8 @@ knows-first known a as' e = (and_parts (is_known known a) (all_known known as') 
 pub knows-rest : (known : List ℕ) (a : Atom) (as' : List Atom) → all_known known (a ∷ as') ≡ true → all_known known as' ≡ true
 knows-rest known a as' e = (and_parts (is_known known a) (all_known known as') e).1
 
--- the new variables are known
-eqb-same : (x : ℕ) → nat_eq x x ≡ true
-eqb-same x = eq-eqb x x refl
-
 in-first : (x : ℕ) (known : List ℕ) → is_in x (x ∷ known) ≡ true
-in-first x known = ap (λ b. b || is_in x known) (eqb-same x)
+in-first x known = ap (λ b. b || is_in x known) (eq-same x)
 
 pub knows-new : (x : ℕ) (known : List ℕ) → all_known (x ∷ known) (Var x ∷ []) ≡ true
 knows-new x known = knows-one (x ∷ known) (Var x) (in-first x known)
@@ -114,15 +98,6 @@ pub knows-in : (known x : List ℕ) (scope : SymbolScope) → ScopeKnown known s
 knows-in known x [] k = refl
 knows-in known x ((y, s) ∷ scope) k = knows-if known (bytes_eq x y) s (symbol_in scope x) k.0 (knows-in known x scope k.1)
 
-word-symbols-operands : (as' : List Atom) → all_operands (word_symbols as') ≡ as'
-word-symbols-operands [] = refl
-word-symbols-operands (a ∷ as') = ap (λ l. a ∷ l) (word-symbols-operands as')
-
-pub words-operands : (as' : List Atom) → operands (words_symbol as') ≡ as'
-words-operands [] = refl
-words-operands (a ∷ []) = refl
-words-operands (a ∷ b ∷ as') = word-symbols-operands (a ∷ b ∷ as')
-
 -- ---- patterns
 mutual
   pub bound-known : (known : List ℕ) (p : PatternTree) (s : Symbol) (scope : SymbolScope) → all_known known (operands s) ≡ true → ScopeKnown known scope → ScopeKnown known (bound p s scope)
@@ -140,9 +115,6 @@ mutual
   all-bound-known known (pattern_and p ps) no_symbols scope e k = k
 
 -- ---- how many operands
-append-length : {A : Type 0} (a b : List A) → length (a ++ b) ≡ length a + length b
-append-length [] b = omega arith
-append-length (x ∷ a) b = let e = append-length a b in omega arith
 
 mutual
   pub operands-words : (s : Symbol) → length (operands s) ≡ words (form s)
@@ -153,23 +125,15 @@ mutual
 
   pub all-operands-words : (ss : Symbols) → length (all_operands ss) ≡ total_words (forms ss)
   all-operands-words no_symbols = refl
-  all-operands-words (symbol_and s ss) = let a = operands-words s in let b = all-operands-words ss in let c = append-length (operands s) (all_operands ss) in omega arith
+  all-operands-words (symbol_and s ss) = let a = operands-words s in let b = all-operands-words ss in let c = length-append (operands s) (all_operands ss) in omega arith
 
   pub named-operands-words : (fs : NamedSymbols) → length (named_operands fs) ≡ total_named_words (named_forms fs)
   named-operands-words no_named_symbols = refl
-  named-operands-words (named_symbol_and x s ss) = let a = operands-words s in let b = named-operands-words ss in let c = append-length (operands s) (named_operands ss) in omega arith
+  named-operands-words (named_symbol_and x s ss) = let a = operands-words s in let b = named-operands-words ss in let c = length-append (operands s) (named_operands ss) in omega arith
 
-pub numbers-length : (n k : ℕ) → length (numbers_from n k) ≡ k
-numbers-length n zero = refl
-numbers-length n (suc k) = ap suc (numbers-length (suc n) k)
-
-word-parts-words : (n : ℕ) → total_words (word_parts n) ≡ n
-word-parts-words zero = refl
-word-parts-words (suc n) = let a = word-parts-words n in omega arith
-
-words-if : (b : Bool) (n : ℕ) → (b ≡ true → n ≡ 1) → words (if b then WordTy else TupleTy (word_parts n)) ≡ n
+pub words-if : (b : Bool) (n : ℕ) → (b ≡ true → n ≡ 1) → words (if b then WordTy else TupleTy (word_parts n)) ≡ n
 words-if true n h = sym (h refl)
-words-if false n h = word-parts-words n
+words-if false n h = parts-words n
 
 pub words-ty-words : (n : ℕ) → words (words_ty n) ≡ n
 words-ty-words n = words-if (n == 1) n (λ e. eqb-true n 1 e)

@@ -1,5 +1,5 @@
 -- Calls, raises, blocks and named values are well formed where the parts are.
-use Rattle.std.proofs.Common.{◌≡◌, ℕ, zero, suc, ◌+◌, ◌<◌, ◌≤◌, ◌==◌, Bool, true, false, not, nat_le, nat_lt, ◌&&◌, List, [], ◌∷◌, ◌++◌, refl, sym, ap, subst, ◌∙◌, Option, Some, None, option_map, length, slice_get, if◌then◌else◌, arith}
+use Rattle.std.proofs.Common.{◌≡◌, ℕ, ◌+◌, ◌<◌, ◌≤◌, ◌==◌, Bool, true, false, not, nat_le, nat_lt, ◌&&◌, List, [], ◌∷◌, ◌++◌, refl, sym, ap, subst, ◌∙◌, Option, Some, None, option_map, length, slice_get, if◌then◌else◌, arith}
 use Rattle.std.proofs.lemmas.Bool.{and_from, eq-eqb, le-leb, ltb-true}
 use Rattle.nv_ast.specs.declared.token.Span.{Span}
 use Rattle.nv_ast.specs.Tree.{Tree, ParenTree, CallTree, RaiseTree, BlockTree, StatementTrees, Trees}
@@ -16,32 +16,26 @@ use Rattle.flat_ir.specs.declared.spine.Step.TheVariants.{Bind}
 use Rattle.flat_ir.specs.Spine.{AreNodes}
 use Rattle.nv_base.specs.Access.{all_known}
 use Rattle.flat_ir.specs.Formed.{may_stand, can_call, is_formed, defined, raised}
-use Rattle.nv_flatten.specs.Code.{form_or_unit, variables}
-use Rattle.nv_flatten.specs.Symbols.{Symbol, Symbols, SymbolScope, operands, all_operands, form, forms, fresh, numbers_from, vars_of}
-use Rattle.nv_flatten.specs.Simulation.{Names, Extends}
-use Rattle.nv_flatten.specs.Whole.{Whole, Stands, raised_tys}
-use Rattle.nv_flatten.specs.Well.{ScopeKnown, Rises, WellSteps, Knows, GivesWords, IsLiteral, IsWellValue, AreWellValues, IsWellStated, IsWellEnd}
-use Rattle.nv_flatten.proofs.Fresh.{fresh-operands}
+use Rattle.nv_flatten.specs.inner.Code.{form_or_unit, variables}
+use Rattle.nv_flatten.specs.inner.Symbols.{Symbol, Symbols, SymbolScope, operands, all_operands, form, forms, fresh, numbers_from, vars_of}
+use Rattle.nv_flatten.specs.inner.Simulation.{Names, Extends}
+use Rattle.nv_flatten.specs.inner.Whole.{Whole, Stands, raised_tys}
+use Rattle.nv_flatten.specs.inner.Well.{ScopeKnown, Rises, WellSteps, Knows, GivesWords, IsLiteral, IsWellValue, AreWellValues, IsWellStated, IsWellEnd, steps_calls, AreCalled}
+use Rattle.nv_flatten.proofs.Fresh.{fresh-operands, numbers-length}
 use Rattle.nv_flatten.proofs.Sound.{arguments-typed}
-use Rattle.nv_flatten.proofs.WellBasics.{nil-left, nil-right, knows-variables, all-operands-words, numbers-length, rises-append, rises-numbers, raised-both}
-use Rattle.nv_flatten.proofs.WellTypes.{not-where, some-where, low-of, middle-of, plain-words, stands-inside}
+use Rattle.nv_flatten.proofs.WellBasics.{knows-variables, all-operands-words, rises-append, rises-numbers, raised-both}
+use Rattle.nv_flatten.proofs.WellTypes.{some-where, low-of, middle-of, plain-words}
 use Rattle.flat_ir.specs.Reached.{calls}
-use Rattle.nv_flatten.specs.Well.{steps_calls, AreCalled}
 use Rattle.nv_flatten.proofs.WellNames.{called-more, code-called-more, code-called-then}
 use Rattle.nv_flatten.proofs.WellSteps.{steps-names, code-behind, code-inner}
 use Rattle.nv_flatten.proofs.WellArms.{stands-behind}
 use Rattle.nv_flatten.proofs.WellEnds.{gives-words, raised-from-one}
-
-pub get-more : {A : Type 0} (xs ys : List A) (i : ℕ) (x : A) → slice_get xs i ≡ Some x → slice_get (xs ++ ys) i ≡ Some x
-get-more [] ys i x e = cc
-get-more (y ∷ xs) ys zero x e = e
-get-more (y ∷ xs) ys (suc i) x e = get-more xs ys i x e
+use Rattle.nv_flatten.proofs.NoFaults.{none-left, none-right, unset}
+use Rattle.nv_flatten.proofs.CallArms.{get-append}
+use Rattle.nv_flatten.proofs.Following.{stands-inside}
 
 pub get-extended : {A : Type 0} (xs zs : List A) (i : ℕ) (x : A) → Extends xs zs → slice_get xs i ≡ Some x → slice_get zs i ≡ Some x
-get-extended xs zs i x h e = ap (λ l. slice_get l i) h.1 ∙ get-more xs h.0 i x e
-
-pub some-same : {A : Type 0} (x y : A) → Some x ≡ Some y → x ≡ y
-some-same x y e = cc
+get-extended xs zs i x h e = ap (λ l. slice_get l i) h.1 ∙ get-append xs h.0 i x e
 
 may-stand : (inside tail : Bool) (own group : ℕ) → (inside && not tail) ≡ false → (if inside then nat_le group own else nat_lt group own) ≡ true → may_stand tail own group ≡ true
 may-stand true true own group n e = e
@@ -57,12 +51,12 @@ call-well w old names more low high scope sp f es ss vs t i bs nodes same at new
   well = λ own p wanted st fl.
       let st' = stands-inside w own scope p st in
       let args = wanted_arguments (params_of p.known f) es in
-      let none : list_faults (inside p) args es ≡ [] = nil-left (list_faults (inside p) args es) _ fl in
+      let none : list_faults (inside p) args es ≡ [] = none-left (list_faults (inside p) args es) _ fl in
       let kinds = low-of p wanted (CallTree sp f es) fl in
-      let found = some-where (look_up f (callable p.known)) 11 (nil-left (unknown_function p.known f) _ kinds) in
-      let rest = nil-right (unknown_function p.known f) _ kinds in
-      let tailed : (is_among f (names_of p.known.own) && not p.tail) ≡ false = not-where (is_among f (names_of p.known.own) && not p.tail) 12 (nil-left (not_in_tail p f) _ rest) in
-      let number = nil-right (not_in_tail p f) _ rest in
+      let found = some-where (look_up f (callable p.known)) 11 (none-left (unknown_function p.known f) _ kinds) in
+      let rest = none-right (unknown_function p.known f) _ kinds in
+      let tailed : (is_among f (names_of p.known.own) && not p.tail) ≡ false = unset (is_among f (names_of p.known.own) && not p.tail) 12 (none-left (not_in_tail p f) _ rest) in
+      let number = none-right (not_in_tail p f) _ rest in
       let g = found.0 in
       let target = st.part.functions f g found.1 in
       let pe : params_of p.known f ≡ Some (plain_tys g.params) = ap (option_map (λ (g : Signature). plain_tys g.params)) found.1 in
@@ -99,7 +93,7 @@ raise-well w old names low high scope sp x es ss vs t k bs nodes same number a t
       let st' = stands-inside w own scope p st in
       let ex = look_up x p.known.exceptions in
       let args = wanted_arguments ex es in
-      let none : list_faults (inside p) args es ≡ [] = nil-left (list_faults (inside p) args es) _ fl in
+      let none : list_faults (inside p) args es ≡ [] = none-left (list_faults (inside p) args es) _ fl in
       let counted : wrong_number ex es ≡ [] = low-of p wanted (RaiseTree sp x es) fl in
       let found = some-where ex 17 (middle-of p wanted (RaiseTree sp x es) fl) in
       let ts = found.0 in
@@ -120,7 +114,7 @@ raise-well w old names low high scope sp x es ss vs t k bs nodes same number a t
 
 -- ---- the same words
 pub paren-end-well : (w : Whole) (old names : Names) (low high : ℕ) (scope : SymbolScope) (sp : Span) (e : Tree) (t : Flat) → IsWellEnd w old names low high scope e t → IsWellEnd w old names low high scope (ParenTree sp e) t
-paren-end-well w old names low high scope sp e t a = record { well = λ own p wanted st f. a.well own p a_value st (nil-left (faults p a_value e) _ f); called = a.called }
+paren-end-well w old names low high scope sp e t a = record { well = λ own p wanted st f. a.well own p a_value st (none-left (faults p a_value e) _ f); called = a.called }
 
 pub block-end-well : (w : Whole) (old names more : Names) (low mid high : ℕ) (scope inner : SymbolScope) (sp : Span) (sts : StatementTrees) (e : Tree) (ss : List Step) (last t : Flat) → Extends names more → AreNodes ss last t
     → IsWellStated w old names low mid scope sts ss inner → ((own : ℕ) (p : Place) → Stands w own scope p → statements_faults p sts ≡ [] → vars_behind p.known p.vars sts ≡ vars_of inner) → IsWellEnd w names more mid high inner e last
@@ -128,11 +122,11 @@ pub block-end-well : (w : Whole) (old names more : Names) (low mid high : ℕ) (
 block-end-well w old names more low mid high scope inner sp sts e ss last t h nodes a vars b = record {
   well = λ own p wanted st f.
       let st' = stands-inside w own scope p st in
-      let none = nil-left (statements_faults (inside p) sts) _ f in
-      let rest = nil-right (statements_faults (inside p) sts) _ f in
+      let none = none-left (statements_faults (inside p) sts) _ f in
+      let rest = none-right (statements_faults (inside p) sts) _ f in
       let behind = with_vars (vars_behind p.known p.vars sts) p in
       let first = steps-names w names more low mid own scope ss (λ known. ScopeKnown known inner) h (a.well own (inside p) st' none refl) in
-      let second = b.well own behind anything (stands-behind w own scope inner p sts st (vars own (inside p) st' none)) (nil-left (faults behind anything e) _ rest) in
+      let second = b.well own behind anything (stands-behind w own scope inner p sts st (vars own (inside p) st' none)) (none-left (faults behind anything e) _ rest) in
       code-inner w more low mid high own scope inner p.tail (type_at p.known p.vars (BlockTree sp sts e)) ss (λ known. ScopeKnown known inner) last t first (λ known k q. q) second nodes;
   called = code-called-then old names more ss last t nodes a.called b.called;
 }

@@ -22,19 +22,20 @@ use Rattle.nv_base.specs.Access.{is_known, all_known, is_primitive, can_move, is
 use Rattle.flat_ir.specs.Formed.{can_call, is_formed, defined, raised}
 use Rattle.nv_base.specs.Sets.{is_in}
 use Rattle.nv_base.proofs.Sets.{in-append}
-use Rattle.nv_flatten.specs.Code.{is_given, is_comparison, variables}
-use Rattle.nv_flatten.specs.Symbols.{Symbol, SymbolScope, operands, all_operands, form, all_fresh, numbers_from, vars_of, all_bound}
-use Rattle.nv_flatten.specs.Simulation.{Names, Extends, HasForm}
-use Rattle.nv_flatten.specs.Whole.{Whole, Stands, raised_tys, raised_or_none}
-use Rattle.nv_flatten.specs.Well.{ScopeKnown, Rises, Knows, GivesWords, WellCode, IsWellValue, IsWellTest, IsWellEnd, GivesLiteral, IsChoice}
-use Rattle.nv_flatten.proofs.Fresh.{fresh-forms, fresh-operands, all-bound-types}
+use Rattle.nv_flatten.specs.inner.Code.{is_given, is_comparison, variables}
+use Rattle.nv_flatten.specs.inner.Symbols.{Symbol, SymbolScope, operands, all_operands, form, all_fresh, numbers_from, vars_of, all_bound}
+use Rattle.nv_flatten.specs.inner.Simulation.{Names, Extends, HasForm}
+use Rattle.nv_flatten.specs.inner.Whole.{Whole, Stands, raised_tys, raised_or_none}
+use Rattle.nv_flatten.specs.inner.Well.{ScopeKnown, Rises, Knows, GivesWords, WellCode, IsWellValue, IsWellTest, IsWellEnd, GivesLiteral, IsChoice, AreCalled}
+use Rattle.nv_flatten.proofs.Fresh.{fresh-forms, fresh-operands, all-bound-types, numbers-length}
 use Rattle.nv_flatten.proofs.Sound.{wanted-type, given-has-type}
-use Rattle.nv_flatten.proofs.WellBasics.{nil-left, nil-right, knows-variables, operands-words, numbers-length, rises-append, rises-numbers, raised-both, all-bound-known, scope-more}
-use Rattle.nv_flatten.proofs.WellTypes.{no-kinds, some-where, right-of, same-words, stands-inside, given-inside, comparison-inside}
+use Rattle.nv_flatten.proofs.WellBasics.{knows-variables, operands-words, rises-append, rises-numbers, raised-both, all-bound-known, scope-more}
+use Rattle.nv_flatten.proofs.WellTypes.{some-where, right-of, same-words, given-inside, comparison-inside}
 use Rattle.flat_ir.specs.Reached.{calls}
-use Rattle.nv_flatten.specs.Well.{AreCalled}
 use Rattle.nv_flatten.proofs.WellNames.{called-none, called-then, code-called-more, choice-called}
 use Rattle.nv_flatten.proofs.WellSteps.{steps-names, code-names, code-behind, code-choice}
+use Rattle.nv_flatten.proofs.NoFaults.{none-left, none-right, no-kinds}
+use Rattle.nv_flatten.proofs.Following.{stands-inside}
 
 -- ---- how many words
 pub gives-words : (n : ℕ) (o : Option Ty) (t : Ty) → o ≡ Some t → GivesWords n o → words t ≡ n
@@ -195,11 +196,11 @@ both-well w old names more low mid high scope sp a b ss c x y first second t h t
   well = λ own p wanted st f.
       let want = of_type BoolTy in
       let st' = stands-inside w own scope p st in
-      let rest = nil-right (faults (inside p) want a) _ f in
-      let right-none : faults (inside p) want b ≡ [] = nil-left (faults (inside p) want b) _ rest in
+      let rest = none-right (faults (inside p) want a) _ f in
+      let right-none : faults (inside p) want b ≡ [] = none-left (faults (inside p) want b) _ rest in
       let right' = code-tail w more mid high own scope p.tail (type_at p.known p.vars b) first (right.well own (inside p) want st' right-none) in
       code-choice w more low mid high high own scope p.tail (Some BoolTy) (type_at p.known p.vars b) (Some BoolTy) ss c x y first second t
-      (steps-names w names more low mid own scope ss (Knows (x ∷ y ∷ [])) h (test.well own (inside p) want st' (nil-left (faults (inside p) want a) _ f) refl)) right'
+      (steps-names w names more low mid own scope ss (Knows (x ∷ y ∷ [])) h (test.well own (inside p) want st' (none-left (faults (inside p) want a) _ f) refl)) right'
       (literal-well w more high high own scope p.tail (Some BoolTy) second (omega arith) refl fails) (λ n q. gives-at n n (type_at p.known p.vars b) BoolTy (wanted-type (inside p) BoolTy b right-none) q) (λ n q. q) choice;
   called = choice-called old names more more ss c x y first second t choice test.called right.called (called-none more (calls second));
 }
@@ -210,11 +211,11 @@ either-well w old names more low mid high scope sp a b ss c x y first second t h
   well = λ own p wanted st f.
       let want = of_type BoolTy in
       let st' = stands-inside w own scope p st in
-      let rest = nil-right (faults (inside p) want a) _ f in
-      let right-none : faults (inside p) want b ≡ [] = nil-left (faults (inside p) want b) _ rest in
+      let rest = none-right (faults (inside p) want a) _ f in
+      let right-none : faults (inside p) want b ≡ [] = none-left (faults (inside p) want b) _ rest in
       let right' = code-tail w more mid high own scope p.tail (type_at p.known p.vars b) second (right.well own (inside p) want st' right-none) in
       code-choice w more low mid mid high own scope p.tail (Some BoolTy) (Some BoolTy) (type_at p.known p.vars b) ss c x y first second t
-      (steps-names w names more low mid own scope ss (Knows (x ∷ y ∷ [])) h (test.well own (inside p) want st' (nil-left (faults (inside p) want a) _ f) refl))
+      (steps-names w names more low mid own scope ss (Knows (x ∷ y ∷ [])) h (test.well own (inside p) want st' (none-left (faults (inside p) want a) _ f) refl))
       (literal-well w more mid mid own scope p.tail (Some BoolTy) first (omega arith) refl holds) right' (λ n q. q) (λ n q. gives-at n n (type_at p.known p.vars b) BoolTy (wanted-type (inside p) BoolTy b right-none) q) choice;
   called = choice-called old names names more ss c x y first second t choice test.called (called-none names (calls first)) right.called;
 }
@@ -240,12 +241,12 @@ pub choose-well : (w : Whole) (old names next more : Names) (low mid after high 
 choose-well w old names next more low mid after high scope sp e a b ss c x y first second t h1 h2 test f1 f2 choice = record {
   well = λ own p wanted st f.
       let want = of_type BoolTy in
-      let rest = nil-right (faults (inside p) want e) _ f in
-      let none1 : faults p anything a ≡ [] = nil-left (faults p anything a) _ rest in
+      let rest = none-right (faults (inside p) want e) _ f in
+      let none1 : faults p anything a ≡ [] = none-left (faults p anything a) _ rest in
       let ta = type_at p.known p.vars a in
       let tb = type_at p.known p.vars b in
-      let none2 : faults p (same_as ta) b ≡ [] = nil-left (faults p (same_as ta) b) _ (nil-right (faults p anything a) _ rest) in
-      let test' = test.well own (inside p) want (stands-inside w own scope p st) (nil-left (faults (inside p) want e) _ f) refl in
+      let none2 : faults p (same_as ta) b ≡ [] = none-left (faults p (same_as ta) b) _ (none-right (faults p anything a) _ rest) in
+      let test' = test.well own (inside p) want (stands-inside w own scope p st) (none-left (faults (inside p) want e) _ f) refl in
       code-choice w more low mid after high own scope p.tail (or_ty ta tb) ta tb ss c x y first second t
       (steps-names w next more low mid own scope ss (Knows (x ∷ y ∷ [])) h2 (steps-names w names next low mid own scope ss (Knows (x ∷ y ∷ [])) h1 test'))
       (code-names w next more mid after own scope p.tail ta first h2 (f1.well own p anything st none1)) (f2.well own p (same_as ta) st none2)
@@ -271,11 +272,11 @@ pub try-well : (w : Whole) (old names more : Names) (low mid high : ℕ) (scope 
 try-well w old names more low mid high scope inner sp a x ps e first second t k q xs r node number same bound h f1 f2 = record {
   well = λ own p wanted st f.
       let st' = stands-inside w own scope p st in
-      let none1 : faults (inside p) anything a ≡ [] = nil-left (faults (inside p) anything a) _ f in
-      let rest = nil-right (faults (inside p) anything a) _ f in
-      let kinds : raised_kinds p.known x ps ≡ [] = no-kinds sp (raised_kinds p.known x ps) (nil-left (at_span sp (raised_kinds p.known x ps)) _ rest) in
+      let none1 : faults (inside p) anything a ≡ [] = none-left (faults (inside p) anything a) _ f in
+      let rest = none-right (faults (inside p) anything a) _ f in
+      let kinds : raised_kinds p.known x ps ≡ [] = no-kinds sp (raised_kinds p.known x ps) (none-left (at_span sp (raised_kinds p.known x ps)) _ rest) in
       let ex = look_up x p.known.exceptions in
-      let unknown : unknown_exception p.known x ≡ [] = nil-right (not_all_fitting ps ex) (unknown_exception p.known x) (nil-right (wrong_number_of_patterns ex ps) _ (nil-right (variable_twice (names_in_all ps)) _ kinds)) in
+      let unknown : unknown_exception p.known x ≡ [] = none-right (not_all_fitting ps ex) (unknown_exception p.known x) (none-right (wrong_number_of_patterns ex ps) _ (none-right (variable_twice (names_in_all ps)) _ kinds)) in
       let found = some-where ex 17 unknown in
       let ts = found.0 in
       let raised-k : raised_tys w k ≡ Some ts = ap (raised_tys w) number ∙ st.part.exceptions x ts found.1 in
@@ -283,7 +284,7 @@ try-well w old names more low mid high scope inner sp a x ps e first second t k 
       let behind = with_vars (bind_raised ps ex p.vars) p in
       let ta = type_at p.known p.vars a in
       let tb = type_at p.known (bind_raised ps ex p.vars) e in
-      let none2 : faults behind (same_as ta) e ≡ [] = nil-left (faults behind (same_as ta) e) _ (nil-right (at_span sp (raised_kinds p.known x ps)) _ rest) in
+      let none2 : faults behind (same_as ta) e ≡ [] = none-left (faults behind (same_as ta) e) _ (none-right (at_span sp (raised_kinds p.known x ps)) _ rest) in
       let vars : bind_raised ps ex p.vars ≡ vars_of inner =
       ap (λ o. bind_raised ps o p.vars) found.1 ∙ ap (bind_all ps ts) st.vars ∙ ap (λ u. bind_all ps u (vars_of scope)) (sym (fresh-forms mid (raised_or_none w k) ∙ tys)) ∙ sym (all-bound-types ps (all_fresh mid (raised_or_none w k)) scope)
       ∙ ap vars_of (sym bound)

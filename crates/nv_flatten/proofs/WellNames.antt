@@ -10,9 +10,9 @@ use Rattle.flat_ir.specs.declared.spine.Step.TheVariants.{Let, Fetch, Store, Bin
 use Rattle.flat_ir.specs.Spine.{IsNode, AreNodes}
 use Rattle.nv_base.specs.Sets.{is_in}
 use Rattle.nv_base.proofs.Sets.{in-append}
-use Rattle.nv_flatten.specs.Simulation.{Names}
+use Rattle.nv_flatten.specs.inner.Simulation.{Names}
 use Rattle.flat_ir.specs.Reached.{calls}
-use Rattle.nv_flatten.specs.Well.{step_calls, steps_calls, AreCalled, IsChoice}
+use Rattle.nv_flatten.specs.inner.Well.{step_calls, steps_calls, AreCalled, IsChoice}
 
 -- ---- no name, further calls, and one after the other
 pub called-none : (names : Names) (cs : List ℕ) → AreCalled names names cs

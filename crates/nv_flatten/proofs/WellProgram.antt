@@ -15,15 +15,15 @@ use Rattle.nv_base.specs.Sets.{is_in, all_different}
 use Rattle.nv_base.specs.Access.{is_known, all_known, is_primitive, can_move, is_address}
 use Rattle.flat_ir.specs.Formed.{may_stand, can_call, is_formed, defined, raised, all_raised, agree, is_function, is_main, is_program}
 use Rattle.nv_base.proofs.Sets.{in-append}
-use Rattle.nv_flatten.specs.Symbols.{SymbolScope, numbers_from}
-use Rattle.nv_flatten.specs.Simulation.{Names, Extends}
-use Rattle.nv_flatten.specs.Whole.{Whole, Stands, raised_tys}
+use Rattle.nv_flatten.specs.inner.Symbols.{SymbolScope, numbers_from}
+use Rattle.nv_flatten.specs.inner.Simulation.{Names, Extends}
+use Rattle.nv_flatten.specs.inner.Whole.{Whole, Stands, raised_tys}
 use Rattle.flat_ir.specs.Reached.{calls, Reached, itself, called, AreReached}
-use Rattle.nv_flatten.specs.Well.{FunsMatch, AreShort, Linked, ScopeKnown, Rises, IsRaised, RaisedMatch, GivesWords, IsWellEnd, IsWellFun}
+use Rattle.nv_flatten.specs.inner.Well.{FunsMatch, AreShort, Linked, ScopeKnown, Rises, IsRaised, RaisedMatch, GivesWords, IsWellEnd, IsWellFun, AreCalled}
 use Rattle.nv_flatten.proofs.WellBasics.{rises-append, rises-numbers, rises-different, raised-both}
 use Rattle.nv_flatten.proofs.WellSteps.{linked-fewer}
-use Rattle.nv_flatten.specs.Well.{AreCalled}
-use Rattle.nv_flatten.proofs.WellCalls.{some-same, get-more}
+use Rattle.nv_flatten.proofs.NoFaults.{some-same}
+use Rattle.nv_flatten.proofs.CallArms.{get-append}
 
 -- ---- functions
 
@@ -206,7 +206,7 @@ get-last (f ∷ funs) fun = get-last funs fun
 pub found-more : (old new : Names) (funs : List FlatFun) (fun : FlatFun) → length funs < length old → AreFound old funs → AreCalled old new (calls fun.body) → AreFound new (funs ++ fun ∷ [])
 found-more old new funs fun here h made = record {
   by = λ i lo hi.
-      ⊎_elim (λ (below : i < length old). let f = h.by i lo below in (f.0, f.1, f.2, get-more funs (fun ∷ []) f.0 f.1 f.3, f.4))
+      ⊎_elim (λ (below : i < length old). let f = h.by i lo below in (f.0, f.1, f.2, get-append funs (fun ∷ []) f.0 f.1 f.3, f.4))
       (λ (above : length old ≤ i). (length funs, fun, omega arith, get-last funs fun, made i above hi)) (cases_lt i (length old));
 }
 

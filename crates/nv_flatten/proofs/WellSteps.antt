@@ -1,5 +1,5 @@
 -- Well formed steps and code, put together.
-use Rattle.std.proofs.Common.{◌≡◌, ℕ, ◌≤◌, Bool, true, ◌&&◌, List, [], ◌∷◌, ◌++◌, refl, sym, ap, subst, ◌∙◌, append_assoc, Option, arith}
+use Rattle.std.proofs.Common.{◌≡◌, ℕ, ◌≤◌, Bool, true, ◌&&◌, List, [], ◌∷◌, ◌++◌, refl, sym, subst, ◌∙◌, Option, arith}
 use Rattle.std.proofs.lemmas.Bool.{and_parts, and_from}
 use Rattle.nv_base.specs.declared.term.Atom.{Atom}
 use Rattle.nv_base.specs.declared.term.Cmp.{Cmp}
@@ -14,18 +14,17 @@ use Rattle.flat_ir.specs.Pieces.{new_vars, known_behind, step_formed, steps_form
 use Rattle.nv_base.specs.Sets.{Within}
 use Rattle.flat_ir.proofs.Parts.{nodes-formed, nodes-defined, nodes-raised}
 use Rattle.flat_ir.proofs.Appended.{known-append, formed-append, defined-append, raised-append}
-use Rattle.nv_flatten.specs.Symbols.{SymbolScope}
-use Rattle.nv_flatten.specs.Simulation.{Names, Extends}
-use Rattle.nv_flatten.specs.Whole.{Whole}
-use Rattle.nv_flatten.specs.Well.{Linked, ScopeKnown, Rises, RaisedMatch, WellSteps, Knows, GivesWords, WellCode, IsChoice, AreWellLets}
+use Rattle.nv_flatten.specs.inner.Symbols.{SymbolScope}
+use Rattle.nv_flatten.specs.inner.Simulation.{Names, Extends}
+use Rattle.nv_flatten.specs.inner.Whole.{Whole}
+use Rattle.nv_flatten.specs.inner.Well.{Linked, ScopeKnown, Rises, RaisedMatch, WellSteps, Knows, GivesWords, WellCode, IsChoice, AreWellLets}
 use Rattle.nv_flatten.proofs.WellBasics.{known-more, scope-more, rises-append, rises-later, raised-both}
+use Rattle.nv_flatten.proofs.Keeping.{extends-then}
 
 -- ---- further names
-pub extends-both : {A : Type 0} (xs ys zs : List A) → Extends xs ys → Extends ys zs → Extends xs zs
-extends-both xs ys zs h k = (h.0 ++ k.0, k.1 ∙ ap (λ l. l ++ k.0) h.1 ∙ append_assoc xs h.0 k.0)
 
 abbrev pub linked-fewer : (w : Whole) (names more : Names) → Extends names more → Linked w more → Linked w names
-linked-fewer w names more h l = record { all = l.all; more = extends-both names more l.all h l.more; funs = l.funs; match = l.match; short = l.short }
+linked-fewer w names more h l = record { all = l.all; more = extends-then names more l.all h l.more; funs = l.funs; match = l.match; short = l.short }
 
 pub steps-names : (w : Whole) (names more : Names) (low high own : ℕ) (scope : SymbolScope) (ss : List Step) (P : List ℕ → Type 0) → Extends names more → WellSteps w names low high own scope ss P → WellSteps w more low high own scope ss P
 steps-names w names more low high own scope ss P h a = record {

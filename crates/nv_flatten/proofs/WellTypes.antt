@@ -1,77 +1,46 @@
 -- What an expression without faults says of its parts, for the form of its code.
-use Rattle.std.proofs.Common.{◌≡◌, ℕ, ◌+◌, Bool, true, false, not, nat_lt, ◌&&◌, List, [], ◌∷◌, ◌++◌, refl, sym, ap, subst, ◌∙◌, Option, Some, None, is_none, bytes_eq, arith}
+use Rattle.std.proofs.Common.{◌≡◌, ℕ, ◌+◌, true, false, not, nat_lt, ◌&&◌, [], ◌∷◌, ◌++◌, refl, sym, ap, subst, ◌∙◌, Option, Some, None, is_none, bytes_eq, arith}
 use Rattle.std.proofs.lemmas.Bool.{and_parts, not-false, ltb-false, le-leb, false≢true}
 use Rattle.nv_base.specs.declared.term.Mem.{Mem}
 use Rattle.nv_base.specs.declared.term.Mem.TheVariants.{Sram, Sdram, Scratch}
 use Rattle.nv_base.specs.declared.term.Atom.TheVariants.{Lit}
-use Rattle.nv_ast.specs.declared.token.Span.{Span}
 use Rattle.nv_ast.specs.Tree.{Tree, NumberTree, TruthTree, VarTree, ParenTree, TupleTree, FieldsTree, DotTree, InvertTree, NegateTree, BinaryTree, ShiftTree, CallTree, UnpackTree, PackTree, RaiseTree, IfTree, TryTree, FetchTree, BlockTree, span_of}
-use Rattle.nv_ast.specs.Tests.{where_true, look_up}
+use Rattle.nv_ast.specs.Tests.{where_true}
 use Rattle.nv_ast.specs.Types.{Ty, WordTy, BoolTy, TupleTy, RecordTy, Tys, no_tys, ty_and, NamedTys, no_named_tys, named_ty_and, same_type, same_types, same_named_types, words, total_words, total_named_words}
-use Rattle.nv_ast.specs.Scope.{Place, inside, with_vars, plain_tys, bind_raised}
-use Rattle.nv_ast.specs.Typing.{type_at, operand_ty, vars_behind}
-use Rattle.nv_ast.specs.Faults.{Wanted, anything, of_type, same_as, raised_kinds, at_span, faults, node_faults, low_kinds, middle_kinds, other_type, no_value, too_large_value, wrong_scratch, can_move, statements_faults}
+use Rattle.nv_ast.specs.Scope.{Place, inside, plain_tys}
+use Rattle.nv_ast.specs.Typing.{type_at}
+use Rattle.nv_ast.specs.Faults.{Wanted, faults, low_kinds, middle_kinds, other_type, no_value, too_large_value, wrong_scratch, can_move}
 use Rattle.nv_base.specs.Access as flat
-use Rattle.nv_flatten.specs.Symbols.{Symbol, SymbolScope, Word, word_operand}
-use Rattle.nv_flatten.specs.Whole.{Whole, Stands}
-use Rattle.nv_flatten.specs.Code.{is_given, is_comparison}
-use Rattle.nv_flatten.specs.Well.{IsLiteral}
-use Rattle.nv_flatten.proofs.WellBasics.{nil-left, nil-right}
+use Rattle.nv_flatten.specs.inner.Symbols.{Symbol, Word, word_operand}
+use Rattle.nv_flatten.specs.inner.Code.{is_given, is_comparison}
+use Rattle.nv_flatten.specs.inner.Well.{IsLiteral}
+use Rattle.nv_flatten.proofs.NoFaults.{none-left, none-right, no-kinds, unset, node-of}
 
 -- ---- kinds
-pub no-kinds : (s : Span) (kinds : List ℕ) → at_span s kinds ≡ [] → kinds ≡ []
-no-kinds s [] e = refl
-no-kinds s (k ∷ kinds) e = cc
-
-pub not-where : (b : Bool) (k : ℕ) → where_true b k ≡ [] → b ≡ false
-not-where true k e = cc
-not-where false k e = refl
 
 pub some-where : {A : Type 0} (o : Option A) (k : ℕ) → where_true (is_none o) k ≡ [] → (a : A) × (o ≡ Some a)
-some-where None k e = absurd (false≢true (sym (not-where true k e)))
+some-where None k e = absurd (false≢true (sym (unset true k e)))
 some-where (Some a) k e = (a, refl)
 
 -- ---- the node
-pub node-of : (p : Place) (w : Wanted) (e : Tree) → faults p w e ≡ [] → node_faults p w e ≡ []
-node-of p w (NumberTree s n) h = h
-node-of p w (TruthTree s b) h = h
-node-of p w (VarTree s x) h = h
-node-of p w (ParenTree s e) h = nil-right _ _ h
-node-of p w (TupleTree s es) h = nil-right _ _ h
-node-of p w (FieldsTree s es) h = nil-right _ _ h
-node-of p w (DotTree s e x) h = nil-right _ _ h
-node-of p w (InvertTree s e) h = nil-right _ _ h
-node-of p w (NegateTree s e) h = nil-right _ _ h
-node-of p w (BinaryTree s op a b) h = nil-right (faults (inside p) (of_type (operand_ty op)) b) _ (nil-right (faults (inside p) (of_type (operand_ty op)) a) _ h)
-node-of p w (ShiftTree s op e n) h = nil-right _ _ h
-node-of p w (CallTree s f es) h = nil-right _ _ h
-node-of p w (UnpackTree s l e) h = nil-right _ _ h
-node-of p w (PackTree s l e) h = nil-right _ _ h
-node-of p w (RaiseTree s x es) h = nil-right _ _ h
-node-of p w (IfTree s c a b) h = nil-right (faults p (same_as (type_at p.known p.vars a)) b) _ (nil-right (faults p anything a) _ (nil-right (faults (inside p) (of_type BoolTy) c) _ h))
-node-of p w (TryTree s a x ps e) h =
-    nil-right (faults (with_vars (bind_raised ps (look_up x p.known.exceptions) p.vars) p) (same_as (type_at p.known p.vars a)) e) _
-    (nil-right (at_span s (raised_kinds p.known x ps)) _ (nil-right (faults (inside p) anything a) _ h))
-node-of p w (FetchTree s m n a) h = nil-right _ _ h
-node-of p w (BlockTree s sts e) h = nil-right (faults (with_vars (vars_behind p.known p.vars sts) p) anything e) _ (nil-right (statements_faults (inside p) sts) _ h)
 
 node-kinds : (p : Place) (w : Wanted) (e : Tree) → faults p w e ≡ []
     → low_kinds p e ++ (other_type w (type_at p.known p.vars e) ++ (middle_kinds p e ++ (no_value w (type_at p.known p.vars e) ++ too_large_value (type_at p.known p.vars e)))) ≡ []
 node-kinds p w e h = no-kinds (span_of e) _ (node-of p w e h)
 
 pub low-of : (p : Place) (w : Wanted) (e : Tree) → faults p w e ≡ [] → low_kinds p e ≡ []
-low-of p w e h = nil-left (low_kinds p e) _ (node-kinds p w e h)
+low-of p w e h = none-left (low_kinds p e) _ (node-kinds p w e h)
 
 pub middle-of : (p : Place) (w : Wanted) (e : Tree) → faults p w e ≡ [] → middle_kinds p e ≡ []
-middle-of p w e h = nil-left (middle_kinds p e) _ (nil-right (other_type w (type_at p.known p.vars e)) _ (nil-right (low_kinds p e) _ (node-kinds p w e h)))
+middle-of p w e h = none-left (middle_kinds p e) _ (none-right (other_type w (type_at p.known p.vars e)) _ (none-right (low_kinds p e) _ (node-kinds p w e h)))
 
 right-at : (w : Wanted) (o : Option Ty) (t : Ty) → o ≡ Some t → other_type w o ≡ [] → w.right t ≡ true
-right-at w (Some u) t e h = let same : u ≡ t = cc in subst (λ x. w.right x ≡ true) same (not-false (w.right u) (not-where (not (w.right u)) 14 h))
+right-at w (Some u) t e h = let same : u ≡ t = cc in subst (λ x. w.right x ≡ true) same (not-false (w.right u) (unset (not (w.right u)) 14 h))
 right-at w None t e h = cc
 
 -- an expression's type is a right one
 pub right-of : (p : Place) (w : Wanted) (e : Tree) (t : Ty) → faults p w e ≡ [] → type_at p.known p.vars e ≡ Some t → w.right t ≡ true
-right-of p w e t h a = right-at w (type_at p.known p.vars e) t a (nil-left (other_type w (type_at p.known p.vars e)) _ (nil-right (low_kinds p e) _ (node-kinds p w e h)))
+right-of p w e t h a = right-at w (type_at p.known p.vars e) t a (none-left (other_type w (type_at p.known p.vars e)) _ (none-right (low_kinds p e) _ (node-kinds p w e h)))
 
 -- ---- equal types have as many words
 mutual
@@ -114,8 +83,6 @@ plain-words no_named_tys = refl
 plain-words (named_ty_and x t ts) = let a = plain-words ts in omega arith
 
 -- ---- places
-pub stands-inside : (w : Whole) (own : ℕ) (scope : SymbolScope) (p : Place) → Stands w own scope p → Stands w own scope (inside p)
-stands-inside w own scope p h = record { part = h.part; vars = h.vars }
 
 -- what is given, or a comparison, doesn't ask whether it is the function's value
 pub given-inside : (p : Place) (w : Wanted) (e : Tree) → is_given e ≡ true → faults p w e ≡ faults (inside p) w e
@@ -172,7 +139,7 @@ address-at n at s e h = ap (λ x. flat.is_address Scratch (word_operand x) n) e 
 pub address-formed : (m : Mem) (a : Tree) (n : ℕ) (s : Symbol) → wrong_scratch m a n ≡ [] → IsLiteral a s → flat.is_address m (word_operand s) n ≡ true
 address-formed Sram a n s h l = refl
 address-formed Sdram a n s h l = refl
-address-formed Scratch (NumberTree sp at) n s h l = address-at n at s l (not-where (nat_lt 512 (at + n)) 20 h)
+address-formed Scratch (NumberTree sp at) n s h l = address-at n at s l (unset (nat_lt 512 (at + n)) 20 h)
 address-formed Scratch (TruthTree sp b) n s h l = cc
 address-formed Scratch (VarTree sp x) n s h l = cc
 address-formed Scratch (ParenTree sp e) n s h l = cc

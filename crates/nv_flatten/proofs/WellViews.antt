@@ -7,12 +7,13 @@ use Rattle.nv_ast.specs.ExprView.{tree_of, list_trees, list_named_trees, stateme
 use Rattle.nv_ast.specs.Tree.{Tree, no_trees, no_named_trees, no_statements, statement_and}
 use Rattle.flat_ir.specs.declared.spine.Step.{Step}
 use Rattle.nv_flatten.specs.declared.symbol.Symbol.{Symbol as CodeSymbol}
-use Rattle.nv_flatten.specs.Symbols.{Symbol, Symbols, NamedSymbols, SymbolScope, symbol_and, named_symbol_and}
-use Rattle.nv_flatten.specs.Simulation.{Names, Extends}
-use Rattle.nv_flatten.specs.View.{view, list_symbols, list_named_symbols, scope_of, Named}
-use Rattle.nv_flatten.specs.Whole.{Whole}
-use Rattle.nv_flatten.specs.Well.{AreWellLets, IsWellValue, AreWellValues, AreWellFields, IsWellStated}
-use Rattle.nv_flatten.proofs.WellLists.{and_last, and_last_named, take-one, each-none, each-more, fields-none, fields-more, AreTyped, typed-more, statements-none, statements-more}
+use Rattle.nv_flatten.specs.inner.Symbols.{Symbol, Symbols, NamedSymbols, SymbolScope, symbol_and, named_symbol_and}
+use Rattle.nv_flatten.specs.inner.Simulation.{Names, Extends}
+use Rattle.nv_flatten.specs.inner.View.{view, list_symbols, list_named_symbols, scope_of, Named}
+use Rattle.nv_flatten.specs.inner.Whole.{Whole}
+use Rattle.nv_flatten.specs.inner.Well.{AreWellLets, IsWellValue, AreWellValues, AreWellFields, IsWellStated}
+use Rattle.nv_flatten.proofs.WellLists.{and_last, and_last_named, each-none, each-more, fields-none, fields-more, AreTyped, typed-more, statements-none, statements-more}
+use Rattle.nv_layout.proofs.Lists.{take_item}
 
 -- ---- at an equal scope, an equal tree and equal operands
 pub value-in : (w : Whole) (old names : Names) (low high : ℕ) (l l' : List Named) (e : Tree) (ss : List Step) (v : Symbol) → l ≡ l' → IsWellValue w old names low high (scope_of l []) e ss v → IsWellValue w old names low high (scope_of l' []) e ss v
@@ -57,7 +58,7 @@ pub each-at : (w : Whole) (old names more : Names) (low mid high : ℕ) (l l' : 
     → l ≡ l' → Extends names more → AreWellValues w old names low mid (scope_of l' []) (list_trees (take i es)) ss (list_symbols vs) → IsWellValue w names more mid high (scope_of l []) (tree_of e) ts (view v)
     → AreWellValues w old more low high (scope_of l' []) (list_trees (take (i + 1) es)) ss' (list_symbols vs')
 each-at w old names more low mid high l l' es i e ss ts ss' vs vs' v h is es' vs-eq same ext a b =
-    subst (λ k. AreWellValues w old more low high (scope_of l' []) (list_trees k) ss' (list_symbols vs')) (sym (take-one es i e h is))
+    subst (λ k. AreWellValues w old more low high (scope_of l' []) (list_trees k) ss' (list_symbols vs')) (sym (take_item es i e h is))
     (subst (λ k. AreWellValues w old more low high (scope_of l' []) (list_trees (take i es ++ e ∷ [])) k (list_symbols vs')) (sym es')
     (subst (λ k. AreWellValues w old more low high (scope_of l' []) (list_trees (take i es ++ e ∷ [])) (ss ++ ts) k) (sym (ap list_symbols vs-eq ∙ symbols-last vs v))
     (each-more w old names more low mid high (scope_of l' []) (take i es) e ss ts (list_symbols vs) (view v) ext a (value-in w names more mid high l l' (tree_of e) ts (view v) same b))))
@@ -66,7 +67,7 @@ pub fields-at : (w : Whole) (old names more : Names) (low mid high : ℕ) (l l' 
     → l ≡ l' → Extends names more → AreWellFields w old names low mid (scope_of l' []) (list_named_trees (take i es)) ss (list_named_symbols fs) → IsWellValue w names more mid high (scope_of l []) (tree_of e.1) ts (view f.1)
     → AreWellFields w old more low high (scope_of l' []) (list_named_trees (take (i + 1) es)) ss' (list_named_symbols fs')
 fields-at w old names more low mid high l l' es i e ss ts ss' fs fs' f h is es' fs-eq same ext a b =
-    subst (λ k. AreWellFields w old more low high (scope_of l' []) (list_named_trees k) ss' (list_named_symbols fs')) (sym (take-one es i e h is))
+    subst (λ k. AreWellFields w old more low high (scope_of l' []) (list_named_trees k) ss' (list_named_symbols fs')) (sym (take_item es i e h is))
     (subst (λ k. AreWellFields w old more low high (scope_of l' []) (list_named_trees (take i es ++ e ∷ [])) k (list_named_symbols fs')) (sym es')
     (subst (λ k. AreWellFields w old more low high (scope_of l' []) (list_named_trees (take i es ++ e ∷ [])) (ss ++ ts) k) (sym (ap list_named_symbols fs-eq ∙ named-last fs f))
     (fields-more w old names more low mid high (scope_of l' []) (take i es) e ss ts (list_named_symbols fs) f.0.now (view f.1) ext a (value-in w names more mid high l l' (tree_of e.1) ts (view f.1) same b))))
@@ -75,9 +76,9 @@ pub statements-at : (w : Whole) (old names more : Names) (low mid high : ℕ) (s
     → IsWellStated w old names low mid scope (list_statements (take i sts)) ss inner → AreTyped w scope (list_statements (take i sts)) inner → IsWellStated w names more mid high inner (statement_and (statement_tree x) no_statements) ts behind
     → IsWellStated w old more low high scope (list_statements (take (i + 1) sts)) ss' behind
 statements-at w old names more low mid high scope inner behind sts i x ss ts ss' h is es' ext a vars b =
-    subst (λ k. IsWellStated w old more low high scope (list_statements k) ss' behind) (sym (take-one sts i x h is))
+    subst (λ k. IsWellStated w old more low high scope (list_statements k) ss' behind) (sym (take_item sts i x h is))
     (subst (λ k. IsWellStated w old more low high scope (list_statements (take i sts ++ x ∷ [])) k behind) (sym es') (statements-more w old names more low mid high scope inner behind (take i sts) x ss ts ext a vars b))
 
 pub typed-at : (w : Whole) (scope inner behind : SymbolScope) (sts : List Stmt) (i : ℕ) (x : Stmt) → i < length sts → x ≡ get_or sts i x → AreTyped w scope (list_statements (take i sts)) inner → AreTyped w inner (statement_and (statement_tree x) no_statements) behind
     → AreTyped w scope (list_statements (take (i + 1) sts)) behind
-typed-at w scope inner behind sts i x h is a b = subst (λ k. AreTyped w scope (list_statements k) behind) (sym (take-one sts i x h is)) (typed-more w scope inner behind (take i sts) x a b)
+typed-at w scope inner behind sts i x h is a b = subst (λ k. AreTyped w scope (list_statements k) behind) (sym (take_item sts i x h is)) (typed-more w scope inner behind (take i sts) x a b)

@@ -7,7 +7,7 @@ use Rattle.nv_base.specs.Words.{atom_vars}
 use Rattle.nv_base.specs.Sets.{different, without, all_vars}
 use Rattle.nv_base.specs.Measures.{operands_wide}
 use Rattle.nv_base.proofs.Sets.{same-number, different-below, different-append, different-length, within-left, within-right, within-both, within-without}
-use Rattle.nv_flatten.specs.Narrow.{IsWithin, Grows}
+use Rattle.nv_flatten.specs.inner.Narrow.{IsWithin, Grows}
 
 pub itself : {a : List ℕ} → IsWithin a a
 itself = record { by = λ x e. e }

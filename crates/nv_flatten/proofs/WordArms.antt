@@ -25,11 +25,11 @@ use Rattle.nv_meaning.specs.Meaning.{eval, binary, shifted}
 use Rattle.flat_ir.specs.Spine.{steps_do}
 use Rattle.flat_ir.specs.declared.spine.Step.{Step}
 use Rattle.flat_ir.specs.declared.spine.Step.TheVariants.{Let}
-use Rattle.nv_flatten.specs.Code.{arithmetic_of, shift_of}
-use Rattle.nv_flatten.specs.Symbols.{Symbol, Word, Truth, Tuple, Record, SymbolScope, operands, value_in, Fits, AreOlder, word_operand, scope_in}
-use Rattle.nv_flatten.specs.Runs.{flat_run, onward}
-use Rattle.nv_flatten.specs.Whole.{Whole}
-use Rattle.nv_flatten.specs.Simulation.{Names, Extends, IsValue}
+use Rattle.nv_flatten.specs.inner.Code.{arithmetic_of, shift_of}
+use Rattle.nv_flatten.specs.inner.Symbols.{Symbol, Word, Truth, Tuple, Record, SymbolScope, operands, value_in, Fits, AreOlder, word_operand, scope_in}
+use Rattle.nv_flatten.specs.inner.Runs.{flat_run, onward}
+use Rattle.nv_flatten.specs.inner.Whole.{Whole}
+use Rattle.nv_flatten.specs.inner.Simulation.{Names, Extends, IsValue}
 use Rattle.nv_flatten.proofs.Keeping.{scope-later, keeps-value, keeps-fit, keeps-scope, begins-then, done-then}
 use Rattle.nv_flatten.proofs.NoFaults.{none-left, none-right, unset, some-same, none-some, clean as is-clean}
 use Rattle.nv_flatten.proofs.Following.{onward-then, steps-then, stands-inside, fewer, word-of, word-fits, one-older, assigned-here, defined}

@@ -8,11 +8,12 @@ use Rattle.nv_base.specs.declared.term.Primitive.TheVariants.{Bin as BinOf}
 use Rattle.flat_ir.specs.declared.spine.Step.{Step}
 use Rattle.flat_ir.specs.declared.spine.Step.TheVariants.{Let}
 use Rattle.nv_base.specs.Access.{is_known, all_known}
-use Rattle.nv_flatten.specs.Symbols.{Symbol, Word, operands, fields_of, field_named, word_operand, words_symbol}
-use Rattle.nv_flatten.specs.Well.{AreWellLets}
-use Rattle.nv_flatten.specs.Adds.{AddsLets, AddsWords}
-use Rattle.nv_flatten.proofs.WellBasics.{knows-both, knows-left, knows-right, knows-one, knows-two, knows-first, knows-rest, knows-word, knows-field, words-operands}
+use Rattle.nv_flatten.specs.inner.Symbols.{Symbol, Word, operands, fields_of, field_named, word_operand, words_symbol}
+use Rattle.nv_flatten.specs.inner.Well.{AreWellLets}
+use Rattle.nv_flatten.specs.inner.Adds.{AddsLets, AddsWords}
+use Rattle.nv_flatten.proofs.WellBasics.{knows-both, knows-left, knows-right, knows-one, knows-two, knows-first, knows-rest, knows-word, knows-field}
 use Rattle.nv_flatten.proofs.Lets.{lets-so, known-at, adds-none, adds-then, adds-so, adds-define}
+use Rattle.nv_flatten.proofs.PackedWords.{symbol-operands}
 
 -- ---- a word
 known-set : (known : List ℕ) (ws : List Atom) (q : ℕ) (a : Atom) → all_known known ws ≡ true → is_known known a ≡ true → all_known known (set ws q a) ≡ true
@@ -100,7 +101,7 @@ lets-written low high n s r none steps before after m noneis zeros is =
     subst (λ (ss : List Step). AreWellLets low high (operands s) ss (operands r)) st
     (lets-so low high (operands s ++ before) (operands s) after (operands r) m.steps m.lets
     (λ known k. knows-both known (operands s) before k (subst (λ (as' : List Atom). all_known known as' ≡ true) (sym zeros) (known-zeros known n)))
-    (λ known k f. subst (λ (as' : List Atom). all_known known as' ≡ true) (sym (ap operands is ∙ words-operands after)) f))
+    (λ known k f. subst (λ (as' : List Atom). all_known known as' ≡ true) (sym (ap operands is ∙ symbol-operands after)) f))
 
 -- of an unknown layout
 pub lets-empty : (low : ℕ) (s r : Symbol) (steps : List Step) → steps ≡ [] → r ≡ words_symbol [] → AreWellLets low low (operands s) steps (operands r)

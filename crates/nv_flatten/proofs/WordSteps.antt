@@ -16,10 +16,10 @@ use Rattle.flat_ir.specs.Bulk.{Bulks}
 use Rattle.flat_ir.specs.Pieces.{step_bulk, steps_bulk}
 use Rattle.nv_base.specs.Sets.{all_vars}
 use Rattle.flat_ir.proofs.Appended.{bulk-append}
-use Rattle.nv_flatten.specs.Code.{shift_of}
-use Rattle.nv_flatten.specs.Narrow.{IsWithin}
-use Rattle.nv_flatten.specs.Small.{AreFewLets, lets}
-use Rattle.nv_flatten.specs.Adds.{AddsWord}
+use Rattle.nv_flatten.specs.inner.Code.{shift_of}
+use Rattle.nv_flatten.specs.inner.Narrow.{IsWithin}
+use Rattle.nv_flatten.specs.inner.Small.{AreFewLets, lets}
+use Rattle.nv_flatten.specs.inner.Adds.{AddsWord}
 use Rattle.nv_flatten.proofs.Within.{itself, through, together, of-none, into-left, into-right, behind-same, before-same, turned, grows-not, one-operand, one-operand-back}
 use Rattle.nv_flatten.proofs.NarrowSteps.{no-steps, recast, follow}
 use Rattle.nv_flatten.proofs.NarrowBits.{one-more}

@@ -1,6 +1,6 @@
 -- Bits that are written into words, some behind others.
-use Rattle.std.proofs.Common.{◌≡◌, ◌∙◌, refl, ap, sym, subst, ℕ, zero, suc, ◌+◌, ◌-◌, ◌*◌, ◌/◌, ◌%◌, ◌<◌, ◌≤◌, ◌^◌, Bool, true, false, if◌then◌else◌, bytes_eq, List, [], ◌∷◌, ◌++◌, length, get_or, set, replicate, append_assoc, append-nil, length-set, arith, bit_or}
-use Rattle.std.proofs.lemmas.List.Elements.{All-nil, All-cons, All-head, All-tail, All-set, All-get_or}
+use Rattle.std.proofs.Common.{◌≡◌, ◌∙◌, refl, ap, sym, subst, ℕ, zero, suc, ◌+◌, ◌-◌, ◌*◌, ◌/◌, ◌%◌, ◌<◌, ◌≤◌, ◌^◌, Bool, true, if◌then◌else◌, bytes_eq, List, [], ◌∷◌, ◌++◌, length, get_or, set, replicate, append_assoc, append-nil, length-set, arith, bit_or}
+use Rattle.std.proofs.lemmas.List.Elements.{All-cons, All-head, All-tail, All-set, All-get_or}
 use Rattle.std.specs.Int.Bits.{or_zero_l}
 use Rattle.std.proofs.lemmas.Nat.{or_of_32}
 use Rattle.nv_base.specs.declared.term.Atom.{Atom}
@@ -10,19 +10,23 @@ use Rattle.nv_base.specs.declared.term.Primitive.TheVariants.{Bin as BinOf}
 use Rattle.nv_base.specs.Words.{Env, atom_word, atom_words, shifted_left, shifted_right}
 use Rattle.nv_ast.specs.Bits.{bits, packed, replaced}
 use Rattle.nv_layout.proofs.BitLists.{length-packed}
-use Rattle.nv_meaning.specs.Values.{Value, NamedValues, no_named_values, named_value_and, word_of}
+use Rattle.nv_meaning.specs.Values.{Value, word_of}
 use Rattle.nv_meaning.specs.Values as meaning
 use Rattle.nv_meaning.proofs.Packed.{replaced-zeros}
 use Rattle.nv_meaning.proofs.Writing.{written-more, blank-after}
 use Rattle.flat_ir.specs.declared.spine.Step.{Step}
 use Rattle.flat_ir.specs.declared.spine.Step.TheVariants.{Let}
-use Rattle.nv_flatten.specs.Soundness.{AreWords}
-use Rattle.nv_flatten.specs.Symbols.{Symbol, Word, Truth, Tuple, Record, NamedSymbols, no_named_symbols, named_symbol_and, operands, named_operands, value_in, named_values_in, Fits, NamedFit, IsOlder, AreOlder, word_operand, fields_of, field_named}
-use Rattle.nv_flatten.specs.Reads.{Makes, Writes, has_symbol}
+use Rattle.nv_flatten.specs.inner.Soundness.{AreWords}
+use Rattle.nv_flatten.specs.inner.Symbols.{Symbol, Word, Truth, Tuple, Record, NamedSymbols, no_named_symbols, named_symbol_and, operands, value_in, named_values_in, Fits, IsOlder, AreOlder, word_operand, fields_of, field_named}
+use Rattle.nv_flatten.specs.inner.Reads.{Makes, Writes, has_symbol}
 use Rattle.nv_flatten.proofs.Keeping.{older-later, keeps-operand, keeps-operands, keeps-value, keeps-fit}
-use Rattle.nv_flatten.proofs.Computing.{computes-none, computes-then, computes-so, length-atom_words, older-one, older-two, words-one, words-two, makes-there, makes-let}
+use Rattle.nv_flatten.proofs.Computing.{computes-none, computes-then, computes-so, older-two, words-two, makes-there, makes-let}
 use Rattle.nv_flatten.proofs.Leaves.{older-at, words-small, word-is}
 use Rattle.nv_flatten.proofs.Joining.{one-joined, two-joined}
+use Rattle.nv_base.proofs.WordLemmas.{length-words}
+use Rattle.nv_flatten.proofs.SoundWords.{one-word}
+use Rattle.nv_flatten.proofs.ValueArms.{field-value, field-older, field-fits}
+use Rattle.nv_flatten.proofs.Following.{one-older}
 
 -- ---- parts of a value
 pub fields-values : (env : Env) (s : Symbol) → meaning.fields_of (value_in env s) ≡ named_values_in env (fields_of s)
@@ -30,17 +34,6 @@ fields-values env (Word a) = refl
 fields-values env (Truth a) = refl
 fields-values env (Tuple ss) = refl
 fields-values env (Record fs) = refl
-
-choice-value : (b : Bool) (env : Env) (s r : Symbol) → (if b then value_in env s else value_in env r) ≡ value_in env (if b then s else r)
-choice-value true env s r = refl
-choice-value false env s r = refl
-
-field-value : (env : Env) (x : List ℕ) (fs : NamedSymbols) → meaning.field_named x (named_values_in env fs) ≡ value_in env (field_named x fs)
-field-value env x no_named_symbols = refl
-field-value env x (named_symbol_and y s fs) = ap (λ (v : Value). if bytes_eq x y then value_in env s else v) (field-value env x fs) ∙ choice-value (bytes_eq x y) env s (field_named x fs)
-
-pub part-value : (env : Env) (x : List ℕ) (s : Symbol) → value_in env (field_named x (fields_of s)) ≡ meaning.field_named x (meaning.fields_of (value_in env s))
-part-value env x s = sym (ap (meaning.field_named x) (fields-values env s) ∙ field-value env x (fields_of s))
 
 has-value : (env : Env) (x : List ℕ) (fs : NamedSymbols) → meaning.has_field x (named_values_in env fs) ≡ has_symbol x fs
 has-value env x no_named_symbols = refl
@@ -50,46 +43,10 @@ pub part-there : (env : Env) (x : List ℕ) (s : Symbol) → meaning.has_field x
 part-there env x s = ap (meaning.has_field x) (fields-values env s) ∙ has-value env x (fields_of s)
 
 older-none : (n : ℕ) → AreOlder n (operands (Word (Lit 0)))
-older-none n = older-one n (Lit 0) tt
-
-choice-older : (b : Bool) (n : ℕ) (s r : Symbol) → AreOlder n (operands s) → AreOlder n (operands r) → AreOlder n (operands (if b then s else r))
-choice-older true n s r o p = o
-choice-older false n s r o p = p
-
-first-older : (n : ℕ) (xs ys : List Atom) → AreOlder n (xs ++ ys) → AreOlder n xs
-first-older n [] ys o = All-nil (IsOlder n)
-first-older n (x ∷ xs) ys o = All-cons (IsOlder n) x xs (All-head (IsOlder n) x (xs ++ ys) o) (first-older n xs ys (All-tail (IsOlder n) x (xs ++ ys) o))
-
-rest-older : (n : ℕ) (xs ys : List Atom) → AreOlder n (xs ++ ys) → AreOlder n ys
-rest-older n [] ys o = o
-rest-older n (x ∷ xs) ys o = rest-older n xs ys (All-tail (IsOlder n) x (xs ++ ys) o)
-
-field-older : (n : ℕ) (x : List ℕ) (fs : NamedSymbols) → AreOlder n (named_operands fs) → AreOlder n (operands (field_named x fs))
-field-older n x no_named_symbols o = older-none n
-field-older n x (named_symbol_and y s fs) o = choice-older (bytes_eq x y) n s (field_named x fs) (first-older n (operands s) (named_operands fs) o) (field-older n x fs (rest-older n (operands s) (named_operands fs) o))
-
-pub part-older : (n : ℕ) (x : List ℕ) (s : Symbol) → AreOlder n (operands s) → AreOlder n (operands (field_named x (fields_of s)))
-part-older n x (Word a) o = older-none n
-part-older n x (Truth a) o = older-none n
-part-older n x (Tuple ss) o = older-none n
-part-older n x (Record fs) o = field-older n x fs o
+older-none n = one-older n (Lit 0) tt
 
 zero-fits : 0 < 2 ^ 32
 zero-fits = omega arith
-
-choice-fits : (b : Bool) (env : Env) (s r : Symbol) → Fits env s → Fits env r → Fits env (if b then s else r)
-choice-fits true env s r f g = f
-choice-fits false env s r f g = g
-
-field-fits : (env : Env) (x : List ℕ) (fs : NamedSymbols) → NamedFit env fs → Fits env (field_named x fs)
-field-fits env x no_named_symbols f = zero-fits
-field-fits env x (named_symbol_and y s fs) f = choice-fits (bytes_eq x y) env s (field_named x fs) f.0 (field-fits env x fs f.1)
-
-pub part-fits : (env : Env) (x : List ℕ) (s : Symbol) → Fits env s → Fits env (field_named x (fields_of s))
-part-fits env x (Word a) f = zero-fits
-part-fits env x (Truth a) f = zero-fits
-part-fits env x (Tuple ss) f = zero-fits
-part-fits env x (Record fs) f = field-fits env x fs f
 
 -- ---- the word that a value is
 pub word-value : (env : Env) (s : Symbol) → word_of (value_in env (Word (word_operand s))) ≡ word_of (value_in env s)
@@ -121,7 +78,7 @@ writes-none fit low s steps words at n f h e = record {
   older = λ o p. p;
   by = λ q o p env g small blank.
       let bs : List ℕ = packed (atom_words env words) in
-      let l : length bs ≡ 32 * length words = length-packed (atom_words env words) ∙ ap (λ k. 32 * k) (length-atom_words env words) in
+      let l : length bs ≡ 32 * length words = length-packed (atom_words env words) ∙ ap (λ k. 32 * k) (length-words env words) in
       computes-none low env (λ last. (packed (atom_words last words) ≡ replaced at (f (value_in env s)) bs) × AreWords (atom_words last words))
       (sym (ap (λ b. replaced at b bs) (e (value_in env s)) ∙ replaced-zeros at n bs (omega arith) blank), small);
 }
@@ -157,7 +114,7 @@ writes-then fit one two low mid high s old middle new before between after first
       by = λ r o b env fits small blank.
           let v : Value = value_in env s in
           let bs : List ℕ = packed (atom_words env before) in
-          let lb : length bs ≡ 32 * length before = length-packed (atom_words env before) ∙ ap (λ k. 32 * k) (length-atom_words env before) in
+          let lb : length bs ≡ 32 * length before = length-packed (atom_words env before) ∙ ap (λ k. 32 * k) (length-words env before) in
           let room : first + length (f v) ≤ length bs = (let i : first + length (f v) ≤ 32 * length before = inside env in omega arith) in
           let H : Env → Type 0 = λ last. (packed (atom_words last after) ≡ replaced first (h v) bs) × AreWords (atom_words last after) in
           computes-then low mid m.steps n.steps env (λ last. (packed (atom_words last between) ≡ replaced first (f v) bs) × AreWords (atom_words last between)) H ml (m.by (p r) o b env fits small blank)
@@ -191,7 +148,7 @@ writes-one fit low high word a old new before after at n q s e f few inside m is
           let ws : List ℕ = atom_words env before in
           let w : ℕ = atom_word env word in
           let y : ℕ = bit_or (get_or ws q 0) (shifted_right s (shifted_left (32 - n) w)) in
-          let lw : length ws ≡ length before = length-atom_words env before in
+          let lw : length ws ≡ length before = length-words env before in
           computes-so low m.steps env (λ last. (atom_word last a ≡ y) × (atom_word last a < 2 ^ 32)) (λ last. (packed (atom_words last after) ≡ replaced at (bits n w) (packed ws)) × AreWords (atom_words last after))
           (m.by (omega arith) (All-cons (IsOlder low) word before (All-head (IsOlder low) word [] o) b) env (All-cons (λ w. w < 2 ^ 32) w ws fits small))
           (λ last k h.
@@ -217,13 +174,13 @@ writes-two fit low mid high word a c old middle new before after at n q s e f fe
       long = ap length is ∙ length-set (set before q a) (suc q) c ∙ length-set before q a;
       older = λ o b. subst (λ as'. AreOlder high as') (sym is)
           (All-set (IsOlder high) (set before q a) (suc q) c (k.older (older-later low mid (word ∷ []) ml o))
-          (All-set (IsOlder high) before q a (All-head (IsOlder high) a [] (older-later mid high (a ∷ []) kl (older-one mid a (m.older (All-cons (IsOlder low) word before (All-head (IsOlder low) word [] o) b))))) (older-later low high before (omega arith) b)));
+          (All-set (IsOlder high) before q a (All-head (IsOlder high) a [] (older-later mid high (a ∷ []) kl (one-older mid a (m.older (All-cons (IsOlder low) word before (All-head (IsOlder low) word [] o) b))))) (older-later low high before (omega arith) b)));
       by = λ r o b env fits small blank.
           let ws : List ℕ = atom_words env before in
           let w : ℕ = atom_word env word in
           let y : ℕ = bit_or (get_or ws q 0) (shifted_right s (shifted_left (32 - n) w)) in
           let z : ℕ = shifted_left (64 - s - n) w in
-          let lw : length ws ≡ length before = length-atom_words env before in
+          let lw : length ws ≡ length before = length-words env before in
           let oa : IsOlder mid a = m.older (All-cons (IsOlder low) word before (All-head (IsOlder low) word [] o) b) in
           let H : Env → Type 0 = λ last. (packed (atom_words last after) ≡ replaced at (bits n w) (packed ws)) × AreWords (atom_words last after) in
           computes-then low mid m.steps k.steps env (λ last. (atom_word last a ≡ y) × (atom_word last a < 2 ^ 32)) H ml
@@ -231,7 +188,7 @@ writes-two fit low mid high word a c old middle new before after at n q s e f fe
           (λ e1 k1 h1.
           let same : atom_word e1 word ≡ w = keeps-operand low env e1 word k1 (All-head (IsOlder low) word [] o) in
           computes-so mid k.steps e1 (λ last. (atom_word last c ≡ shifted_left (64 - s - n) (atom_word e1 word)) × (atom_word last c < 2 ^ 32)) H
-          (k.by (omega arith) (older-later low mid (word ∷ []) ml o) e1 (words-one (atom_word e1 word) (subst (λ x. x < 2 ^ 32) (sym same) fits)))
+          (k.by (omega arith) (older-later low mid (word ∷ []) ml o) e1 (one-word (atom_word e1 word) (subst (λ x. x < 2 ^ 32) (sym same) fits)))
           (λ e2 k2 h2.
           let kept : atom_words e2 before ≡ ws = keeps-operands mid e1 e2 before k2 (older-later low mid before ml b) ∙ keeps-operands low env e1 before k1 b in
           let av : atom_word e2 a ≡ y = keeps-operand mid e1 e2 a k2 oa ∙ h1.0 in
@@ -254,7 +211,7 @@ joined-makes low mid high word so_far more' a words old middle new q f is inside
       steps = m.steps ++ n.steps;
       added = n.added ∙ ap (λ ss. ss ++ n.steps) m.added ∙ append_assoc old m.steps n.steps;
       later = omega arith;
-      older = λ o. n.older (older-two mid so_far more' (All-head (IsOlder mid) so_far [] (older-later low mid (so_far ∷ []) ml (older-one low so_far (older-at low q words so_far is inside (All-tail (IsOlder low) word words o))))) (m.older (older-one low word (All-head (IsOlder low) word words o))));
+      older = λ o. n.older (older-two mid so_far more' (All-head (IsOlder mid) so_far [] (older-later low mid (so_far ∷ []) ml (one-older low so_far (older-at low q words so_far is inside (All-tail (IsOlder low) word words o))))) (m.older (one-older low word (All-head (IsOlder low) word words o))));
       by = λ r o env small.
           let ws : List ℕ = atom_words env words in
           let w : ℕ = atom_word env word in
@@ -263,11 +220,11 @@ joined-makes low mid high word so_far more' a words old middle new q f is inside
           let fw : w < 2 ^ 32 = All-head (λ w. w < 2 ^ 32) w ws small in
           let fs : atom_word env so_far < 2 ^ 32 = words-small env q words so_far is inside (All-tail (λ w. w < 2 ^ 32) w ws small) in
           let H : Env → Type 0 = λ last. (atom_word last a ≡ bit_or (get_or ws q 0) (f (w ∷ []))) × (atom_word last a < 2 ^ 32) in
-          computes-then low mid m.steps n.steps env (λ last. (atom_word last more' ≡ f (w ∷ [])) × (atom_word last more' < 2 ^ 32)) H ml (m.by r (older-one low word ow) env (words-one w fw))
+          computes-then low mid m.steps n.steps env (λ last. (atom_word last more' ≡ f (w ∷ [])) × (atom_word last more' < 2 ^ 32)) H ml (m.by r (one-older low word ow) env (one-word w fw))
           (λ e1 k1 h1.
           let same : atom_word e1 so_far ≡ atom_word env so_far = keeps-operand low env e1 so_far k1 os in
           computes-so mid n.steps e1 (λ last. (atom_word last a ≡ bit_or (atom_word e1 so_far) (atom_word e1 more')) × (atom_word last a < 2 ^ 32)) H
-          (n.by r (older-two mid so_far more' (All-head (IsOlder mid) so_far [] (older-later low mid (so_far ∷ []) ml (older-one low so_far os))) (m.older (older-one low word ow))) e1
+          (n.by r (older-two mid so_far more' (All-head (IsOlder mid) so_far [] (older-later low mid (so_far ∷ []) ml (one-older low so_far os))) (m.older (one-older low word ow))) e1
           (words-two (atom_word e1 so_far) (atom_word e1 more') (subst (λ x. x < 2 ^ 32) (sym same) fs) h1.1))
           (λ e2 k2 h2. (h2.0 ∙ ap (λ x. bit_or x (atom_word e1 more')) (same ∙ word-is env q words so_far is inside) ∙ ap (λ x. bit_or (get_or ws q 0) x) h1.0, h2.1)));
     }
@@ -311,6 +268,6 @@ pub part-writes : (fit fit' : Type 0) (low high : ℕ) (x : List ℕ) (p s : Sym
     → ((env : Env) → f (meaning.field_named x (meaning.fields_of (value_in env s))) ≡ g (value_in env s)) → Writes fit' low high s old new before after at g
 part-writes fit fit' low high x p s old new before after at f g m q is e =
     writes-of fit fit' low high p s old new before after at f g m q
-    (λ o. subst (λ (r : Symbol). AreOlder low (operands r)) is (part-older low x s o))
-    (λ env h. subst (λ (r : Symbol). Fits env r) is (part-fits env x s h))
-    (λ env. ap (λ (r : Symbol). f (value_in env r)) (sym is) ∙ ap f (part-value env x s) ∙ e env)
+    (λ o. subst (λ (r : Symbol). AreOlder low (operands r)) is (field-older low x s o))
+    (λ env h. subst (λ (r : Symbol). Fits env r) is (field-fits env x s h))
+    (λ env. ap (λ (r : Symbol). f (value_in env r)) (sym is) ∙ ap f (field-value env x s) ∙ e env)

@@ -1,7 +1,7 @@
 // How an expression is done: as a value, as a condition, and at the end of code.
 
 ghost use Rattle.nv_ast.specs.ExprView.{tree_of};
-ghost use Rattle.nv_flatten.specs.Arms.{ValueBy, TestBy, EndBy};
+ghost use Rattle.nv_flatten.specs.inner.Arms.{ValueBy, TestBy, EndBy};
 
 use crate::parts::{Ends, arithmetic, comparison, ends_as};
 use nv_ast::{Expr, Kind, Name, Pat, ShiftOp, Stmt};

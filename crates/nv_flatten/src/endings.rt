@@ -6,11 +6,11 @@ ghost use Rattle.nv_ast.specs.declared.tree.Op.TheVariants.{Both, Either};
 ghost use Rattle.nv_ast.specs.ExprView.{tree_of, list_trees, list_statements};
 ghost use Rattle.nv_ast.specs.PatternView.{list_patterns};
 ghost use Rattle.nv_ast.specs.Tree.{BinaryTree, CallTree, RaiseTree, IfTree, TryTree, BlockTree};
-ghost use Rattle.nv_flatten.specs.Code.{comparison_of, is_given, is_comparison};
-ghost use Rattle.nv_flatten.specs.Flat.{IsFlatTest, IsFlatEnd};
-ghost use Rattle.nv_flatten.specs.Simulation.{Extends};
-ghost use Rattle.nv_flatten.specs.View.{view, scope_of};
-ghost use Rattle.nv_flatten.specs.WholeView.{whole_in};
+ghost use Rattle.nv_flatten.specs.inner.Code.{comparison_of, is_given, is_comparison};
+ghost use Rattle.nv_flatten.specs.inner.Flat.{IsFlatTest, IsFlatEnd};
+ghost use Rattle.nv_flatten.specs.inner.Simulation.{Extends};
+ghost use Rattle.nv_flatten.specs.inner.View.{view, scope_of};
+ghost use Rattle.nv_flatten.specs.inner.WholeView.{whole_in};
 
 use crate::arms::{EndArm, TestArm, end_arm, test_arm};
 use crate::names::Names;

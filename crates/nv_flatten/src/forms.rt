@@ -6,10 +6,10 @@ ghost use Rattle.nv_ast.specs.Outline.{outline, outlines, field_outline, field_o
 ghost use Rattle.nv_ast.specs.Tree.{NamedLayout};
 ghost use Rattle.nv_ast.specs.Types.{words, total_words, total_named_words, type_of, types_of, named_types_of, words_ty, word_parts, packed_ty, unpacked_ty, unpacked, unpacked_all, form_of, forms_of, joined_forms, record_forms};
 ghost use Rattle.nv_ast.specs.TypeView.{type_tree, list_types, list_named_types};
-ghost use Rattle.nv_meaning.specs.TableView.{declared_in};
-ghost use Rattle.nv_flatten.specs.Fields.{◌++_symbols◌};
-ghost use Rattle.nv_flatten.specs.Symbols.{fresh, all_fresh, named_fresh, numbers_from};
-ghost use Rattle.nv_flatten.specs.View.{view, list_symbols, list_named_symbols};
+ghost use Rattle.nv_meaning.specs.inner.TableView.{declared_in};
+ghost use Rattle.nv_flatten.specs.inner.Fields.{◌++_symbols◌};
+ghost use Rattle.nv_flatten.specs.inner.Symbols.{fresh, all_fresh, named_fresh, numbers_from};
+ghost use Rattle.nv_flatten.specs.inner.View.{view, list_symbols, list_named_symbols};
 
 use crate::symbol::{Field, Symbol, add_variable};
 use nv_ast::{FieldText, LayoutText, Name, TyText};

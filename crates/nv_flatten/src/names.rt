@@ -1,9 +1,9 @@
 // The functions that are called, by number.
 
 ghost use Rattle.std.specs.Prelude.{◌≡◌, ◌∷◌, ◌++◌, ◌⊎◌, [], Some, slice_get, IfOk, MatchOption, None};
-ghost use Rattle.nv_flatten.specs.Bounded.{AreOnce};
-ghost use Rattle.nv_flatten.specs.Simulation.{Extends};
-ghost use Rattle.nv_flatten.specs.Well.{AreCalled};
+ghost use Rattle.nv_flatten.specs.inner.Bounded.{AreOnce};
+ghost use Rattle.nv_flatten.specs.inner.Simulation.{Extends};
+ghost use Rattle.nv_flatten.specs.inner.Well.{AreCalled};
 
 use indexmap::IndexSet;
 use nv_ast::Name;

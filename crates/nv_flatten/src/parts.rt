@@ -8,10 +8,10 @@ ghost use Rattle.nv_base.specs.Running.{Running};
 ghost use Rattle.flat_ir.specs.Running.{Gives};
 ghost use Rattle.flat_ir.specs.Spine.{steps_do};
 ghost use Rattle.flat_ir.specs.declared.spine.Step.TheVariants.{Let};
-ghost use Rattle.nv_flatten.specs.Code.{arithmetic_of, comparison_of, ends_of, shift_of, variables, chosen};
-ghost use Rattle.nv_flatten.specs.Symbols.{numbers_from};
-ghost use Rattle.nv_flatten.specs.Simulation.{Extends};
-ghost use Rattle.nv_flatten.specs.Well.{GivesLiteral, IsChoice};
+ghost use Rattle.nv_flatten.specs.inner.Code.{arithmetic_of, comparison_of, ends_of, shift_of, variables, chosen};
+ghost use Rattle.nv_flatten.specs.inner.Symbols.{numbers_from};
+ghost use Rattle.nv_flatten.specs.inner.Simulation.{Extends};
+ghost use Rattle.nv_flatten.specs.inner.Well.{GivesLiteral, IsChoice};
 
 use crate::endings::Test;
 use crate::symbol::new_variable;

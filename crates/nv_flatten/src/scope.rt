@@ -2,9 +2,9 @@
 
 ghost use Rattle.std.specs.Prelude.{◌≡◌, [], IfOk, OnOk};
 ghost use Rattle.nv_ast.specs.PatternView.{pattern_tree, list_patterns};
-ghost use Rattle.nv_flatten.specs.Symbols.{symbol_in, bound, all_bound};
-ghost use Rattle.nv_flatten.specs.View.{view, list_symbols, scope_of};
-ghost use Rattle.nv_flatten.specs.Simulation.{Extends};
+ghost use Rattle.nv_flatten.specs.inner.Symbols.{symbol_in, bound, all_bound};
+ghost use Rattle.nv_flatten.specs.inner.View.{view, list_symbols, scope_of};
+ghost use Rattle.nv_flatten.specs.inner.Simulation.{Extends};
 
 use crate::symbol::{Symbol, copied};
 use nv_ast::{Name, Pat};

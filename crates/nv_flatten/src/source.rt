@@ -4,7 +4,7 @@ ghost use Rattle.std.specs.Prelude.{◌≡◌, ◌++◌, List, map, length, repl
 ghost use Rattle.nv_ast.specs.ProgramView.{decl_tree};
 ghost use Rattle.nv_ast.specs.Tree.{DeclTree};
 ghost use Rattle.nv_ast.specs.TypeView.{list_types};
-ghost use Rattle.nv_flatten.specs.Whole.{groups_from, raised_in};
+ghost use Rattle.nv_flatten.specs.inner.Whole.{groups_from, raised_in};
 
 use crate::forms::{of_type, of_types};
 use crate::symbol::Symbol;
@@ -93,10 +93,10 @@ impl<'a> Source<'a> {
     ghost use Rattle.nv_ast.specs.Types.{total_words, type_of, words};
     ghost use Rattle.nv_ast.specs.TypeView.{type_tree};
     ghost use Rattle.nv_meaning.specs.Meaning.{function_in};
-    ghost use Rattle.nv_flatten.specs.Symbols.{all_fresh, numbers_from, form};
-    ghost use Rattle.nv_flatten.specs.View.{view, list_symbols};
-    ghost use Rattle.nv_flatten.specs.Whole.{group_of, raised_or_none, result_of, whole_of};
-    ghost use Rattle.nv_flatten.specs.WholeView.{whole_in};
+    ghost use Rattle.nv_flatten.specs.inner.Symbols.{all_fresh, numbers_from, form};
+    ghost use Rattle.nv_flatten.specs.inner.View.{view, list_symbols};
+    ghost use Rattle.nv_flatten.specs.inner.Whole.{group_of, raised_or_none, result_of, whole_of};
+    ghost use Rattle.nv_flatten.specs.inner.WholeView.{whole_in};
 
     /// The declarations of a program.
     pub fn of(alloc: Global, program: &'a Program) -> Result<Source<'a>, NoMemory>

@@ -2,8 +2,8 @@
 
 ghost use Rattle.std.specs.Prelude.{◌≡◌, ◌≤◌, ◌+◌, ◌++◌, IfOk, OnOk};
 ghost use Rattle.nv_ast.specs.Types.{words, total_words, total_named_words};
-ghost use Rattle.nv_flatten.specs.Symbols.{operands, all_operands, named_operands, form, forms, named_forms, fresh, all_fresh, named_fresh, numbers_from, words_symbol, word_symbols, word_operand, truth_operand, fields_of, field_named};
-ghost use Rattle.nv_flatten.specs.View.{view, list_symbols, list_named_symbols};
+ghost use Rattle.nv_flatten.specs.inner.Symbols.{operands, all_operands, named_operands, form, forms, named_forms, fresh, all_fresh, named_fresh, numbers_from, words_symbol, word_symbols, word_operand, truth_operand, fields_of, field_named};
+ghost use Rattle.nv_flatten.specs.inner.View.{view, list_symbols, list_named_symbols};
 
 use flat_ir::Step;
 use nv_ast::Name;

@@ -8,17 +8,17 @@ ghost use Rattle.nv_ast.specs.Outline.{outline, outlines, field_outline, field_o
 ghost use Rattle.nv_ast.specs.Tree.{NamedLayout};
 ghost use Rattle.nv_ast.specs.Types.{packed_words, unpacked_ty};
 ghost use Rattle.nv_meaning.specs.Packing.{value_at};
-ghost use Rattle.nv_meaning.specs.TableView.{declared_in};
-ghost use Rattle.nv_flatten.specs.Code.{Computes};
-ghost use Rattle.nv_flatten.specs.Reads.{Makes, ReadsRecord, ReadsJoined, ReadsParts, ReadsAlternatives, ReadsField, Unpacks};
-ghost use Rattle.nv_flatten.specs.Soundness.{AreWords};
-ghost use Rattle.nv_flatten.specs.Symbols.{form, operands, value_in, Fits, AreOlder};
-ghost use Rattle.nv_flatten.specs.View.{view, list_named_symbols};
-ghost use Rattle.nv_flatten.specs.Well.{AreWellLets};
-ghost use Rattle.nv_flatten.specs.Adds.{AddsLets, AddsFields, AddsWord};
-ghost use Rattle.nv_flatten.specs.FewReads.{ReadsFew};
-ghost use Rattle.nv_flatten.specs.Narrow.{AreNarrowLets};
-ghost use Rattle.nv_flatten.specs.Small.{AreFewLets};
+ghost use Rattle.nv_meaning.specs.inner.TableView.{declared_in};
+ghost use Rattle.nv_flatten.specs.inner.Code.{Computes};
+ghost use Rattle.nv_flatten.specs.inner.Reads.{Makes, ReadsRecord, ReadsJoined, ReadsParts, ReadsAlternatives, ReadsField, Unpacks};
+ghost use Rattle.nv_flatten.specs.inner.Soundness.{AreWords};
+ghost use Rattle.nv_flatten.specs.inner.Symbols.{form, operands, value_in, Fits, AreOlder};
+ghost use Rattle.nv_flatten.specs.inner.View.{view, list_named_symbols};
+ghost use Rattle.nv_flatten.specs.inner.Well.{AreWellLets};
+ghost use Rattle.nv_flatten.specs.inner.Adds.{AddsLets, AddsFields, AddsWord};
+ghost use Rattle.nv_flatten.specs.inner.FewReads.{ReadsFew};
+ghost use Rattle.nv_flatten.specs.inner.Narrow.{AreNarrowLets};
+ghost use Rattle.nv_flatten.specs.inner.Small.{AreFewLets};
 
 use crate::parts::{define, shifted};
 use crate::symbol::{Field, Symbol, Valued};

@@ -1,18 +1,18 @@
 // Expressions and statements as steps of flat code.
 
-ghost use Rattle.std.specs.Prelude.{◌≡◌, ◌<◌, ◌≤◌, ◌+◌, ◌^◌, ◌++◌, [], Some, true, if◌then◌else◌, IfOk, OnOk, option_map};
+ghost use Rattle.std.specs.Prelude.{◌≡◌, ◌≤◌, ◌+◌, ◌++◌, [], Some, true, if◌then◌else◌, IfOk, OnOk, option_map};
 ghost use Rattle.nv_base.specs.declared.term.Atom.TheVariants.{Lit};
 ghost use Rattle.nv_ast.specs.declared.token.Span.{Span};
 ghost use Rattle.nv_ast.specs.Types.{words};
 ghost use Rattle.nv_ast.specs.ExprView.{tree_of, list_trees, list_named_trees, list_statements, statement_tree};
 ghost use Rattle.nv_ast.specs.Tree.{TupleTree, FieldsTree, DotTree, InvertTree, NegateTree, BinaryTree, ShiftTree, UnpackTree, PackTree, FetchTree, BlockTree, StoreStatement};
-ghost use Rattle.nv_flatten.specs.Arms.{is_named};
-ghost use Rattle.nv_flatten.specs.Code.{arithmetic_of, form_or_unit};
-ghost use Rattle.nv_flatten.specs.Flat.{IsFlatValue, AreFlatValues, AreFlatFields, IsFlatStatement, IsFlatStated};
-ghost use Rattle.nv_flatten.specs.Simulation.{Extends};
-ghost use Rattle.nv_flatten.specs.Symbols.{Word, Truth, fresh, numbers_from};
-ghost use Rattle.nv_flatten.specs.View.{view, list_symbols, list_named_symbols, scope_of};
-ghost use Rattle.nv_flatten.specs.WholeView.{whole_in};
+ghost use Rattle.nv_flatten.specs.inner.Arms.{is_named};
+ghost use Rattle.nv_flatten.specs.inner.Code.{arithmetic_of, form_or_unit};
+ghost use Rattle.nv_flatten.specs.inner.Flat.{IsFlatValue, AreFlatValues, AreFlatFields, IsFlatStatement, IsFlatStated};
+ghost use Rattle.nv_flatten.specs.inner.Simulation.{Extends};
+ghost use Rattle.nv_flatten.specs.inner.Symbols.{Word, Truth, fresh, numbers_from};
+ghost use Rattle.nv_flatten.specs.inner.View.{view, list_symbols, list_named_symbols, scope_of};
+ghost use Rattle.nv_flatten.specs.inner.WholeView.{whole_in};
 
 use crate::arms::{ValueArm, value_arm};
 use crate::endings::ending;
@@ -94,8 +94,7 @@ fn constant<'a>(alloc: Global, symbol: Symbol<'a>) -> Valued<'a>
 
 // A number, which is a word.
 fn number<'a>(n: u32) -> Symbol<'a>
-    ensures symbol { view result ≡ Word (Lit n) }
-    ensures small { n < 2 ^ 32 }
+    ensures { view result ≡ Word (Lit n) }
 {
     Symbol::Word(Atom::Lit(n))
 }

@@ -14,7 +14,7 @@ use Rattle.nv_meaning.specs.Values.{Scope, Word, words_value}
 use Rattle.nv_meaning.specs.Running.{Running, Gives, Stops, GoesOn, fetch, after_fetch, store, after_store}
 use Rattle.nv_meaning.specs.Meaning.{Declared}
 use Rattle.nv_meaning.specs.declared.stop.Stop.TheVariants.{NoMemory, Fault}
-use Rattle.nv_meaning.specs.Ran.{At, at, running, IsScope, RanScope, stated_result}
+use Rattle.nv_meaning.specs.inner.Ran.{At, at, running, IsScope, RanScope, stated_result}
 use Rattle.nv_meaning.proofs.Grows.{grown-store}
 use Rattle.nv_meaning.proofs.Moments.{ran-here}
 

@@ -13,10 +13,10 @@ use Rattle.nv_meaning.specs.declared.stop.Step.{Step}
 use Rattle.nv_meaning.specs.declared.stop.Step.TheVariants.{Done, Again}
 use Rattle.nv_meaning.specs.declared.stop.Stop.{Stop}
 use Rattle.nv_meaning.specs.declared.stop.Stop.TheVariants.{NoMemory, Raised}
-use Rattle.nv_meaning.specs.View.{Named, view, list_values, scope_of}
-use Rattle.nv_meaning.specs.Ran.{At, Ran, Stopped, Grown, IsStep, IsValue, AreValues, AreFields, IsScope, all_result, named_result, stated_result, RanStep, RanValue, RanValues, RanFields, RanScope}
+use Rattle.nv_meaning.specs.inner.View.{Named, view, list_values, scope_of}
+use Rattle.nv_meaning.specs.inner.Ran.{At, Ran, Stopped, Grown, IsStep, IsValue, AreValues, AreFields, IsScope, all_result, named_result, stated_result, RanStep, RanValue, RanValues, RanFields, RanScope}
 use Rattle.nv_meaning.proofs.Rows.{tuple_view, record_view}
-use Rattle.nv_meaning.proofs.Grows.{Growing, grown-here, grown-store, grown-statement, eval-grows, all-grows, named-grows, statements-grow}
+use Rattle.nv_meaning.proofs.Grows.{Growing, grown-here, grown-before, grown-before_named, grown-store, grown-statement, eval-grows, all-grows, named-grows, statements-grow}
 use Rattle.nv_meaning.proofs.Moments.{ran-here, ran-as, ran-then}
 use Rattle.nv_meaning.proofs.Stops.{stop-then, stop-all, stop-named, stop-further, stop-more, stop-more_named, stop-statement, ahead, ahead-more, ahead-all, stop-ahead, ahead_named, ahead_named-more, ahead_named-all, stop-ahead_named}
 
@@ -64,14 +64,6 @@ pub settled-again : (d : Declared) (a b e : At) (r : Calls → Running → Resul
 settled-again d a b e r f vs answer h n = ran-then d a b e (λ call now last. IsStep call (Ok (Again f vs)) last (r call now)) (λ call now last. IsValue answer last (call f.now (list_values vs.items) now)) (λ call now last. IsValue answer last (r call now)) (λ call grows x y z p q. value-as answer z (call f.now (list_values vs.items) y) (r call x) p q) h n
 
 -- ---- expressions one after another
-before-grows : (now : Running) (v : Value) (q : Results) → Grown now (all_result q) → Grown now (all_result (before_rest v q))
-before-grows now v (GiveAll vs last) g = record { rest = g.rest; writes = g.writes }
-before-grows now v (Breaks how) g = g
-
-before_named-grows : (now : Running) (x : List ℕ) (v : Value) (q : NamedResults) → Grown now (named_result q) → Grown now (named_result (before_named x v q))
-before_named-grows now x v (GiveNamed vs last) g = record { rest = g.rest; writes = g.writes }
-before_named-grows now x v (BreaksNamed how) g = g
-
 module _ (d : Declared) (s : Scope) (es : List Expr) where
   -- what came to the values so far, and what is left
   abbrev pub Front : At → At → List code.Value → List Expr → Type 0
@@ -95,7 +87,7 @@ module _ (d : Declared) (s : Scope) (es : List Expr) where
   pub front-stop : (a b e : At) (vs : List code.Value) (rest rest' : List Expr) (t : Expr) (stop : Stop) → rest ≡ t ∷ rest' → Front a b vs rest → RanValue d b e (Err stop) (λ call now. eval d call (tree_of t) s now) → RanValues d a e (Err stop) (λ call now. eval_all d call (list_trees es) s now)
   front-stop a b e vs rest rest' t stop is h n = ran-then d a b e (λ call x y. eval_all d call (list_trees es) s x ≡ ahead vs (eval_all d call (list_trees rest) s y)) (λ call now last. IsValue (Err stop) last (eval d call (tree_of t) s now)) (λ call x z. AreValues (Err stop) z (eval_all d call (list_trees es) s x))
       (λ call grows x y z p q. subst (λ r. Stopped stop z (all_result r)) (sym (p ∙ ap (λ l. ahead vs (eval_all d call (list_trees l) s y)) is))
-      (stop-ahead stop z vs (then_more (eval d call (tree_of t) s y) (λ w next. before_rest w (eval_all d call (list_trees rest') s next))) (stop-more stop z (eval d call (tree_of t) s y) (λ w next. before_rest w (eval_all d call (list_trees rest') s next)) (λ w next. before-grows next w (eval_all d call (list_trees rest') s next) (all-grows d call grows (list_trees rest') s next)) q)))
+      (stop-ahead stop z vs (then_more (eval d call (tree_of t) s y) (λ w next. before_rest w (eval_all d call (list_trees rest') s next))) (stop-more stop z (eval d call (tree_of t) s y) (λ w next. before_rest w (eval_all d call (list_trees rest') s next)) (λ w next. grown-before next w (eval_all d call (list_trees rest') s next) (all-grows d call grows (list_trees rest') s next)) q)))
       h n
 
   pub front-short : (a b : At) (vs : List code.Value) (rest : List Expr) → Front a b vs rest → RanValues d a b (Err NoMemory) (λ call now. eval_all d call (list_trees es) s now)
@@ -126,7 +118,7 @@ module _ (d : Declared) (s : Scope) (es : List (List ℕ × Expr)) where
   pub named-stop : (a b e : At) (fs : List Named) (rest rest' : List (List ℕ × Expr)) (t : List ℕ × Expr) (stop : Stop) → rest ≡ t ∷ rest' → FrontNamed a b fs rest → RanValue d b e (Err stop) (λ call now. eval d call (tree_of t.1) s now) → RanFields d a e (Err stop) (λ call now. eval_named d call (list_named_trees es) s now)
   named-stop a b e fs rest rest' t stop is h n = ran-then d a b e (λ call x y. eval_named d call (list_named_trees es) s x ≡ ahead_named fs (eval_named d call (list_named_trees rest) s y)) (λ call now last. IsValue (Err stop) last (eval d call (tree_of t.1) s now)) (λ call x z. AreFields (Err stop) z (eval_named d call (list_named_trees es) s x))
       (λ call grows x y z p q. subst (λ r. Stopped stop z (named_result r)) (sym (p ∙ ap (λ l. ahead_named fs (eval_named d call (list_named_trees l) s y)) is))
-      (stop-ahead_named stop z fs (then_named (eval d call (tree_of t.1) s y) (λ w next. before_named t.0 w (eval_named d call (list_named_trees rest') s next))) (stop-more_named stop z (eval d call (tree_of t.1) s y) (λ w next. before_named t.0 w (eval_named d call (list_named_trees rest') s next)) (λ w next. before_named-grows next t.0 w (eval_named d call (list_named_trees rest') s next) (named-grows d call grows (list_named_trees rest') s next)) q)))
+      (stop-ahead_named stop z fs (then_named (eval d call (tree_of t.1) s y) (λ w next. before_named t.0 w (eval_named d call (list_named_trees rest') s next))) (stop-more_named stop z (eval d call (tree_of t.1) s y) (λ w next. before_named t.0 w (eval_named d call (list_named_trees rest') s next)) (λ w next. grown-before_named next t.0 w (eval_named d call (list_named_trees rest') s next) (named-grows d call grows (list_named_trees rest') s next)) q)))
       h n
 
   pub named-short : (a b : At) (fs : List Named) (rest : List (List ℕ × Expr)) → FrontNamed a b fs rest → RanFields d a b (Err NoMemory) (λ call now. eval_named d call (list_named_trees es) s now)

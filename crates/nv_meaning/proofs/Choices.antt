@@ -10,14 +10,14 @@ use Rattle.nv_ast.specs.Tree.{Tree, NumberTree, TruthTree, VarTree, ParenTree, T
 use Rattle.nv_meaning.specs.Values.{Value, Truth, Values, Scope, variable_in, word_of, truth_of, all_matched}
 use Rattle.nv_meaning.specs.Running.{Running, Result, Gives, Raises, Stops, Stated, and_then, and_stated, handled, taken}
 use Rattle.nv_meaning.specs.Meaning.{Declared, Calls, binary, eval, run_all, enter, entered, function_in, calls_within}
-use Rattle.nv_meaning.specs.Operand.{decided_by, joined_by, made_of}
+use Rattle.nv_meaning.specs.inner.Operand.{decided_by, joined_by, made_of}
 use Rattle.nv_meaning.specs.declared.value.Value as code
 use Rattle.nv_meaning.specs.declared.stop.Step.{Step}
 use Rattle.nv_meaning.specs.declared.stop.Step.TheVariants.{Done, Again}
 use Rattle.nv_meaning.specs.declared.stop.Stop.{Stop}
 use Rattle.nv_meaning.specs.declared.stop.Stop.TheVariants.{NoMemory, Raised, Fault, Going}
-use Rattle.nv_meaning.specs.View.{Named, view, list_values, scope_of, Extends}
-use Rattle.nv_meaning.specs.Ran.{At, running, Wrote, Grown, IsStep, IsValue, IsScope, RanStep, RanValue, RanScope}
+use Rattle.nv_meaning.specs.inner.View.{Named, view, list_values, scope_of, Extends}
+use Rattle.nv_meaning.specs.inner.Ran.{At, running, Wrote, Grown, IsStep, IsValue, IsScope, RanStep, RanValue, RanScope}
 use Rattle.nv_meaning.proofs.Grows.{grown-here, grown-fetch, grown-if, grown-then, grown-handled, eval-grows, enter-grows}
 use Rattle.nv_meaning.proofs.Moments.{ran-here, ran-as, ran-then, wrote-nothing, wrote-then}
 use Rattle.nv_meaning.proofs.Stops.{stop-stated}

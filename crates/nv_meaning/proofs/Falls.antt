@@ -6,7 +6,7 @@ use Rattle.nv_ast.specs.declared.tree.Stmt.{Stmt}
 use Rattle.nv_ast.specs.ExprView.{tree_of, list_trees, list_named_trees, list_statements, statement_tree}
 use Rattle.nv_ast.specs.Tree.{FunTree}
 use Rattle.nv_meaning.specs.Meaning.{function_in}
-use Rattle.nv_meaning.specs.Weight.{weight, weight_all, weight_named, weight_statement, weight_statements, span}
+use Rattle.nv_meaning.specs.inner.Weight.{weight, weight_all, weight_named, weight_statement, weight_statements, span}
 use Rattle.nv_meaning.proofs.Lists.{dropped}
 
 -- no more calls, and less text
@@ -32,7 +32,7 @@ span-some : (fs : List FunTree) → 0 < span fs
 span-some [] = omega arith
 span-some (f ∷ fs) = let h : 0 < span fs = span-some fs in omega arith
 
-some_same : {A : Type 0} {x y : A} → Some x ≡ Some y → x ≡ y
+pub some_same : {A : Type 0} {x y : A} → Some x ≡ Some y → x ≡ y
 some_same e = cc
 
 none_some : {A : Type 0} {x : A} → None ≡ Some x → ⊥

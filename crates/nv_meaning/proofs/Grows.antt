@@ -1,8 +1,11 @@
--- Writes are only added: those before a part of the text is evaluated are the first ones of those after it.
-use Rattle.std.proofs.Common.{◌≡◌, ℕ, zero, suc, ◌==◌, Bool, true, false, List, [], ◌∷◌, ◌++◌, refl, sym, ap, ◌∙◌, append_assoc, append-nil, if◌then◌else◌, Option, Some, None, length}
+-- Writes are only added: those before a part of the text is evaluated are the first ones of those after it, and memories change by
+-- the further ones alone.
+use Rattle.std.proofs.Common.{◌≡◌, ℕ, zero, suc, ◌==◌, Bool, true, false, List, [], ◌∷◌, ◌++◌, refl, sym, ap, ◌∙◌, append_assoc, append-nil, if◌then◌else◌, Option, Some, None, unwrap_or, length}
 use Rattle.nv_base.specs.declared.outcome.Write.{Write}
 use Rattle.nv_base.specs.declared.term.Mem.{Mem}
 use Rattle.nv_base.specs.Memories.{Memories, fetched, stored}
+use Rattle.nv_base.specs.Meanings.{left_by}
+use Rattle.nv_base.proofs.MemoryLemmas.{left-append}
 use Rattle.nv_ast.specs.declared.tree.Op.{Op}
 use Rattle.nv_ast.specs.declared.tree.Op.TheVariants.{Add, Sub, And, Or, Xor, Eq, Ne, Lt, Le, Gt, Ge, Both, Either}
 use Rattle.nv_ast.specs.Faults.{can_move}
@@ -10,60 +13,64 @@ use Rattle.nv_ast.specs.Tree.{Tree, NumberTree, TruthTree, VarTree, ParenTree, T
 use Rattle.nv_meaning.specs.Values.{Value, Tuple, Record, Values, NamedValues, Scope, word_of, truth_of, words_of, all_matched}
 use Rattle.nv_meaning.specs.Running.{Running, Result, Gives, Raises, Stops, Results, GiveAll, Breaks, NamedResults, GiveNamed, BreaksNamed, Stated, GoesOn, StopsAt, and_then, and_all, and_named, and_stated, and_further, then_more, then_named, then_stated, before_rest, before_named, handled, exception_number, fetch, after_fetch, store, after_store, taken}
 use Rattle.nv_meaning.specs.Meaning.{Declared, Calls, combined, binary, eval, eval_all, eval_named, run_one, run_all, enter, entered, function_in, calls_within}
-use Rattle.nv_meaning.specs.Ran.{Grown, now_of, all_result, named_result, stated_result}
+use Rattle.nv_meaning.specs.inner.Ran.{Grown, now_of, all_result, named_result, stated_result}
 
 -- a call only adds writes
 abbrev pub Growing : Calls → Type 0
 Growing call = (f : List ℕ) (vs : Values) (now : Running) → Grown now (call f vs now)
 
 pub grown-here : (now : Running) (r : Result) → now_of r ≡ now → Grown now r
-grown-here now r e = record { rest = []; writes = ap (λ x. x.writes) e ∙ sym (append-nil now.writes) }
+grown-here now r e = record { rest = []; writes = ap (λ x. x.writes) e ∙ sym (append-nil now.writes); packet = ap (λ x. x.packet) e }
 
-grown-further : (a b : Running) (ws : List Write) (r : Result) → b.writes ≡ a.writes ++ ws → Grown b r → Grown a r
-grown-further a b ws r e g = record { rest = ws ++ g.rest; writes = g.writes ∙ ap (λ l. l ++ g.rest) e ∙ append_assoc a.writes ws g.rest }
+grown-further : (a b : Running) (ws : List Write) (r : Result) → b.writes ≡ a.writes ++ ws → b.packet ≡ left_by ws a.packet → Grown b r → Grown a r
+grown-further a b ws r e p g = record {
+  rest = ws ++ g.rest;
+  writes = g.writes ∙ ap (λ l. l ++ g.rest) e ∙ append_assoc a.writes ws g.rest;
+  packet = g.packet ∙ ap (left_by g.rest) p ∙ sym (left-append ws g.rest a.packet);
+}
 
 pub grown-then : (now : Running) (q : Result) (next : Value → Running → Result) → Grown now q → ((v : Value) (last : Running) → Grown last (next v last)) → Grown now (and_then q next)
-grown-then now (Gives v last) next g h = grown-further now last g.rest (next v last) g.writes (h v last)
+grown-then now (Gives v last) next g h = grown-further now last g.rest (next v last) g.writes g.packet (h v last)
 grown-then now (Raises k vs last) next g h = g
 grown-then now (Stops how last) next g h = g
 
 pub grown-all : (now : Running) (q : Results) (next : Values → Running → Result) → Grown now (all_result q) → ((vs : Values) (last : Running) → Grown last (next vs last)) → Grown now (and_all q next)
-grown-all now (GiveAll vs last) next g h = grown-further now last g.rest (next vs last) g.writes (h vs last)
+grown-all now (GiveAll vs last) next g h = grown-further now last g.rest (next vs last) g.writes g.packet (h vs last)
 grown-all now (Breaks how) next g h = g
 
 pub grown-named : (now : Running) (q : NamedResults) (next : NamedValues → Running → Result) → Grown now (named_result q) → ((vs : NamedValues) (last : Running) → Grown last (next vs last)) → Grown now (and_named q next)
-grown-named now (GiveNamed vs last) next g h = grown-further now last g.rest (next vs last) g.writes (h vs last)
+grown-named now (GiveNamed vs last) next g h = grown-further now last g.rest (next vs last) g.writes g.packet (h vs last)
 grown-named now (BreaksNamed how) next g h = g
 
 pub grown-stated : (now : Running) (q : Stated) (next : Scope → Running → Result) → Grown now (stated_result q) → ((s : Scope) (last : Running) → Grown last (next s last)) → Grown now (and_stated q next)
-grown-stated now (GoesOn s last) next g h = grown-further now last g.rest (next s last) g.writes (h s last)
+grown-stated now (GoesOn s last) next g h = grown-further now last g.rest (next s last) g.writes g.packet (h s last)
 grown-stated now (StopsAt how) next g h = g
 
 pub grown-further_on : (now : Running) (q : Stated) (next : Scope → Running → Stated) → Grown now (stated_result q) → ((s : Scope) (last : Running) → Grown last (stated_result (next s last))) → Grown now (stated_result (and_further q next))
-grown-further_on now (GoesOn s last) next g h = grown-further now last g.rest (stated_result (next s last)) g.writes (h s last)
+grown-further_on now (GoesOn s last) next g h = grown-further now last g.rest (stated_result (next s last)) g.writes g.packet (h s last)
 grown-further_on now (StopsAt how) next g h = g
 
 pub grown-more : (now : Running) (q : Result) (next : Value → Running → Results) → Grown now q → ((v : Value) (last : Running) → Grown last (all_result (next v last))) → Grown now (all_result (then_more q next))
-grown-more now (Gives v last) next g h = grown-further now last g.rest (all_result (next v last)) g.writes (h v last)
+grown-more now (Gives v last) next g h = grown-further now last g.rest (all_result (next v last)) g.writes g.packet (h v last)
 grown-more now (Raises k vs last) next g h = g
 grown-more now (Stops how last) next g h = g
 
 pub grown-more_named : (now : Running) (q : Result) (next : Value → Running → NamedResults) → Grown now q → ((v : Value) (last : Running) → Grown last (named_result (next v last))) → Grown now (named_result (then_named q next))
-grown-more_named now (Gives v last) next g h = grown-further now last g.rest (named_result (next v last)) g.writes (h v last)
+grown-more_named now (Gives v last) next g h = grown-further now last g.rest (named_result (next v last)) g.writes g.packet (h v last)
 grown-more_named now (Raises k vs last) next g h = g
 grown-more_named now (Stops how last) next g h = g
 
 pub grown-statement : (now : Running) (q : Result) (next : Value → Running → Stated) → Grown now q → ((v : Value) (last : Running) → Grown last (stated_result (next v last))) → Grown now (stated_result (then_stated q next))
-grown-statement now (Gives v last) next g h = grown-further now last g.rest (stated_result (next v last)) g.writes (h v last)
+grown-statement now (Gives v last) next g h = grown-further now last g.rest (stated_result (next v last)) g.writes g.packet (h v last)
 grown-statement now (Raises k vs last) next g h = g
 grown-statement now (Stops how last) next g h = g
 
-grown-before : (now : Running) (v : Value) (q : Results) → Grown now (all_result q) → Grown now (all_result (before_rest v q))
-grown-before now v (GiveAll vs last) g = record { rest = g.rest; writes = g.writes }
+pub grown-before : (now : Running) (v : Value) (q : Results) → Grown now (all_result q) → Grown now (all_result (before_rest v q))
+grown-before now v (GiveAll vs last) g = record { rest = g.rest; writes = g.writes; packet = g.packet }
 grown-before now v (Breaks how) g = g
 
-grown-before_named : (now : Running) (x : List ℕ) (v : Value) (q : NamedResults) → Grown now (named_result q) → Grown now (named_result (before_named x v q))
-grown-before_named now x v (GiveNamed vs last) g = record { rest = g.rest; writes = g.writes }
+pub grown-before_named : (now : Running) (x : List ℕ) (v : Value) (q : NamedResults) → Grown now (named_result q) → Grown now (named_result (before_named x v q))
+grown-before_named now x v (GiveNamed vs last) g = record { rest = g.rest; writes = g.writes; packet = g.packet }
 grown-before_named now x v (BreaksNamed how) g = g
 
 pub grown-if : (b : Bool) (now : Running) (q r : Result) → Grown now q → Grown now r → Grown now (if b then q else r)
@@ -72,7 +79,7 @@ grown-if false now q r g h = h
 
 pub grown-handled : (k : ℕ) (now : Running) (handler : Values → Running → Result) (q : Result) → Grown now q → ((vs : Values) (last : Running) → Grown last (handler vs last)) → Grown now (handled k handler q)
 grown-handled k now handler (Gives v last) g h = g
-grown-handled k now handler (Raises j vs last) g h = grown-if (j == k) now (handler vs last) (Raises j vs last) (grown-further now last g.rest (handler vs last) g.writes (h vs last)) g
+grown-handled k now handler (Raises j vs last) g h = grown-if (j == k) now (handler vs last) (Raises j vs last) (grown-further now last g.rest (handler vs last) g.writes g.packet (h vs last)) g
 grown-handled k now handler (Stops how last) g h = g
 
 -- ---- accesses
@@ -83,16 +90,16 @@ fetch-rests m at None now = refl
 pub grown-fetch : (m : Mem) (n at : ℕ) (now : Running) → Grown now (fetch m n at now)
 grown-fetch m n at now = grown-if (can_move m n) now _ _ (grown-here now _ (fetch-rests m at (fetched m at n now.packet) now)) (grown-here now _ refl)
 
-stored-grows : (s : Scope) (m : Mem) (at : ℕ) (ws : List ℕ) (found : Option Memories) (now : Running) → Grown now (stated_result (after_store s m at ws found now))
-stored-grows s m at ws (Some p) now = record { rest = record { mem = m; at = at; words = ws } ∷ []; writes = refl }
-stored-grows s m at ws None now = grown-here now _ refl
+stored-grows : (s : Scope) (m : Mem) (at : ℕ) (ws : List ℕ) (found : Option Memories) (now : Running) → stored m at ws now.packet ≡ found → Grown now (stated_result (after_store s m at ws found now))
+stored-grows s m at ws (Some p) now e = record { rest = record { mem = m; at = at; words = ws } ∷ []; writes = refl; packet = sym (ap (λ o. unwrap_or o now.packet) e) }
+stored-grows s m at ws None now e = grown-here now _ refl
 
 store-if : (b : Bool) (now : Running) (q r : Stated) → Grown now (stated_result q) → Grown now (stated_result r) → Grown now (stated_result (if b then q else r))
 store-if true now q r g h = g
 store-if false now q r g h = h
 
 pub grown-store : (s : Scope) (m : Mem) (at : ℕ) (ws : List ℕ) (now : Running) → Grown now (stated_result (store s m at ws now))
-grown-store s m at ws now = store-if (can_move m (length ws)) now _ _ (stored-grows s m at ws (stored m at ws now.packet) now) (grown-here now _ refl)
+grown-store s m at ws now = store-if (can_move m (length ws)) now _ _ (stored-grows s m at ws (stored m at ws now.packet) now refl) (grown-here now _ refl)
 
 -- ---- operators
 grown-strict : (op : Op) (now : Running) (q : Result) (right : Running → Result) → Grown now q → ((last : Running) → Grown last (right last)) → Grown now (and_then q (λ v last. and_then (right last) (λ w end'. Gives (combined op (word_of v) (word_of w)) end')))
@@ -160,7 +167,7 @@ enter-grows d call g None vs now = grown-here now _ refl
 taken-grows : (left : ℕ) (now : Running) (next : Running → Result) → ((last : Running) → Grown last (next last)) → Grown now (taken left now next)
 taken-grows zero now next h = grown-here now _ refl
 taken-grows (suc left) now next h =
-    let g = h (record { calls = left; packet = now.packet; writes = now.writes }) in record { rest = g.rest; writes = g.writes }
+    let g = h (record { calls = left; packet = now.packet; writes = now.writes }) in record { rest = g.rest; writes = g.writes; packet = g.packet }
 
 pub calls-grow : (depth : ℕ) (d : Declared) → Growing (calls_within depth d)
 calls-grow zero d f vs now = grown-here now _ refl

@@ -21,3 +21,4 @@ pub mod Packed
 pub mod Writing
 pub mod Parameters
 pub mod Records
+pub mod Follows

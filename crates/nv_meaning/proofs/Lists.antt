@@ -5,15 +5,8 @@ use Rattle.std.proofs.lemmas.List.{take_more}
 use Rattle.nv_meaning.specs.declared.value.Value.{Value}
 use Rattle.nv_meaning.specs.Values.{value_and, named_value_and, words_of, all_words, all_named_words, Values, NamedValues, word_values}
 use Rattle.nv_meaning.specs.Values as meaning
-use Rattle.nv_meaning.specs.View.{Named, view, list_values, list_named_values}
-
--- what a turn of a loop takes on
-pub take_item : {A : Type 0} (xs : List A) (i : ℕ) (x : A) → i < length xs → x ≡ get_or xs i x → take (i + 1) xs ≡ take i xs ++ x ∷ []
-take_item xs i x h e = take_more xs i x h ∙ ap (λ y. take i xs ++ y ∷ []) (sym e)
-
--- what is before the item, the item, and what is behind it
-pub split_item : {A : Type 0} (xs : List A) (i : ℕ) (x : A) → i < length xs → x ≡ get_or xs i x → xs ≡ take i xs ++ x ∷ drop (i + 1) xs
-split_item xs i x h e = split_at xs i x h ∙ ap (λ y. take i xs ++ y ∷ drop (suc i) xs) (sym e) ∙ ap (λ k. take i xs ++ x ∷ drop k xs) (sym (add-one i))
+use Rattle.nv_meaning.specs.inner.View.{Named, view, list_values, list_named_values}
+use Rattle.nv_layout.proofs.Lists.{take_item, split_item}
 
 -- ---- copies
 values_again : (xs ys : List Value) (x y : Value) → list_values xs ≡ list_values ys → view x ≡ view y → list_values (xs ++ x ∷ []) ≡ list_values (ys ++ y ∷ [])

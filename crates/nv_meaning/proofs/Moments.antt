@@ -8,7 +8,7 @@ use Rattle.nv_base.proofs.LogLemmas.{noted-append}
 use Rattle.nv_base.proofs.MemoryLemmas.{left-append}
 use Rattle.nv_meaning.specs.Running.{Running}
 use Rattle.nv_meaning.specs.Meaning.{Declared, Calls, calls_within}
-use Rattle.nv_meaning.specs.Ran.{At, running, Wrote, Ran}
+use Rattle.nv_meaning.specs.inner.Ran.{At, running, Wrote, Ran}
 use Rattle.nv_meaning.proofs.Grows.{Growing, calls-grow}
 
 pub wrote-nothing : (a : At) → Wrote a a []

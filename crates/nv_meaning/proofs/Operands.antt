@@ -16,12 +16,12 @@ use Rattle.nv_meaning.specs.Values.{Value, Word, Truth, word_of, truth_of, field
 use Rattle.nv_meaning.specs.Packing.{unpacked_value, packed_value}
 use Rattle.nv_meaning.specs.Running.{Running, Gives, fetch}
 use Rattle.nv_meaning.specs.Meaning.{Declared, shifted}
-use Rattle.nv_meaning.specs.Operand.{made_of}
+use Rattle.nv_meaning.specs.inner.Operand.{made_of}
 use Rattle.nv_meaning.specs.declared.value.Value as code
 use Rattle.nv_meaning.specs.declared.stop.Stop.{Stop}
 use Rattle.nv_meaning.specs.declared.stop.Stop.TheVariants.{NoMemory}
-use Rattle.nv_meaning.specs.View.{view}
-use Rattle.nv_meaning.specs.Ran.{IsValue}
+use Rattle.nv_meaning.specs.inner.View.{view}
+use Rattle.nv_meaning.specs.inner.Ran.{IsValue}
 use Rattle.nv_meaning.proofs.Arms.{value-as}
 use Rattle.nv_meaning.proofs.Choices.{made-grows}
 use Rattle.nv_meaning.proofs.TreeKinds.{number-is, truth-is, variable-is, paren-is, dot-is, invert-is, negate-is, shift-is, unpack-is, pack-is, fetch-is, binary-is, if-is, try-is, tuple-is, record-is, call-is, raise-is, block-is}

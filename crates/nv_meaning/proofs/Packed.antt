@@ -4,7 +4,7 @@ use Rattle.std.proofs.Math.Seq.{take-append_seam, drop-append_seam}
 use Rattle.std.proofs.lemmas.List.{drop-drop, length-take-le, take-append-drop, drop-replicate, length-replicate}
 use Rattle.nv_ast.specs.Bits.{bits, number, packed, slice, replaced}
 use Rattle.nv_layout.proofs.BitLists.{number-bits, packed-append, length-packed, length-front}
-use Rattle.nv_meaning.specs.Packing.{IsBlankFrom}
+use Rattle.nv_meaning.specs.inner.Blanks.{IsBlankFrom}
 use Rattle.nv_meaning.proofs.Unpacking.{drop-past}
 
 -- ---- reading

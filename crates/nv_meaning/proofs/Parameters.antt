@@ -9,12 +9,13 @@ use Rattle.nv_meaning.specs.declared.value.Value as code
 use Rattle.nv_meaning.specs.Values.{Value, Values, NamedValues, Tuple, value_and, no_values, named_value_and, no_named_values, words_of, all_words, all_named_words, value_from, named_values_from, Scope}
 use Rattle.nv_meaning.specs.Values as meaning
 use Rattle.nv_meaning.specs.Meaning.{named_scope}
-use Rattle.nv_meaning.specs.Blanks.{blank, blanks, named_blanks, filled, all_filled, fields_filled}
-use Rattle.nv_meaning.specs.View.{Named, view, list_values, list_named_values, scope_of}
-use Rattle.nv_meaning.proofs.Lists.{take_item, dropped}
+use Rattle.nv_meaning.specs.inner.Blanks.{blank, blanks, named_blanks, filled, all_filled, fields_filled}
+use Rattle.nv_meaning.specs.inner.View.{Named, view, list_values, list_named_values, scope_of}
+use Rattle.nv_meaning.proofs.Lists.{dropped}
 use Rattle.nv_meaning.proofs.Bindings.{scope-append}
 use Rattle.nv_meaning.proofs.Filling.{blank-words, blank-filled}
 use Rattle.nv_meaning.proofs.Unpacking.{drop-further, drop-capped}
+use Rattle.nv_layout.proofs.Lists.{take_item}
 
 -- ---- blank values of types one after another
 module _ (known : Layouts) where

@@ -19,8 +19,11 @@ use Rattle.nv_ast.specs.Outline.{OutlineTree, Layouts, outline, PartsOutline, no
 use Rattle.nv_ast.specs.Tree.{LayoutTree, FunTree, DeclTree, LayoutDecl, ExceptionDecl, GroupDecl, ProgramTree}
 use Rattle.nv_meaning.specs.Running.{number_from}
 use Rattle.nv_meaning.specs.Meaning.{Declared, with_decl, with_decls, declared, function_in}
-use Rattle.nv_meaning.specs.Tables.{place_from, or_else, laid, layout_pairs, functions_in, layouts_in, exceptions_in}
-use Rattle.nv_meaning.proofs.Lists.{take_item, dropped, dropped-all}
+use Rattle.nv_meaning.specs.inner.Tables.{place_from, or_else, laid, layout_pairs, functions_in, layouts_in, exceptions_in}
+use Rattle.nv_meaning.proofs.Lists.{dropped, dropped-all}
+use Rattle.nv_layout.proofs.Lists.{take_item}
+use Rattle.nv_ast.proofs.ExceptionCounts.{exceptions_append}
+use Rattle.nv_meaning.proofs.Falls.{some_same}
 
 -- ---- places
 pub or_else-none : (a : Option ℕ) → or_else a None ≡ a
@@ -87,9 +90,6 @@ place-done name_of f xs i h before x = sym (or_else-none (f x)) ∙ ap (λ l. or
 
 pub place-first : {A : Type 0} (name_of : A → List ℕ) (f : List ℕ → Option ℕ) (xs : List A) → ((x : List ℕ) → f x ≡ None) → (x : List ℕ) → or_else (f x) (place_from 0 x (map name_of (drop 0 xs))) ≡ place_from 0 x (map name_of xs)
 place-first name_of f xs none x = ap (λ o. or_else o (place_from 0 x (map name_of (drop 0 xs)))) (none x)
-
-some_same : {A : Type 0} {x y : A} → Some x ≡ Some y → x ≡ y
-some_same e = cc
 
 -- what stands at the place of a name
 pub record Stands (i j n : ℕ) : Type 0 where
@@ -212,12 +212,6 @@ exceptions-append (LayoutDecl x l s ∷ xs) ys = exceptions-append xs ys
 exceptions-append (ExceptionDecl x ts s ∷ xs) ys = ap (λ r. x ∷ r) (exceptions-append xs ys)
 exceptions-append (GroupDecl fs ∷ xs) ys = exceptions-append xs ys
 
-counts-append : (xs ys : List Decl) → exceptions (xs ++ ys) ≡ exceptions xs + exceptions ys
-counts-append [] ys = omega arith
-counts-append (decls.Layout n l s ∷ xs) ys = counts-append xs ys
-counts-append (decls.Exception n ts s ∷ xs) ys = omega (arith, counts-append xs ys)
-counts-append (decls.Group fs ∷ xs) ys = counts-append xs ys
-
 -- a turn over the declarations
 module _ (ds : List Decl) (i : ℕ) (d : Decl) (h : i < length ds) (is : d ≡ get_or ds i d) where
   turn : map decl_tree (take (i + 1) ds) ≡ map decl_tree (take i ds) ++ decl_tree d ∷ []
@@ -239,7 +233,7 @@ module _ (ds : List Decl) (i : ℕ) (d : Decl) (h : i < length ds) (is : d ≡ g
       ∙ sym (ap exceptions_in turn ∙ exceptions-append (map decl_tree (take i ds)) (decl_tree d ∷ []))
 
   pub counts-turn : exceptions (take (i + 1) ds) ≡ exceptions (take i ds) + exceptions (d ∷ [])
-  counts-turn = ap exceptions (take_item ds i d h is) ∙ counts-append (take i ds) (d ∷ [])
+  counts-turn = ap exceptions (take_item ds i d h is) ∙ exceptions_append (take i ds) (d ∷ [])
 
 -- nothing of this kind
 pub added-none : {A : Type 0} (xs : List A) → xs ≡ xs ++ []

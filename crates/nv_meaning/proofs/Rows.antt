@@ -4,7 +4,7 @@ use Rattle.nv_meaning.specs.declared.value.Value
 use Rattle.nv_meaning.specs.declared.value.Value.{Value}
 use Rattle.nv_meaning.specs.declared.value.Value.TheBlock.{Row_of-Value, end_of-Value, more_of-Value, items-the_row-Value, hidden-the_row-Value-0, items_hidden-the_row-Value-0, Row_of-Value-Record-0-2, end_of-Value-Record-0-2, more_of-Value-Record-0-2, items-the_row-Value-Record-0-2, hidden-the_row-Value-Record-0-2-1, items_hidden-the_row-Value-Record-0-2-1}
 use Rattle.nv_meaning.specs.Values.{Tuple, Record, value_and, named_value_and}
-use Rattle.nv_meaning.specs.View.{view, row_values, row_named_values, list_values, list_named_values}
+use Rattle.nv_meaning.specs.inner.View.{view, row_values, row_named_values, list_values, list_named_values}
 
 values-row : {n : _} (row : Row_of-Value n) → row_values row ≡ list_values (items-the_row-Value n row)
 values-row end_of-Value = refl

@@ -5,8 +5,8 @@ use Rattle.nv_meaning.specs.Running.{Running, Result, Results, GiveAll, Breaks, 
 use Rattle.nv_meaning.specs.declared.value.Value as code
 use Rattle.nv_meaning.specs.declared.stop.Stop.{Stop}
 use Rattle.nv_meaning.specs.declared.stop.Stop.TheVariants.{NoMemory, Raised, Fault, Going}
-use Rattle.nv_meaning.specs.View.{Named, view, list_values, list_named_values}
-use Rattle.nv_meaning.specs.Ran.{Stopped, Grown, all_result, named_result, stated_result}
+use Rattle.nv_meaning.specs.inner.View.{Named, view, list_values, list_named_values}
+use Rattle.nv_meaning.specs.inner.Ran.{Stopped, Grown, all_result, named_result, stated_result}
 use Rattle.nv_meaning.proofs.Grows.{grown-then, grown-all, grown-named, grown-stated, grown-further_on, grown-more, grown-more_named, grown-statement}
 
 pub stop-then : (stop : Stop) (now : Running) (q : Result) (next : Value → Running → Result) → ((v : Value) (last : Running) → Grown last (next v last)) → Stopped stop now q → Stopped stop now (and_then q next)

@@ -16,10 +16,10 @@ use Rattle.nv_ast.proofs.Reading.{tuple_is, fields_is, call_is, raise_is, block_
 use Rattle.nv_meaning.specs.Values.{Scope}
 use Rattle.nv_meaning.specs.Running.{Running, and_then}
 use Rattle.nv_meaning.specs.Meaning.{Declared, Calls, eval}
-use Rattle.nv_meaning.specs.Operand.{made_of}
+use Rattle.nv_meaning.specs.inner.Operand.{made_of}
 use Rattle.nv_meaning.specs.declared.stop.Step.{Step}
 use Rattle.nv_meaning.specs.declared.stop.Stop.{Stop}
-use Rattle.nv_meaning.specs.Ran.{At, IsStep, RanStep}
+use Rattle.nv_meaning.specs.inner.Ran.{At, IsStep, RanStep}
 use Rattle.nv_meaning.proofs.Moments.{ran-as}
 use Rattle.nv_meaning.proofs.Arms.{step-as}
 

@@ -1,5 +1,5 @@
 -- Whole runs.
-use Rattle.std.proofs.Common.{◌≡◌, ◌∙◌, refl, ap, sym, subst, ℕ, List, [], append-nil, take, Option, Result as Answer, Ok, Err, IfOk, OnOk, OnErr, inl, inr, lit≤, codes, Vec, Global, arith}
+use Rattle.std.proofs.Common.{◌≡◌, ◌∙◌, refl, ap, sym, subst, ℕ, List, [], take, Option, Result as Answer, Ok, Err, IfOk, OnOk, OnErr, inl, inr, lit≤, codes, Vec, Global, arith}
 use Rattle.nv_base.specs.declared.outcome.Write.{Write}
 use Rattle.nv_base.specs.declared.outcome.Outcome.{Outcome}
 use Rattle.nv_base.specs.declared.outcome.Outcome.TheVariants as outcome
@@ -16,13 +16,14 @@ use Rattle.nv_meaning.specs.Meaning.{Declared, eval, run_main, source, declared,
 use Rattle.nv_meaning.specs.declared.value.Value as code
 use Rattle.nv_meaning.specs.declared.stop.Stop.{Stop}
 use Rattle.nv_meaning.specs.declared.stop.Stop.TheVariants as stops
-use Rattle.nv_meaning.specs.View.{view, list_values}
-use Rattle.nv_meaning.specs.Ran.{At, at, running, Wrote, RanValue, IsValue, Grown, now_of, Executes}
+use Rattle.nv_meaning.specs.inner.View.{view, list_values}
+use Rattle.nv_meaning.specs.inner.Ran.{At, at, running, Wrote, RanValue, IsValue, Grown, now_of, Executes}
+use Rattle.nv_meaning.proofs.Grows.{grown-here}
 
 pub main_name : IsName (codes "main")
 main_name = ((inr (inl (lit≤ tt, lit≤ tt)), (inl (inr (inl (lit≤ tt, lit≤ tt))), (inl (inr (inl (lit≤ tt, lit≤ tt))), (inl (inr (inl (lit≤ tt, lit≤ tt))), tt)))), lit≤ tt)
 
-closed-writes : (r : Result) → (closed r).writes ≡ (now_of r).writes
+pub closed-writes : (r : Result) → (closed r).writes ≡ (now_of r).writes
 closed-writes (Gives v now) = refl
 closed-writes (Raises k vs now) = refl
 closed-writes (Stops how now) = refl
@@ -60,10 +61,10 @@ module _ (answer : Answer code.Value Stop) (now : Running) (r : Result) (h : IsV
   going is = ap closed (subst (λ a. IsValue a now r) is h)
 
   pub short-value : (v : code.Value) → answer ≡ Ok v → Grown now r
-  short-value v is = let e : r ≡ Gives (view v) now = subst (λ a. IsValue a now r) is h in record { rest = []; writes = ap (λ q. (now_of q).writes) e ∙ sym (append-nil now.writes) }
+  short-value v is = let e : r ≡ Gives (view v) now = subst (λ a. IsValue a now r) is h in grown-here now r (ap now_of e)
 
   pub short-raised : (k : ℕ) (vs : Vec code.Value Global) → answer ≡ Err (stops.Raised k vs) → Grown now r
-  short-raised k vs is = let e : r ≡ Raises k (list_values vs.items) now = subst (λ a. IsValue a now r) is h in record { rest = []; writes = ap (λ q. (now_of q).writes) e ∙ sym (append-nil now.writes) }
+  short-raised k vs is = let e : r ≡ Raises k (list_values vs.items) now = subst (λ a. IsValue a now r) is h in grown-here now r (ap now_of e)
 
   pub short-stop : answer ≡ Err stops.NoMemory → Grown now r
   short-stop is = subst (λ a. IsValue a now r) is h

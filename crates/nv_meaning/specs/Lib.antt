@@ -2,11 +2,5 @@ pub mod Values
 pub mod Packing
 pub mod Running
 pub mod Meaning
-pub mod View
-pub mod Tables
-pub mod Sizes
-pub mod TableView
-pub mod Ran
-pub mod Operand
-pub mod Weight
-pub mod Blanks
+pub mod Laws
+pub mod inner

@@ -1,6 +1,6 @@
 -- Packed values: one list of bits, the most significant bit of word 0 first. Unpacking a field gives the number of its slice;
 -- packing gives the list that has the given slices, and 0 elsewhere.
-use Rattle.std.specs.Prelude.{◌≡◌, ◌-◌, length, ℕ, zero, suc, min, if◌then◌else◌, List, [], ◌∷◌, ◌++◌, take, drop, replicate}
+use Rattle.std.specs.Prelude.{ℕ, zero, suc, min, if◌then◌else◌, List, [], ◌∷◌, ◌++◌, take, drop, replicate}
 use Rattle.nv_ast.specs.Bits.{bits, number, packed}
 use Rattle.nv_ast.specs.Outline.{OutlineTree, BitsOutline, GapOutline, PartsOutline, OverlayOutline, JoinedOutline, OutlineTrees, no_outlines, outline_and, NamedOutlines, no_named_outlines, named_outline_and, size}
 use Rattle.nv_ast.specs.Types.{packed_words}
@@ -66,7 +66,3 @@ words_of_bits (suc n) bs = number (take 32 (bs ++ replicate 32 0)) ∷ words_of_
 -- what pack gives of a record
 abbrev pub packed_value : OutlineTree → Value → Value
 packed_value o v = words_value (words_of_bits (packed_words o) (bits_of o v))
-
--- from a place on all bits are 0
-abbrev pub IsBlankFrom : ℕ → List ℕ → Type 0
-IsBlankFrom place bs = drop place bs ≡ replicate (length bs - place) 0

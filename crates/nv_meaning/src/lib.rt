@@ -2,6 +2,7 @@
 #![tactic(auto)]
 
 mod arguments;
+pub mod laws;
 mod memory;
 mod operators;
 mod pack;
@@ -11,8 +12,6 @@ mod scope;
 mod sizes;
 mod stop;
 mod table;
-#[cfg(test)]
-mod tests;
 mod unpack;
 mod value;
 

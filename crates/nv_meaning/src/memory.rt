@@ -7,8 +7,8 @@ ghost use Rattle.nv_ast.specs.Faults.{can_move as may_move};
 ghost use Rattle.nv_meaning.specs.Values.{Scope, words_of};
 ghost use Rattle.nv_meaning.specs.Running.{Running, fetch, store};
 ghost use Rattle.nv_meaning.specs.Meaning.{Declared};
-ghost use Rattle.nv_meaning.specs.View.{view};
-ghost use Rattle.nv_meaning.specs.Ran.{at as moment, RanScope, IsValue};
+ghost use Rattle.nv_meaning.specs.inner.View.{view};
+ghost use Rattle.nv_meaning.specs.inner.Ran.{at as moment, RanScope, IsValue};
 
 use crate::stop::Stop;
 use crate::value::{Value, value_of_words, words_in};

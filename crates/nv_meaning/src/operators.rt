@@ -3,7 +3,7 @@
 ghost use Rattle.std.specs.Prelude.{◌≡◌, ◌≤◌, ℕ};
 ghost use Rattle.nv_meaning.specs.Values.{word_of};
 ghost use Rattle.nv_meaning.specs.Meaning.{combined as combination, shifted as shift};
-ghost use Rattle.nv_meaning.specs.View.{view};
+ghost use Rattle.nv_meaning.specs.inner.View.{view};
 
 use crate::value::{Value, word_in};
 use nv_ast::{Op, ShiftOp};

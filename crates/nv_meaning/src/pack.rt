@@ -6,9 +6,10 @@ ghost use Rattle.nv_ast.specs.Outline.{outline, outlines, field_outline, field_o
 ghost use Rattle.nv_ast.specs.Tree.{NamedLayout};
 ghost use Rattle.nv_ast.specs.Types.{packed_words as size_words};
 ghost use Rattle.nv_meaning.specs.Values.{word_of, fields_of, field_named};
-ghost use Rattle.nv_meaning.specs.Packing.{packed_value, bits_of, parts_bits, chosen_bits, joined_bits, words_of_bits, IsBlankFrom};
-ghost use Rattle.nv_meaning.specs.TableView.{declared_in};
-ghost use Rattle.nv_meaning.specs.View.{view, list_named_values};
+ghost use Rattle.nv_meaning.specs.Packing.{packed_value, bits_of, parts_bits, chosen_bits, joined_bits, words_of_bits};
+ghost use Rattle.nv_meaning.specs.inner.Blanks.{IsBlankFrom};
+ghost use Rattle.nv_meaning.specs.inner.TableView.{declared_in};
+ghost use Rattle.nv_meaning.specs.inner.View.{view, list_named_values};
 
 use crate::table::Table;
 use crate::value::{Field, Value, find, value_of_words};

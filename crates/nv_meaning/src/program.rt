@@ -8,8 +8,8 @@ ghost use Rattle.nv_ast.specs.TypedView.{typed_program};
 ghost use Rattle.nv_meaning.specs.Meaning.{source, run_main as main_run};
 ghost use Rattle.nv_ast.specs.ProgramView.{fun_tree};
 ghost use Rattle.nv_meaning.specs.Running.{Running, Result as RunResult, closed, over};
-ghost use Rattle.nv_meaning.specs.TableView.{declared_in};
-ghost use Rattle.nv_meaning.specs.Ran.{at, Executes, IsValue, Grown};
+ghost use Rattle.nv_meaning.specs.inner.TableView.{declared_in};
+ghost use Rattle.nv_meaning.specs.inner.Ran.{at, Executes, IsValue, Grown};
 
 use crate::arguments::add_arguments;
 use crate::run::settled;

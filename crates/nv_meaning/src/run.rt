@@ -6,10 +6,10 @@ ghost use Rattle.nv_ast.specs.PatternView.{list_patterns};
 ghost use Rattle.nv_meaning.specs.Values.{variable_in, truth_of, word_of, words_of, all_matched, matched, Tuple as TupleOf, Record as RecordOf, Truth as TruthOf};
 ghost use Rattle.nv_meaning.specs.Running.{Running, Gives, Raises, and_then, and_all, and_named, and_stated, then_stated, handled, exception_number, store as store_of};
 ghost use Rattle.nv_meaning.specs.Meaning.{Calls, eval as evaluated, eval_all, eval_named, run_one, run_all, binary as binary_of};
-ghost use Rattle.nv_meaning.specs.Operand.{made_of as made, decided_by, joined_by};
-ghost use Rattle.nv_meaning.specs.View.{view, list_values, scope_of, Extends};
-ghost use Rattle.nv_meaning.specs.TableView.{declared_in};
-ghost use Rattle.nv_meaning.specs.Ran.{at, RanStep, RanValue, RanValues, RanFields, RanScope, IsStep, IsValue};
+ghost use Rattle.nv_meaning.specs.inner.Operand.{made_of as made, decided_by, joined_by};
+ghost use Rattle.nv_meaning.specs.inner.View.{view, list_values, scope_of, Extends};
+ghost use Rattle.nv_meaning.specs.inner.TableView.{declared_in};
+ghost use Rattle.nv_meaning.specs.inner.Ran.{at, RanStep, RanValue, RanValues, RanFields, RanScope, IsStep, IsValue};
 
 use crate::memory::{fetched, stored};
 use crate::operators::{combined, shifted};

@@ -5,7 +5,7 @@ ghost use Rattle.nv_ast.specs.PatternView.{pattern_tree, list_patterns};
 ghost use Rattle.nv_ast.specs.TypeView.{list_named_types};
 ghost use Rattle.nv_meaning.specs.Values.{variable_in, matched, all_matched};
 ghost use Rattle.nv_meaning.specs.Meaning.{entered};
-ghost use Rattle.nv_meaning.specs.View.{view, list_values, scope_of, Extends};
+ghost use Rattle.nv_meaning.specs.inner.View.{view, list_values, scope_of, Extends};
 
 use crate::value::{Value, copied};
 use nv_ast::{Name, Pat, TyText};

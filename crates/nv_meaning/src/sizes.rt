@@ -3,8 +3,8 @@ ghost use Rattle.std.specs.Prelude.{◌≡◌, ℕ, List, [], bytes_eq, map, min
 ghost use Rattle.std.specs.HashMap.{get_by};
 ghost use Rattle.nv_ast.specs.LayoutView.{layout_tree, field_tree, list_fields, list_layouts};
 ghost use Rattle.nv_ast.specs.Outline.{Layouts, outline, outlines, field_outline, field_outlines, size as bit_size, total_size, total_named_size, longest as greatest_size};
-ghost use Rattle.nv_meaning.specs.Tables.{place_from, laid, layout_pairs};
-ghost use Rattle.nv_meaning.specs.Sizes.{size_at, sizes_of, AreSizes};
+ghost use Rattle.nv_meaning.specs.inner.Tables.{place_from, laid, layout_pairs};
+ghost use Rattle.nv_meaning.specs.inner.Sizes.{size_at, sizes_of, AreSizes};
 
 use crate::table::Places;
 use nv_ast::{FieldText, LayoutText, Name};

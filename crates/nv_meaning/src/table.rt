@@ -5,8 +5,8 @@ ghost use Rattle.nv_ast.specs.LayoutView.{layout_tree};
 ghost use Rattle.nv_ast.specs.Tree.{NamedLayout};
 ghost use Rattle.nv_ast.specs.Exceptions.{exceptions as exception_count};
 ghost use Rattle.nv_ast.specs.ProgramView.{fun_tree, decl_tree};
-ghost use Rattle.nv_meaning.specs.Tables.{place_from, or_else, laid, layout_pairs, functions_in, layouts_in, exceptions_in, is_alias};
-ghost use Rattle.nv_meaning.specs.Sizes.{sizes_of};
+ghost use Rattle.nv_meaning.specs.inner.Tables.{place_from, or_else, laid, layout_pairs, functions_in, layouts_in, exceptions_in, is_alias};
+ghost use Rattle.nv_meaning.specs.inner.Sizes.{sizes_of};
 
 use crate::sizes::{name_size, sizes};
 use nv_ast::{Decl, Fun, LayoutText, Name, Program};
@@ -184,8 +184,8 @@ impl<'a> Table<'a> {
     ghost use Rattle.nv_ast.specs.Tree.{NamedLayout};
     ghost use Rattle.nv_meaning.specs.Meaning.{declared, function_in};
     ghost use Rattle.nv_meaning.specs.Running.{exception_number};
-    ghost use Rattle.nv_meaning.specs.Tables.{is_alias};
-    ghost use Rattle.nv_meaning.specs.TableView.{declared_in};
+    ghost use Rattle.nv_meaning.specs.inner.Tables.{is_alias};
+    ghost use Rattle.nv_meaning.specs.inner.TableView.{declared_in};
 
     /// The table of a program.
     pub fn of(alloc: Global, program: &'a Program) -> Result<Table<'a>, NoMemory>

@@ -6,8 +6,8 @@ ghost use Rattle.nv_ast.specs.Outline.{outline, outlines, field_outline, field_o
 ghost use Rattle.nv_ast.specs.Tree.{NamedLayout};
 ghost use Rattle.nv_meaning.specs.Values.{fields_of, ◌++_fields◌};
 ghost use Rattle.nv_meaning.specs.Packing.{unpacked_value, value_at, parts_at, alternatives_at, joined_at};
-ghost use Rattle.nv_meaning.specs.TableView.{declared_in};
-ghost use Rattle.nv_meaning.specs.View.{view, list_named_values};
+ghost use Rattle.nv_meaning.specs.inner.TableView.{declared_in};
+ghost use Rattle.nv_meaning.specs.inner.View.{view, list_named_values};
 
 use crate::table::Table;
 use crate::value::{Field, Value, words_in};

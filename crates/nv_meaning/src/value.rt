@@ -2,7 +2,7 @@
 
 ghost use Rattle.std.specs.Prelude.{◌≡◌, ◌<◌, ◌++◌, true, false, length, slice_index_or, IfOk, IfSome, IfNone, OnOk};
 ghost use Rattle.nv_meaning.specs.Values.{word_of, truth_of, fields_of, Word as WordOf, field_named, has_field, words_of, all_words, all_named_words, words_value, word_values};
-ghost use Rattle.nv_meaning.specs.View.{Named, view, list_values, list_named_values};
+ghost use Rattle.nv_meaning.specs.inner.View.{Named, view, list_values, list_named_values};
 
 use nv_ast::Name;
 use nv_base::NoMemory;

@@ -6,16 +6,16 @@ use Rattle.nv_base.specs.declared.term.Primitive.TheVariants.{Una as UnaOf, Bin 
 use Rattle.nv_ast.specs.ExprView.{tree_of, list_trees, list_named_trees, list_statements, statement_tree}
 use Rattle.nv_ast.specs.PatternView.{pattern_tree, list_patterns}
 use Rattle.nv_ast.specs.Types.{words, total_words}
-use Rattle.nv_meaning.specs.Weight.{weight, weight_statement, weight_all, weight_named, weight_statements}
+use Rattle.nv_meaning.specs.inner.Weight.{weight, weight_statement, weight_all, weight_named, weight_statements}
 use Rattle.nv_meaning.proofs.Falls.{item-weight, item-weight_named, item-weight_statement}
 use Rattle.flat_ir.specs.declared.flat.Flat
 use Rattle.flat_ir.specs.declared.spine.Step.TheVariants.{Let, Fetch, Store, Bind}
-use Rattle.nv_flatten.specs.Code.{variables, shift_of, form_or_unit}
-use Rattle.nv_flatten.specs.Symbols.{Word, Truth, word_operand, words_symbol, numbers_from, bound, all_operands, all_bound, symbol_in}
-use Rattle.nv_flatten.specs.Simulation.{Extends}
-use Rattle.nv_flatten.specs.View.{view, list_symbols, scope_of}
-use Rattle.nv_flatten.specs.Whole.{raised_or_none}
-use Rattle.nv_flatten.specs.WholeView.{whole_in}
+use Rattle.nv_flatten.specs.inner.Code.{variables, shift_of, form_or_unit}
+use Rattle.nv_flatten.specs.inner.Symbols.{Word, Truth, word_operand, words_symbol, numbers_from, bound, all_operands, all_bound, symbol_in}
+use Rattle.nv_flatten.specs.inner.Simulation.{Extends}
+use Rattle.nv_flatten.specs.inner.View.{view, list_symbols, scope_of}
+use Rattle.nv_flatten.specs.inner.Whole.{raised_or_none}
+use Rattle.nv_flatten.specs.inner.WholeView.{whole_in}
 use Rattle.nv_flatten.proofs.Keeping.{extends-itself, extends-then}
 use Rattle.nv_flatten.proofs.Rows.{tuple_view, record_view}
 use Rattle.nv_flatten.proofs.Ranks.{value_rank, value_rank-small, ending_rank, ending_rank-small, condition_rank, condition_rank-small, named-below, truth-below, given-below, decided-below}
@@ -30,7 +30,7 @@ use Rattle.nv_flatten.proofs.+walk.Goals.{endings::compare-then-swapped, endings
 use Rattle.nv_flatten.proofs.+walk.Goals as goal
 
 pub values::value-returns-in-Number-clause-flat : goal.values::value-returns-in-Number-clause-flat
-values::value-returns-in-Number-clause-flat t c = value-tree _ _ _ _ _ _ _ _ _ _ c.in-Number.ensures.1 (value-as _ _ _ _ _ _ _ _ _ _ _ _ refl c.constant.ensures.steps (ap view c.constant.ensures.symbol ∙ c.number.ensures.symbol) (number-flat _ _ _ _ _ _ c.number.ensures.small))
+values::value-returns-in-Number-clause-flat t c = value-tree _ _ _ _ _ _ _ _ _ _ c.in-Number.ensures.1 (value-as _ _ _ _ _ _ _ _ _ _ _ _ refl c.constant.ensures.steps (ap view c.constant.ensures.symbol ∙ c.number.ensures) (number-flat _ _ _ _ _ _))
 
 pub values::value-returns-in-Truth-clause-flat : goal.values::value-returns-in-Truth-clause-flat
 values::value-returns-in-Truth-clause-flat t c = value-tree _ _ _ _ _ _ _ _ _ _ c.in-Truth.ensures.1 (value-as _ _ _ _ _ _ _ _ _ _ _ _ refl c.constant-in-Truth.ensures.steps (ap view c.constant-in-Truth.ensures.symbol ∙ c.bit.ensures) (truth-flat _ _ _ _ _ _))

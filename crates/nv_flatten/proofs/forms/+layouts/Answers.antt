@@ -3,13 +3,13 @@ use Rattle.nv_ast.specs.LayoutView.{layout_tree, field_tree, list_fields, list_l
 use Rattle.nv_ast.specs.Outline.{PartsOutline, JoinedOutline, OverlayOutline, outline, outlines, field_outline, field_outlines, outline_height}
 use Rattle.nv_ast.specs.Types.{words, total_named_words, unpacked, unpacked_all, form_of, forms_of, joined_forms, record_forms}
 use Rattle.nv_ast.proofs.Reading.{parts_is, joined_is, overlay_is}
-use Rattle.nv_meaning.specs.TableView.{declared_in}
-use Rattle.nv_meaning.specs.Tables.{layout_pairs}
+use Rattle.nv_meaning.specs.inner.TableView.{declared_in}
+use Rattle.nv_meaning.specs.inner.Tables.{layout_pairs}
 use Rattle.nv_meaning.proofs.Lists.{dropped, dropped-all}
 use Rattle.nv_meaning.proofs.Unpacking.{alias-low, highest_named_within, highest_within}
-use Rattle.nv_flatten.specs.Fields.{◌++_symbols◌}
-use Rattle.nv_flatten.specs.Symbols.{Record, fresh, named_fresh, numbers_from}
-use Rattle.nv_flatten.specs.View.{list_named_symbols}
+use Rattle.nv_flatten.specs.inner.Fields.{◌++_symbols◌}
+use Rattle.nv_flatten.specs.inner.Symbols.{Record, fresh, named_fresh, numbers_from}
+use Rattle.nv_flatten.specs.inner.View.{list_named_symbols}
 use Rattle.nv_flatten.proofs.Listing.{record-view, numbers-turn, fields-turn, fields-done, fields-same, joined-turn, tys_then, unpacked-then, words-then, layout-form}
 use Rattle.nv_flatten.proofs.forms.+layouts.Goals as goal
 

@@ -1,10 +1,10 @@
 use Rattle.std.proofs.Common.{◌≡◌, ◌+◌, ◌≤◌, ◌++◌, drop}
 use Rattle.nv_ast.specs.Types.{types_of, named_types_of, total_words, total_named_words}
 use Rattle.nv_ast.specs.TypeView.{list_types, list_named_types}
-use Rattle.nv_meaning.specs.TableView.{declared_in}
-use Rattle.nv_flatten.specs.Fields.{◌++_symbols◌}
-use Rattle.nv_flatten.specs.Symbols.{all_fresh, named_fresh, numbers_from}
-use Rattle.nv_flatten.specs.View.{list_symbols, list_named_symbols}
+use Rattle.nv_meaning.specs.inner.TableView.{declared_in}
+use Rattle.nv_flatten.specs.inner.Fields.{◌++_symbols◌}
+use Rattle.nv_flatten.specs.inner.Symbols.{all_fresh, named_fresh, numbers_from}
+use Rattle.nv_flatten.specs.inner.View.{list_symbols, list_named_symbols}
 use Rattle.nv_flatten.proofs.Listing.{all_then}
 use Rattle.nv_flatten.proofs.forms.+types.Given as goal
 

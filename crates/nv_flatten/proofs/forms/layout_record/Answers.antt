@@ -2,11 +2,11 @@ use Rattle.std.proofs.Common.{◌∙◌, ◌+◌, ◌++◌, ap, sym, take}
 use Rattle.nv_ast.specs.LayoutView.{layout_tree}
 use Rattle.nv_ast.specs.Outline.{outline}
 use Rattle.nv_ast.specs.Types.{words, unpacked, unpacked_all, record_forms}
-use Rattle.nv_meaning.specs.TableView.{declared_in}
-use Rattle.nv_meaning.specs.Tables.{layout_pairs}
-use Rattle.nv_flatten.specs.Fields.{◌++_symbols◌}
-use Rattle.nv_flatten.specs.Symbols.{Record, fresh, named_fresh, numbers_from}
-use Rattle.nv_flatten.specs.View.{list_named_symbols}
+use Rattle.nv_meaning.specs.inner.TableView.{declared_in}
+use Rattle.nv_meaning.specs.inner.Tables.{layout_pairs}
+use Rattle.nv_flatten.specs.inner.Fields.{◌++_symbols◌}
+use Rattle.nv_flatten.specs.inner.Symbols.{Record, fresh, named_fresh, numbers_from}
+use Rattle.nv_flatten.specs.inner.View.{list_named_symbols}
 use Rattle.nv_flatten.proofs.Listing.{record-view, layout-form}
 use Rattle.nv_flatten.proofs.forms.layout_record.Goals as goal
 

@@ -2,9 +2,9 @@ use Rattle.std.proofs.Common.{◌≡◌, ◌+◌, ◌/◌, ◌++◌, subst, arit
 use Rattle.nv_ast.specs.Tree.{NamedLayout}
 use Rattle.nv_ast.specs.Outline.{outline, size}
 use Rattle.nv_ast.specs.Types.{words, words_ty}
-use Rattle.nv_meaning.specs.TableView.{declared_in}
-use Rattle.nv_flatten.specs.Symbols.{fresh, numbers_from}
-use Rattle.nv_flatten.specs.View.{view}
+use Rattle.nv_meaning.specs.inner.TableView.{declared_in}
+use Rattle.nv_flatten.specs.inner.Symbols.{fresh, numbers_from}
+use Rattle.nv_flatten.specs.inner.View.{view}
 use Rattle.nv_flatten.proofs.forms.of_packed.Goals as goal
 
 pub returns-clause-symbol : goal.returns-clause-symbol

@@ -3,8 +3,8 @@ use Rattle.nv_ast.specs.Tree.{NamedLayout}
 use Rattle.nv_ast.specs.Outline.{outline}
 use Rattle.nv_ast.specs.Types.{words, unpacked, form_of, unpacked_ty}
 use Rattle.nv_meaning.proofs.Places.{all-laid}
-use Rattle.nv_flatten.specs.Symbols.{Record, fresh, numbers_from}
-use Rattle.nv_flatten.specs.View.{view, list_named_symbols}
+use Rattle.nv_flatten.specs.inner.Symbols.{Record, fresh, numbers_from}
+use Rattle.nv_flatten.specs.inner.View.{view, list_named_symbols}
 use Rattle.nv_flatten.proofs.Listing.{record-view}
 use Rattle.nv_flatten.proofs.forms.of_record.Goals as goal
 

@@ -1,6 +1,6 @@
 use Rattle.std.proofs.Common.{◌∙◌, ◌+◌, ◌++◌, ap, sym}
 use Rattle.nv_ast.specs.Types.{words}
-use Rattle.nv_flatten.specs.Symbols.{Tuple, fresh, numbers_from}
+use Rattle.nv_flatten.specs.inner.Symbols.{Tuple, fresh, numbers_from}
 use Rattle.nv_flatten.proofs.Listing.{tuple-view, words-tuple, parts-words}
 use Rattle.nv_flatten.proofs.forms.of_words.Goals as goal
 

@@ -1,7 +1,7 @@
 use Rattle.std.proofs.Common.{◌≡◌, ◌+◌, ◌-◌, suc, ap, arith}
 use Rattle.nv_base.specs.declared.term.Atom.TheVariants.{Var}
 use Rattle.nv_ast.specs.Types.{WordTy, word_parts}
-use Rattle.nv_flatten.specs.Symbols.{Word}
+use Rattle.nv_flatten.specs.inner.Symbols.{Word}
 use Rattle.nv_flatten.proofs.Listing.{numbers-turn, numbers-done, symbols-turn, symbols-done}
 use Rattle.nv_flatten.proofs.forms.tuple_of_words.Goals as goal
 

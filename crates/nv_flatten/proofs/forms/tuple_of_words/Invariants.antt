@@ -1,7 +1,7 @@
 use Rattle.std.proofs.Common.{◌≡◌, ◌+◌, ◌-◌, ◌++◌}
 use Rattle.nv_ast.specs.Types.{word_parts}
-use Rattle.nv_flatten.specs.Symbols.{all_fresh, numbers_from}
-use Rattle.nv_flatten.specs.View.{list_symbols}
+use Rattle.nv_flatten.specs.inner.Symbols.{all_fresh, numbers_from}
+use Rattle.nv_flatten.specs.inner.View.{list_symbols}
 use Rattle.nv_flatten.proofs.Listing.{all_then}
 use Rattle.nv_flatten.proofs.forms.tuple_of_words.Given as goal
 

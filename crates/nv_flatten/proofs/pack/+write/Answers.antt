@@ -12,23 +12,24 @@ use Rattle.nv_ast.proofs.Reading.{parts_is, joined_is, overlay_is}
 use Rattle.nv_layout.proofs.BitLists.{length-bits}
 use Rattle.nv_meaning.specs.Values.{Value, word_of, field_named, fields_of}
 use Rattle.nv_meaning.specs.Packing.{bits_of, parts_bits, chosen_bits, joined_bits}
-use Rattle.nv_meaning.specs.TableView.{declared_in}
+use Rattle.nv_meaning.specs.inner.TableView.{declared_in}
 use Rattle.nv_meaning.proofs.Unpacking.{FieldItem, alias_rank, alias-low, alias-none, total_named_within, longest_within, highest_named_within, total_within, highest_within}
 use Rattle.nv_meaning.proofs.Writing.{parts_bits-more, joined_bits-more, chosen-turn, parts-within, joined-within, behind-more}
 use Rattle.nv_meaning.proofs.Lists.{dropped-all}
 use Rattle.nv_meaning.proofs.Bindings.{if-true, if-false}
 use Rattle.flat_ir.specs.declared.spine.Step.{Step}
-use Rattle.nv_flatten.specs.Symbols.{Symbol, Word, operands, value_in, word_operand, fields_of as symbols_of, field_named as symbol_named}
-use Rattle.nv_flatten.specs.View.{view}
-use Rattle.nv_flatten.specs.Reads.{Writes}
-use Rattle.nv_flatten.specs.Written.{packed_fields, packed_layout, packed_parts, packed_chosen, packed_joined, WritesFew}
+use Rattle.nv_flatten.specs.inner.Symbols.{Symbol, Word, operands, value_in, word_operand, fields_of as symbols_of, field_named as symbol_named}
+use Rattle.nv_flatten.specs.inner.View.{view}
+use Rattle.nv_flatten.specs.inner.Reads.{Writes}
+use Rattle.nv_flatten.specs.inner.Written.{packed_fields, packed_layout, packed_parts, packed_chosen, packed_joined, WritesFew}
 use Rattle.nv_flatten.proofs.Reading.{sound-named, sound-joined}
-use Rattle.nv_flatten.proofs.Writing.{part-value, part-there, word-value, word-older, word-fits, writes-none, writes-of, writes-then, part-writes}
+use Rattle.nv_flatten.proofs.Writing.{part-there, word-value, word-older, word-fits, writes-none, writes-of, writes-then, part-writes}
 use Rattle.nv_flatten.proofs.Lets.{adds-turn}
 use Rattle.nv_flatten.proofs.WordLets.{words-none, words-of-word, words-of-part, words-of-zero, words-from}
 use Rattle.nv_flatten.proofs.PackedFields.{layout-fields, parts-more, joined-more, chosen-turn as chosen-fields}
 use Rattle.nv_flatten.proofs.PackedSteps.{writes-none as few-none, writes-then as few-then, writes-at-most as few-at-most, writes-word as few-word, writes-part as few-part, writes-zero as few-zero, writes-from as few-from}
 use Rattle.nv_flatten.proofs.pack.+write.Goals as goal
+use Rattle.nv_flatten.proofs.ValueArms.{field-value}
 
 pub write_layout-write_layout-requires : goal.write_layout-write_layout-requires
 write_layout-write_layout-requires t c =
@@ -219,7 +220,7 @@ write_part-returns-in-Some-clause-writes t c =
 pub write_part-returns-in-Some-clause-behind : goal.write_part-returns-in-Some-clause-behind
 write_part-returns-in-Some-clause-behind t c =
     IfOk-weaker c.write_field.result _ _
-    (λ i h env. h env ∙ ap (λ (r : Symbol). c.args.at + length (bits_of (field_outline (take c.args.limit (declared_in c.args.t.now).layouts) (field_tree c.args.f.now.1)) (value_in env r))) (sym c.in-Some.ensures.1) ∙ ap (λ v. c.args.at + length (bits_of (field_outline (take c.args.limit (declared_in c.args.t.now).layouts) (field_tree c.args.f.now.1)) v)) (part-value env c.args.f.now.0 (view c.args.s.now)))
+    (λ i h env. h env ∙ ap (λ (r : Symbol). c.args.at + length (bits_of (field_outline (take c.args.limit (declared_in c.args.t.now).layouts) (field_tree c.args.f.now.1)) (value_in env r))) (sym c.in-Some.ensures.1) ∙ ap (λ v. c.args.at + length (bits_of (field_outline (take c.args.limit (declared_in c.args.t.now).layouts) (field_tree c.args.f.now.1)) v)) (field-value env c.args.f.now.0 (view c.args.s.now)))
     c.write_field.ensures.behind
 
 pub write_part-returns-in-None-clause-writes : goal.write_part-returns-in-None-clause-writes
@@ -232,7 +233,7 @@ write_part-returns-in-None-clause-writes t c =
 pub write_part-returns-in-None-clause-behind : goal.write_part-returns-in-None-clause-behind
 write_part-returns-in-None-clause-behind t c =
     IfOk-weaker c.write_field-in-None.result _ _
-    (λ i h env. h env ∙ ap (λ (r : Symbol). c.args.at + length (bits_of (field_outline (take c.args.limit (declared_in c.args.t.now).layouts) (field_tree c.args.f.now.1)) (value_in env r))) (sym c.in-None.ensures.1) ∙ ap (λ v. c.args.at + length (bits_of (field_outline (take c.args.limit (declared_in c.args.t.now).layouts) (field_tree c.args.f.now.1)) v)) (part-value env c.args.f.now.0 (view c.args.s.now)))
+    (λ i h env. h env ∙ ap (λ (r : Symbol). c.args.at + length (bits_of (field_outline (take c.args.limit (declared_in c.args.t.now).layouts) (field_tree c.args.f.now.1)) (value_in env r))) (sym c.in-None.ensures.1) ∙ ap (λ v. c.args.at + length (bits_of (field_outline (take c.args.limit (declared_in c.args.t.now).layouts) (field_tree c.args.f.now.1)) v)) (field-value env c.args.f.now.0 (view c.args.s.now)))
     c.write_field-in-None.ensures.behind
 
 pub write_chosen-returns-in-Some-clause-writes : goal.write_chosen-returns-in-Some-clause-writes
@@ -248,7 +249,7 @@ write_chosen-returns-in-Some-clause-writes t c =
 pub write_chosen-returns-in-Some-clause-behind : goal.write_chosen-returns-in-Some-clause-behind
 write_chosen-returns-in-Some-clause-behind t c =
     IfOk-weaker c.write_field.result _ _
-    (λ i h env. h env ∙ ap (λ (r : Symbol). c.args.at + length (bits_of (field_outline (take c.args.limit (declared_in c.args.t.now).layouts) (field_tree c.f-item.result.1)) (value_in env r))) (sym c.in-Some.ensures.1) ∙ ap (λ v. c.args.at + length (bits_of (field_outline (take c.args.limit (declared_in c.args.t.now).layouts) (field_tree c.f-item.result.1)) v)) (part-value env c.f-item.result.0 (view c.args.s.now)) ∙ ap (λ l. c.args.at + length l) (sym (sym (c.loop-f.invariant.bits env) ∙ chosen-turn (take c.args.limit (declared_in c.args.t.now).layouts) c.args.fs.now c.loop-f.f-index c.f-item.result (fields_of (value_in env (view c.args.s.now))) c.loop-f-test.true c.f-item.is ∙ if-true _ _ _ (part-there env c.f-item.result.0 (view c.args.s.now) ∙ c.in-Some.ensures.0))))
+    (λ i h env. h env ∙ ap (λ (r : Symbol). c.args.at + length (bits_of (field_outline (take c.args.limit (declared_in c.args.t.now).layouts) (field_tree c.f-item.result.1)) (value_in env r))) (sym c.in-Some.ensures.1) ∙ ap (λ v. c.args.at + length (bits_of (field_outline (take c.args.limit (declared_in c.args.t.now).layouts) (field_tree c.f-item.result.1)) v)) (field-value env c.f-item.result.0 (view c.args.s.now)) ∙ ap (λ l. c.args.at + length l) (sym (sym (c.loop-f.invariant.bits env) ∙ chosen-turn (take c.args.limit (declared_in c.args.t.now).layouts) c.args.fs.now c.loop-f.f-index c.f-item.result (fields_of (value_in env (view c.args.s.now))) c.loop-f-test.true c.f-item.is ∙ if-true _ _ _ (part-there env c.f-item.result.0 (view c.args.s.now) ∙ c.in-Some.ensures.0))))
     c.write_field.ensures.behind
 
 pub write_chosen-loop-f-init : goal.write_chosen-loop-f-init

@@ -4,13 +4,13 @@ use Rattle.nv_ast.specs.LayoutView.{layout_tree, field_tree, list_fields, list_l
 use Rattle.nv_ast.specs.Outline.{outline, outlines, field_outline, field_outlines, outline_height, highest_outline, highest_named_outline, AllSound, AllNamedSound}
 use Rattle.nv_meaning.specs.Values.{fields_of}
 use Rattle.nv_meaning.specs.Packing.{parts_bits, joined_bits, chosen_bits}
-use Rattle.nv_meaning.specs.TableView.{declared_in}
+use Rattle.nv_meaning.specs.inner.TableView.{declared_in}
 use Rattle.nv_meaning.proofs.Unpacking.{alias_rank}
-use Rattle.nv_flatten.specs.Reads.{Writes}
-use Rattle.nv_flatten.specs.Symbols.{value_in, fields_of as symbols_of}
-use Rattle.nv_flatten.specs.View.{view}
-use Rattle.nv_flatten.specs.Adds.{AddsWords}
-use Rattle.nv_flatten.specs.Written.{packed_parts, packed_chosen, packed_joined, WritesFew}
+use Rattle.nv_flatten.specs.inner.Reads.{Writes}
+use Rattle.nv_flatten.specs.inner.Symbols.{value_in, fields_of as symbols_of}
+use Rattle.nv_flatten.specs.inner.View.{view}
+use Rattle.nv_flatten.specs.inner.Adds.{AddsWords}
+use Rattle.nv_flatten.specs.inner.Written.{packed_parts, packed_chosen, packed_joined, WritesFew}
 use Rattle.nv_flatten.proofs.pack.+write.Given as goal
 
 abbrev pub invariant-write_joined-loop-l : goal.invariant-write_joined-loop-l

@@ -3,12 +3,12 @@ use Rattle.std.proofs.lemmas.Result.{IfOk-weaker}
 use Rattle.nv_ast.specs.Tree.{NamedLayout}
 use Rattle.nv_ast.specs.Outline.{OutlineTree, outline, size, IsSound}
 use Rattle.nv_ast.specs.Types.{form_of, can_pack}
-use Rattle.nv_meaning.specs.TableView.{declared_in}
+use Rattle.nv_meaning.specs.inner.TableView.{declared_in}
 use Rattle.nv_meaning.proofs.Places.{all-laid}
-use Rattle.nv_flatten.specs.Symbols.{form, operands}
-use Rattle.nv_flatten.specs.View.{view}
-use Rattle.nv_flatten.specs.Small.{PacksFew}
-use Rattle.nv_flatten.specs.Reads.{Packs}
+use Rattle.nv_flatten.specs.inner.Symbols.{form, operands}
+use Rattle.nv_flatten.specs.inner.View.{view}
+use Rattle.nv_flatten.specs.inner.Small.{PacksFew}
+use Rattle.nv_flatten.specs.inner.Reads.{Packs}
 use Rattle.nv_flatten.proofs.PackedWords.{packs-nothing}
 use Rattle.nv_flatten.proofs.WordLets.{lets-empty}
 use Rattle.nv_flatten.proofs.PackedSteps.{narrow-empty, few-empty}

@@ -1,8 +1,8 @@
 use Rattle.std.proofs.Common.{◌≡◌, subst, true, false, MatchOption}
 use Rattle.nv_base.specs.declared.term.Atom.TheVariants.{Lit}
-use Rattle.nv_flatten.specs.Reads.{has_symbol}
-use Rattle.nv_flatten.specs.Symbols.{NamedSymbols, Word, field_named}
-use Rattle.nv_flatten.specs.View.{view}
+use Rattle.nv_flatten.specs.inner.Reads.{has_symbol}
+use Rattle.nv_flatten.specs.inner.Symbols.{NamedSymbols, Word, field_named}
+use Rattle.nv_flatten.specs.inner.View.{view}
 use Rattle.nv_flatten.proofs.pack.part.Goals as goal
 
 pub returns : goal.returns

@@ -1,7 +1,7 @@
 use Rattle.std.proofs.Common.{◌≡◌, drop}
-use Rattle.nv_flatten.specs.Reads.{has_symbol}
-use Rattle.nv_flatten.specs.Symbols.{field_named}
-use Rattle.nv_flatten.specs.View.{list_named_symbols}
+use Rattle.nv_flatten.specs.inner.Reads.{has_symbol}
+use Rattle.nv_flatten.specs.inner.Symbols.{field_named}
+use Rattle.nv_flatten.specs.inner.View.{list_named_symbols}
 use Rattle.nv_flatten.proofs.pack.part_among.Given as goal
 
 abbrev pub invariant-loop-field : goal.invariant-loop-field

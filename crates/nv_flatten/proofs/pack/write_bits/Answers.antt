@@ -3,7 +3,7 @@ use Rattle.std.proofs.lemmas.List.{get_or_default}
 use Rattle.nv_base.specs.Words.{shifted_left, shifted_right}
 use Rattle.nv_ast.specs.Bits.{bits}
 use Rattle.nv_meaning.specs.Values.{word_of}
-use Rattle.nv_flatten.specs.Symbols.{Word}
+use Rattle.nv_flatten.specs.inner.Symbols.{Word}
 use Rattle.nv_flatten.proofs.Computing.{makes-left}
 use Rattle.nv_flatten.proofs.Writing.{writes-one, writes-two, writes-never, joined-makes}
 use Rattle.nv_ast.specs.declared.tree.ShiftOp.TheVariants.{Left}

@@ -4,11 +4,11 @@ use Rattle.nv_base.specs.declared.term.Atom.TheVariants.{Lit}
 use Rattle.nv_ast.specs.LayoutView.{layout_tree}
 use Rattle.nv_ast.specs.Outline.{outline}
 use Rattle.nv_ast.specs.Types.{packed_words}
-use Rattle.nv_meaning.specs.TableView.{declared_in}
+use Rattle.nv_meaning.specs.inner.TableView.{declared_in}
 use Rattle.nv_meaning.proofs.Writing.{back-all, bits-within}
-use Rattle.nv_flatten.specs.Symbols.{words_symbol, value_in}
-use Rattle.nv_flatten.specs.View.{view}
-use Rattle.nv_flatten.specs.Written.{packed_layout}
+use Rattle.nv_flatten.specs.inner.Symbols.{words_symbol, value_in}
+use Rattle.nv_flatten.specs.inner.View.{view}
+use Rattle.nv_flatten.specs.inner.Written.{packed_layout}
 use Rattle.nv_flatten.proofs.PackedWords.{packs}
 use Rattle.nv_flatten.proofs.WordLets.{lets-written}
 use Rattle.nv_flatten.proofs.PackedSteps.{narrow-written, few-written}

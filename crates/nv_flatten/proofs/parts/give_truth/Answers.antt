@@ -4,7 +4,7 @@ use Rattle.std.specs.declared.alloc.Global.{Global}
 use Rattle.nv_base.specs.declared.term.Atom.{Atom}
 use Rattle.nv_base.specs.declared.term.Atom.TheVariants.{Lit}
 use Rattle.flat_ir.specs.declared.flat.Flat.TheVariants.{Give}
-use Rattle.nv_flatten.specs.Well.{GivesLiteral}
+use Rattle.nv_flatten.specs.inner.Well.{GivesLiteral}
 use Rattle.nv_flatten.proofs.parts.give_truth.Goals as goal
 
 given-literal : (bs : Vec Atom Global) (front : List Atom) (v : ℕ) → front ≡ [] → bs.items ≡ front ++ Lit v ∷ [] → GivesLiteral (Give bs)

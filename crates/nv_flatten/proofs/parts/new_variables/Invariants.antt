@@ -1,6 +1,6 @@
 use Rattle.std.proofs.Common.{◌≡◌, ◌+◌, ◌++◌}
-use Rattle.nv_flatten.specs.Code.{variables}
-use Rattle.nv_flatten.specs.Symbols.{numbers_from}
+use Rattle.nv_flatten.specs.inner.Code.{variables}
+use Rattle.nv_flatten.specs.inner.Symbols.{numbers_from}
 use Rattle.nv_flatten.proofs.parts.new_variables.Given as goal
 
 abbrev pub invariant-loop : goal.invariant-loop

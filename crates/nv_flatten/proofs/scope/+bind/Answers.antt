@@ -1,5 +1,5 @@
 use Rattle.std.proofs.Common.{◌≡◌, sym, refl, subst, [], OnOk}
-use Rattle.nv_flatten.specs.View.{scope_of}
+use Rattle.nv_flatten.specs.inner.View.{scope_of}
 use Rattle.nv_flatten.proofs.Bindings.{name-bound, tuple-bound, extends-more}
 use Rattle.nv_flatten.proofs.scope.+bind.Goals as goal
 

@@ -1,8 +1,8 @@
 use Rattle.std.proofs.Common.{◌≡◌, drop, []}
 use Rattle.nv_ast.specs.PatternView.{list_patterns}
-use Rattle.nv_flatten.specs.Symbols.{all_bound}
-use Rattle.nv_flatten.specs.View.{list_symbols, scope_of}
-use Rattle.nv_flatten.specs.Simulation.{Extends}
+use Rattle.nv_flatten.specs.inner.Symbols.{all_bound}
+use Rattle.nv_flatten.specs.inner.View.{list_symbols, scope_of}
+use Rattle.nv_flatten.specs.inner.Simulation.{Extends}
 use Rattle.nv_flatten.proofs.scope.+bind.Given as goal
 
 abbrev pub invariant-bind_all-loop-p : goal.invariant-bind_all-loop-p

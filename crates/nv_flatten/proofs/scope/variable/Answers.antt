@@ -1,7 +1,8 @@
 use Rattle.std.proofs.Common.{◌≡◌, sym, ◌∙◌, arith, IfOk, subst}
-use Rattle.nv_flatten.specs.View.{view}
-use Rattle.nv_flatten.proofs.Bindings.{variable-newest, if-true, if-false}
+use Rattle.nv_flatten.specs.inner.View.{view}
+use Rattle.nv_flatten.proofs.Bindings.{variable-newest}
 use Rattle.nv_flatten.proofs.scope.variable.Goals as goal
+use Rattle.nv_meaning.proofs.Bindings.{if-true, if-false}
 
 pub returns-then-eq : goal.returns-then-eq
 returns-then-eq c =

@@ -1,6 +1,6 @@
 use Rattle.std.proofs.Common.{◌≡◌, ◌≤◌, length, take, []}
-use Rattle.nv_flatten.specs.Symbols.{symbol_in}
-use Rattle.nv_flatten.specs.View.{scope_of}
+use Rattle.nv_flatten.specs.inner.Symbols.{symbol_in}
+use Rattle.nv_flatten.specs.inner.View.{scope_of}
 use Rattle.nv_flatten.proofs.scope.variable.Given as goal
 
 abbrev pub invariant-loop-i : goal.invariant-loop-i

@@ -1,6 +1,6 @@
 use Rattle.std.proofs.Common.{◌≡◌, ◌++◌, map, drop}
 use Rattle.nv_ast.specs.ProgramView.{decl_tree}
-use Rattle.nv_flatten.specs.Whole.{groups_from}
+use Rattle.nv_flatten.specs.inner.Whole.{groups_from}
 use Rattle.nv_flatten.proofs.source.groups.Given as goal
 
 abbrev pub invariant-loop-decl : goal.invariant-loop-decl

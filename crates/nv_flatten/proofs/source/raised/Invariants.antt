@@ -1,7 +1,7 @@
 use Rattle.std.proofs.Common.{◌≡◌, ◌++◌, map, drop}
 use Rattle.nv_ast.specs.ProgramView.{decl_tree}
 use Rattle.nv_ast.specs.TypeView.{list_types}
-use Rattle.nv_flatten.specs.Whole.{raised_in}
+use Rattle.nv_flatten.specs.inner.Whole.{raised_in}
 use Rattle.nv_flatten.proofs.source.raised.Given as goal
 
 abbrev pub invariant-loop-decl : goal.invariant-loop-decl

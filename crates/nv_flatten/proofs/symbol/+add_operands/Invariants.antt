@@ -1,6 +1,6 @@
 use Rattle.std.proofs.Common.{◌≡◌, ◌++◌, take}
-use Rattle.nv_flatten.specs.Symbols.{all_operands, named_operands}
-use Rattle.nv_flatten.specs.View.{list_symbols, list_named_symbols}
+use Rattle.nv_flatten.specs.inner.Symbols.{all_operands, named_operands}
+use Rattle.nv_flatten.specs.inner.View.{list_symbols, list_named_symbols}
 use Rattle.nv_flatten.proofs.symbol.+add_operands.Given as goal
 
 abbrev pub invariant-add_all_operands-loop-s : goal.invariant-add_all_operands-loop-s

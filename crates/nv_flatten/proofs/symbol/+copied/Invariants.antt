@@ -1,5 +1,5 @@
 use Rattle.std.proofs.Common.{◌≡◌, take}
-use Rattle.nv_flatten.specs.View.{list_symbols, list_named_symbols}
+use Rattle.nv_flatten.specs.inner.View.{list_symbols, list_named_symbols}
 use Rattle.nv_flatten.proofs.symbol.+copied.Given as goal
 
 abbrev pub invariant-copied_all-loop-s : goal.invariant-copied_all-loop-s

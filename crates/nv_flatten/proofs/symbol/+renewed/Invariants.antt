@@ -1,7 +1,7 @@
 use Rattle.std.proofs.Common.{◌≡◌, ◌≤◌, ◌+◌, ◌++◌, take}
 use Rattle.nv_ast.specs.Types.{total_words, total_named_words}
-use Rattle.nv_flatten.specs.Symbols.{forms, named_forms, all_fresh, named_fresh, numbers_from}
-use Rattle.nv_flatten.specs.View.{list_symbols, list_named_symbols}
+use Rattle.nv_flatten.specs.inner.Symbols.{forms, named_forms, all_fresh, named_fresh, numbers_from}
+use Rattle.nv_flatten.specs.inner.View.{list_symbols, list_named_symbols}
 use Rattle.nv_flatten.proofs.symbol.+renewed.Given as goal
 
 abbrev pub invariant-renewed_all-loop-s : goal.invariant-renewed_all-loop-s

@@ -1,6 +1,6 @@
 use Rattle.std.proofs.Common.{◌≡◌}
-use Rattle.nv_flatten.specs.Symbols.{field_named}
-use Rattle.nv_flatten.specs.View.{list_named_symbols}
+use Rattle.nv_flatten.specs.inner.Symbols.{field_named}
+use Rattle.nv_flatten.specs.inner.View.{list_named_symbols}
 use Rattle.nv_flatten.proofs.symbol.field_among.Given as goal
 
 abbrev pub invariant-loop-field : goal.invariant-loop-field

@@ -1,6 +1,6 @@
 use Rattle.std.proofs.Common.{◌≡◌, take}
-use Rattle.nv_flatten.specs.Symbols.{word_symbols}
-use Rattle.nv_flatten.specs.View.{list_symbols}
+use Rattle.nv_flatten.specs.inner.Symbols.{word_symbols}
+use Rattle.nv_flatten.specs.inner.View.{list_symbols}
 use Rattle.nv_flatten.proofs.symbol.tuple_of_words.Given as goal
 
 abbrev pub invariant-loop-w : goal.invariant-loop-w

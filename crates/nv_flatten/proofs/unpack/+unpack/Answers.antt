@@ -10,19 +10,19 @@ use Rattle.nv_ast.specs.Types.{form_of, forms_of, joined_forms, record_forms}
 use Rattle.nv_ast.proofs.Reading.{parts_is, joined_is, overlay_is}
 use Rattle.nv_meaning.specs.Values.{Word, fields_of, named_value_and, no_named_values}
 use Rattle.nv_meaning.specs.Packing.{value_at, parts_at, alternatives_at, joined_at}
-use Rattle.nv_meaning.specs.TableView.{declared_in}
-use Rattle.nv_meaning.specs.Tables.{layout_pairs}
+use Rattle.nv_meaning.specs.inner.TableView.{declared_in}
+use Rattle.nv_meaning.specs.inner.Tables.{layout_pairs}
 use Rattle.nv_meaning.proofs.Records.{layout-record}
 use Rattle.nv_meaning.proofs.Unpacking.{FieldItem, alias-low, total_named_more, longest_more, highest_named_within, total_more, highest_within}
-use Rattle.nv_flatten.specs.Symbols.{NamedSymbols, no_named_symbols, named_symbol_and, named_operands}
-use Rattle.nv_flatten.specs.View.{list_named_symbols}
-use Rattle.nv_flatten.specs.Reads.{◌++_symbols◌, Reads, ReadsRecord, ReadsField}
+use Rattle.nv_flatten.specs.inner.Symbols.{NamedSymbols, no_named_symbols, named_symbol_and, named_operands}
+use Rattle.nv_flatten.specs.inner.View.{list_named_symbols}
+use Rattle.nv_flatten.specs.inner.Reads.{◌++_symbols◌, Reads, ReadsRecord, ReadsField}
 use Rattle.nv_flatten.proofs.Reading.{PartsFit, AlternativesFit, JoinedFit, symbols-append, reads-none, reads-weaker, reads-word, reads-record, parts-turn, alternatives-turn, joined-turn}
 use Rattle.nv_flatten.proofs.RecordForms.{layout-form}
 use Rattle.nv_flatten.proofs.Rows.{record_view}
-use Rattle.nv_flatten.specs.Symbols as symbols
+use Rattle.nv_flatten.specs.inner.Symbols as symbols
 use Rattle.nv_flatten.proofs.Lets.{fields-none, adds-field, adds-inner, adds-turn}
-use Rattle.nv_flatten.specs.FewReads.{ReadsFew}
+use Rattle.nv_flatten.specs.inner.FewReads.{ReadsFew}
 use Rattle.nv_flatten.proofs.FieldCounts.{parts-count, alternatives-count, joined-count}
 use Rattle.nv_flatten.proofs.FewFields.{reads-few-none, reads-few-turn, reads-few-word, reads-few-inner}
 use Rattle.nv_flatten.proofs.unpack.+unpack.Goals as goal

@@ -5,12 +5,12 @@ use Rattle.nv_ast.specs.LayoutView.{layout_tree, field_tree, list_fields, list_l
 use Rattle.nv_ast.specs.Outline.{outline, outlines, field_outline, field_outlines, total_size, total_named_size, longest, part_fields, alternative_fields, joined_fields, outline_height, highest_outline, highest_named_outline}
 use Rattle.nv_ast.specs.Types.{forms_of, joined_forms}
 use Rattle.nv_meaning.specs.Packing.{parts_at, alternatives_at, joined_at}
-use Rattle.nv_meaning.specs.TableView.{declared_in}
+use Rattle.nv_meaning.specs.inner.TableView.{declared_in}
 use Rattle.nv_meaning.proofs.Unpacking.{alias_rank}
-use Rattle.nv_flatten.specs.Reads.{Reads}
-use Rattle.nv_flatten.specs.View.{list_named_symbols}
-use Rattle.nv_flatten.specs.Adds.{AddsFields}
-use Rattle.nv_flatten.specs.FewReads.{ReadsFew}
+use Rattle.nv_flatten.specs.inner.Reads.{Reads}
+use Rattle.nv_flatten.specs.inner.View.{list_named_symbols}
+use Rattle.nv_flatten.specs.inner.Adds.{AddsFields}
+use Rattle.nv_flatten.specs.inner.FewReads.{ReadsFew}
 use Rattle.nv_flatten.proofs.Reading.{PartsFit, AlternativesFit, JoinedFit}
 use Rattle.nv_flatten.proofs.unpack.+unpack.Given as goal
 

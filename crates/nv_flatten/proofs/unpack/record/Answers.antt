@@ -1,10 +1,10 @@
 use Rattle.std.proofs.Common.{ap, take, length}
 use Rattle.nv_ast.specs.LayoutView.{layout_tree}
 use Rattle.nv_ast.specs.Outline.{outline, bit_fields}
-use Rattle.nv_meaning.specs.Tables.{layout_pairs}
-use Rattle.nv_meaning.specs.TableView.{declared_in}
+use Rattle.nv_meaning.specs.inner.Tables.{layout_pairs}
+use Rattle.nv_meaning.specs.inner.TableView.{declared_in}
 use Rattle.nv_meaning.proofs.Records.{layout-record}
-use Rattle.nv_flatten.specs.View.{view, list_named_symbols}
+use Rattle.nv_flatten.specs.inner.View.{view, list_named_symbols}
 use Rattle.nv_flatten.specs.declared.symbol.Symbol as code
 use Rattle.nv_flatten.proofs.Reading.{unpacks}
 use Rattle.nv_flatten.proofs.RecordForms.{layout-form}

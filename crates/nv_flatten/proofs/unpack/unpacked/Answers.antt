@@ -2,15 +2,15 @@ use Rattle.std.proofs.Common.{◌≡◌, ◌∙◌, ◌*◌, ap, sym, subst, len
 use Rattle.std.proofs.lemmas.Result.{IfOk-weaker}
 use Rattle.nv_ast.specs.Tree.{NamedLayout}
 use Rattle.nv_ast.specs.Outline.{OutlineTree, outline, bit_fields}
-use Rattle.nv_meaning.specs.TableView.{declared_in}
+use Rattle.nv_meaning.specs.inner.TableView.{declared_in}
 use Rattle.nv_meaning.proofs.Places.{all-laid}
-use Rattle.nv_flatten.specs.View.{view}
+use Rattle.nv_flatten.specs.inner.View.{view}
 use Rattle.nv_flatten.specs.declared.symbol.Symbol as code
-use Rattle.nv_flatten.specs.Reads.{Unpacks}
+use Rattle.nv_flatten.specs.inner.Reads.{Unpacks}
 use Rattle.nv_flatten.proofs.Reading.{unpacks-nothing}
 use Rattle.nv_flatten.proofs.Rows.{record_view}
 use Rattle.nv_flatten.proofs.Lets.{lets-nothing}
-use Rattle.nv_flatten.specs.Small.{AreFewLets}
+use Rattle.nv_flatten.specs.inner.Small.{AreFewLets}
 use Rattle.nv_flatten.proofs.FewFields.{few-nothing, narrow-nothing}
 use Rattle.nv_flatten.proofs.unpack.unpacked.Goals as goal
 

@@ -1,7 +1,7 @@
 use Rattle.std.proofs.Common.{◌∙◌, sym, ap, option_map}
-use Rattle.nv_flatten.specs.Code.{form_or_unit}
-use Rattle.nv_flatten.specs.Symbols.{Tuple, fresh}
-use Rattle.nv_flatten.specs.View.{view, list_symbols}
+use Rattle.nv_flatten.specs.inner.Code.{form_or_unit}
+use Rattle.nv_flatten.specs.inner.Symbols.{Tuple, fresh}
+use Rattle.nv_flatten.specs.inner.View.{view, list_symbols}
 use Rattle.nv_flatten.proofs.Rows.{tuple_view}
 use Rattle.nv_flatten.proofs.values.renewed_form.Goals as goal
 

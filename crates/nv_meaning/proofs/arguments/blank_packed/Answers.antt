@@ -2,9 +2,9 @@ use Rattle.std.proofs.Common.{◌≡◌, ◌+◌, ◌/◌, subst, arith, IfOk}
 use Rattle.nv_ast.specs.Tree.{NamedLayout}
 use Rattle.nv_ast.specs.Outline.{outline, size}
 use Rattle.nv_ast.specs.Types.{words_ty}
-use Rattle.nv_meaning.specs.Blanks.{blank}
-use Rattle.nv_meaning.specs.TableView.{declared_in}
-use Rattle.nv_meaning.specs.View.{view}
+use Rattle.nv_meaning.specs.inner.Blanks.{blank}
+use Rattle.nv_meaning.specs.inner.TableView.{declared_in}
+use Rattle.nv_meaning.specs.inner.View.{view}
 use Rattle.nv_meaning.proofs.arguments.blank_packed.Goals as goal
 
 pub returns : goal.returns

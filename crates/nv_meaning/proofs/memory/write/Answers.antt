@@ -1,5 +1,5 @@
 use Rattle.std.proofs.Common.{ap}
-use Rattle.nv_meaning.specs.Ran.{at}
+use Rattle.nv_meaning.specs.inner.Ran.{at}
 use Rattle.nv_meaning.proofs.Access.{store-short, store-written}
 use Rattle.nv_meaning.proofs.memory.write.Goals as goal
 

@@ -4,7 +4,7 @@ use Rattle.nv_ast.specs.Tree.{NamedLayout}
 use Rattle.nv_ast.specs.Outline.{outline, size}
 use Rattle.nv_meaning.specs.Values.{words_value}
 use Rattle.nv_meaning.specs.Packing.{packed_value}
-use Rattle.nv_meaning.specs.View.{view}
+use Rattle.nv_meaning.specs.inner.View.{view}
 use Rattle.nv_meaning.proofs.Places.{all-laid}
 use Rattle.nv_meaning.proofs.pack.packed.Goals as goal
 

@@ -3,8 +3,8 @@ use Rattle.std.proofs.lemmas.Result.{err_from_is_err_and}
 use Rattle.nv_ast.specs.ProgramView.{fun_tree}
 use Rattle.nv_ast.specs.TypedView.{typed_program}
 use Rattle.nv_meaning.specs.Meaning.{declared, source}
-use Rattle.nv_meaning.specs.TableView.{declared_in}
-use Rattle.nv_meaning.specs.Ran.{at}
+use Rattle.nv_meaning.specs.inner.TableView.{declared_in}
+use Rattle.nv_meaning.specs.inner.Ran.{at}
 use Rattle.nv_meaning.proofs.Whole.{source-is, gives-outcome, gives-packet, gives-log, gives-front}
 use Rattle.nv_meaning.proofs.program.exec.Goals as goal
 

@@ -1,7 +1,7 @@
 use Rattle.std.proofs.Common.{◌∙◌, ap, take, Err}
 use Rattle.std.proofs.lemmas.Result.{err_from_is_err_and}
 use Rattle.nv_meaning.specs.Values.{all_words}
-use Rattle.nv_meaning.specs.View.{list_values}
+use Rattle.nv_meaning.specs.inner.View.{list_values}
 use Rattle.nv_meaning.proofs.Whole.{ended, raised, faulted, going, short-value, short-raised, short-stop}
 use Rattle.nv_meaning.proofs.program.outcome_of.Goals as goal
 

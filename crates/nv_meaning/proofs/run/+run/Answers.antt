@@ -9,9 +9,9 @@ use Rattle.nv_ast.specs.Tree.{NumberTree, TruthTree, VarTree, ParenTree, TupleTr
 use Rattle.nv_meaning.specs.Values.{Word, Truth, all_matched, matched, word_of, words_of}
 use Rattle.nv_meaning.specs.Running.{Gives, exception_number, store, then_stated}
 use Rattle.nv_meaning.specs.Meaning.{eval as evaluated, run_one, entered}
-use Rattle.nv_meaning.specs.TableView.{declared_in}
-use Rattle.nv_meaning.specs.View.{view, list_values, scope_of}
-use Rattle.nv_meaning.specs.Ran.{at, IsStep, RanScope}
+use Rattle.nv_meaning.specs.inner.TableView.{declared_in}
+use Rattle.nv_meaning.specs.inner.View.{view, list_values, scope_of}
+use Rattle.nv_meaning.specs.inner.Ran.{at, IsStep, RanScope}
 use Rattle.nv_meaning.specs.declared.value.Value as code
 use Rattle.nv_meaning.specs.declared.stop.Step.TheVariants.{Done, Again}
 use Rattle.nv_meaning.specs.declared.stop.Stop.TheVariants.{NoMemory, Raised, Fault, Going}
@@ -21,7 +21,7 @@ use Rattle.nv_meaning.proofs.Lists.{dropped, dropped-all}
 use Rattle.nv_meaning.proofs.Arms.{Front, FrontNamed, in-scope, in-scope_value, of-tree, of-step, of-stop, settled-again, front-none, front-more, front-all, front-stop, front-short, named-none, named-more, named-all, named-stop, named-short, led-none, led-more, led-all, led-stop, let-stop, let-short, let-done, store-stop, store-stop_value, store-done, tuple-stop, tuple-done, again-stop, again-done, raise-stop, raise-done, record-stop, record-done}
 use Rattle.nv_meaning.proofs.Choices.{looked-up, restored, binary-stop, binary-decided, binary-stop_right, binary-done, choose-stop, choose-yes, choose-no, try-done, try-short, try-fault, try-going, try-other, try-handled, short-before, in-matched, block-stop, block-tail, store-scope, operand-stop, operand-made, jump-none, jump-more, jump-end, jump-none_left, jump-no_function, jump-short, entered-as}
 use Rattle.nv_meaning.proofs.TreeKinds.{number-is, truth-is, variable-is, paren-is, dot-is, invert-is, negate-is, shift-is, unpack-is, pack-is, fetch-is, binary-is, if-is, try-is, tuple-is, record-is, call-is, raise-is, block-is, let-is, store-is, of-operand}
-use Rattle.nv_meaning.specs.Weight.{weight, weight_all, weight_named, weight_statement, weight_statements, span}
+use Rattle.nv_meaning.specs.inner.Weight.{weight, weight_all, weight_named, weight_statement, weight_statements, span}
 use Rattle.nv_meaning.proofs.Falls.{falls, falls_all, falls_call, body-below, item-weight, item-weight_named, item-weight_statement}
 use Rattle.nv_meaning.proofs.Kept.{fewer, extends-nothing, extends-same, extends-from, kept-given, kept-then}
 use Rattle.nv_base.specs.Words.{word}

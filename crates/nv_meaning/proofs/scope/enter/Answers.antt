@@ -1,5 +1,5 @@
 use Rattle.std.proofs.Common.{◌∙◌, ◌+◌, [], drop, arith}
-use Rattle.nv_meaning.specs.View.{scope_of}
+use Rattle.nv_meaning.specs.inner.View.{scope_of}
 use Rattle.nv_meaning.proofs.Bindings.{entered-step, pushed-name}
 use Rattle.nv_meaning.proofs.Lists.{dropped}
 use Rattle.nv_meaning.proofs.scope.enter.Goals as goal

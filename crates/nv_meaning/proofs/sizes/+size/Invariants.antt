@@ -4,7 +4,7 @@ use Rattle.std.below.core.specs.declared.int.u64.TheConstants.{MAX}
 use Rattle.nv_ast.specs.LayoutView.{layout_tree, field_tree, list_fields, list_layouts}
 use Rattle.nv_ast.specs.Height.{layout_height, highest_layout, field_height, highest_field}
 use Rattle.nv_ast.specs.Outline.{Layouts, outlines, field_outlines, total_size, total_named_size, longest}
-use Rattle.nv_meaning.specs.Sizes.{AreSizes}
+use Rattle.nv_meaning.specs.inner.Sizes.{AreSizes}
 use Rattle.nv_meaning.proofs.sizes.+size.Given as goal
 
 abbrev pub invariant-joined_size-loop-l : goal.invariant-joined_size-loop-l

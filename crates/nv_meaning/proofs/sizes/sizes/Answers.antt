@@ -1,8 +1,8 @@
 use Rattle.std.proofs.Common.{◌∙◌, ap, bytes_eq, take, [], arith}
 use Rattle.std.proofs.lemmas.List.{take_all}
 use Rattle.std.specs.HashMap.{get_by}
-use Rattle.nv_meaning.specs.Tables.{laid, layout_pairs}
-use Rattle.nv_meaning.specs.Sizes.{sizes_of}
+use Rattle.nv_meaning.specs.inner.Tables.{laid, layout_pairs}
+use Rattle.nv_meaning.specs.inner.Sizes.{sizes_of}
 use Rattle.nv_meaning.proofs.Sizing.{sizes-known, sizes-turn}
 use Rattle.nv_meaning.proofs.sizes.sizes.Goals as goal
 

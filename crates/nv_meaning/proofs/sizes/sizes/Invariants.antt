@@ -1,6 +1,6 @@
 use Rattle.std.proofs.Common.{◌≡◌, [], take}
-use Rattle.nv_meaning.specs.Tables.{laid, layout_pairs}
-use Rattle.nv_meaning.specs.Sizes.{sizes_of}
+use Rattle.nv_meaning.specs.inner.Tables.{laid, layout_pairs}
+use Rattle.nv_meaning.specs.inner.Sizes.{sizes_of}
 use Rattle.nv_meaning.proofs.sizes.sizes.Given as goal
 
 abbrev pub invariant-loop-l : goal.invariant-loop-l

@@ -1,6 +1,6 @@
 use Rattle.std.proofs.Common.{◌≡◌, ◌∙◌, ap, sym, subst, map, ◌++◌, ◌∷◌, [], append-nil, OnOk}
 use Rattle.nv_ast.specs.ProgramView.{fun_tree, decl_tree}
-use Rattle.nv_meaning.specs.Tables.{functions_in}
+use Rattle.nv_meaning.specs.inner.Tables.{functions_in}
 use Rattle.nv_meaning.proofs.table.add_functions.Goals as goal
 
 pub returns-in-Group : goal.returns-in-Group

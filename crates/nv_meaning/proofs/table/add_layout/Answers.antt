@@ -1,6 +1,6 @@
 use Rattle.std.proofs.Common.{◌∙◌, ap, sym, ◌++◌, ◌∷◌, [], append-nil}
 use Rattle.nv_ast.specs.ProgramView.{decl_tree}
-use Rattle.nv_meaning.specs.Tables.{layouts_in, layout_pairs}
+use Rattle.nv_meaning.specs.inner.Tables.{layouts_in, layout_pairs}
 use Rattle.nv_meaning.proofs.Places.{pairs-push}
 use Rattle.nv_meaning.proofs.table.add_layout.Goals as goal
 

@@ -1,6 +1,6 @@
 use Rattle.std.proofs.Common.{ap}
 use Rattle.nv_ast.specs.LayoutView.{layout_tree}
-use Rattle.nv_meaning.specs.Tables.{is_alias}
+use Rattle.nv_meaning.specs.inner.Tables.{is_alias}
 use Rattle.nv_meaning.proofs.table.alias.Goals as goal
 
 pub returns-in-Named : goal.returns-in-Named

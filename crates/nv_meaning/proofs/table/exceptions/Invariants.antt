@@ -1,7 +1,7 @@
 use Rattle.std.proofs.Common.{◌≡◌, length, map, take}
 use Rattle.nv_ast.specs.Exceptions.{exceptions}
 use Rattle.nv_ast.specs.ProgramView.{decl_tree}
-use Rattle.nv_meaning.specs.Tables.{exceptions_in}
+use Rattle.nv_meaning.specs.inner.Tables.{exceptions_in}
 use Rattle.nv_meaning.proofs.table.exceptions.Given as goal
 
 abbrev pub invariant-loop-decl : goal.invariant-loop-decl

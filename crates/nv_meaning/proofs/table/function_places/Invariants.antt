@@ -1,6 +1,6 @@
 use Rattle.std.proofs.Common.{◌≡◌, ℕ, List, bytes_eq, drop, map}
 use Rattle.std.specs.HashMap.{get_by}
-use Rattle.nv_meaning.specs.Tables.{place_from, or_else}
+use Rattle.nv_meaning.specs.inner.Tables.{place_from, or_else}
 use Rattle.nv_meaning.proofs.table.function_places.Given as goal
 
 abbrev pub invariant-loop-i : goal.invariant-loop-i

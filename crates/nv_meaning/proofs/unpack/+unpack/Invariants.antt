@@ -5,8 +5,8 @@ use Rattle.nv_ast.specs.LayoutView.{layout_tree, field_tree, list_fields, list_l
 use Rattle.nv_ast.specs.Outline.{outline, outlines, field_outline, field_outlines, total_size, total_named_size, longest, outline_height, highest_outline, highest_named_outline}
 use Rattle.nv_meaning.specs.Values.{◌++_fields◌}
 use Rattle.nv_meaning.specs.Packing.{parts_at, alternatives_at, joined_at}
-use Rattle.nv_meaning.specs.TableView.{declared_in}
-use Rattle.nv_meaning.specs.View.{list_named_values}
+use Rattle.nv_meaning.specs.inner.TableView.{declared_in}
+use Rattle.nv_meaning.specs.inner.View.{list_named_values}
 use Rattle.nv_meaning.proofs.Unpacking.{alias_rank}
 use Rattle.nv_meaning.proofs.unpack.+unpack.Given as goal
 

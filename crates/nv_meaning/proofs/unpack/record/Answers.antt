@@ -4,9 +4,9 @@ use Rattle.nv_ast.specs.LayoutView.{layout_tree}
 use Rattle.nv_ast.specs.Outline.{outline}
 use Rattle.nv_meaning.specs.Values.{Record, fields_of, ◌++_fields◌}
 use Rattle.nv_meaning.specs.Packing.{value_at}
-use Rattle.nv_meaning.specs.Tables.{layout_pairs}
-use Rattle.nv_meaning.specs.TableView.{declared_in}
-use Rattle.nv_meaning.specs.View.{list_named_values}
+use Rattle.nv_meaning.specs.inner.Tables.{layout_pairs}
+use Rattle.nv_meaning.specs.inner.TableView.{declared_in}
+use Rattle.nv_meaning.specs.inner.View.{list_named_values}
 use Rattle.nv_meaning.proofs.Records.{layout-record}
 use Rattle.nv_meaning.proofs.Rows.{record_view}
 use Rattle.nv_meaning.proofs.unpack.record.Goals as goal

@@ -5,8 +5,8 @@ use Rattle.nv_ast.specs.LayoutView.{layout_tree}
 use Rattle.nv_ast.specs.Outline.{outline}
 use Rattle.nv_meaning.specs.Values.{Record, words_of}
 use Rattle.nv_meaning.specs.Packing.{value_at}
-use Rattle.nv_meaning.specs.TableView.{declared_in}
-use Rattle.nv_meaning.specs.View.{view, list_named_values}
+use Rattle.nv_meaning.specs.inner.TableView.{declared_in}
+use Rattle.nv_meaning.specs.inner.View.{view, list_named_values}
 use Rattle.nv_meaning.proofs.Places.{all-laid}
 use Rattle.nv_meaning.proofs.Rows.{record_view}
 use Rattle.nv_meaning.proofs.unpack.unpacked.Goals as goal

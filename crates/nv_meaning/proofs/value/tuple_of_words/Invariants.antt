@@ -1,6 +1,6 @@
 use Rattle.std.proofs.Common.{◌≡◌, take}
 use Rattle.nv_meaning.specs.Values.{word_values}
-use Rattle.nv_meaning.specs.View.{list_values}
+use Rattle.nv_meaning.specs.inner.View.{list_values}
 use Rattle.nv_meaning.proofs.value.tuple_of_words.Given as goal
 
 abbrev pub invariant-loop-w : goal.invariant-loop-w

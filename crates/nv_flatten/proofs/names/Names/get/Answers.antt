@@ -1,5 +1,5 @@
 use Rattle.std.proofs.Common.{subst}
-use Rattle.nv_flatten.specs.Bounded.{AreOnce}
+use Rattle.nv_flatten.specs.inner.Bounded.{AreOnce}
 use Rattle.nv_flatten.proofs.NamedOnce.{named-once}
 use Rattle.nv_flatten.proofs.names.Names.get.Goals as goal
 

@@ -1,7 +1,7 @@
 use Rattle.std.proofs.Common.{◌∙◌, ◌+◌, [], ◌∷◌, ap, sym, subst, map, if◌then◌else◌}
 use Rattle.std.proofs.lemmas.List.{length-map}
 use Rattle.std.proofs.lemmas.Bool.{not-true}
-use Rattle.nv_flatten.specs.Well.{AreCalled}
+use Rattle.nv_flatten.specs.inner.Well.{AreCalled}
 use Rattle.nv_flatten.proofs.WellNames.{number-called, none-first}
 use Rattle.std.specs.Prelude.{slice_get}
 use Rattle.nv_flatten.proofs.Naming.{Added, name-at, names-added, added-extends}

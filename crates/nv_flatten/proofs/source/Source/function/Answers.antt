@@ -2,7 +2,7 @@ use Rattle.std.proofs.Common.{◌≡◌, ◌∙◌, ◌+◌, ◌<◌, ap, sym, r
 use Rattle.std.proofs.lemmas.Option.{slice_get_read}
 use Rattle.nv_ast.specs.ProgramView.{fun_tree}
 use Rattle.nv_meaning.proofs.Places.{place-below, function-none, function-found}
-use Rattle.nv_flatten.specs.WholeView.{whole_in}
+use Rattle.nv_flatten.specs.inner.WholeView.{whole_in}
 use Rattle.nv_flatten.proofs.Sources.{group-found}
 use Rattle.nv_flatten.proofs.source.Source.function.Goals as goal
 

@@ -1,7 +1,7 @@
 use Rattle.std.proofs.Common.{◌∙◌, ap, map, refl}
 use Rattle.nv_ast.specs.ProgramView.{decl_tree, program_of}
-use Rattle.nv_meaning.specs.TableView.{declared_in}
-use Rattle.nv_flatten.specs.Whole.{groups_from, raised_in}
+use Rattle.nv_meaning.specs.inner.TableView.{declared_in}
+use Rattle.nv_flatten.specs.inner.Whole.{groups_from, raised_in}
 use Rattle.nv_flatten.proofs.Sources.{source-is, as-many-groups}
 use Rattle.nv_flatten.proofs.source.Source.of.Goals as goal
 

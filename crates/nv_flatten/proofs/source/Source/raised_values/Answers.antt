@@ -1,8 +1,8 @@
 use Rattle.std.proofs.Common.{◌≡◌, ◌+◌, ◌-◌, ◌++◌, suc, sym, refl, subst, length, arith, IfOk, OnOk}
 use Rattle.nv_ast.specs.Types.{total_words}
-use Rattle.nv_flatten.specs.Symbols.{all_fresh, numbers_from}
-use Rattle.nv_flatten.specs.View.{list_symbols}
-use Rattle.nv_flatten.specs.WholeView.{whole_in}
+use Rattle.nv_flatten.specs.inner.Symbols.{all_fresh, numbers_from}
+use Rattle.nv_flatten.specs.inner.View.{list_symbols}
+use Rattle.nv_flatten.specs.inner.WholeView.{whole_in}
 use Rattle.nv_flatten.proofs.Sources.{raised-at}
 use Rattle.nv_flatten.proofs.source.Source.raised_values.Goals as goal
 

@@ -2,8 +2,8 @@ use Rattle.std.proofs.Common.{◌∙◌, ap, sym, Some}
 use Rattle.std.specs.Prelude.{option_map}
 use Rattle.nv_ast.specs.Types.{type_of}
 use Rattle.nv_ast.specs.TypeView.{type_tree}
-use Rattle.nv_flatten.specs.Symbols.{form}
-use Rattle.nv_flatten.specs.WholeView.{whole_in}
+use Rattle.nv_flatten.specs.inner.Symbols.{form}
+use Rattle.nv_flatten.specs.inner.WholeView.{whole_in}
 use Rattle.nv_flatten.proofs.Fresh.{fresh-form}
 use Rattle.nv_flatten.proofs.source.Source.result_form.Goals as goal
 

@@ -2,8 +2,8 @@ use Rattle.std.proofs.Common.{◌≡◌, ℕ, List, Some, take, map}
 use Rattle.nv_ast.specs.Tests.{value_at}
 use Rattle.nv_ast.specs.Outline.{outline, PartsOutline, no_named_outlines}
 use Rattle.nv_ast.specs.Tree.{NamedLayout}
-use Rattle.nv_meaning.specs.Tables.{place_from}
-use Rattle.nv_meaning.specs.TableView.{declared_in}
+use Rattle.nv_meaning.specs.inner.Tables.{place_from}
+use Rattle.nv_meaning.specs.inner.TableView.{declared_in}
 use Rattle.nv_meaning.proofs.table.Table.layout.Given as goal
 
 -- the layout that is looked for is the first of some name among those before

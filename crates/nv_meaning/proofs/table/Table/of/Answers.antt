@@ -1,8 +1,8 @@
 use Rattle.std.proofs.Common.{◌∙◌, ap, sym, map, [], arith}
 use Rattle.nv_ast.specs.Exceptions.{exceptions}
 use Rattle.nv_ast.specs.ProgramView.{decl_tree, program_of}
-use Rattle.nv_meaning.specs.Tables.{place_from, laid, layout_pairs, functions_in, layouts_in, exceptions_in}
-use Rattle.nv_meaning.specs.Sizes.{sizes_of}
+use Rattle.nv_meaning.specs.inner.Tables.{place_from, laid, layout_pairs, functions_in, layouts_in, exceptions_in}
+use Rattle.nv_meaning.specs.inner.Sizes.{sizes_of}
 use Rattle.nv_meaning.proofs.Places.{declared-is}
 use Rattle.nv_meaning.proofs.table.Table.of.Goals as goal
 

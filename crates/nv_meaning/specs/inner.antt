@@ -1,0 +1,8 @@
+pub mod View
+pub mod Tables
+pub mod Sizes
+pub mod TableView
+pub mod Ran
+pub mod Operand
+pub mod Weight
+pub mod Blanks

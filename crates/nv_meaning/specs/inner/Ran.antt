@@ -1,0 +1,125 @@
+-- How what the interpreter answers stands to the meaning.
+use Rattle.std.specs.Prelude.{◌≡◌, ℕ, ◌≤◌, List, ◌++◌, Result as Answer, Ok, Err, Vec}
+use Rattle.std.specs.Borrow.{Bor}
+use Rattle.std.specs.declared.alloc.Global.{Global}
+use Rattle.nv_base.specs.declared.outcome.Write.{Write}
+use Rattle.nv_base.specs.declared.outcome.Outcome.{Outcome}
+use Rattle.nv_base.specs.declared.outcome.Outcome.TheVariants as outcome
+use Rattle.nv_base.specs.declared.error.NoMemory as base
+use Rattle.nv_base.specs.Memories.{Memories}
+use Rattle.nv_base.specs.Log.{Log, noted_all}
+use Rattle.nv_base.specs.Meanings.{FullOutcome, source_writes, left_by, IsPrefix}
+use Rattle.nv_meaning.specs.Values.{Word, Tuple, Record, Scope}
+use Rattle.nv_meaning.specs.Running.{Running, Result, Gives, Raises, Stops, Results, GiveAll, Breaks, NamedResults, GiveNamed, BreaksNamed, Stated, GoesOn, StopsAt}
+use Rattle.nv_meaning.specs.Meaning.{Declared, Calls, calls_within}
+use Rattle.nv_meaning.specs.inner.View.{view, list_values, list_named_values}
+use Rattle.nv_meaning.specs.declared.value.Value.{Value}
+use Rattle.nv_meaning.specs.declared.stop.Step.{Step}
+use Rattle.nv_meaning.specs.declared.stop.Step.TheVariants.{Done, Again}
+use Rattle.nv_meaning.specs.declared.stop.Stop.{Stop}
+use Rattle.nv_meaning.specs.declared.stop.Stop.TheVariants.{NoMemory, Raised, Fault, Going}
+
+-- ---- moments of the interpreter's work: the calls that are left, the memories and the log
+pub record At : Type 0 where
+  pub calls : ℕ
+  pub packet : Memories
+  pub log : Log
+
+abbrev pub at : ℕ → Memories → Log → At
+at calls packet log = record { calls = calls; packet = packet; log = log }
+
+-- the run at such a moment, with these writes so far
+abbrev pub running : At → List Write → Running
+running a ws = record { calls = a.calls; packet = a.packet; writes = ws }
+
+-- these writes were made from one moment to a later one
+pub record Wrote (a b : At) (ws : List Write) : Type 0 where
+  pub calls : b.calls ≤ a.calls
+  pub packet : b.packet ≡ left_by ws a.packet
+  pub log : b.log ≡ noted_all a.log (source_writes ws)
+
+-- ---- answers
+
+-- the run of a result
+abbrev pub now_of : Result → Running
+now_of (Gives v now) = now
+now_of (Raises k vs now) = now
+now_of (Stops how now) = now
+
+-- the writes so far are the first ones of a result's, and the further ones made its memories of those so far
+pub record Grown (now : Running) (r : Result) : Type 0 where
+  pub rest : List Write
+  pub writes : (now_of r).writes ≡ now.writes ++ rest
+  pub packet : (now_of r).packet ≡ left_by rest now.packet
+
+-- a stop is what the run came to; after want of memory its writes so far are the first ones of the result's
+abbrev pub Stopped : Stop → Running → Result → Type 0
+Stopped NoMemory now r = Grown now r
+Stopped (Raised k vs) now r = r ≡ Raises k (list_values vs.items) now
+Stopped (Fault m at) now r = r ≡ Stops (outcome.Fault m at) now
+Stopped Going now r = r ≡ Stops outcome.Going now
+
+-- a step with the call in its place made
+abbrev pub step_result : Calls → Step → Running → Result
+step_result call (Done v) now = Gives (view v) now
+step_result call (Again f vs) now = call f.now (list_values vs.items) now
+
+abbrev pub IsStep : Calls → Answer Step Stop → Running → Result → Type 0
+IsStep call (Ok step) now r = r ≡ step_result call step now
+IsStep call (Err stop) now r = Stopped stop now r
+
+abbrev pub IsValue : Answer Value Stop → Running → Result → Type 0
+IsValue (Ok v) now r = r ≡ Gives (view v) now
+IsValue (Err stop) now r = Stopped stop now r
+
+-- some values as their tuple or record, and a scope as any value
+abbrev pub all_result : Results → Result
+all_result (GiveAll vs now) = Gives (Tuple vs) now
+all_result (Breaks how) = how
+
+abbrev pub named_result : NamedResults → Result
+named_result (GiveNamed vs now) = Gives (Record vs) now
+named_result (BreaksNamed how) = how
+
+abbrev pub stated_result : Stated → Result
+stated_result (GoesOn scope now) = Gives (Word 0) now
+stated_result (StopsAt how) = how
+
+abbrev pub AreValues : Answer (Vec Value Global) Stop → Running → Results → Type 0
+AreValues (Ok vs) now r = r ≡ GiveAll (list_values vs.items) now
+AreValues (Err stop) now r = Stopped stop now (all_result r)
+
+abbrev pub AreFields : Answer (Vec (Bor (List ℕ) × Value) Global) Stop → Running → NamedResults → Type 0
+AreFields (Ok fields) now r = r ≡ GiveNamed (list_named_values fields.items) now
+AreFields (Err stop) now r = Stopped stop now (named_result r)
+
+-- the scope behind statements
+abbrev pub IsScope : Answer (Unit {0}) Stop → Scope → Running → Stated → Type 0
+IsScope (Ok u) scope now r = r ≡ GoesOn scope now
+IsScope (Err stop) scope now r = Stopped stop now (stated_result r)
+
+-- ---- from one moment to a later one, however deep calls may lie in one another beyond those that are left
+pub record Ran (d : Declared) (a b : At) (comes : Calls → Running → Running → Type 0) : Type 0 where
+  pub wrote : List Write
+  pub change : Wrote a b wrote
+  pub run : (depth : ℕ) → a.calls ≤ depth → (before : List Write) → comes (calls_within depth d) (running a before) (running b (before ++ wrote))
+
+abbrev pub RanStep : Declared → At → At → Answer Step Stop → (Calls → Running → Result) → Type 0
+RanStep d a b answer r = Ran d a b (λ call now last. IsStep call answer last (r call now))
+
+abbrev pub RanValue : Declared → At → At → Answer Value Stop → (Calls → Running → Result) → Type 0
+RanValue d a b answer r = Ran d a b (λ call now last. IsValue answer last (r call now))
+
+abbrev pub RanValues : Declared → At → At → Answer (Vec Value Global) Stop → (Calls → Running → Results) → Type 0
+RanValues d a b answer r = Ran d a b (λ call now last. AreValues answer last (r call now))
+
+abbrev pub RanFields : Declared → At → At → Answer (Vec (Bor (List ℕ) × Value) Global) Stop → (Calls → Running → NamedResults) → Type 0
+RanFields d a b answer r = Ran d a b (λ call now last. AreFields answer last (r call now))
+
+abbrev pub RanScope : Declared → At → At → Answer (Unit {0}) Stop → Scope → (Calls → Running → Stated) → Type 0
+RanScope d a b answer scope r = Ran d a b (λ call now last. IsScope answer scope last (r call now))
+
+-- ---- a whole run: its full outcome, or after want of memory a moment before its end
+abbrev pub Executes : Answer Outcome base.NoMemory → At → At → FullOutcome → Type 0
+Executes (Ok o) a b f = (f.outcome ≡ o) × (f.packet ≡ b.packet) × (b.log ≡ noted_all a.log (source_writes f.writes))
+Executes (Err e) a b f = (made : List Write) × IsPrefix made f.writes × (b.packet ≡ left_by made a.packet) × (b.log ≡ noted_all a.log (source_writes made))
