@@ -1,5 +1,5 @@
 -- Accesses that are apart, and accesses that a source can make.
-use Rattle.std.proofs.Common.{◌≡◌, ℕ, ◌+◌, ◌≤◌, ◌⊎◌, inl, inr, ◌*◌, zero, suc, List, [], ◌∷◌, ◌++◌, Option, Bool, true, false, Some, None, length, take, drop, refl, sym, ap, subst, ◌∙◌, if◌then◌else◌, nat_le, arith}
+use Rattle.std.proofs.Common.{◌≡◌, ℕ, ◌+◌, ◌≤◌, ◌⊎◌, inl, inr, ◌*◌, zero, suc, List, [], ◌∷◌, Option, Bool, true, false, Some, None, length, take, drop, refl, sym, ap, ◌∙◌, if◌then◌else◌, nat_le, arith}
 use Rattle.std.specs.Prelude.{unwrap_or}
 use Rattle.std.proofs.lemmas.Bool.{false≢true}
 use Rattle.nv_base.specs.declared.term.Atom.{Atom}
