@@ -7,6 +7,7 @@ pub mod Live
 pub mod Parts
 pub mod Widths
 pub mod Bulks
+pub mod Worked
 pub mod Appended
 pub mod Weaker
 pub mod Following

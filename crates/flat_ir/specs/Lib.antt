@@ -5,5 +5,6 @@ pub mod Formed
 pub mod Counts
 pub mod Wide
 pub mod Bulk
+pub mod Laws
 pub mod Pieces
 pub mod Reached

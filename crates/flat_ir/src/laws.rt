@@ -8,6 +8,7 @@ ghost use Rattle.flat_ir.specs.Counts.{GivesMany, HoldsWords};
 ghost use Rattle.nv_base.specs.Measures.{Bulk, a_label, a_jump, both, IsAtMost};
 ghost use Rattle.flat_ir.specs.Bulk.{Bulks, code_bulk, group_bulk, bulk, AreBulks};
 ghost use Rattle.flat_ir.specs.Formed.{is_formed, defined, raised, is_program};
+ghost use Rattle.flat_ir.specs.Laws.{TwoGroups};
 ghost use Rattle.flat_ir.specs.Meaning.{Calls, does, calls_within, flat_meaning};
 ghost use Rattle.flat_ir.specs.Pieces.{known_behind, steps_formed, steps_defined, steps_raised, steps_live, steps_wide, steps_bulk};
 ghost use Rattle.nv_base.specs.Running.{Running};
@@ -69,6 +70,11 @@ pub fn steps_follow_steps()
 pub fn more_variables_keep()
     ensures formed { (funs : List FlatFun) (own : ℕ) (tail : Bool) (n : ℕ) (known known' : List ℕ) (t : Flat) → ((x : ℕ) → is_in x known ≡ true → is_in x known' ≡ true) → is_formed funs own tail n known t ≡ true → is_formed funs own tail n known' t ≡ true }
     ensures wide { (funs : List FlatFun) (w : Widths) (own : ℕ) (outside outside' : List ℕ) (t : Flat) → ((x : ℕ) → is_in x outside ≡ true → is_in x outside' ≡ true) → code_wide funs w own outside t ≤ code_wide funs w own outside' t }
+{}
+
+/// The width and the bulk of two functions, of which one calls the other.
+pub fn two_groups()
+    ensures { TwoGroups }
 {}
 
 /// The widths of groups are the least numbers such that each function is at most as wide as its
