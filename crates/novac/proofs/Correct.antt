@@ -26,7 +26,7 @@ use Rattle.uc_isa.specs.Agrees.{Agrees, scratch_access, KeepsToItsWords}
 use Rattle.uc_isa.specs.Straight.{Reaches, RunsTo, Stands, going}
 use Rattle.uc_isa.proofs.Runs.{reaches-one, reaches-then, step-fetched, runs-halt}
 use Rattle.uc_isa.proofs.Listing.{stands-left, stands-right, stands-fetched, IsPlain, ArePlain, plain-append, lawful-before_halt}
-use Rattle.novac.specs.Sum.{IsTermOf, term_word, word_with, sum_word, sum_meaning, term_code, plus_code, sum_code}
+use Rattle.novac.specs.inner.Sum.{IsTermOf, term_word, word_with, sum_word, sum_meaning, term_code, plus_code, sum_code}
 use Rattle.novac.specs.declared.sum.Term.{Term}
 use Rattle.novac.specs.declared.sum.Term.TheVariants.{Param, Number}
 use Rattle.novac.proofs.Sums.{Holds, InA, AreTermsOf, term-in_a, plus-in_a}

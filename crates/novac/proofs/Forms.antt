@@ -7,7 +7,7 @@ use Rattle.nv_meaning.specs.Meaning.{source}
 use Rattle.uc_isa.specs.Agrees.{Agrees}
 use Rattle.uc_isa.specs.Code.{CodeView}
 use Rattle.novac.specs.FirstForm.{IsFirst}
-use Rattle.novac.specs.Sum.{IsTermOf, sum_meaning}
+use Rattle.novac.specs.inner.Sum.{IsTermOf, sum_meaning}
 use Rattle.novac.specs.declared.sum.Term.{Term}
 use Rattle.novac.proofs.Correct.{agrees-as}
 use Rattle.novac.proofs.Values.{sum-some, sum-known, params-first, source-first}

@@ -9,6 +9,7 @@ pub mod Mains
 pub mod OneSource
 pub mod OneReport
 pub mod OneAnswer
+pub mod Inputs
+pub mod Saves
 pub mod Steps
-pub mod Passing
 pub mod Printing

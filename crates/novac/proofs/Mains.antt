@@ -14,7 +14,7 @@ use Rattle.nv_ast.specs.ProgramView.{fun_tree, decl_tree}
 use Rattle.nv_ast.specs.TypeView.{type_tree, list_named_types}
 use Rattle.nv_ast.specs.Tree.{Tree, NumberTree, VarTree, BinaryTree, TypeTree, WordType, NamedTypes, named_type_and, FunTree, GroupDecl, ProgramTree}
 use Rattle.novac.specs.FirstForm.{word_params, main_tree, AreDifferent, HasFirstForm, IsFirst, IsSum, IsTerm}
-use Rattle.novac.specs.Forming.{AreWords, HasMain, IsMain, names_of_params}
+use Rattle.novac.specs.inner.Forming.{AreWords, HasMain, IsMain, names_of_params}
 use Rattle.novac.specs.declared.form.Form.{Form}
 use Rattle.novac.specs.declared.sum.Term.{Term}
 use Rattle.novac.proofs.Operands.{Sums}

@@ -5,8 +5,8 @@ use Rattle.std.specs.Str.{bytes_eq}
 use Rattle.std.proofs.lemmas.Slice.Eq.{bytes_eq-Decides}
 use Rattle.nv_ast.specs.declared.tree.TyText.{TyText}
 use Rattle.novac.specs.FirstForm.{IsAmong}
-use Rattle.novac.specs.Forming.{names_of_params}
-use Rattle.novac.specs.Sum.{place_of}
+use Rattle.novac.specs.inner.Forming.{names_of_params}
+use Rattle.novac.specs.FirstForm.{place_of}
 
 -- the first i names aren't x, and the others are `rest`
 pub record Passed (x : List ℕ) (names : List (List ℕ)) (i : ℕ) (rest : List (List ℕ)) : Type 0 where

@@ -1,11 +1,12 @@
--- What the files hold decides the answer.
-use Rattle.std.proofs.Common.{◌≡◌, ℕ, ◌<◌, ◌≤◌, ◌⊎◌, inl, inr, List, Some, Ok, Err, length, refl, ap, sym, ◌∙◌, subst, arith, codes}
-use Rattle.nv_outside.specs.Holding.{Holding, IsLonger}
+-- The contents of a command's inputs decide the answer.
+use Rattle.std.proofs.Common.{◌≡◌, ℕ, ◌⊎◌, inl, inr, List, [], ◌∷◌, Ok, Err, length, refl, ap, sym, ◌∙◌, subst, codes}
 use Rattle.nv_memtext.specs.MemoryText.{Gives, IsBad}
 use Rattle.nv_memtext.proofs.ExactLemmas.{gives_one, gives_not_large, large_one, given_answer, bad_answer}
 use Rattle.nv_memtext.specs.declared.read.MemError.TheVariants.{Bad}
 use Rattle.nv_base.specs.Memories.{Memories}
 use Rattle.nv_base.specs.Meanings.{FullOutcome}
+use Rattle.nv_base.specs.declared.outcome.Outcome.{Outcome}
+use Rattle.nv_base.specs.declared.outcome.Outcome.TheVariants as outcome
 use Rattle.uc_isa.specs.Code.{CodeView}
 use Rattle.uc_isa.specs.Engine.{engine}
 use Rattle.uc_isa.specs.Lawful.{IsLawful}
@@ -14,64 +15,32 @@ use Rattle.uc_isa.proofs.FirstBroken.{first-one, first-unlawful}
 use Rattle.uc_object.specs.Object.{IsObject}
 use Rattle.uc_object.proofs.Places.{object-one}
 use Rattle.uc_object.proofs.RowPlaces.{place-one, object-good}
-use Rattle.novac.specs.Answers.{Shows, Makes, Refuses, Answers, IsFree}
 use Rattle.uc_asm.specs.Answer.{IsTrueError, Answers as Assembles}
 use Rattle.uc_asm.specs.Labels.{IsCodeOf}
 use Rattle.uc_asm.specs.Text.{listing}
 use Rattle.uc_asm.specs.declared.error.AsmError.{AsmError}
 use Rattle.uc_asm.specs.declared.error.AsmError.TheVariants as asm
 use Rattle.uc_asm.proofs.Exact.{given-answer, syntax-answer, label-answer, unlawful-answer}
-use Rattle.novac.specs.Assembly.{AsmRefuses, HasAssembly, IsListed, assembly_limit}
-use Rattle.novac.specs.Command.{Command, Compile, Run, Exec, Asm, Dis, Lint, Check}
-use Rattle.novac.specs.Checking.{CheckRefuses, IsChecked, report_limit}
-use Rattle.novac.proofs.OneReport.{check-one, check-good, checked-one}
-use Rattle.novac.proofs.OneSource.{source-one, source-good, compile-one, compile-good}
 use Rattle.nova_front.proofs.OneSource.{source-program}
 use Rattle.nv_ast.specs.Sizes.{main_words}
 use Rattle.nv_ast.specs.Tree.{ProgramTree}
 use Rattle.nv_meaning.specs.Meaning.{source as meaning}
+use Rattle.novac.specs.Answers.{Makes, CanMake, Refuses}
+use Rattle.novac.specs.Assembly.{AsmRefuses, IsListed}
+use Rattle.novac.specs.Command.{Command, Compile, Run, Exec, Asm, Dis, Lint, Check}
 use Rattle.novac.specs.Executing.{ExecRefuses, IsExecuted}
-use Rattle.novac.specs.Headline.{CompileRefuses, HasProgram}
-use Rattle.novac.specs.Reading.{source_limit}
-use Rattle.novac.specs.Lines.{IsUncaused, refusal_status, refusal_text, counted}
-use Rattle.novac.specs.Loading.{IsLoaded, FileHas, FileRefused}
-use Rattle.novac.specs.Machine.{IsBadObjectFor, IsUnlawfulFor, IsMemoryRefusedFor, LintRefuses, RunRefuses, BothHave, BothRefused, IsLinted, IsRun, object_limit, memory_limit, spill_base, full_text}
+use Rattle.novac.specs.Headline.{HasProgram}
+use Rattle.novac.specs.Lines.{counted}
+use Rattle.novac.specs.Machine.{IsBadObjectFor, IsUnlawfulFor, IsMemoryRefusedFor, LintRefuses, RunRefuses, IsLinted, IsRun, spill_base, full_text}
+use Rattle.novac.specs.Saving.{File, file}
 use Rattle.novac.specs.Status.{outcome_status}
+use Rattle.novac.specs.inner.Replies.{IsOutcome}
 use Rattle.novac.specs.declared.refusal.Refusal.{Refusal}
-use Rattle.novac.specs.declared.refusal.Refusal.TheVariants.{NoMemory, ReadFault, TooLarge, Syntax, Label, UnlawfulLine, BadObject, BadMemoryText, Unlawful}
+use Rattle.novac.specs.declared.refusal.Refusal.TheVariants.{NoMemory, ReadFault, TooLarge, Syntax, Label, UnlawfulLine, BadObject, BadMemoryText, Unlawful, Unbuilt}
 use Rattle.novac.specs.declared.status.Status.{Status}
-
-some-once : (x y : List ℕ) → Some x ≡ Some y → x ≡ y
-some-once x y e = cc
-
--- a file has one content
-loaded-one : (held : Holding) (name : List ℕ) (limit : ℕ) (b b' : List ℕ) → IsLoaded held name limit b → IsLoaded held name limit b' → b ≡ b'
-loaded-one held name limit b b' h k = some-once b b' (sym h.here ∙ k.here)
-
-long-unloaded : (held : Holding) (name : List ℕ) (limit : ℕ) (b : List ℕ) → IsLonger held name limit → IsLoaded held name limit b → ⊥
-long-unloaded held name limit b l h =
-    let same : b ≡ l.0 = some-once b l.0 (sym h.here ∙ l.1) in
-    let few : length l.0 ≤ limit = subst (λ (t : List ℕ). length t ≤ limit) same h.short in
-    let many : limit < length l.0 = l.2 in
-    omega arith
-
--- at most one refusal is true of a file, where that is so of its bytes
-file-one : (held : Holding) (name : List ℕ) (limit : ℕ) (P : List ℕ → Refusal → Type 0) (e e' : Refusal)
-    → ((b : List ℕ) → P b e → P b e' → e ≡ e') → FileRefused held name limit P e → FileRefused held name limit P e' → e ≡ e'
-file-one held name limit P e e' one (inl h) (inl k) = h.0 ∙ sym k.0
-file-one held name limit P e e' one (inl h) (inr k) = absurd (long-unloaded held name limit k.0 h.1 k.1)
-file-one held name limit P e e' one (inr h) (inl k) = absurd (long-unloaded held name limit h.0 k.1 h.1)
-file-one held name limit P e e' one (inr h) (inr k) =
-    let same = loaded-one held name limit h.0 k.0 h.1 k.1 in
-    one k.0 (subst (λ (b : List ℕ). P b e) same h.2) k.2
-
--- a file whose bytes are good isn't refused
-file-good : (held : Holding) (name : List ℕ) (limit : ℕ) (P : List ℕ → Refusal → Type 0) (Q : List ℕ → Type 0) (e : Refusal)
-    → ((b : List ℕ) → Q b → P b e → ⊥) → FileHas held name limit Q → FileRefused held name limit P e → ⊥
-file-good held name limit P Q e bad g (inl h) = long-unloaded held name limit g.0 h.1 g.1
-file-good held name limit P Q e bad g (inr h) =
-    let same = loaded-one held name limit h.0 g.0 h.1 g.1 in
-    bad g.0 g.2 (subst (λ (b : List ℕ). P b e) same h.2)
+use Rattle.novac.specs.declared.status.Status.TheVariants.{Done}
+use Rattle.novac.proofs.OneReport.{check-one, check-good, checked-one}
+use Rattle.novac.proofs.OneSource.{source-one, source-good, compile-one, compile-good}
 
 -- objects
 bad-one : (b : List ℕ) (e e' : Refusal) → IsBadObjectFor b e → IsBadObjectFor b e' → e ≡ e'
@@ -235,134 +204,107 @@ executed-one b t calls s s' text text' h k =
     let status : FullOutcome → Status = λ f. outcome_status f.outcome in
     (h.ends ∙ ap status run ∙ sym k.ends, h.prints ∙ ap full_text run ∙ sym k.prints)
 
--- a file and a memory text: the first that is too long, or what both have
-both-one : (held : Holding) (name : List ℕ) (limit : ℕ) (memory : List ℕ) (P : List ℕ → List ℕ → Refusal → Type 0) (e e' : Refusal)
-    → ((b t : List ℕ) → P b t e → P b t e' → e ≡ e') → BothRefused held name limit memory P e → BothRefused held name limit memory P e' → e ≡ e'
-both-one held name limit memory P e e' one (inl h) (inl k) = h.0 ∙ sym k.0
-both-one held name limit memory P e e' one (inl h) (inr (inl k)) = absurd (long-unloaded held name limit k.0 h.1 k.1)
-both-one held name limit memory P e e' one (inl h) (inr (inr k)) = absurd (long-unloaded held name limit k.0 h.1 k.1)
-both-one held name limit memory P e e' one (inr (inl h)) (inl k) = absurd (long-unloaded held name limit h.0 k.1 h.1)
-both-one held name limit memory P e e' one (inr (inr h)) (inl k) = absurd (long-unloaded held name limit h.0 k.1 h.1)
-both-one held name limit memory P e e' one (inr (inl h)) (inr (inl k)) = h.2.0 ∙ sym k.2.0
-both-one held name limit memory P e e' one (inr (inl h)) (inr (inr k)) = absurd (long-unloaded held memory memory_limit k.2.0 h.2.1 k.2.1)
-both-one held name limit memory P e e' one (inr (inr h)) (inr (inl k)) = absurd (long-unloaded held memory memory_limit h.2.0 k.2.1 h.2.1)
-both-one held name limit memory P e e' one (inr (inr h)) (inr (inr k)) =
-    let same = loaded-one held name limit h.0 k.0 h.1 k.1 in
-    let same' = loaded-one held memory memory_limit h.2.0 k.2.0 h.2.1 k.2.1 in
-    one k.0 k.2.0 (subst (λ (t : List ℕ). P k.0 t e) same' (subst (λ (b : List ℕ). P b h.2.0 e) same h.2.2)) k.2.2
+-- of the same contents at most one refusal is true
+pub refusal-one : (c : Command) (bs : List (List ℕ)) (e e' : Refusal) → Refuses c bs e → Refuses c bs e' → e ≡ e'
+refusal-one (Compile source object) (b ∷ []) e e' h k = compile-one b e e' h k
+refusal-one (Run object memory steps) (b ∷ g ∷ []) e e' h k = runs-one b g e e' h k
+refusal-one (Exec source memory calls) (b ∷ g ∷ []) e e' h k = exec-one b g e e' h k
+refusal-one (Asm input object) (b ∷ []) e e' h k = assembly-one b e e' h k
+refusal-one (Dis object) (b ∷ []) e e' h k = bad-one b e e' h k
+refusal-one (Lint object) (b ∷ []) e e' h k = lint-one b e e' h k
+refusal-one (Check report) (b ∷ []) e e' h k = check-one b e e' h k
+refusal-one _ _ e e' h k = absurd h
 
-both-good : (held : Holding) (name : List ℕ) (limit : ℕ) (memory : List ℕ) (P : List ℕ → List ℕ → Refusal → Type 0) (Q : List ℕ → List ℕ → Type 0) (e : Refusal)
-    → ((b t : List ℕ) → Q b t → P b t e → ⊥) → BothHave held name limit memory Q → BothRefused held name limit memory P e → ⊥
-both-good held name limit memory P Q e bad h (inl k) = long-unloaded held name limit h.0 k.1 h.1
-both-good held name limit memory P Q e bad h (inr (inl k)) = long-unloaded held memory memory_limit h.2.0 k.2.1 h.2.1
-both-good held name limit memory P Q e bad h (inr (inr k)) =
-    let same = loaded-one held name limit k.0 h.0 k.1 h.1 in
-    let same' = loaded-one held memory memory_limit k.2.0 h.2.0 k.2.1 h.2.1 in
-    bad h.0 h.2.0 h.2.2 (subst (λ (t : List ℕ). P h.0 t e) same' (subst (λ (b : List ℕ). P b k.2.0 e) same k.2.2))
+-- and none where the command makes something
+pub makes-good : (c : Command) (bs : List (List ℕ)) (s : Status) (fs : List File) (t : List ℕ) (e : Refusal) → Makes c bs s fs t → Refuses c bs e → ⊥
+makes-good (Compile source object) (b ∷ []) s fs t e h k =
+    let good : HasProgram b = record { program = h.compiled.program; is_source = h.compiled.is_source; first_form = h.compiled.first_form } in
+    compile-good b e good k
+makes-good (Run object memory steps) (b ∷ g ∷ []) s fs t e h k = run-good b g e steps s t h.1 k
+makes-good (Exec source memory calls) (b ∷ g ∷ []) s fs t e h k = exec-good b g e calls s t h.1 k
+makes-good (Asm input object) (b ∷ []) s fs t e h k = assembly-good b e h.assembled.c h.assembled.code k
+makes-good (Dis object) (b ∷ []) s fs t e h k = bad-good b e h.1.c h.1.object k
+makes-good (Lint object) (b ∷ []) s fs t e h k = lint-good b e h.1.c h.1.object h.1.lawful k
+makes-good (Check report) (b ∷ []) s fs t e h k = check-good b s t e h.1 k
+makes-good _ _ s fs t e h k = h
 
-both-shown : (held : Holding) (name : List ℕ) (limit : ℕ) (memory : List ℕ) (Q : List ℕ → List ℕ → Status → List ℕ → Type 0) (s s' : Status) (t t' : List ℕ)
-    → ((b m : List ℕ) → Q b m s t → Q b m s' t' → (s ≡ s') × (t ≡ t'))
-    → BothHave held name limit memory (λ b m. Q b m s t) → BothHave held name limit memory (λ b m. Q b m s' t') → (s ≡ s') × (t ≡ t')
-both-shown held name limit memory Q s s' t t' one h k =
-    let same = loaded-one held name limit h.0 k.0 h.1 k.1 in
-    let same' = loaded-one held memory memory_limit h.2.0 k.2.0 h.2.1 k.2.1 in
-    one k.0 k.2.0 (subst (λ (m : List ℕ). Q k.0 m s t) same' (subst (λ (b : List ℕ). Q b h.2.0 s t) same h.2.2)) k.2.2
+-- or can
+pub can-good : (c : Command) (bs : List (List ℕ)) (s : Status) (e : Refusal) → CanMake c bs s → Refuses c bs e → ⊥
+can-good (Compile source object) (b ∷ []) s e h k = compile-good b e h.1 k
+can-good (Asm input object) (b ∷ []) s e h k = assembly-good b e h.1.c h.1.code k
+can-good _ _ s e h k = h
 
--- of every command at most one refusal is true
-refusal-one : (c : Command) (held : Holding) (e e' : Refusal) → Refuses c held e → Refuses c held e' → e ≡ e'
-refusal-one (Compile source object) held e e' h k = file-one held source source_limit CompileRefuses e e' (λ b. compile-one b e e') h k
-refusal-one (Run object memory steps) held e e' h k = both-one held object object_limit memory RunRefuses e e' (λ b t. runs-one b t e e') h k
-refusal-one (Exec source memory calls) held e e' h k = both-one held source source_limit memory ExecRefuses e e' (λ b t. exec-one b t e e') h k
-refusal-one (Asm input object) held e e' h k = file-one held input assembly_limit AsmRefuses e e' (λ b. assembly-one b e e') h k
-refusal-one (Dis object) held e e' h k = file-one held object object_limit IsBadObjectFor e e' (λ b. bad-one b e e') h k
-refusal-one (Lint object) held e e' h k = file-one held object object_limit LintRefuses e e' (λ b. lint-one b e e') h k
-refusal-one (Check report) held e e' h k = file-one held report report_limit CheckRefuses e e' (λ b. check-one b e e') h k
+-- what it makes, with this status
+pub can-one : (c : Command) (bs : List (List ℕ)) (s s' : Status) (fs : List File) (t : List ℕ) → Makes c bs s fs t → CanMake c bs s' → s ≡ s'
+can-one (Compile source object) (b ∷ []) s s' fs t h k = h.done ∙ sym k.0
+can-one (Asm input object) (b ∷ []) s s' fs t h k = h.done ∙ sym k.0
+can-one _ _ s s' fs t h k = absurd k
 
--- and none where it ends
-shows-good : (c : Command) (held : Holding) (s : Status) (t : List ℕ) (e : Refusal) → Shows c held s t → Refuses c held e → ⊥
-shows-good (Compile source object) held s t e h k = h
-shows-good (Run object memory steps) held s t e h k =
-    both-good held object object_limit memory RunRefuses (λ (b m : List ℕ). IsRun b m steps s t) e (λ b m r. run-good b m e steps s t r) h k
-shows-good (Exec source memory calls) held s t e h k =
-    both-good held source source_limit memory ExecRefuses (λ (b m : List ℕ). IsExecuted b m calls s t) e (λ b m r. exec-good b m e calls s t r) h k
-shows-good (Asm input object) held s t e h k = h
-shows-good (Dis object) held s t e h k =
-    file-good held object object_limit IsBadObjectFor (λ (b : List ℕ). IsListed b s t) e (λ b l r. bad-good b e l.c l.object r) h k
-shows-good (Lint object) held s t e h k =
-    file-good held object object_limit LintRefuses (λ (b : List ℕ). IsLinted b s t) e (λ b l r. lint-good b e l.c l.object l.lawful r) h k
-shows-good (Check report) held s t e h k =
-    file-good held report report_limit CheckRefuses (λ (b : List ℕ). IsChecked b s t) e (λ b l r. check-good b s t e l r) h k
+no-file : (f : File) → [] ≡ f ∷ [] → ⊥
+no-file f e = cc
 
-makes-good : (c : Command) (old new : Holding) (s : Status) (t : List ℕ) (e : Refusal) → Makes c old new s t → Refuses c old e → ⊥
-makes-good (Compile source object) old new s t e (inl h) k =
-    let done = h.1 in
-    let good : FileHas old source source_limit HasProgram = (done.text, done.loaded, record { program = done.compiled.program; is_source = done.compiled.is_source; first_form = done.compiled.first_form }) in
-    file-good old source source_limit CompileRefuses HasProgram e (λ b p r. compile-good b e p r) good k
-makes-good (Compile source object) old new s t e (inr h) k =
-    file-good old source source_limit CompileRefuses HasProgram e (λ b p r. compile-good b e p r) h.2 k
-makes-good (Run object memory steps) old new s t e h k = h
-makes-good (Exec source memory calls) old new s t e h k = h
-makes-good (Asm input object) old new s t e (inl h) k =
-    let done = h.1 in
-    let good : FileHas old input assembly_limit HasAssembly = (done.text, done.loaded, record { c = done.assembled.c; code = done.assembled.code }) in
-    file-good old input assembly_limit AsmRefuses HasAssembly e (λ b p r. assembly-good b e p.c p.code r) good k
-makes-good (Asm input object) old new s t e (inr h) k =
-    file-good old input assembly_limit AsmRefuses HasAssembly e (λ b p r. assembly-good b e p.c p.code r) h.2 k
-makes-good (Dis object) old new s t e h k = h
-makes-good (Lint object) old new s t e h k = h
-makes-good (Check report) old new s t e h k = h
+-- what is shown is one
+pub shows-one : (c : Command) (bs : List (List ℕ)) (s s' : Status) (fs : List File) (t t' : List ℕ) → Makes c bs s fs t → Makes c bs s' [] t' → (s ≡ s') × (t ≡ t')
+shows-one (Compile source object) (b ∷ []) s s' fs t t' h k = absurd (no-file (file object k.object) k.saves)
+shows-one (Run object memory steps) (b ∷ g ∷ []) s s' fs t t' h k = run-one b g steps s s' t t' h.1 k.1
+shows-one (Exec source memory calls) (b ∷ g ∷ []) s s' fs t t' h k = executed-one b g calls s s' t t' h.1 k.1
+shows-one (Asm input object) (b ∷ []) s s' fs t t' h k = absurd (no-file (file object k.object) k.saves)
+shows-one (Dis object) (b ∷ []) s s' fs t t' h k = listed-one b s s' t t' h.1 k.1
+shows-one (Lint object) (b ∷ []) s s' fs t t' h k = linted-one b s s' t t' h.1 k.1
+shows-one (Check report) (b ∷ []) s s' fs t t' h k = checked-one b s s' t t' h.1 k.1
+shows-one _ _ s s' fs t t' h k = absurd h
 
--- what a command shows is one
-shows-one : (c : Command) (held : Holding) (s s' : Status) (t t' : List ℕ) → Shows c held s t → Shows c held s' t' → (s ≡ s') × (t ≡ t')
-shows-one (Compile source object) held s s' t t' h k = absurd h
-shows-one (Run object memory steps) held s s' t t' h k =
-    both-shown held object object_limit memory (λ (b m : List ℕ) (x : Status) (y : List ℕ). IsRun b m steps x y) s s' t t' (λ b m. run-one b m steps s s' t t') h k
-shows-one (Exec source memory calls) held s s' t t' h k =
-    both-shown held source source_limit memory (λ (b m : List ℕ) (x : Status) (y : List ℕ). IsExecuted b m calls x y) s s' t t' (λ b m. executed-one b m calls s s' t t') h k
-shows-one (Asm input object) held s s' t t' h k = absurd h
-shows-one (Dis object) held s s' t t' h k =
-    let same = loaded-one held object object_limit h.0 k.0 h.1 k.1 in
-    listed-one k.0 s s' t t' (subst (λ (b : List ℕ). IsListed b s t) same h.2) k.2
-shows-one (Lint object) held s s' t t' h k =
-    let same = loaded-one held object object_limit h.0 k.0 h.1 k.1 in
-    linted-one k.0 s s' t t' (subst (λ (b : List ℕ). IsLinted b s t) same h.2) k.2
-shows-one (Check report) held s s' t t' h k =
-    let same = loaded-one held report report_limit h.0 k.0 h.1 k.1 in
-    checked-one k.0 s s' t t' (subst (λ (b : List ℕ). IsChecked b s t) same h.2) k.2
+-- the statuses of what is made
+outcome-is : (o : Outcome) → IsOutcome (outcome_status o)
+outcome-is (outcome.Ended ws) = tt
+outcome-is (outcome.Raised k ws) = tt
+outcome-is (outcome.Fault m a) = tt
+outcome-is outcome.Going = tt
 
-makes-shows_none : (c : Command) (old new : Holding) (s s' : Status) (t t' : List ℕ) → Makes c old new s t → Shows c old s' t' → ⊥
-makes-shows_none (Compile source object) old new s s' t t' h k = k
-makes-shows_none (Run object memory steps) old new s s' t t' h k = h
-makes-shows_none (Exec source memory calls) old new s s' t t' h k = h
-makes-shows_none (Asm input object) old new s s' t t' h k = k
-makes-shows_none (Dis object) old new s s' t t' h k = h
-makes-shows_none (Lint object) old new s s' t t' h k = h
-makes-shows_none (Check report) old new s s' t t' h k = h
+pub makes-outcome : (c : Command) (bs : List (List ℕ)) (s : Status) (fs : List File) (t : List ℕ) → Makes c bs s fs t → IsOutcome s
+makes-outcome (Compile source object) (b ∷ []) s fs t h = subst IsOutcome (sym h.done) tt
+makes-outcome (Run object memory steps) (b ∷ g ∷ []) s fs t h = subst IsOutcome (sym h.1.ends) (outcome-is (engine h.1.c h.1.arguments spill_base h.1.packet steps).outcome)
+makes-outcome (Exec source memory calls) (b ∷ g ∷ []) s fs t h = subst IsOutcome (sym h.1.ends) (outcome-is (meaning h.1.program h.1.arguments h.1.packet calls).outcome)
+makes-outcome (Asm input object) (b ∷ []) s fs t h = subst IsOutcome (sym h.done) tt
+makes-outcome (Dis object) (b ∷ []) s fs t h = subst IsOutcome (sym h.1.done) tt
+makes-outcome (Lint object) (b ∷ []) s fs t h = subst IsOutcome (sym h.1.done) tt
+makes-outcome (Check report) (b ∷ []) s fs t h = subst IsOutcome (sym h.1.done) tt
+makes-outcome _ _ s fs t h = absurd h
 
--- refusals without a cause in the files have free statuses
-uncaused-free : (e : Refusal) → IsUncaused e → IsFree (refusal_status e)
-uncaused-free NoMemory h = inr (inr refl)
-uncaused-free (ReadFault name) h = inl refl
-uncaused-free _ h = absurd h
+-- a file is saved only by what is done
+pub makes-kept : (c : Command) (bs : List (List ℕ)) (s : Status) (fs : List File) (t : List ℕ) → Makes c bs s fs t → (s ≡ Done) ⊎ (fs ≡ [])
+makes-kept (Compile source object) (b ∷ []) s fs t h = inl h.done
+makes-kept (Run object memory steps) (b ∷ g ∷ []) s fs t h = inr h.0
+makes-kept (Exec source memory calls) (b ∷ g ∷ []) s fs t h = inr h.0
+makes-kept (Asm input object) (b ∷ []) s fs t h = inl h.done
+makes-kept (Dis object) (b ∷ []) s fs t h = inr h.0
+makes-kept (Lint object) (b ∷ []) s fs t h = inr h.0
+makes-kept (Check report) (b ∷ []) s fs t h = inr h.0
+makes-kept _ _ s fs t h = absurd h
 
--- where a refusal is true, an answer that isn't free has it
-pub refused-only : (c : Command) (old new : Holding) (s : Status) (t : List ℕ) (e : Refusal) → Answers c old new s t → Refuses c old e
-    → IsFree s ⊎ ((s ≡ refusal_status e) × (t ≡ refusal_text e))
-refused-only c old new s t e (inl h) k = absurd (shows-good c old s t e h k)
-refused-only c old new s t e (inr (inl h)) k = absurd (makes-good c old new s t e h k)
-refused-only c old new s t e (inr (inr h)) k = elim h.cause [
-  | inl u ↦ inl (subst IsFree (sym h.status_is) (uncaused-free h.why u))
-  | inr r ↦
-      let same = refusal-one c old h.why e r k in
-      inr (h.status_is ∙ ap refusal_status same, h.text_is ∙ ap refusal_text same)
-]
+-- contents are never why an input couldn't be read
+abbrev pub IsFault : Refusal → Type 0
+IsFault (ReadFault name) = Unit {0}
+IsFault _ = ⊥
 
--- where a command shows something, an answer that isn't free has it
-pub shown-only : (c : Command) (old new : Holding) (s s' : Status) (t t' : List ℕ) → Answers c old new s t → Shows c old s' t'
-    → IsFree s ⊎ ((s ≡ s') × (t ≡ t'))
-shown-only c old new s s' t t' (inl h) k = inr (shows-one c old s s' t t' h k)
-shown-only c old new s s' t t' (inr (inl h)) k = absurd (makes-shows_none c old new s s' t t' h k)
-shown-only c old new s s' t t' (inr (inr h)) k = elim h.cause [
-  | inl u ↦ inl (subst IsFree (sym h.status_is) (uncaused-free h.why u))
-  | inr r ↦ absurd (shows-good c old s' t' h.why k r)
-]
+lint-unread : (b : List ℕ) (e : Refusal) → IsFault e → LintRefuses b e → ⊥
+lint-unread b (ReadFault name) f (inl h) = h
+lint-unread b (ReadFault name) f (inr h) = h.2
+lint-unread b _ f h = absurd f
+
+unbuilt-unread : (e : Refusal) → IsFault e → e ≡ Unbuilt → ⊥
+unbuilt-unread e f is = subst IsFault is f
+
+pub refuses-unread : (e : Refusal) (c : Command) (bs : List (List ℕ)) → IsFault e → Refuses c bs e → ⊥
+refuses-unread (ReadFault name) (Compile source object) (b ∷ []) f (inl h) = h
+refuses-unread (ReadFault name) (Compile source object) (b ∷ []) f (inr h) = unbuilt-unread (ReadFault name) tt h.0
+refuses-unread (ReadFault name) (Run object memory steps) (b ∷ g ∷ []) f (inl h) = lint-unread b (ReadFault name) tt h
+refuses-unread (ReadFault name) (Run object memory steps) (b ∷ g ∷ []) f (inr h) = h.2.1
+refuses-unread (ReadFault name) (Exec source memory calls) (b ∷ g ∷ []) f (inl h) = h
+refuses-unread (ReadFault name) (Exec source memory calls) (b ∷ g ∷ []) f (inr h) = h.2
+refuses-unread (ReadFault name) (Asm input object) (b ∷ []) f h = h
+refuses-unread (ReadFault name) (Dis object) (b ∷ []) f h = h
+refuses-unread (ReadFault name) (Lint object) (b ∷ []) f h = lint-unread b (ReadFault name) tt h
+refuses-unread (ReadFault name) (Check report) (b ∷ []) f h = h
+refuses-unread (ReadFault name) _ _ f h = h
+refuses-unread _ c bs f h = absurd f

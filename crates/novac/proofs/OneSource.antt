@@ -9,10 +9,11 @@ use Rattle.nova_front.specs.declared.error.FrontError.{FrontError}
 use Rattle.nova_front.specs.declared.error.FrontError.TheVariants as front
 use Rattle.nova_front.proofs.OneSource.{source-program, cause-one, cause-none}
 use Rattle.novac.specs.FirstForm.{HasFirstForm}
-use Rattle.novac.specs.Headline.{HasProgram, CompileRefuses}
+use Rattle.novac.specs.Headline.{HasProgram, IsUnbuilt, CompileRefuses}
 use Rattle.novac.specs.Lines.{IsUncaused}
 use Rattle.novac.specs.Reading.{SourceRefuses}
-use Rattle.novac.specs.Building.{IsCaused, IsFaulty, IsToldAs, IsPassedAs}
+use Rattle.novac.specs.Building.{IsFirstCause}
+use Rattle.novac.specs.inner.Telling.{IsFaulty, IsToldAs, IsPassedAs}
 use Rattle.novac.specs.declared.build.FirstError.{FirstError}
 use Rattle.novac.specs.declared.build.FirstError.TheVariants as first
 use Rattle.novac.specs.declared.refusal.Refusal.{Refusal}
@@ -87,15 +88,20 @@ pass-faulty bytes (first.Fault kind place) e h is = inr (subst (SourceRefuses by
 pass-faulty bytes (first.TooLarge size) e h is = inr (subst (SourceRefuses bytes) (sym is) h)
 pass-faulty bytes first.Unbuilt e h is = absurd h
 
-compile-refuses : (bytes : List ℕ) (e : Refusal) → IsUncaused e ⊎ SourceRefuses bytes e → IsUncaused e ⊎ CompileRefuses bytes e
-compile-refuses bytes e (inl u) = inl u
-compile-refuses bytes e (inr h) = inr (inl h)
-
-pub pass-error : (bytes : List ℕ) (error : FirstError) (e : Refusal) → IsCaused bytes error → IsToldAs error e → IsUncaused e ⊎ CompileRefuses bytes e
-pass-error bytes error e (inl h) is = compile-refuses bytes e (pass-faulty bytes error e h is)
-pass-error bytes error e (inr h) is =
-    let told : e ≡ Unbuilt = subst (λ (x : FirstError). IsToldAs x e) h.0 is in
-    inr (inr (told, h.1))
+pub pass-error : (bytes : List ℕ) (error : FirstError) (e : Refusal) → (error ≡ first.NoMemory) ⊎ IsFirstCause bytes error → IsToldAs error e → IsUncaused e ⊎ CompileRefuses bytes e
+pass-error bytes error e (inl none) is =
+    let told : e ≡ NoMemory = subst (λ (x : FirstError). IsToldAs x e) none is in
+    inl (subst IsUncaused (sym told) tt)
+pass-error bytes first.NoMemory e (inr h) is = absurd h
+pass-error bytes (first.Text text.NoMemory) e (inr h) is = absurd h
+pass-error bytes (first.Text (text.Char at)) e (inr h) is = inr (inl (subst (SourceRefuses bytes) (sym is) h))
+pass-error bytes (first.Text (text.Number at)) e (inr h) is = inr (inl (subst (SourceRefuses bytes) (sym is) h))
+pass-error bytes (first.Text (text.Name at)) e (inr h) is = inr (inl (subst (SourceRefuses bytes) (sym is) h))
+pass-error bytes (first.Text (text.Syntax at)) e (inr h) is = inr (inl (subst (SourceRefuses bytes) (sym is) h))
+pass-error bytes (first.Text (text.Deep at)) e (inr h) is = inr (inl (subst (SourceRefuses bytes) (sym is) h))
+pass-error bytes (first.Fault kind place) e (inr h) is = inr (inl (subst (SourceRefuses bytes) (sym is) h))
+pass-error bytes (first.TooLarge size) e (inr h) is = inr (inl (subst (SourceRefuses bytes) (sym is) h))
+pass-error bytes first.Unbuilt e (inr h) is = inr (inr (is, h))
 
 text-caused : (f : TextError) → front.Text f ≡ front.NoMemory → ⊥
 text-caused f h = cc
@@ -115,3 +121,52 @@ pass-front bytes (front.Fault kind place) e (inr h) is = subst (IsFaulty bytes) 
 pass-front bytes (front.Fault kind place) e (inl h) is = absurd (fault-caused kind place h)
 pass-front bytes (front.TooLarge size) e (inr h) is = subst (IsFaulty bytes) (sym is) h
 pass-front bytes (front.TooLarge size) e (inl h) is = absurd (size-caused size h)
+
+-- why a text has no code is one reason, and none where it has code
+passed : FrontError → FirstError
+passed front.NoMemory = first.NoMemory
+passed (front.Text f) = first.Text f
+passed (front.Fault kind place) = first.Fault kind place
+passed (front.TooLarge size) = first.TooLarge size
+
+first-why : (bytes : List ℕ) (e : FirstError) → IsFirstCause bytes e → ((f : FrontError) × IsCause bytes f × (e ≡ passed f)) ⊎ ((e ≡ first.Unbuilt) × IsUnbuilt bytes)
+unfolding passed
+first-why bytes first.NoMemory h = absurd h
+first-why bytes (first.Text f) h = inl (front.Text f, h, refl)
+first-why bytes (first.Fault kind place) h = inl (front.Fault kind place, h, refl)
+first-why bytes (first.TooLarge size) h = inl (front.TooLarge size, h, refl)
+first-why bytes first.Unbuilt h = inr (refl, h)
+
+pub first-one : (bytes : List ℕ) (e e' : FirstError) → IsFirstCause bytes e → IsFirstCause bytes e' → e ≡ e'
+first-one bytes e e' h k = elim (first-why bytes e h) [
+  | inl a ↦
+      elim (first-why bytes e' k) [
+        | inl b ↦ a.2 ∙ ap passed (cause-one bytes a.0 b.0 a.1 b.1) ∙ sym b.2
+        | inr b ↦ absurd (cause-none bytes a.0 b.1.program b.1.is_source a.1)
+      ]
+  | inr a ↦
+      elim (first-why bytes e' k) [
+        | inl b ↦ absurd (cause-none bytes b.0 a.1.program a.1.is_source b.1)
+        | inr b ↦ a.0 ∙ sym b.0
+      ]
+]
+
+pub first-good : (bytes : List ℕ) (p : ProgramTree) (e : FirstError) → IsTypedSource bytes p → HasFirstForm p → IsFirstCause bytes e → ⊥
+first-good bytes p e s form h = elim (first-why bytes e h) [
+  | inl a ↦ cause-none bytes a.0 p s a.1
+  | inr a ↦
+      let same = source-program bytes p a.1.program s.is_source a.1.is_source.is_source in
+      a.1.other_form (subst HasFirstForm same form)
+]
+
+-- so the answer is this program, or this reason
+pub only-program : (bytes : List ℕ) (found p : ProgramTree) → IsTypedSource bytes found → IsTypedSource bytes p → found ≡ p
+only-program bytes found p s r = source-program bytes found p s.is_source r.is_source
+
+pub only-want : (bytes : List ℕ) (p : ProgramTree) (e : FirstError) → IsTypedSource bytes p → HasFirstForm p → (e ≡ first.NoMemory) ⊎ IsFirstCause bytes e → e ≡ first.NoMemory
+only-want bytes p e s form (inl none) = none
+only-want bytes p e s form (inr h) = absurd (first-good bytes p e s form h)
+
+pub only-cause : (bytes : List ℕ) (f e : FirstError) → IsFirstCause bytes f → (e ≡ first.NoMemory) ⊎ IsFirstCause bytes e → (e ≡ first.NoMemory) ⊎ (e ≡ f)
+only-cause bytes f e h (inl none) = inl none
+only-cause bytes f e h (inr k) = inr (first-one bytes e f k h)

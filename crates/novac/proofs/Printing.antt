@@ -1,41 +1,62 @@
 -- From what a command answers to what was printed.
 use Rattle.std.proofs.Common.{◌≡◌, ◌≢◌, ℕ, ◌⊎◌, inl, inr, List, [], ◌++◌, Option, Some, None, refl, ap, sym, ◌∙◌, subst}
+use Rattle.std.specs.Prelude.{⊤}
 use Rattle.std.proofs.lemmas.List.{append-nil}
 use Rattle.nv_outside.specs.Holding.{Holding, AppendsFront}
-use Rattle.novac.specs.Answers.{Shows, Refuses, Answers, IsPrinted, IsBegun, IsFree, IsOnly}
-use Rattle.novac.specs.Command.{Command, Compile, Run, Exec, Asm, Dis, Lint, Check, IfCommand, IfCompile, ForCommand, SomeFile, inputs_of, outputs_of}
+use Rattle.novac.specs.Answers.{Makes, CanMake, Refuses, Shows, IsMakeable, IsRefusable, IsCaused, IsDone, IsStopped, IsRefused, Ends, IsPrinted, IsBegun, IsFree, IsOnly}
+use Rattle.novac.specs.Command.{Command, Compile, Run, Exec, Asm, Dis, Lint, Check, IfCommand, IfCompile, ForCommand, SomeFile, outputs_of}
 use Rattle.novac.specs.Headline.{IsCompiled}
-use Rattle.novac.specs.Lines.{refusal_status, refusal_text, cannot_read, cannot_write}
+use Rattle.novac.specs.Lines.{IsUncaused, refusal_status, refusal_text, cannot_read, cannot_write}
+use Rattle.novac.specs.Loading.{Input, AreRead, StopsAt, IsUnread, inputs_of}
+use Rattle.novac.specs.Saving.{File, AreSaved, IsCut, IsSameBut}
+use Rattle.novac.specs.Status.{MaySave}
+use Rattle.novac.specs.inner.Replies.{IsOutcome, HasEnded}
 use Rattle.novac.specs.declared.refusal.Refusal.{Refusal}
 use Rattle.novac.specs.declared.refusal.Refusal.TheVariants.{NoMemory, ReadFault, TooLarge, SourceChar, SourceNumber, SourceName, SourceSyntax, SourceDeep, SourceType, SourceLarge, Syntax, Label, BadObject, BadMemoryText, BadReport, FalseReport, Unlawful, UnlawfulLine, Unbuilt}
 use Rattle.novac.specs.declared.status.Status.{Status}
 use Rattle.novac.specs.declared.status.Status.TheVariants as status
-use Rattle.novac.proofs.OneAnswer.{refused-only, shown-only}
+use Rattle.novac.proofs.Inputs.{contents-one, stopped-read, stops-both, stops-map, unread-long, unread-one, none-long, Never}
+use Rattle.novac.proofs.OneAnswer.{IsFault, refusal-one, makes-good, can-good, can-one, shows-one, makes-outcome, makes-kept, refuses-unread}
+use Rattle.novac.proofs.Saves.{cut-output, same-all, nothing-saved, saved-elsewhere, cut-elsewhere, done-compiled}
 
-pub not-done : (e : Refusal) → refusal_status e ≡ status.Done → ⊥
-not-done NoMemory h = cc
-not-done (ReadFault name) h = cc
-not-done (TooLarge n) h = cc
-not-done (SourceChar n) h = cc
-not-done (SourceNumber n) h = cc
-not-done (SourceName n) h = cc
-not-done (SourceSyntax n) h = cc
-not-done (SourceDeep n) h = cc
-not-done (SourceType k s) h = cc
-not-done (SourceLarge n) h = cc
-not-done (Syntax n) h = cc
-not-done (Label n) h = cc
-not-done (BadObject n) h = cc
-not-done (BadMemoryText n) h = cc
-not-done (BadReport n) h = cc
-not-done FalseReport h = cc
-not-done (Unlawful p r) h = cc
-not-done (UnlawfulLine p r) h = cc
-not-done Unbuilt h = cc
+-- the statuses of refusals
+abbrev pub IsRefusal : Status → Type 0
+IsRefusal status.Done = ⊥
+IsRefusal status.Usage = ⊥
+IsRefusal status.WriteFault = ⊥
+IsRefusal _ = Unit {0}
+
+pub refusal-is : (e : Refusal) → IsRefusal (refusal_status e)
+refusal-is NoMemory = tt
+refusal-is (ReadFault name) = tt
+refusal-is (TooLarge n) = tt
+refusal-is (SourceChar n) = tt
+refusal-is (SourceNumber n) = tt
+refusal-is (SourceName n) = tt
+refusal-is (SourceSyntax n) = tt
+refusal-is (SourceDeep n) = tt
+refusal-is (SourceType k s) = tt
+refusal-is (SourceLarge n) = tt
+refusal-is (Syntax n) = tt
+refusal-is (Label n) = tt
+refusal-is (BadObject n) = tt
+refusal-is (BadMemoryText n) = tt
+refusal-is (BadReport n) = tt
+refusal-is FalseReport = tt
+refusal-is (Unlawful p r) = tt
+refusal-is (UnlawfulLine p r) = tt
+refusal-is Unbuilt = tt
 
 -- the sink failed, or the status r of the whole call is that of the command, and its text was printed
 abbrev pub IsTold : Status → Status → List ℕ → List ℕ → List ℕ → Type 0 → Type 0 → Type 0
 IsTold s r text before after T Failed = ((r ≡ status.WriteFault) × Failed) ⊎ ((r ≡ s) × (T → after ≡ before ++ text))
+
+-- statuses that no such end has
+done-outcome : (T : Type 0) (old new : Holding) (c : Command) (s : Status) (t : List ℕ) → IsDone T old new c s t → IsOutcome s
+done-outcome T old new c s t h = makes-outcome c h.contents s h.files t h.makes
+
+refused-is : (T : Type 0) (old new : Holding) (R : List ℕ → Type 0) (c : Command) (s : Status) (t : List ℕ) → IsRefused T old new R c s t → IsRefusal s
+refused-is T old new R c s t h = subst IsRefusal (sym h.status_is) (refusal-is h.why)
 
 done-not_fault : (r : Status) → r ≡ status.Done → r ≡ status.WriteFault → ⊥
 done-not_fault r d w = let e : status.Done ≡ status.WriteFault = sym d ∙ w in cc
@@ -43,75 +64,121 @@ done-not_fault r d w = let e : status.Done ≡ status.WriteFault = sym d ∙ w i
 read-not_write : (r : Status) → r ≡ status.ReadFault → r ≡ status.WriteFault → ⊥
 read-not_write r d w = let e : status.ReadFault ≡ status.WriteFault = sym d ∙ w in cc
 
-done-compiled : (old new : Holding) (s r : Status) (text before after : List ℕ) (T : Type 0) → (r ≡ s) → (T → after ≡ before ++ text) → (source object : List ℕ) → Answers (Compile source object) old new s text → r ≡ status.Done
-    → (line : List ℕ) × IsCompiled old new source object line × (T → after ≡ before ++ line)
-done-compiled old new s r text before after T same written source object (inl a) d = absurd a
-done-compiled old new s r text before after T same written source object (inr (inl (inl a))) d = (text, a.1, written)
-done-compiled old new s r text before after T same written source object (inr (inl (inr a))) d = absurd (done-not_fault r d (same ∙ a.0))
-done-compiled old new s r text before after T same written source object (inr (inr a)) d = absurd (not-done a.why (sym a.status_is ∙ (sym same ∙ d)))
+usage-not_read : (r : Status) → r ≡ status.Usage → r ≡ status.ReadFault → ⊥
+usage-not_read r d w = let e : status.Usage ≡ status.ReadFault = sym d ∙ w in cc
 
-pub compiled : (old new : Holding) (s r : Status) (text before after : List ℕ) (T Failed : Type 0) → IsTold s r text before after T Failed
-    → (o : Option Command) → IfCommand o (λ c. Answers c old new s text) → r ≡ status.Done
+usage-not_write : (r : Status) → r ≡ status.Usage → r ≡ status.WriteFault → ⊥
+usage-not_write r d w = let e : status.Usage ≡ status.WriteFault = sym d ∙ w in cc
+
+-- the headline
+compiled-end : (T : Type 0) (old new : Holding) (LR SR : List ℕ → Type 0) (source object : List ℕ) (s : Status) (text : List ℕ) → T → s ≡ status.Done
+    → HasEnded T old new LR SR (Compile source object) s text → IsCompiled old new source object text
+compiled-end T old new LR SR source object s text t d (inl h) = done-compiled T old new source object s text t h
+compiled-end T old new LR SR source object s text t d (inr (inl w)) = absurd (done-not_fault s d w.0)
+compiled-end T old new LR SR source object s text t d (inr (inr h)) = absurd (subst IsRefusal d (refused-is T old new LR (Compile source object) s text h))
+
+pub compiled : (Tells : Type 0) (old new : Holding) (LR SR : List ℕ → Type 0) (s r : Status) (text before after : List ℕ) (T Failed : Type 0) → Tells → IsTold s r text before after T Failed
+    → (o : Option Command) → IfCommand o (λ c. HasEnded Tells old new LR SR c s text) → r ≡ status.Done
     → IfCompile o (λ source object. (line : List ℕ) × IsCompiled old new source object line × (T → after ≡ before ++ line))
-compiled old new s r text before after T Failed told None a d = tt
-compiled old new s r text before after T Failed told (Some (Run object memory steps)) a d = tt
-compiled old new s r text before after T Failed told (Some (Exec source memory calls)) a d = tt
-compiled old new s r text before after T Failed told (Some (Asm input object)) a d = tt
-compiled old new s r text before after T Failed told (Some (Dis object)) a d = tt
-compiled old new s r text before after T Failed told (Some (Lint object)) a d = tt
-compiled old new s r text before after T Failed told (Some (Check report)) a d = tt
-compiled old new s r text before after T Failed (inl w) (Some (Compile source object)) a d = absurd (done-not_fault r d w.0)
-compiled old new s r text before after T Failed (inr h) (Some (Compile source object)) a d = done-compiled old new s r text before after T h.0 h.1 source object a d
+compiled Tells old new LR SR s r text before after T Failed tells told None a d = tt
+compiled Tells old new LR SR s r text before after T Failed tells told (Some (Run object memory steps)) a d = tt
+compiled Tells old new LR SR s r text before after T Failed tells told (Some (Exec source memory calls)) a d = tt
+compiled Tells old new LR SR s r text before after T Failed tells told (Some (Asm input object)) a d = tt
+compiled Tells old new LR SR s r text before after T Failed tells told (Some (Dis object)) a d = tt
+compiled Tells old new LR SR s r text before after T Failed tells told (Some (Lint object)) a d = tt
+compiled Tells old new LR SR s r text before after T Failed tells told (Some (Check report)) a d = tt
+compiled Tells old new LR SR s r text before after T Failed tells (inl w) (Some (Compile source object)) a d = absurd (done-not_fault r d w.0)
+compiled Tells old new LR SR s r text before after T Failed tells (inr h) (Some (Compile source object)) a d = (text, compiled-end Tells old new LR SR source object s text tells (sym h.0 ∙ d) a, h.1)
 
-pub printed : (old new : Holding) (s r : Status) (text before after : List ℕ) (T Failed : Type 0) → IsTold s r text before after T Failed
-    → (o : Option Command) → IfCommand o (λ c. Answers c old new s text) → r ≢ status.WriteFault → IfCommand o (λ c. IsPrinted c old new r T before after)
-printed old new s r text before after T Failed told None a ne = tt
-printed old new s r text before after T Failed (inl w) (Some c) a ne = absurd (ne w.0)
-printed old new s r text before after T Failed (inr h) (Some c) a ne = (text, subst (λ (x : Status). Answers c old new x text) (sym h.0) a, h.1)
+-- what was printed
+pub printed : (Tells : Type 0) (old new : Holding) (LR SR : List ℕ → Type 0) (s r : Status) (text before after : List ℕ) (T Failed : Type 0) → IsTold s r text before after T Failed
+    → (o : Option Command) → IfCommand o (λ c. HasEnded Tells old new LR SR c s text) → r ≢ status.WriteFault → IfCommand o (λ c. IsPrinted Tells old new LR c r T before after)
+printed Tells old new LR SR s r text before after T Failed told None a ne = tt
+printed Tells old new LR SR s r text before after T Failed (inl w) (Some c) a ne = absurd (ne w.0)
+printed Tells old new LR SR s r text before after T Failed (inr h) (Some c) (inl d) ne = (text, inl (subst (λ (x : Status). IsDone Tells old new c x text) (sym h.0) d), h.1)
+printed Tells old new LR SR s r text before after T Failed (inr h) (Some c) (inr (inl w)) ne = absurd (ne (h.0 ∙ w.0))
+printed Tells old new LR SR s r text before after T Failed (inr h) (Some c) (inr (inr e)) ne = (text, inr (subst (λ (x : Status). IsRefused Tells old new LR c x text) (sym h.0) e), h.1)
 
--- a write fault, or done, or nothing changed
-left : (s : Status) (old new : Holding) → (s ≢ status.Done → s ≢ status.WriteFault → new ≡ old) → (s ≡ status.WriteFault) ⊎ (s ≡ status.Done) ⊎ (new ≡ old)
-left status.Done old new kept = inr (inl refl)
-left status.WriteFault old new kept = inl refl
-left status.Usage old new kept = inr (inr (kept (λ e. cc) (λ e. cc)))
-left status.ReadFault old new kept = inr (inr (kept (λ e. cc) (λ e. cc)))
-left status.NoMemory old new kept = inr (inr (kept (λ e. cc) (λ e. cc)))
-left status.Syntax old new kept = inr (inr (kept (λ e. cc) (λ e. cc)))
-left status.TypeFault old new kept = inr (inr (kept (λ e. cc) (λ e. cc)))
-left status.TooLarge old new kept = inr (inr (kept (λ e. cc) (λ e. cc)))
-left status.BadObject old new kept = inr (inr (kept (λ e. cc) (λ e. cc)))
-left status.BadMemoryText old new kept = inr (inr (kept (λ e. cc) (λ e. cc)))
-left status.Raised old new kept = inr (inr (kept (λ e. cc) (λ e. cc)))
-left status.Fault old new kept = inr (inr (kept (λ e. cc) (λ e. cc)))
-left status.StepsSpent old new kept = inr (inr (kept (λ e. cc) (λ e. cc)))
-left status.CertificateRefused old new kept = inr (inr (kept (λ e. cc) (λ e. cc)))
-left status.Unlawful old new kept = inr (inr (kept (λ e. cc) (λ e. cc)))
-left status.Unbuilt old new kept = inr (inr (kept (λ e. cc) (λ e. cc)))
+-- where the whole call ended with a write fault
+begun-end : (Tells : Type 0) (old new : Holding) (LR SR : List ℕ → Type 0) (s r : Status) (text before after : List ℕ) (T Failed : Type 0) (c : Command) → IsTold s r text before after T Failed
+    → HasEnded Tells old new LR SR c s text → r ≡ status.WriteFault → IsStopped Tells old new SR c text ⊎ (Failed × ((x : Status) × Ends Tells old new LR c x text))
+begun-end Tells old new LR SR s r text before after T Failed c told (inr (inl w)) is = inl w.1
+begun-end Tells old new LR SR s r text before after T Failed c (inl w) (inl d) is = inr (w.1, (s, inl d))
+begun-end Tells old new LR SR s r text before after T Failed c (inl w) (inr (inr e)) is = inr (w.1, (s, inr e))
+begun-end Tells old new LR SR s r text before after T Failed c (inr h) (inl d) is = absurd (subst IsOutcome (sym h.0 ∙ is) (done-outcome Tells old new c s text d))
+begun-end Tells old new LR SR s r text before after T Failed c (inr h) (inr (inr e)) is = absurd (subst IsRefusal (sym h.0 ∙ is) (refused-is Tells old new LR c s text e))
 
--- the cause of a write fault
-begun-cause : (old new : Holding) (s r : Status) (text before after : List ℕ) (T Failed : Type 0) (Rises : List ℕ → Type 0) (files : List (List ℕ)) → IsTold s r text before after T Failed
-    → (s ≡ status.WriteFault → SomeFile files (λ file. Rises file × (text ≡ cannot_write file))) → (s ≢ status.Done → s ≢ status.WriteFault → new ≡ old) → r ≡ status.WriteFault
-    → ((s ≡ status.WriteFault) × SomeFile files Rises) ⊎ (Failed × ((s ≡ status.Done) ⊎ (new ≡ old)))
-begun-cause old new s r text before after T Failed Rises files (inl w) saves kept is = elim (left s old new kept) [
-  | inl f ↦ let some = saves f in inl (f, (some.0, some.1, some.2.0))
-  | inr k ↦ inr (w.1, k)
-]
-begun-cause old new s r text before after T Failed Rises files (inr h) saves kept is =
-    let f : s ≡ status.WriteFault = sym h.0 ∙ is in
-    let some = saves f in
-    inl (f, (some.0, some.1, some.2.0))
-
-pub begun : (old new : Holding) (s r : Status) (text before after : List ℕ) (T Failed : Type 0) (Rises : List ℕ → Type 0) → IsTold s r text before after T Failed → (T → AppendsFront before after text)
-    → (o : Option Command) → IfCommand o (λ c. Answers c old new s text) → (s ≡ status.WriteFault → ForCommand o (λ c. SomeFile (outputs_of c) (λ file. Rises file × (text ≡ cannot_write file))))
-    → (s ≢ status.Done → s ≢ status.WriteFault → new ≡ old) → r ≡ status.WriteFault → IfCommand o (λ c. IsBegun c old new Rises Failed T before after)
-begun old new s r text before after T Failed Rises told front None a saves kept is = tt
-begun old new s r text before after T Failed Rises told front (Some c) a saves kept is = record {
-  status = s;
+pub begun : (Tells : Type 0) (old new : Holding) (LR SR : List ℕ → Type 0) (s r : Status) (text before after : List ℕ) (T Failed : Type 0) → IsTold s r text before after T Failed → (T → AppendsFront before after text)
+    → (o : Option Command) → IfCommand o (λ c. HasEnded Tells old new LR SR c s text) → r ≡ status.WriteFault → IfCommand o (λ c. IsBegun Tells old new LR SR c Failed T before after)
+begun Tells old new LR SR s r text before after T Failed told front None a is = tt
+begun Tells old new LR SR s r text before after T Failed told front (Some c) a is = record {
   text = text;
-  answers = a;
-  cause = begun-cause old new s r text before after T Failed Rises (outputs_of c) told saves kept is;
+  cause = begun-end Tells old new LR SR s r text before after T Failed c told a is;
   front = front;
 }
+
+-- a refusal that is true is the one that was given, unless that is free
+same-cause : (T : Type 0) (old : Holding) (R : List ℕ → Type 0) (c : Command) (e e' : Refusal) → T → IsCaused T old R c e → IsRefusable c old e' → IsFree (refusal_status e) ⊎ (e ≡ e')
+same-cause T old R c e e' t (inl h) (inl k) =
+    stops-both T (IsFree (refusal_status e) ⊎ (e ≡ e')) old (inputs_of c) (IsUnread T old R e) (IsUnread ⊤ old Never e') t
+    (λ i u. elim (unread-long T old R e i t u) [
+      | inl f ↦ inl (inl f)
+      | inr l ↦ inr l
+    ]) (none-long old e') (unread-one T old R e e') h k
+same-cause T old R c e e' t (inl h) (inr k) = inl (stopped-read T ⊤ (IsFree (refusal_status e)) old (inputs_of c) k.0 (IsUnread T old R e) tt (λ i u. unread-long T old R e i t u) h k.1)
+same-cause T old R c e e' t (inr h) (inl k) = absurd (stopped-read ⊤ T ⊥ old (inputs_of c) h.0 (IsUnread ⊤ old Never e') t (λ i u. inr (none-long old e' i u)) k h.1)
+same-cause T old R c e e' t (inr h) (inr k) =
+    let same = contents-one T old (inputs_of c) h.0 k.0 t h.1 k.1 in
+    inr (refusal-one c k.0 e e' (subst (λ (x : List (List ℕ)). Refuses c x e) same h.2) k.2)
+
+uncaused-free : (e : Refusal) → IsUncaused e → IsFree (refusal_status e)
+uncaused-free NoMemory h = inr (inr refl)
+uncaused-free _ h = absurd h
+
+-- what was done isn't refused
+done-refusable : (T : Type 0) (old new : Holding) (c : Command) (s : Status) (t : List ℕ) (e : Refusal) → T → IsDone T old new c s t → IsRefusable c old e → ⊥
+done-refusable T old new c s t e tells h (inl k) = stopped-read ⊤ T ⊥ old (inputs_of c) h.contents (IsUnread ⊤ old Never e) tells (λ i u. inr (none-long old e i u)) k h.read
+done-refusable T old new c s t e tells h (inr k) =
+    let same = contents-one T old (inputs_of c) h.contents k.0 tells h.read k.1 in
+    makes-good c k.0 s h.files t e (subst (λ (x : List (List ℕ)). Makes c x s h.files t) same h.makes) k.2
+
+refused-only : (Tells : Type 0) (old new : Holding) (LR SR : List ℕ → Type 0) (c : Command) (s : Status) (t : List ℕ) (e : Refusal) → Tells → HasEnded Tells old new LR SR c s t → IsRefusable c old e
+    → IsFree s ⊎ ((s ≡ refusal_status e) × (t ≡ refusal_text e))
+refused-only Tells old new LR SR c s t e tells (inl h) k = absurd (done-refusable Tells old new c s t e tells h k)
+refused-only Tells old new LR SR c s t e tells (inr (inl h)) k = inl (inr (inl h.0))
+refused-only Tells old new LR SR c s t e tells (inr (inr h)) k = elim h.cause [
+  | inl u ↦ inl (subst IsFree (sym h.status_is) (uncaused-free h.why u))
+  | inr r ↦
+      elim (same-cause Tells old LR c h.why e tells r k) [
+        | inl f ↦ inl (subst IsFree (sym h.status_is) f)
+        | inr same ↦ inr (h.status_is ∙ ap refusal_status same, h.text_is ∙ ap refusal_text same)
+      ]
+]
+
+-- where all inputs are read and their contents aren't refused, a refusal is free
+good-free : (T : Type 0) (old : Holding) (R : List ℕ → Type 0) (c : Command) (e : Refusal) (bs : List (List ℕ)) → T → AreRead ⊤ old (inputs_of c) bs → (Refuses c bs e → ⊥) → IsUncaused e ⊎ IsCaused T old R c e → IsFree (refusal_status e)
+good-free T old R c e bs t read good (inl u) = uncaused-free e u
+good-free T old R c e bs t read good (inr (inl h)) = stopped-read T ⊤ (IsFree (refusal_status e)) old (inputs_of c) bs (IsUnread T old R e) tt (λ i u. unread-long T old R e i t u) h read
+good-free T old R c e bs t read good (inr (inr h)) =
+    let same = contents-one T old (inputs_of c) h.0 bs t h.1 read in
+    absurd (good (subst (λ (x : List (List ℕ)). Refuses c x e) same h.2))
+
+shown-only : (Tells : Type 0) (old new : Holding) (LR SR : List ℕ → Type 0) (c : Command) (s s' : Status) (t t' : List ℕ) → Tells → HasEnded Tells old new LR SR c s t → Shows c old s' t'
+    → IsFree s ⊎ ((s ≡ s') × (t ≡ t'))
+shown-only Tells old new LR SR c s s' t t' tells (inl h) k =
+    let same = contents-one Tells old (inputs_of c) h.contents k.0 tells h.read k.1 in
+    inr (shows-one c k.0 s s' h.files t t' (subst (λ (x : List (List ℕ)). Makes c x s h.files t) same h.makes) k.2)
+shown-only Tells old new LR SR c s s' t t' tells (inr (inl h)) k = inl (inr (inl h.0))
+shown-only Tells old new LR SR c s s' t t' tells (inr (inr h)) k =
+    inl (subst IsFree (sym h.status_is) (good-free Tells old LR c h.why k.0 tells k.1 (makes-good c k.0 s' [] t' h.why k.2) h.cause))
+
+made-only : (Tells : Type 0) (old new : Holding) (LR SR : List ℕ → Type 0) (c : Command) (s s' : Status) (t : List ℕ) → Tells → HasEnded Tells old new LR SR c s t → IsMakeable c old s' → IsFree s ⊎ (s ≡ s')
+made-only Tells old new LR SR c s s' t tells (inl h) k =
+    let same = contents-one Tells old (inputs_of c) h.contents k.0 tells h.read k.1 in
+    inr (can-one c k.0 s s' h.files t (subst (λ (x : List (List ℕ)). Makes c x s h.files t) same h.makes) k.2)
+made-only Tells old new LR SR c s s' t tells (inr (inl h)) k = inl (inr (inl h.0))
+made-only Tells old new LR SR c s s' t tells (inr (inr h)) k =
+    inl (subst IsFree (sym h.status_is) (good-free Tells old LR c h.why k.0 tells k.1 (can-good c k.0 s' h.why k.2) h.cause))
 
 -- the status and the text, from what they must be where they aren't free
 only : (s r want : Status) (text line before after : List ℕ) (T Failed : Type 0) → IsTold s r text before after T Failed
@@ -120,40 +187,123 @@ only s r want text line before after T Failed (inl w) a = inl (inr (inl w.0))
 only s r want text line before after T Failed (inr h) (inl free) = inl (subst IsFree (sym h.0) free)
 only s r want text line before after T Failed (inr h) (inr is) = inr (h.0 ∙ is.0, λ t. h.1 t ∙ ap (λ (x : List ℕ). before ++ x) is.1)
 
-pub only-refused : (old new : Holding) (s r : Status) (text before after : List ℕ) (T Failed : Type 0) → IsTold s r text before after T Failed
-    → (o : Option Command) → IfCommand o (λ c. Answers c old new s text)
-    → IfCommand o (λ c. (e : Refusal) → Refuses c old e → IsOnly r (refusal_status e) T before after (refusal_text e))
-only-refused old new s r text before after T Failed told None a = tt
-only-refused old new s r text before after T Failed told (Some c) a = λ e k.
-    only s r (refusal_status e) text (refusal_text e) before after T Failed told (refused-only c old new s text e a k)
+pub only-refused : (Tells : Type 0) (old new : Holding) (LR SR : List ℕ → Type 0) (s r : Status) (text before after : List ℕ) (T Failed : Type 0) → Tells → IsTold s r text before after T Failed
+    → (o : Option Command) → IfCommand o (λ c. HasEnded Tells old new LR SR c s text)
+    → IfCommand o (λ c. (e : Refusal) → IsRefusable c old e → IsOnly r (refusal_status e) T before after (refusal_text e))
+only-refused Tells old new LR SR s r text before after T Failed tells told None a = tt
+only-refused Tells old new LR SR s r text before after T Failed tells told (Some c) a = λ e k.
+    only s r (refusal_status e) text (refusal_text e) before after T Failed told (refused-only Tells old new LR SR c s text e tells a k)
 
-pub only-shown : (old new : Holding) (s r : Status) (text before after : List ℕ) (T Failed : Type 0) → IsTold s r text before after T Failed
-    → (o : Option Command) → IfCommand o (λ c. Answers c old new s text)
+pub only-shown : (Tells : Type 0) (old new : Holding) (LR SR : List ℕ → Type 0) (s r : Status) (text before after : List ℕ) (T Failed : Type 0) → Tells → IsTold s r text before after T Failed
+    → (o : Option Command) → IfCommand o (λ c. HasEnded Tells old new LR SR c s text)
     → IfCommand o (λ c. (s' : Status) (t' : List ℕ) → Shows c old s' t' → IsOnly r s' T before after t')
-only-shown old new s r text before after T Failed told None a = tt
-only-shown old new s r text before after T Failed told (Some c) a = λ s' t' k.
-    only s r s' text t' before after T Failed told (shown-only c old new s s' text t' a k)
+only-shown Tells old new LR SR s r text before after T Failed tells told None a = tt
+only-shown Tells old new LR SR s r text before after T Failed tells told (Some c) a = λ s' t' k.
+    only s r s' text t' before after T Failed told (shown-only Tells old new LR SR c s s' text t' tells a k)
 
-pub read-fault : (s r : Status) (text before after : List ℕ) (T Failed : Type 0) (Turns : Command → List ℕ → Type 0) (Rises : List ℕ → Type 0) → IsTold s r text before after T Failed
-    → (o : Option Command) → (s ≡ status.ReadFault → ForCommand o (λ c. SomeFile (inputs_of c) (λ file. Rises file × Turns c file × (text ≡ cannot_read file))))
-    → r ≡ status.ReadFault → ForCommand o (λ c. SomeFile (inputs_of c) (λ file. Rises file × Turns c file × (T → after ≡ before ++ cannot_read file)))
-read-fault s r text before after T Failed Turns Rises (inl w) o reads is = absurd (read-not_write r is w.0)
-read-fault s r text before after T Failed Turns Rises (inr h) None reads is = absurd (reads (sym h.0 ∙ is))
-read-fault s r text before after T Failed Turns Rises (inr h) (Some c) reads is =
-    let some = reads (sym h.0 ∙ is) in
-    (some.0, some.1, (some.2.0, some.2.1, λ t. h.1 t ∙ ap (λ (x : List ℕ). before ++ x) some.2.2))
+told-made : (s r want : Status) (text before after : List ℕ) (T Failed : Type 0) → IsTold s r text before after T Failed → IsFree s ⊎ (s ≡ want) → IsFree r ⊎ (r ≡ want)
+told-made s r want text before after T Failed (inl w) a = inl (inr (inl w.0))
+told-made s r want text before after T Failed (inr h) (inl free) = inl (subst IsFree (sym h.0) free)
+told-made s r want text before after T Failed (inr h) (inr is) = inr (h.0 ∙ is)
 
-pub write-fault : (s r : Status) (text before after : List ℕ) (T Failed : Type 0) (Rises : List ℕ → Type 0) → IsTold s r text before after T Failed
-    → (o : Option Command) → (s ≡ status.WriteFault → ForCommand o (λ c. SomeFile (outputs_of c) (λ file. Rises file × (text ≡ cannot_write file))))
-    → r ≡ status.WriteFault → Failed ⊎ ForCommand o (λ c. SomeFile (outputs_of c) (λ file. Rises file × (T → after ≡ before ++ cannot_write file)))
-write-fault s r text before after T Failed Rises (inl w) o saves is = inl w.1
-write-fault s r text before after T Failed Rises (inr h) None saves is = absurd (saves (sym h.0 ∙ is))
-write-fault s r text before after T Failed Rises (inr h) (Some c) saves is =
-    let some = saves (sym h.0 ∙ is) in
+pub only-made : (Tells : Type 0) (old new : Holding) (LR SR : List ℕ → Type 0) (s r : Status) (text before after : List ℕ) (T Failed : Type 0) → Tells → IsTold s r text before after T Failed
+    → (o : Option Command) → IfCommand o (λ c. HasEnded Tells old new LR SR c s text) → IfCommand o (λ c. (s' : Status) → IsMakeable c old s' → IsFree r ⊎ (r ≡ s'))
+only-made Tells old new LR SR s r text before after T Failed tells told None a = tt
+only-made Tells old new LR SR s r text before after T Failed tells told (Some c) a = λ s' k.
+    told-made s r s' text before after T Failed told (made-only Tells old new LR SR c s s' text tells a k)
+
+-- the cause of a read fault
+fault-input : (T : Type 0) (held : Holding) (R : List ℕ → Type 0) (c : Command) (e : Refusal) → refusal_status e ≡ status.ReadFault → IsUncaused e ⊎ IsCaused T held R c e
+    → StopsAt T held (inputs_of c) (λ i. R i.name × (refusal_text e ≡ cannot_read i.name))
+fault-input T held R c (ReadFault name) is (inl u) = absurd u
+fault-input T held R c (ReadFault name) is (inr (inl h)) =
+    stops-map T held (inputs_of c) (IsUnread T held R (ReadFault name)) (λ i. R i.name × (refusal_text (ReadFault name) ≡ cannot_read i.name)) (λ i u. (u.1, ap cannot_read u.0)) h
+fault-input T held R c (ReadFault name) is (inr (inr h)) = absurd (refuses-unread (ReadFault name) c h.0 tt h.2)
+fault-input T held R c NoMemory is h = absurd cc
+fault-input T held R c (TooLarge n) is h = absurd cc
+fault-input T held R c (SourceChar n) is h = absurd cc
+fault-input T held R c (SourceNumber n) is h = absurd cc
+fault-input T held R c (SourceName n) is h = absurd cc
+fault-input T held R c (SourceSyntax n) is h = absurd cc
+fault-input T held R c (SourceDeep n) is h = absurd cc
+fault-input T held R c (SourceType k s) is h = absurd cc
+fault-input T held R c (SourceLarge n) is h = absurd cc
+fault-input T held R c (Syntax n) is h = absurd cc
+fault-input T held R c (Label n) is h = absurd cc
+fault-input T held R c (BadObject n) is h = absurd cc
+fault-input T held R c (BadMemoryText n) is h = absurd cc
+fault-input T held R c (BadReport n) is h = absurd cc
+fault-input T held R c FalseReport is h = absurd cc
+fault-input T held R c (Unlawful p r) is h = absurd cc
+fault-input T held R c (UnlawfulLine p r) is h = absurd cc
+fault-input T held R c Unbuilt is h = absurd cc
+
+read-end : (Tells : Type 0) (old new : Holding) (LR SR : List ℕ → Type 0) (c : Command) (s : Status) (text : List ℕ) → s ≡ status.ReadFault → HasEnded Tells old new LR SR c s text
+    → StopsAt Tells old (inputs_of c) (λ i. LR i.name × (text ≡ cannot_read i.name))
+read-end Tells old new LR SR c s text is (inl h) = absurd (subst IsOutcome is (done-outcome Tells old new c s text h))
+read-end Tells old new LR SR c s text is (inr (inl h)) = absurd (read-not_write s is h.0)
+read-end Tells old new LR SR c s text is (inr (inr h)) =
+    stops-map Tells old (inputs_of c) (λ i. LR i.name × (refusal_text h.why ≡ cannot_read i.name)) (λ i. LR i.name × (text ≡ cannot_read i.name)) (λ i both. (both.0, h.text_is ∙ both.1))
+    (fault-input Tells old LR c h.why (sym h.status_is ∙ is) h.cause)
+
+pub read-fault : (Tells : Type 0) (old new : Holding) (LR SR : List ℕ → Type 0) (s r : Status) (text before after : List ℕ) (T Failed : Type 0) → IsTold s r text before after T Failed
+    → (o : Option Command) → (o ≡ None → s ≡ status.Usage) → IfCommand o (λ c. HasEnded Tells old new LR SR c s text)
+    → r ≡ status.ReadFault → ForCommand o (λ c. StopsAt Tells old (inputs_of c) (λ i. LR i.name × (T → after ≡ before ++ cannot_read i.name)))
+read-fault Tells old new LR SR s r text before after T Failed (inl w) o usage a is = absurd (read-not_write r is w.0)
+read-fault Tells old new LR SR s r text before after T Failed (inr h) None usage a is = absurd (usage-not_read s (usage refl) (sym h.0 ∙ is))
+read-fault Tells old new LR SR s r text before after T Failed (inr h) (Some c) usage a is =
+    stops-map Tells old (inputs_of c) (λ i. LR i.name × (text ≡ cannot_read i.name)) (λ i. LR i.name × (T → after ≡ before ++ cannot_read i.name))
+    (λ i both. (both.0, λ t. h.1 t ∙ ap (λ (x : List ℕ). before ++ x) both.1)) (read-end Tells old new LR SR c s text (sym h.0 ∙ is) a)
+
+-- and of a write fault
+write-end : (Tells : Type 0) (old new : Holding) (LR SR : List ℕ → Type 0) (c : Command) (s : Status) (text : List ℕ) → s ≡ status.WriteFault → HasEnded Tells old new LR SR c s text
+    → SomeFile (outputs_of c) (λ file. SR file × (text ≡ cannot_write file))
+write-end Tells old new LR SR c s text is (inl h) = absurd (subst IsOutcome is (done-outcome Tells old new c s text h))
+write-end Tells old new LR SR c s text is (inr (inl h)) =
+    cut-output Tells c h.1.contents h.1.made h.1.files h.1.line old new (λ file. SR file × (text ≡ cannot_write file)) h.1.makes h.1.cut
+write-end Tells old new LR SR c s text is (inr (inr h)) = absurd (subst IsRefusal is (refused-is Tells old new LR c s text h))
+
+pub write-fault : (Tells : Type 0) (old new : Holding) (LR SR : List ℕ → Type 0) (s r : Status) (text before after : List ℕ) (T Failed : Type 0) → IsTold s r text before after T Failed
+    → (o : Option Command) → (o ≡ None → s ≡ status.Usage) → IfCommand o (λ c. HasEnded Tells old new LR SR c s text)
+    → r ≡ status.WriteFault → Failed ⊎ ForCommand o (λ c. SomeFile (outputs_of c) (λ file. SR file × (T → after ≡ before ++ cannot_write file)))
+write-fault Tells old new LR SR s r text before after T Failed (inl w) o usage a is = inl w.1
+write-fault Tells old new LR SR s r text before after T Failed (inr h) None usage a is = absurd (usage-not_write s (usage refl) (sym h.0 ∙ is))
+write-fault Tells old new LR SR s r text before after T Failed (inr h) (Some c) usage a is =
+    let some = write-end Tells old new LR SR c s text (sym h.0 ∙ is) a in
     inr (some.0, some.1, (some.2.0, λ t. h.1 t ∙ ap (λ (x : List ℕ). before ++ x) some.2.1))
 
+-- what stays as it was
+kept-end : (Tells : Type 0) (old new : Holding) (LR SR : List ℕ → Type 0) (c : Command) (s : Status) (text : List ℕ) → Tells → (MaySave s → ⊥) → HasEnded Tells old new LR SR c s text → new ≡ old
+kept-end Tells old new LR SR c s text tells never (inl h) = elim (makes-kept c h.contents s h.files text h.makes) [
+  | inl d ↦ absurd (never (subst MaySave (sym d) tt))
+  | inr e ↦ nothing-saved h.files old new e (h.saved tells)
+]
+kept-end Tells old new LR SR c s text tells never (inr (inl h)) = absurd (never (subst MaySave (sym h.0) tt))
+kept-end Tells old new LR SR c s text tells never (inr (inr h)) = h.kept
+
+pub unchanged : (Tells : Type 0) (old new : Holding) (LR SR : List ℕ → Type 0) (s r : Status) (text before after : List ℕ) (T Failed : Type 0) → Tells → IsTold s r text before after T Failed
+    → (o : Option Command) → (o ≡ None → new ≡ old) → IfCommand o (λ c. HasEnded Tells old new LR SR c s text) → (MaySave r → ⊥) → new ≡ old
+unchanged Tells old new LR SR s r text before after T Failed tells (inl w) o none a never = absurd (never (subst MaySave (sym w.0) tt))
+unchanged Tells old new LR SR s r text before after T Failed tells (inr h) None none a never = none refl
+unchanged Tells old new LR SR s r text before after T Failed tells (inr h) (Some c) none a never = kept-end Tells old new LR SR c s text tells (λ m. never (subst MaySave (sym h.0) m)) a
+
+elsewhere-end : (Tells : Type 0) (old new : Holding) (LR SR : List ℕ → Type 0) (c : Command) (s : Status) (text : List ℕ) → Tells → HasEnded Tells old new LR SR c s text → IsSameBut (outputs_of c) old new
+elsewhere-end Tells old new LR SR c s text tells (inl h) = saved-elsewhere c h.contents s h.files text old new h.makes (h.saved tells)
+elsewhere-end Tells old new LR SR c s text tells (inr (inl h)) =
+    cut-elsewhere Tells c h.1.contents h.1.made h.1.files h.1.line old new (λ name. SR name × (text ≡ cannot_write name)) tells h.1.makes h.1.cut
+elsewhere-end Tells old new LR SR c s text tells (inr (inr h)) = same-all (outputs_of c) old new h.kept
+
+pub elsewhere : (Tells : Type 0) (old new : Holding) (LR SR : List ℕ → Type 0) (s : Status) (text : List ℕ) → Tells → (o : Option Command) → IfCommand o (λ c. HasEnded Tells old new LR SR c s text)
+    → IfCommand o (λ c. IsSameBut (outputs_of c) old new)
+elsewhere Tells old new LR SR s text tells None a = tt
+elsewhere Tells old new LR SR s text tells (Some c) a = elsewhere-end Tells old new LR SR c s text tells a
+
+pub all-same : (old new : Holding) (o : Option Command) → new ≡ old → IfCommand o (λ c. IsSameBut (outputs_of c) old new)
+all-same old new None e = tt
+all-same old new (Some c) e = same-all (outputs_of c) old new e
+
 -- want of memory prints nothing
-pub memory-printed : (old new : Holding) (before : List ℕ) (T : Type 0) (o : Option Command) → IfCommand o (λ c. IsPrinted c old new status.NoMemory T before before)
-memory-printed old new before T None = tt
-memory-printed old new before T (Some c) =
-    ([], inr (inr (record { why = NoMemory; cause = inl tt; in_turn = tt; status_is = refl; text_is = refl })), λ t. sym (append-nil before))
+pub memory-printed : (Tells : Type 0) (old new : Holding) (LR : List ℕ → Type 0) (before : List ℕ) (T : Type 0) (o : Option Command) → new ≡ old → IfCommand o (λ c. IsPrinted Tells old new LR c status.NoMemory T before before)
+memory-printed Tells old new LR before T None kept = tt
+memory-printed Tells old new LR before T (Some c) kept =
+    ([], inr (record { why = NoMemory; cause = inl tt; kept = kept; status_is = refl; text_is = refl }), λ t. sym (append-nil before))

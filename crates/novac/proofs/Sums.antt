@@ -15,7 +15,7 @@ use Rattle.uc_isa.specs.Step.{effect}
 use Rattle.uc_isa.specs.Straight.{Reaches, RunsTo, Stands}
 use Rattle.uc_isa.proofs.Runs.{reaches-one, reaches-then, step-fetched}
 use Rattle.uc_isa.proofs.Listing.{stands-left, stands-right, stands-fetched}
-use Rattle.novac.specs.Sum.{IsTermOf, term_word, word_with, term_code, plus_code}
+use Rattle.novac.specs.inner.Sum.{IsTermOf, term_word, word_with, term_code, plus_code}
 use Rattle.novac.specs.declared.sum.Term.{Term}
 use Rattle.novac.specs.declared.sum.Term.TheVariants.{Param, Number}
 

@@ -13,7 +13,8 @@ use Rattle.nv_meaning.specs.Values.{Value, Word, Scope, variable_in, named_value
 use Rattle.nv_meaning.specs.Running.{Running, Result, Gives, and_then, closed}
 use Rattle.nv_meaning.specs.Meaning.{Declared, Calls, binary, combined, calls_within, declared, eval, named_scope, source}
 use Rattle.novac.specs.FirstForm.{word_params, main_tree, IsAmong, AreDifferent, IsTerm, IsSum, IsFirst}
-use Rattle.novac.specs.Sum.{place_of, term_word, word_with, sum_word, sum_meaning, IsTermOf}
+use Rattle.novac.specs.FirstForm.{place_of}
+use Rattle.novac.specs.inner.Sum.{term_word, word_with, sum_word, sum_meaning, IsTermOf}
 use Rattle.novac.specs.declared.sum.Term.{Term}
 use Rattle.std.proofs.lemmas.List.{length-append}
 use Rattle.std.proofs.lemmas.List.Elements.{All-nil, All-cons, All-append}

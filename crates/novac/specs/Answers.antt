@@ -1,83 +1,107 @@
 -- The answers of the program.
-use Rattle.std.specs.Prelude.{◌≡◌, ◌⊎◌, ◌++◌, ℕ, List, Contains, ⊤}
+use Rattle.std.specs.Prelude.{◌≡◌, ◌⊎◌, ◌++◌, ℕ, List, [], ◌∷◌, ⊤}
 use Rattle.nv_outside.specs.Holding.{Holding, AppendsFront}
-use Rattle.novac.specs.Assembly.{AsmRefuses, HasAssembly, IsAssembled, IsListed, assembly_limit}
-use Rattle.novac.specs.Command.{Command, Compile, Run, Exec, Asm, Dis, Lint, Check, inputs_of, outputs_of, SomeFile}
-use Rattle.novac.specs.Checking.{CheckRefuses, IsChecked, report_limit}
+use Rattle.novac.specs.Assembly.{AsmMakes, AsmRefuses, HasAssembly, IsListed}
+use Rattle.novac.specs.Command.{Command, Compile, Run, Exec, Asm, Dis, Lint, Check}
+use Rattle.novac.specs.Checking.{CheckRefuses, IsChecked}
 use Rattle.novac.specs.Executing.{ExecRefuses, IsExecuted}
-use Rattle.novac.specs.Headline.{CompileRefuses, HasProgram, IsCompiled}
-use Rattle.novac.specs.Lines.{IsUncaused, IfReadFault, refusal_status, refusal_text, cannot_write}
-use Rattle.novac.specs.Loading.{IsWithin, FileHas, FileRefused}
-use Rattle.novac.specs.Machine.{IsBadObjectFor, LintRefuses, IsLinted, RunRefuses, IsRun, BothHave, BothRefused, object_limit}
-use Rattle.novac.specs.Reading.{source_limit}
+use Rattle.novac.specs.Headline.{CompileMakes, CompileRefuses, HasProgram}
+use Rattle.novac.specs.Lines.{IsUncaused, refusal_status, refusal_text, cannot_write}
+use Rattle.novac.specs.Loading.{AreRead, StopsAt, IsUnread, inputs_of}
+use Rattle.novac.specs.Machine.{IsBadObjectFor, LintRefuses, IsLinted, RunRefuses, IsRun}
+use Rattle.novac.specs.Saving.{File, AreSaved, IsCut}
 use Rattle.novac.specs.declared.refusal.Refusal.{Refusal}
 use Rattle.novac.specs.declared.status.Status.{Status}
 use Rattle.novac.specs.declared.status.Status.TheVariants.{Done, ReadFault, WriteFault, NoMemory}
 
--- what a command that saves nothing ends with, where it isn't refused
-abbrev pub Shows : Command → Holding → Status → List ℕ → Type 0
-Shows (Compile source object) held status text = ⊥
-Shows (Run object memory steps) held status text = BothHave held object object_limit memory (λ bytes given. IsRun bytes given steps status text)
-Shows (Exec source memory calls) held status text = BothHave held source source_limit memory (λ bytes given. IsExecuted bytes given calls status text)
-Shows (Asm input object) held status text = ⊥
-Shows (Dis object) held status text = FileHas held object object_limit (λ bytes. IsListed bytes status text)
-Shows (Lint object) held status text = FileHas held object object_limit (λ bytes. IsLinted bytes status text)
-Shows (Check report) held status text = FileHas held report report_limit (λ bytes. IsChecked bytes status text)
+-- what a command makes of the contents of its inputs: a status, the files that it saves, in this order, and a text
+abbrev pub Makes : Command → List (List ℕ) → Status → List File → List ℕ → Type 0
+Makes (Compile source object) (bytes ∷ []) status files text = CompileMakes bytes object status files text
+Makes (Run object memory steps) (bytes ∷ given ∷ []) status files text = (files ≡ []) × IsRun bytes given steps status text
+Makes (Exec source memory calls) (bytes ∷ given ∷ []) status files text = (files ≡ []) × IsExecuted bytes given calls status text
+Makes (Asm input object) (bytes ∷ []) status files text = AsmMakes bytes object status files text
+Makes (Dis object) (bytes ∷ []) status files text = (files ≡ []) × IsListed bytes status text
+Makes (Lint object) (bytes ∷ []) status files text = (files ≡ []) × IsLinted bytes status text
+Makes (Check report) (bytes ∷ []) status files text = (files ≡ []) × IsChecked bytes status text
+Makes _ _ status files text = ⊥
 
--- what a command that saves a file ends with, where it isn't refused: it is done, or the file couldn't be written
-abbrev pub Makes : Command → Holding → Holding → Status → List ℕ → Type 0
-Makes (Compile source object) old new status text =
-    ((status ≡ Done) × IsCompiled old new source object text)
-    ⊎ ((status ≡ WriteFault) × (text ≡ cannot_write object) × FileHas old source source_limit HasProgram)
-Makes (Asm input object) old new status text =
-    ((status ≡ Done) × IsAssembled old new input object text)
-    ⊎ ((status ≡ WriteFault) × (text ≡ cannot_write object) × FileHas old input assembly_limit HasAssembly)
-Makes _ old new status text = ⊥
+-- a command that saves files can make something with this status of the contents of its inputs
+abbrev pub CanMake : Command → List (List ℕ) → Status → Type 0
+CanMake (Compile source object) (bytes ∷ []) status = (status ≡ Done) × HasProgram bytes
+CanMake (Asm input object) (bytes ∷ []) status = (status ≡ Done) × HasAssembly bytes
+CanMake _ _ status = ⊥
 
--- what the files hold is why a command is refused
-abbrev pub Refuses : Command → Holding → Refusal → Type 0
-Refuses (Compile source object) held e = FileRefused held source source_limit CompileRefuses e
-Refuses (Run object memory steps) held e = BothRefused held object object_limit memory RunRefuses e
-Refuses (Exec source memory calls) held e = BothRefused held source source_limit memory ExecRefuses e
-Refuses (Asm input object) held e = FileRefused held input assembly_limit AsmRefuses e
-Refuses (Dis object) held e = FileRefused held object object_limit IsBadObjectFor e
-Refuses (Lint object) held e = FileRefused held object object_limit LintRefuses e
-Refuses (Check report) held e = FileRefused held report report_limit CheckRefuses e
+-- the contents of its inputs are why a command is refused
+abbrev pub Refuses : Command → List (List ℕ) → Refusal → Type 0
+Refuses (Compile source object) (bytes ∷ []) e = CompileRefuses bytes e
+Refuses (Run object memory steps) (bytes ∷ given ∷ []) e = RunRefuses bytes given e
+Refuses (Exec source memory calls) (bytes ∷ given ∷ []) e = ExecRefuses bytes given e
+Refuses (Asm input object) (bytes ∷ []) e = AsmRefuses bytes e
+Refuses (Dis object) (bytes ∷ []) e = IsBadObjectFor bytes e
+Refuses (Lint object) (bytes ∷ []) e = LintRefuses bytes e
+Refuses (Check report) (bytes ∷ []) e = CheckRefuses bytes e
+Refuses _ _ e = ⊥
 
--- an input is read in its turn, which is the order of the words: the second one only where the first is held, with at
--- most as many bytes as it may have
-abbrev pub IsInTurn : Command → Holding → List ℕ → Type 0
-IsInTurn (Run object memory steps) held file = (file ≡ object) ⊎ IsWithin held object object_limit
-IsInTurn (Exec source memory calls) held file = (file ≡ source) ⊎ IsWithin held source source_limit
-IsInTurn _ held file = ⊤
+-- an input isn't read, while those before it are, or all are, and their contents are why
+abbrev pub IsCaused : Type 0 → Holding → (List ℕ → Type 0) → Command → Refusal → Type 0
+IsCaused Tells held Rises command e =
+    StopsAt Tells held (inputs_of command) (IsUnread Tells held Rises e)
+    ⊎ ((contents : List (List ℕ)) × AreRead Tells held (inputs_of command) contents × Refuses command contents e)
 
--- a command is refused with this status and text, for what the files hold, or since an input couldn't be read in its
--- turn or memory ran out
-pub record IsRefused (command : Command) (held : Holding) (status : Status) (text : List ℕ) : Type 0 where
+-- a command made this of some contents of its inputs, and saved its files; the contents are those that are held, where
+-- the store tells
+pub record IsDone (Tells : Type 0) (old new : Holding) (command : Command) (status : Status) (text : List ℕ) : Type 0 where
+  pub contents : List (List ℕ)
+  pub files : List File
+  pub read : AreRead Tells old (inputs_of command) contents
+  pub makes : Makes command contents status files text
+  pub saved : Tells → AreSaved files old new
+
+-- a command made something, as above, and the save of one of its files failed, which the text says
+pub record IsStopped (Tells : Type 0) (old new : Holding) (Rises : List ℕ → Type 0) (command : Command) (text : List ℕ) : Type 0 where
+  pub contents : List (List ℕ)
+  pub made : Status
+  pub files : List File
+  pub line : List ℕ
+  pub read : AreRead Tells old (inputs_of command) contents
+  pub makes : Makes command contents made files line
+  pub cut : IsCut Tells files old new (λ name. Rises name × (text ≡ cannot_write name))
+
+-- a command is refused with this status and text, and no file changed
+pub record IsRefused (Tells : Type 0) (old new : Holding) (Rises : List ℕ → Type 0) (command : Command) (status : Status) (text : List ℕ) : Type 0 where
   pub why : Refusal
-  pub cause : IsUncaused why ⊎ Refuses command held why
-  pub in_turn : IfReadFault why (λ file. Contains (inputs_of command) file × IsInTurn command held file)
+  pub cause : IsUncaused why ⊎ IsCaused Tells old Rises command why
+  pub kept : new ≡ old
   pub status_is : status ≡ refusal_status why
   pub text_is : text ≡ refusal_text why
 
--- a command ends with this status and text
-abbrev pub Answers : Command → Holding → Holding → Status → List ℕ → Type 0
-Answers command old new status text =
-    Shows command old status text ⊎ Makes command old new status text ⊎ IsRefused command old status text
+-- a command ends with this status and text, and no save failed
+abbrev pub Ends : Type 0 → Holding → Holding → (List ℕ → Type 0) → Command → Status → List ℕ → Type 0
+Ends Tells old new Rises command status text =
+    IsDone Tells old new command status text ⊎ IsRefused Tells old new Rises command status text
 
 -- the command has this status, and its text was printed
-abbrev pub IsPrinted : Command → Holding → Holding → Status → Type 0 → List ℕ → List ℕ → Type 0
-IsPrinted command old new status Tells before after =
-    (text : List ℕ) × Answers command old new status text × (Tells → after ≡ before ++ text)
+abbrev pub IsPrinted : Type 0 → Holding → Holding → (List ℕ → Type 0) → Command → Status → Type 0 → List ℕ → List ℕ → Type 0
+IsPrinted Tells old new Rises command status SinkTells before after =
+    (text : List ℕ) × Ends Tells old new Rises command status text × (SinkTells → after ≡ before ++ text)
 
--- a save failed, or the print, of a command that was done or that left the files as they were; a front of the text
--- was printed
-pub record IsBegun (command : Command) (old new : Holding) (SaveFailed : List ℕ → Type 0) (PutFailed Tells : Type 0) (before after : List ℕ) : Type 0 where
-  pub status : Status
+-- a save failed, and a front of the line that says so was printed, or else the print failed, behind all saves
+pub record IsBegun (Tells : Type 0) (old new : Holding) (LoadRises SaveRises : List ℕ → Type 0) (command : Command) (PutFailed SinkTells : Type 0) (before after : List ℕ) : Type 0 where
   pub text : List ℕ
-  pub answers : Answers command old new status text
-  pub cause : ((status ≡ WriteFault) × SomeFile (outputs_of command) SaveFailed) ⊎ (PutFailed × ((status ≡ Done) ⊎ (new ≡ old)))
-  pub front : Tells → AppendsFront before after text
+  pub cause : IsStopped Tells old new SaveRises command text ⊎ (PutFailed × ((status : Status) × Ends Tells old new LoadRises command status text))
+  pub front : SinkTells → AppendsFront before after text
+
+-- the files hold what a command makes this of, without a file that it saves
+abbrev pub Shows : Command → Holding → Status → List ℕ → Type 0
+Shows command held status text = (contents : List (List ℕ)) × AreRead ⊤ held (inputs_of command) contents × Makes command contents status [] text
+
+-- they hold what it can make something of, with this status
+abbrev pub IsMakeable : Command → Holding → Status → Type 0
+IsMakeable command held status = (contents : List (List ℕ)) × AreRead ⊤ held (inputs_of command) contents × CanMake command contents status
+
+-- they hold why it is refused
+abbrev pub IsRefusable : Command → Holding → Refusal → Type 0
+IsRefusable command held e = IsCaused ⊤ held (λ _. ⊥) command e
 
 -- a fault of the files or the sink, or want of memory
 abbrev pub IsFree : Status → Type 0

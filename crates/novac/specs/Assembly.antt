@@ -1,20 +1,15 @@
 -- What the commands for assembly texts do, and why they refuse.
-use Rattle.std.specs.Prelude.{◌≡◌, ℕ, List, codes, length}
-use Rattle.nv_outside.specs.Holding.{Holding, Replaced}
+use Rattle.std.specs.Prelude.{◌≡◌, ℕ, List, [], ◌∷◌, codes, length}
 use Rattle.uc_asm.specs.Labels.{IsCodeOf, IsLabelError, IsUnlawfulError}
 use Rattle.uc_asm.specs.Text.{IsSyntaxError, listing}
 use Rattle.uc_isa.specs.Code.{CodeView}
 use Rattle.uc_object.specs.Object.{IsObject}
 use Rattle.novac.specs.Lines.{counted}
-use Rattle.novac.specs.Loading.{IsLoaded}
+use Rattle.novac.specs.Saving.{File, file}
 use Rattle.novac.specs.declared.status.Status.{Status}
 use Rattle.novac.specs.declared.status.Status.TheVariants.{Done}
 use Rattle.novac.specs.declared.refusal.Refusal.{Refusal}
 use Rattle.novac.specs.declared.refusal.Refusal.TheVariants.{Syntax, Label, UnlawfulLine}
-
--- how many bytes an assembly text may have
-abbrev pub assembly_limit : ℕ
-assembly_limit = 67108864
 
 -- the text isn't of its form, or has a label declared twice or nowhere, or an instruction that breaks a rule
 abbrev pub AsmRefuses : List ℕ → Refusal → Type 0
@@ -35,14 +30,13 @@ pub record IsAssembledTo (text object : List ℕ) (instructions : ℕ) : Type 0 
   pub encoded : IsObject object c
   pub number : instructions ≡ length c.list
 
--- the text is held, the object is now that of its code, whose length is told, and no other file changed
-pub record IsAssembled (old new : Holding) (text_name object_name : List ℕ) (line : List ℕ) : Type 0 where
-  pub text : List ℕ
-  pub loaded : IsLoaded old text_name assembly_limit text
+-- what `asm` makes of a text: the object of its code, whose length is told
+pub record AsmMakes (text object_name : List ℕ) (status : Status) (files : List File) (line : List ℕ) : Type 0 where
   pub object : List ℕ
-  pub saved : Replaced old new object_name object
   pub instructions : ℕ
   pub assembled : IsAssembledTo text object instructions
+  pub done : status ≡ Done
+  pub saves : files ≡ file object_name object ∷ []
   pub told : line ≡ counted (codes "assembled ") instructions
 
 -- the bytes are the object of a code, whose listing is printed

@@ -16,10 +16,6 @@ use Rattle.novac.specs.declared.refusal.Refusal.TheVariants.{BadReport, FalseRep
 use Rattle.novac.specs.declared.status.Status.{Status}
 use Rattle.novac.specs.declared.status.Status.TheVariants.{Done}
 
--- how many bytes a report may have
-abbrev pub report_limit : ℕ
-report_limit = 67108864
-
 -- the bytes are the text of this report, which keeps the limits
 pub record IsReportOf (bytes : List ℕ) (r : Report) : Type 0 where
   pub valid : IsValidReport r

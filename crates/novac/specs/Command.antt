@@ -1,10 +1,8 @@
 -- Command lines.
-use Rattle.std.specs.Prelude.{◌≤◌, ℕ, List, [], ◌∷◌, ◌++◌, Option, Some, None, Vec, String, map, drop, string_bytes, codes, decimal, Bool, not, ◌&&◌, nat_le, if◌then◌else◌, Contains, ⊤, option_map}
+use Rattle.std.specs.Prelude.{ℕ, List, [], ◌∷◌, ◌++◌, Option, Some, None, Vec, String, map, drop, string_bytes, codes, decimal, Bool, not, ◌&&◌, nat_le, if◌then◌else◌, Contains, ⊤, option_map}
 use Rattle.std.specs.Global.{Global}
 use Rattle.std.specs.Str.{bytes_eq}
 use Rattle.std.specs.Str.Parse.{digits_value}
-use Rattle.novac.specs.declared.command.Command.{Command as Spoken}
-use Rattle.novac.specs.declared.command.Command.TheVariants as spoken
 
 -- a command with what its words name
 pub data Command : Type 0 where
@@ -67,27 +65,7 @@ command_of (verb ∷ a ∷ b ∷ []) = command_of_three verb a b
 command_of (verb ∷ a ∷ b ∷ c ∷ []) = command_of_four verb a b c
 command_of _ = None
 
--- a command without where its names lie
-abbrev pub command_as : Spoken → Command
-command_as (spoken.Compile source object) = Compile source.now object.now
-command_as (spoken.Run object memory steps) = Run object.now memory.now steps
-command_as (spoken.Exec source memory calls) = Exec source.now memory.now calls
-command_as (spoken.Asm text object) = Asm text.now object.now
-command_as (spoken.Dis object) = Dis object.now
-command_as (spoken.Lint object) = Lint object.now
-command_as (spoken.Check report) = Check report.now
-
--- the names of the files that a command reads
-abbrev pub inputs_of : Command → List (List ℕ)
-inputs_of (Compile source object) = source ∷ []
-inputs_of (Run object memory steps) = object ∷ memory ∷ []
-inputs_of (Exec source memory calls) = source ∷ memory ∷ []
-inputs_of (Asm text object) = text ∷ []
-inputs_of (Dis object) = object ∷ []
-inputs_of (Lint object) = object ∷ []
-inputs_of (Check report) = report ∷ []
-
--- the names of the files that it saves
+-- the names of the files that a command saves, in this order
 abbrev pub outputs_of : Command → List (List ℕ)
 outputs_of (Compile source object) = object ∷ []
 outputs_of (Run object memory steps) = []
@@ -115,8 +93,3 @@ IfCompile _ P = ⊤
 abbrev pub ForCommand : Option Command → (Command → Type 0) → Type 0
 ForCommand (Some command) P = P command
 ForCommand None P = ⊥
-
--- the number of steps, where the command has one, is within its limit
-abbrev pub HasSteps : Spoken → Type 0
-HasSteps (spoken.Run object memory steps) = steps ≤ 100000000
-HasSteps _ = ⊤

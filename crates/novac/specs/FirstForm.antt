@@ -1,9 +1,9 @@
 -- The first form of a program: one function `main` of words, whose body is a sum.
-use Rattle.std.specs.Prelude.{◌≡◌, ℕ, ◌≤◌, ◌⊎◌, List, [], ◌∷◌, ◌++◌, codes, length, ⊤}
+use Rattle.std.specs.Prelude.{◌≡◌, ℕ, ◌≤◌, ◌⊎◌, List, [], ◌∷◌, ◌++◌, codes, length, if◌then◌else◌, ◌+◌, ⊤}
+use Rattle.std.specs.Str.{bytes_eq}
 use Rattle.nv_ast.specs.declared.token.Span.{Span}
 use Rattle.nv_ast.specs.declared.tree.Op.TheVariants.{Add}
 use Rattle.nv_ast.specs.Tree.{Tree, NumberTree, VarTree, BinaryTree, NamedTypes, no_named_types, named_type_and, WordType, FunTree, GroupDecl, ProgramTree}
-use Rattle.novac.specs.Sum.{place_of}
 use Rattle.novac.specs.declared.sum.Term.{Term}
 use Rattle.novac.specs.declared.sum.Term.TheVariants.{Param, Number}
 
@@ -25,6 +25,11 @@ IsAmong x (name ∷ names) = (x ≡ name) ⊎ IsAmong x names
 abbrev pub AreDifferent : List (List ℕ) → Type 0
 AreDifferent [] = ⊤
 AreDifferent (x ∷ names) = (IsAmong x names → ⊥) × AreDifferent names
+
+-- the place of the first name that is x, or their number where none is
+abbrev pub place_of : List ℕ → List (List ℕ) → ℕ
+place_of x [] = 0
+place_of x (name ∷ names) = if bytes_eq x name then 0 else place_of x names + 1
 
 -- an operand: the name of a parameter, or a number up to 65,535
 abbrev pub IsTerm : List (List ℕ) → Tree → Term → Type 0

@@ -1,9 +1,10 @@
 pub mod FirstForm
-pub mod Forming
 pub mod Status
 pub mod Lines
-pub mod Loading
 pub mod Command
+pub mod Limits
+pub mod Loading
+pub mod Saving
 pub mod Reading
 pub mod Headline
 pub mod Building
@@ -12,4 +13,4 @@ pub mod Executing
 pub mod Assembly
 pub mod Checking
 pub mod Answers
-pub mod Sum
+pub mod inner

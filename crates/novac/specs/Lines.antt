@@ -77,13 +77,7 @@ refusal_status (Unlawful place rule) = status.Unlawful
 refusal_status (UnlawfulLine n rule) = status.Unlawful
 refusal_status Unbuilt = status.Unbuilt
 
--- a file couldn't be read, or memory ran out: no cause of these is in what the files hold
+-- memory ran out, which has no cause that is told
 abbrev pub IsUncaused : Refusal → Type 0
 IsUncaused NoMemory = Unit {0}
-IsUncaused (ReadFault name) = Unit {0}
 IsUncaused _ = ⊥
-
--- a fact about the file that couldn't be read, where that is why
-abbrev pub IfReadFault : Refusal → (List ℕ → Type 0) → Type 0
-IfReadFault (ReadFault name) P = P name.now
-IfReadFault _ P = Unit {0}

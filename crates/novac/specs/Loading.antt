@@ -1,31 +1,47 @@
--- What is true of a file that a command reads.
-use Rattle.std.specs.Prelude.{◌≡◌, ◌≤◌, ◌⊎◌, ℕ, List, Some, Contains, length}
+-- What a command reads: its inputs, in the order of the words.
+use Rattle.std.specs.Prelude.{◌≡◌, ◌≤◌, ◌⊎◌, ℕ, List, [], ◌∷◌, Some, length, ⊤}
 use Rattle.nv_outside.specs.Holding.{Holding, IsLonger}
+use Rattle.novac.specs.Command.{Command, Compile, Run, Exec, Asm, Dis, Lint, Check}
+use Rattle.novac.specs.Limits.{source_limit, object_limit, memory_limit, assembly_limit, report_limit}
 use Rattle.novac.specs.declared.refusal.Refusal.{Refusal}
-use Rattle.novac.specs.declared.refusal.Refusal.TheVariants.{TooLarge}
+use Rattle.novac.specs.declared.refusal.Refusal.TheVariants.{ReadFault, TooLarge}
 
--- a file is held, and has these bytes, at most so many
-pub record IsLoaded (held : Holding) (name : List ℕ) (limit : ℕ) (bytes : List ℕ) : Type 0 where
-  pub here : held name ≡ Some bytes
-  pub short : length bytes ≤ limit
+-- a file that is read, and how many bytes it may have
+pub record Input : Type 0 where
+  pub name : List ℕ
+  pub limit : ℕ
 
--- a file is held, with at most so many bytes
-abbrev pub IsWithin : Holding → List ℕ → ℕ → Type 0
-IsWithin held name limit = (bytes : List ℕ) × IsLoaded held name limit bytes
+abbrev pub input : List ℕ → ℕ → Input
+input name limit = record { name = name; limit = limit }
 
--- a file has bytes, at most so many, of which this holds
-abbrev pub FileHas : Holding → List ℕ → ℕ → (List ℕ → Type 0) → Type 0
-FileHas held name limit P = (bytes : List ℕ) × IsLoaded held name limit bytes × P bytes
+-- the inputs of a command
+abbrev pub inputs_of : Command → List Input
+inputs_of (Compile source object) = input source source_limit ∷ []
+inputs_of (Run object memory steps) = input object object_limit ∷ input memory memory_limit ∷ []
+inputs_of (Exec source memory calls) = input source source_limit ∷ input memory memory_limit ∷ []
+inputs_of (Asm text object) = input text assembly_limit ∷ []
+inputs_of (Dis object) = input object object_limit ∷ []
+inputs_of (Lint object) = input object object_limit ∷ []
+inputs_of (Check report) = input report report_limit ∷ []
 
--- the file has more bytes than the limit, and that is why
-abbrev pub IsTooLongFor : Holding → List ℕ → ℕ → Refusal → Type 0
-IsTooLongFor held name limit e = (e ≡ TooLarge limit) × IsLonger held name limit
+-- an input has these bytes, at most as many as it may have; they are what the store holds, where it tells
+pub record IsRead (Tells : Type 0) (held : Holding) (i : Input) (bytes : List ℕ) : Type 0 where
+  pub short : length bytes ≤ i.limit
+  pub here : Tells → held i.name ≡ Some bytes
 
--- the file is too long, or has bytes that are refused
-abbrev pub FileRefused : Holding → List ℕ → ℕ → (List ℕ → Refusal → Type 0) → Refusal → Type 0
-FileRefused held name limit AreRefused e =
-    IsTooLongFor held name limit e ⊎ FileHas held name limit (λ bytes. AreRefused bytes e)
+-- the inputs have these contents, one after the other
+abbrev pub AreRead : Type 0 → Holding → List Input → List (List ℕ) → Type 0
+AreRead Tells held [] [] = ⊤
+AreRead Tells held (i ∷ is) (bytes ∷ contents) = IsRead Tells held i bytes × AreRead Tells held is contents
+AreRead Tells held _ _ = ⊥
 
--- every name that isn't one of these has what it had
-abbrev pub IsSameBut : List (List ℕ) → Holding → Holding → Type 0
-IsSameBut names old new = (name : List ℕ) → (Contains names name → ⊥) → new name ≡ old name
+-- this holds of one of the inputs, and those before it are read
+abbrev pub StopsAt : Type 0 → Holding → List Input → (Input → Type 0) → Type 0
+StopsAt Tells held [] P = ⊥
+StopsAt Tells held (i ∷ is) P = P i ⊎ ((bytes : List ℕ) × IsRead Tells held i bytes × StopsAt Tells held is P)
+
+-- an input couldn't be read, and its count rose, or it is too long
+abbrev pub IsUnread : Type 0 → Holding → (List ℕ → Type 0) → Refusal → Input → Type 0
+IsUnread Tells held Rises (ReadFault name) i = (name.now ≡ i.name) × Rises i.name
+IsUnread Tells held Rises (TooLarge n) i = (n ≡ i.limit) × (Tells → IsLonger held i.name i.limit)
+IsUnread Tells held Rises _ i = ⊥

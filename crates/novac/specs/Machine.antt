@@ -3,7 +3,6 @@ use Rattle.std.specs.Prelude.{◌≡◌, ◌⊎◌, ℕ, List, codes, length}
 use Rattle.nv_base.specs.Log.{empty_log, noted_all}
 use Rattle.nv_base.specs.Meanings.{FullOutcome, source_writes}
 use Rattle.nv_base.specs.Memories.{Memories}
-use Rattle.nv_outside.specs.Holding.{Holding}
 use Rattle.nv_memtext.specs.MemoryText.{Gives, IsBad, IsTooLarge}
 use Rattle.nv_memtext.specs.OutcomeText.{outcome_text}
 use Rattle.uc_isa.specs.Code.{CodeView}
@@ -12,19 +11,11 @@ use Rattle.uc_isa.specs.Lawful.{IsLawful, IsFirstBroken}
 use Rattle.uc_isa.specs.declared.instruction.Instr.{Instr}
 use Rattle.uc_object.specs.Object.{IsObject, IsBadPlace}
 use Rattle.novac.specs.Lines.{counted}
-use Rattle.novac.specs.Loading.{IsTooLongFor, FileHas}
 use Rattle.novac.specs.Status.{outcome_status}
 use Rattle.novac.specs.declared.status.Status.{Status}
 use Rattle.novac.specs.declared.status.Status.TheVariants.{Done}
 use Rattle.novac.specs.declared.refusal.Refusal.{Refusal}
 use Rattle.novac.specs.declared.refusal.Refusal.TheVariants.{TooLarge, BadObject, BadMemoryText, Unlawful}
-
--- the most bytes of an object, and of a memory text
-abbrev pub object_limit : ℕ
-object_limit = 8388620
-
-abbrev pub memory_limit : ℕ
-memory_limit = 4194304
 
 -- the bytes aren't an object, and the refusal has the place where they go wrong
 abbrev pub IsBadObjectFor : List ℕ → Refusal → Type 0
@@ -84,15 +75,3 @@ pub record IsRun (bytes memory : List ℕ) (steps : ℕ) (status : Status) (text
   pub given : Gives c.params memory packet arguments
   pub ends : status ≡ outcome_status (engine c arguments spill_base packet steps).outcome
   pub prints : text ≡ full_text (engine c arguments spill_base packet steps)
-
--- a file of at most so many bytes and a memory text are held, and have bytes of which this holds
-abbrev pub BothHave : Holding → List ℕ → ℕ → List ℕ → (List ℕ → List ℕ → Type 0) → Type 0
-BothHave held name limit memory P =
-    FileHas held name limit (λ bytes. FileHas held memory memory_limit (λ text. P bytes text))
-
--- the file is too long, or else the memory text, or what they have is refused
-abbrev pub BothRefused : Holding → List ℕ → ℕ → List ℕ → (List ℕ → List ℕ → Refusal → Type 0) → Refusal → Type 0
-BothRefused held name limit memory AreRefused e =
-    IsTooLongFor held name limit e
-    ⊎ FileHas held name limit (λ _. IsTooLongFor held memory memory_limit e)
-    ⊎ BothHave held name limit memory (λ bytes text. AreRefused bytes text e)

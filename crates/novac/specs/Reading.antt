@@ -6,10 +6,6 @@ use Rattle.nova_front.specs.Sources.{IsUntyped, IsLarge}
 use Rattle.novac.specs.declared.refusal.Refusal.{Refusal}
 use Rattle.novac.specs.declared.refusal.Refusal.TheVariants.{SourceChar, SourceNumber, SourceName, SourceSyntax, SourceDeep, SourceType, SourceLarge}
 
--- how many bytes a source may have
-abbrev pub source_limit : ℕ
-source_limit = 262144
-
 -- the text has a fault at this place, or its program has a fault of its types or is too large
 abbrev pub SourceRefuses : List ℕ → Refusal → Type 0
 SourceRefuses text (SourceChar at) = FaultOf text (Char at)

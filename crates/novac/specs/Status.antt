@@ -1,5 +1,5 @@
 -- The statuses that a run of the program ends with.
-use Rattle.std.specs.Prelude.{◌≡◌, ◌⊎◌, ℕ}
+use Rattle.std.specs.Prelude.{ℕ}
 use Rattle.nv_base.specs.declared.outcome.Outcome.{Outcome}
 use Rattle.nv_base.specs.declared.outcome.Outcome.TheVariants as outcome
 use Rattle.novac.specs.declared.status.Status.{Status}
@@ -31,14 +31,8 @@ outcome_status (outcome.Raised number words) = Raised
 outcome_status (outcome.Fault mem at) = Fault
 outcome_status outcome.Going = StepsSpent
 
--- such a run ends with one of these
-abbrev pub IsOutcome : Status → Type 0
-IsOutcome Done = Unit {0}
-IsOutcome Raised = Unit {0}
-IsOutcome Fault = Unit {0}
-IsOutcome StepsSpent = Unit {0}
-IsOutcome _ = ⊥
-
--- a command that isn't refused ends with one of these
-abbrev pub IsEnd : Status → Type 0
-IsEnd status = IsOutcome status ⊎ (status ≡ WriteFault)
+-- the statuses with which a command may have saved files
+abbrev pub MaySave : Status → Type 0
+MaySave Done = Unit {0}
+MaySave WriteFault = Unit {0}
+MaySave _ = ⊥

@@ -1,12 +1,14 @@
 //! From the text of a program to its code.
-ghost use Rattle.std.specs.Prelude.{◌≡◌, ◌≤◌, length, IfOk, IfErr};
+ghost use Rattle.std.specs.Prelude.{◌≡◌, ◌≤◌, ◌⊎◌, length, IfOk, IfErr, MatchResult};
 ghost use Rattle.nv_ast.specs.Sizes.{main_words};
 ghost use Rattle.nv_ast.specs.TypedView.{typed_program};
 ghost use Rattle.nv_meaning.specs.Meaning.{source};
 ghost use Rattle.uc_isa.specs.Agrees.{Agrees};
 ghost use Rattle.uc_isa.specs.Lawful.{IsLawful};
-ghost use Rattle.novac.specs.Building.{IsCaused, IsFaulty};
+ghost use Rattle.nv_ast.specs.Tree.{ProgramTree};
+ghost use Rattle.novac.specs.Building.{IsFirstCause};
 ghost use Rattle.novac.specs.FirstForm.{HasFirstForm};
+ghost use Rattle.novac.specs.inner.Telling.{IsFaulty};
 ghost use Rattle.nova_front.specs.Sources.{IsTypedSource};
 
 use crate::emit::emit;
@@ -50,7 +52,7 @@ impl From<NoMemory> for FirstError {
 }
 
 impl From<FrontError> for FirstError {
-    ghost use Rattle.novac.specs.Building.{IsPassedAs};
+    ghost use Rattle.novac.specs.inner.Telling.{IsPassedAs};
 
     ghost from_gives = { IsPassedAs };
 
@@ -82,7 +84,9 @@ pub fn compile_first(alloc: Global, bytes: &[u8]) -> Result<First, FirstError>
     ensures first_form { IfOk result (λ first. HasFirstForm (typed_program first.program)) }
     ensures lawful { IfOk result (λ first. IsLawful first.code.list) }
     ensures agrees { IfOk result (λ first. Agrees (main_words (typed_program first.program)) (source (typed_program first.program)) first.code) }
-    ensures refused { IfErr result (IsCaused bytes.now) }
+    ensures only_program { (p : ProgramTree) → IsTypedSource bytes.now p → HasFirstForm p → MatchResult result (λ first. typed_program first.program ≡ p) (λ e. e ≡ FirstError.NoMemory) }
+    ensures refused { IfErr result (λ e. (e ≡ FirstError.NoMemory) ⊎ IsFirstCause bytes.now e) }
+    ensures only_refused { (f : FirstError) → IsFirstCause bytes.now f → MatchResult result (λ _. ⊥) (λ e. (e ≡ FirstError.NoMemory) ⊎ (e ≡ f)) }
 {
     let (program, _flat) = front(alloc, bytes)?;
     let Some(form) = form_of(alloc, program.program())? else {

@@ -1,6 +1,7 @@
 //! The words of a command line.
 ghost use Rattle.std.specs.Prelude.{◌≡◌, ◌≤◌, None, Some, IfSome, IfNone};
-ghost use Rattle.novac.specs.Command.{command_of, command_of_two, command_of_three, command_of_four, steps_of, command_as, texts_of, HasSteps};
+ghost use Rattle.novac.specs.Command.{command_of, command_of_two, command_of_three, command_of_four, steps_of, texts_of};
+ghost use Rattle.novac.specs.inner.Words.{command_as, HasSteps};
 
 use line_text::read_decimal;
 

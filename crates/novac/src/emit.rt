@@ -2,7 +2,7 @@
 ghost use Rattle.std.specs.Prelude.{◌≡◌, ◌≤◌, ◌++◌, All, length, IfOk, OnOk};
 ghost use Rattle.uc_isa.specs.Agrees.{Agrees};
 ghost use Rattle.uc_isa.specs.Lawful.{IsLawful};
-ghost use Rattle.novac.specs.Sum.{IsTermOf, sum_meaning, term_code, plus_code, sum_code};
+ghost use Rattle.novac.specs.inner.Sum.{IsTermOf, sum_meaning, term_code, plus_code, sum_code};
 
 use crate::sum::Term;
 use nv_base::{Bin, NoMemory};

@@ -5,8 +5,8 @@ ghost use Rattle.nv_ast.specs.ProgramView.{program_of, fun_tree};
 ghost use Rattle.nv_ast.specs.TypeView.{type_tree};
 ghost use Rattle.nv_ast.specs.Tree.{WordType};
 ghost use Rattle.novac.specs.FirstForm.{AreDifferent, HasFirstForm, IsAmong, IsFirst, IsSum, IsTerm};
-ghost use Rattle.novac.specs.Forming.{AreWords, HasMain, IsMain, names_of_params};
-ghost use Rattle.novac.specs.Sum.{place_of as place_in};
+ghost use Rattle.novac.specs.inner.Forming.{AreWords, HasMain, IsMain, names_of_params};
+ghost use Rattle.novac.specs.FirstForm.{place_of as place_in};
 ghost use Rattle.novac.specs.declared.sum.Term.{Term};
 
 use crate::sum::Term;

@@ -6,17 +6,13 @@ mod build;
 mod command;
 mod compile;
 mod emit;
-#[cfg(test)]
-mod example_tests;
-#[cfg(test)]
-mod exec_tests;
 mod execute;
 mod form;
+mod limits;
 mod lint;
 mod list;
 mod load;
-#[cfg(test)]
-mod load_tests;
+mod object;
 mod refusal;
 mod reply;
 mod report;
@@ -27,8 +23,7 @@ mod sum;
 #[cfg(test)]
 mod tests;
 mod top;
-#[cfg(test)]
-mod type_tests;
+mod work;
 
 pub use build::{First, FirstError, compile_first};
 use nv_base::NoMemory;

@@ -1,50 +1,26 @@
 //! The command `check`.
-ghost use Rattle.std.specs.Prelude.{◌≡◌, ◌⊎◌, ◌≤◌, length, Contains, IfOk, IfErr, OnOk};
-ghost use Rattle.nv_outside.specs.Causes.{Rose};
+ghost use Rattle.std.specs.Prelude.{◌≡◌, ◌⊎◌, ◌≤◌, length, IfOk, IfErr, OnOk};
 ghost use Rattle.zo_cert.specs.Report.{IsValidReport, IsTrueReport};
-ghost use Rattle.novac.specs.Answers.{Shows, Refuses};
-ghost use Rattle.novac.specs.Checking.{CheckRefuses, IsChecked, IsReportOf, Shown, report_cost, report_limit, verdict_text};
-ghost use Rattle.novac.specs.Command.{Check, inputs_of};
-ghost use Rattle.novac.specs.Lines.{IsUncaused, IfReadFault};
+ghost use Rattle.novac.specs.Checking.{CheckRefuses, IsChecked, IsReportOf, Shown, report_cost, verdict_text};
+ghost use Rattle.novac.specs.Limits.{report_limit};
+ghost use Rattle.novac.specs.Lines.{IsUncaused};
 ghost use Rattle.novac.specs.declared.refusal.Refusal.{Refusal};
 ghost use Rattle.novac.specs.declared.status.Status.{Status};
 
-use crate::load::load;
 use crate::refusal::{Refusal, counted_line, line};
 use crate::reply::Reply;
 use crate::status::Status;
 use nv_base::NoMemory;
-use nv_outside::Files;
 use std::alloc::Global;
 use zo_cert::{Report, Verdict, Work, ZoError, check_report, read_report};
 use zo_model::cost;
 
-/// The most bytes of a report.
-const REPORT_LIMIT: u64 = 67_108_864;
-
-/// Checks a report by itself.
-pub fn check_file<'a, F: Files>(
-    alloc: Global,
-    report: &'a str,
-    files: &mut F,
-) -> Result<Reply, Refusal<'a>>
-    ensures ended { F.tells → IfOk result (λ r. Shows (Check report.now) (F.held files.old) r.status r.text.items) }
-    ensures refused { F.tells → IfErr result (λ e. IsUncaused e ⊎ Refuses (Check report.now) (F.held files.old) e) }
-    ensures end { IfOk result (λ r. r.status ≡ Status.Done) }
-    ensures read_fault { IfErr result (λ e. IfReadFault e (λ file. Contains (inputs_of (Check report.now)) file × Rose (F.load_faults files.old file) (F.load_faults files.new file))) }
-    ensures held { F.held files.new ≡ F.held files.old }
-{
-    let bytes = load(alloc, report, REPORT_LIMIT, files)?;
-    check_bytes(alloc, &bytes)
-}
-
-// Checks the report that the bytes are the text of.
-fn check_bytes<'a>(alloc: Global, bytes: &[u8]) -> Result<Reply, Refusal<'a>>
+/// Checks the report that the bytes are the text of, by itself.
+pub fn check_bytes<'a>(alloc: Global, bytes: &[u8]) -> Result<Reply, Refusal<'a>>
     requires { length bytes.now ≤ report_limit }
     ensures ended { IfOk result (λ r. IsChecked bytes.now r.status r.text.items) }
     ensures refused { IfErr result (λ e. IsUncaused e ⊎ CheckRefuses bytes.now e) }
     ensures end { IfOk result (λ r. r.status ≡ Status.Done) }
-    ensures read_fault { IfErr result (λ e. IfReadFault e (λ _. ⊥)) }
 {
     let report = report_of(alloc, bytes)?;
     check_truth(alloc, &report)?;
@@ -60,7 +36,6 @@ fn report_of<'a>(alloc: Global, bytes: &[u8]) -> Result<Report, Refusal<'a>>
     requires { length bytes.now ≤ report_limit }
     ensures report { IfOk result (λ r. IsReportOf bytes.now r) }
     ensures refused { IfErr result (λ e. IsUncaused e ⊎ CheckRefuses bytes.now e) }
-    ensures read_fault { IfErr result (λ e. IfReadFault e (λ _. ⊥)) }
 {
     match read_report(alloc, bytes) {
         Ok(report) => Ok(report),
@@ -75,7 +50,6 @@ fn check_truth<'a>(alloc: Global, report: &Report) -> Result<(), Refusal<'a>>
     ensures is_true { OnOk result (IsTrueReport report.now) }
     ensures shown { OnOk result (Shown report.now.verdict report.now) }
     ensures refused { IfErr result (λ e. IsUncaused e ⊎ ((e ≡ Refusal.FalseReport) × ¬ IsTrueReport report.now)) }
-    ensures read_fault { IfErr result (λ e. IfReadFault e (λ _. ⊥)) }
 {
     let mut work = match Work::new(alloc, &report.z) {
         Ok(work) => work,

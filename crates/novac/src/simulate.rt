@@ -1,28 +1,23 @@
 //! The command `run`.
-ghost use Rattle.std.specs.Prelude.{◌≡◌, ◌≤◌, ◌⊎◌, length, Contains, IfOk, IfErr};
-ghost use Rattle.nv_outside.specs.Causes.{Rose};
+ghost use Rattle.std.specs.Prelude.{◌≡◌, ◌≤◌, ◌⊎◌, length, IfOk, IfErr};
 ghost use Rattle.nv_memtext.specs.MemoryText.{Gives};
 ghost use Rattle.uc_isa.specs.Engine.{engine};
 ghost use Rattle.uc_isa.specs.Lawful.{IsLawful};
-ghost use Rattle.novac.specs.Answers.{IsInTurn, Shows, Refuses};
-ghost use Rattle.novac.specs.Command.{Run, inputs_of};
-ghost use Rattle.novac.specs.Lines.{IsUncaused, IfReadFault};
-ghost use Rattle.novac.specs.Machine.{RunRefuses, IsMemoryRefusedFor, IsRun, object_limit, memory_limit, spill_base, full_text};
-ghost use Rattle.novac.specs.Status.{outcome_status, IsOutcome};
+ghost use Rattle.novac.specs.Limits.{object_limit, memory_limit};
+ghost use Rattle.novac.specs.Lines.{IsUncaused};
+ghost use Rattle.novac.specs.Machine.{RunRefuses, IsMemoryRefusedFor, IsRun, spill_base, full_text};
+ghost use Rattle.novac.specs.Status.{outcome_status};
+ghost use Rattle.novac.specs.inner.Replies.{IsOutcome};
 
-use crate::load::{OBJECT_LIMIT, check_lawful, code_of, load};
+use crate::object::{check_lawful, code_of};
 use crate::refusal::Refusal;
 use crate::reply::Reply;
 use crate::status::Status;
 use nv_base::{NoMemory, Outcome, WriteLog};
 use nv_memtext::{Job, MemError, print_outcome, read_memory};
-use nv_outside::Files;
 use std::alloc::Global;
 use uc_isa::{Code, Engine};
 use uc_sim::simulate;
-
-/// The most bytes of a memory text.
-pub const MEMORY_LIMIT: u64 = 4_194_304;
 
 /// The first scratch word that code may use for itself.
 const SPILL_BASE: u32 = 512;
@@ -30,36 +25,19 @@ const SPILL_BASE: u32 = 512;
 /// How many writes are kept and shown.
 pub const SHOWN_WRITES: u32 = 64;
 
-/// Runs the code of an object on the memories and arguments of a memory text.
-pub fn run_files<'a, F: Files>(
+/// Runs the code that the bytes are the object of on the memories and arguments of a memory text.
+pub fn run_bytes<'a>(
     alloc: Global,
-    object: &'a str,
-    memory: &'a str,
+    bytes: &[u8],
+    text: &[u8],
     steps: u64,
-    files: &mut F,
 ) -> Result<Reply, Refusal<'a>>
-    requires { steps ≤ 100000000 }
-    ensures ended { F.tells → IfOk result (λ r. Shows (Run object.now memory.now steps) (F.held files.old) r.status r.text.items) }
-    ensures refused { F.tells → IfErr result (λ e. IsUncaused e ⊎ Refuses (Run object.now memory.now steps) (F.held files.old) e) }
-    ensures end { IfOk result (λ r. IsOutcome r.status) }
-    ensures read_fault { IfErr result (λ e. IfReadFault e (λ file. Contains (inputs_of (Run object.now memory.now steps)) file × Rose (F.load_faults files.old file) (F.load_faults files.new file))) }
-    ensures in_turn { F.tells → IfErr result (λ e. IfReadFault e (IsInTurn (Run object.now memory.now steps) (F.held files.old))) }
-    ensures held { F.held files.new ≡ F.held files.old }
-{
-    let bytes = load(alloc, object, OBJECT_LIMIT, files)?;
-    let text = load(alloc, memory, MEMORY_LIMIT, files)?;
-    run_bytes(alloc, &bytes, &text, steps)
-}
-
-// Runs the code that the bytes are the object of.
-fn run_bytes<'a>(alloc: Global, bytes: &[u8], text: &[u8], steps: u64) -> Result<Reply, Refusal<'a>>
     requires steps { steps ≤ 100000000 }
     requires object { length bytes.now ≤ object_limit }
     requires memory { length text.now ≤ memory_limit }
     ensures ended { IfOk result (λ r. IsRun bytes.now text.now steps r.status r.text.items) }
     ensures refused { IfErr result (λ e. IsUncaused e ⊎ RunRefuses bytes.now text.now e) }
     ensures end { IfOk result (λ r. IsOutcome r.status) }
-    ensures read_fault { IfErr result (λ e. IfReadFault e (λ _. ⊥)) }
 {
     let code = code_of(alloc, bytes)?;
     check_lawful(&code)?;
@@ -72,7 +50,6 @@ pub fn job_of<'a>(alloc: Global, text: &[u8], params: u8) -> Result<Job, Refusal
     requires { length text.now ≤ memory_limit }
     ensures given { IfOk result (λ job. Gives params text.now job.packet job.args) }
     ensures refused { IfErr result (λ e. IsUncaused e ⊎ IsMemoryRefusedFor params text.now e) }
-    ensures read_fault { IfErr result (λ e. IfReadFault e (λ _. ⊥)) }
 {
     match read_memory(alloc, text, params) {
         Ok(job) => Ok(job),

@@ -1,27 +1,25 @@
 //! The top call.
-ghost use Rattle.std.specs.Prelude.{◌≡◌, ◌≢◌, ◌⊎◌, ◌++◌, ℕ, List, Contains, None, IfOk, IfErr, OnErr};
+ghost use Rattle.std.specs.Prelude.{◌≡◌, ◌≢◌, ◌⊎◌, ◌++◌, ℕ, List, None, IfOk, IfErr, OnErr};
 ghost use Rattle.nv_outside.specs.Causes.{Rose};
 ghost use Rattle.nv_outside.specs.Holding.{AppendsFront};
-ghost use Rattle.novac.specs.Answers.{Shows, Makes, Refuses, Answers, IsInTurn, IsPrinted, IsBegun, IsOnly};
-ghost use Rattle.novac.specs.Command.{command_of, command_as, texts_of, inputs_of, outputs_of, SomeFile, IfCommand, IfCompile, ForCommand, HasSteps};
+ghost use Rattle.novac.specs.Answers.{Shows, Ends, IsCaused, IsDone, IsStopped, IsMakeable, IsRefusable, IsPrinted, IsBegun, IsFree, IsOnly};
+ghost use Rattle.novac.specs.Command.{command_of, texts_of, outputs_of, SomeFile, IfCommand, IfCompile, ForCommand};
+ghost use Rattle.novac.specs.inner.Words.{command_as, HasSteps};
 ghost use Rattle.novac.specs.Headline.{IsCompiled};
-ghost use Rattle.novac.specs.Lines.{IsUncaused, IfReadFault, usage_text, cannot_read, cannot_write, refusal_status, refusal_text};
-ghost use Rattle.novac.specs.Loading.{IsSameBut};
-ghost use Rattle.novac.specs.Status.{IsEnd};
+ghost use Rattle.novac.specs.Lines.{IsUncaused, usage_text, cannot_read, cannot_write, refusal_status, refusal_text};
+ghost use Rattle.novac.specs.Loading.{inputs_of, StopsAt};
+ghost use Rattle.novac.specs.Saving.{IsSameBut};
+ghost use Rattle.novac.specs.Status.{MaySave};
+ghost use Rattle.novac.specs.inner.Replies.{IsEnd, HasEnded};
 ghost use Rattle.novac.specs.declared.refusal.Refusal.{Refusal};
 ghost use Rattle.novac.specs.declared.status.Status.{Status};
 
-use crate::assemble::assemble_file;
 use crate::command::Command;
-use crate::compile::compile_file;
-use crate::execute::exec_files;
-use crate::lint::lint_file;
-use crate::list::list_file;
+use crate::load::load_inputs;
 use crate::refusal::{Refusal, line};
 use crate::reply::Reply;
-use crate::report::check_file;
-use crate::simulate::run_files;
 use crate::status::Status;
+use crate::work::work;
 use nv_base::NoMemory;
 use nv_outside::{Files, Sink};
 use std::alloc::Global;
@@ -49,14 +47,18 @@ pub fn run<F: Files, K: Sink>(
     // The headline: what `compile` saved is lawful code that does what the source says.
     ensures compiled { F.tells → result ≡ Status.Done → IfCompile (command_of (texts_of words.now)) (λ source object. (line : List ℕ) × IsCompiled (F.held files.old) (F.held files.new) source object line × (K.tells → K.written out.new ≡ K.written out.old ++ line)) }
 
-    // What the command did, or why it is refused, and the text that was printed. With a write fault, a save failed, or the
-    // print did: then what the command saves has its whole bytes, or no file changed.
-    ensures answered { F.tells → result ≢ Status.WriteFault → IfCommand (command_of (texts_of words.now)) (λ c. IsPrinted c (F.held files.old) (F.held files.new) result K.tells (K.written out.old) (K.written out.new)) }
-    ensures begun { F.tells → result ≡ Status.WriteFault → IfCommand (command_of (texts_of words.now)) (λ c. IsBegun c (F.held files.old) (F.held files.new) (λ file. Rose (F.save_faults files.old file) (F.save_faults files.new file)) (Rose (K.faults out.old) (K.faults out.new)) K.tells (K.written out.old) (K.written out.new)) }
+    // What the command made of the contents of its inputs and saved, or why it is refused, and the text that was printed. A
+    // store that tells holds these contents; over every other the answer is that for some contents.
+    ensures answered { result ≢ Status.WriteFault → IfCommand (command_of (texts_of words.now)) (λ c. IsPrinted F.tells (F.held files.old) (F.held files.new) (λ q. Rose (F.load_faults files.old q) (F.load_faults files.new q)) c result K.tells (K.written out.old) (K.written out.new)) }
 
-    // The other way: what the files hold decides the status and the text.
-    ensures only_refused { F.tells → IfCommand (command_of (texts_of words.now)) (λ c. (e : Refusal) → Refuses c (F.held files.old) e → IsOnly result (refusal_status e) K.tells (K.written out.old) (K.written out.new) (refusal_text e)) }
+    // With a write fault a save failed: what was to be saved before it has its whole bytes, and nothing is said of the bytes
+    // of this one. Or else the print failed: then all that the command saves has its whole bytes, or no file changed.
+    ensures begun { result ≡ Status.WriteFault → IfCommand (command_of (texts_of words.now)) (λ c. IsBegun F.tells (F.held files.old) (F.held files.new) (λ q. Rose (F.load_faults files.old q) (F.load_faults files.new q)) (λ q. Rose (F.save_faults files.old q) (F.save_faults files.new q)) c (Rose (K.faults out.old) (K.faults out.new)) K.tells (K.written out.old) (K.written out.new)) }
+
+    // The other way: what the files hold decides the status and the text; of a command that saves files, the status.
+    ensures only_refused { F.tells → IfCommand (command_of (texts_of words.now)) (λ c. (e : Refusal) → IsRefusable c (F.held files.old) e → IsOnly result (refusal_status e) K.tells (K.written out.old) (K.written out.new) (refusal_text e)) }
     ensures only_shown { F.tells → IfCommand (command_of (texts_of words.now)) (λ c. (status : Status) (text : List ℕ) → Shows c (F.held files.old) status text → IsOnly result status K.tells (K.written out.old) (K.written out.new) text) }
+    ensures only_made { F.tells → IfCommand (command_of (texts_of words.now)) (λ c. (status : Status) → IsMakeable c (F.held files.old) status → IsFree result ⊎ (result ≡ status)) }
 
     ensures usage { result ≡ Status.Usage → command_of (texts_of words.now) ≡ None }
     ensures only_usage { command_of (texts_of words.now) ≡ None → (result ≡ Status.Usage) ⊎ (result ≡ Status.WriteFault) ⊎ (result ≡ Status.NoMemory) }
@@ -65,11 +67,11 @@ pub fn run<F: Files, K: Sink>(
 
     // A fault has the file whose count of faults rose, and names it, or the sink's count rose. Inputs are read in the order
     // of the words.
-    ensures read_fault { result ≡ Status.ReadFault → ForCommand (command_of (texts_of words.now)) (λ c. SomeFile (inputs_of c) (λ file. Rose (F.load_faults files.old file) (F.load_faults files.new file) × (F.tells → IsInTurn c (F.held files.old) file) × (K.tells → K.written out.new ≡ K.written out.old ++ cannot_read file))) }
+    ensures read_fault { result ≡ Status.ReadFault → ForCommand (command_of (texts_of words.now)) (λ c. StopsAt F.tells (F.held files.old) (inputs_of c) (λ i. Rose (F.load_faults files.old i.name) (F.load_faults files.new i.name) × (K.tells → K.written out.new ≡ K.written out.old ++ cannot_read i.name))) }
     ensures write_fault { result ≡ Status.WriteFault → Rose (K.faults out.old) (K.faults out.new) ⊎ ForCommand (command_of (texts_of words.now)) (λ c. SomeFile (outputs_of c) (λ file. Rose (F.save_faults files.old file) (F.save_faults files.new file) × (K.tells → K.written out.new ≡ K.written out.old ++ cannot_write file))) }
 
     // What stays as it was.
-    ensures unchanged { F.tells → result ≢ Status.Done → result ≢ Status.WriteFault → F.held files.new ≡ F.held files.old }
+    ensures unchanged { F.tells → (MaySave result → ⊥) → F.held files.new ≡ F.held files.old }
     ensures elsewhere { F.tells → IfCommand (command_of (texts_of words.now)) (λ c. IsSameBut (outputs_of c) (F.held files.old) (F.held files.new)) }
     ensures untouched { command_of (texts_of words.now) ≡ None → files.new ≡ files.old }
     ensures silent { result ≡ Status.NoMemory → out.new ≡ out.old }
@@ -82,15 +84,11 @@ pub fn run<F: Files, K: Sink>(
 
 // The status and the text of what the words say.
 fn reply<F: Files>(alloc: Global, words: &Vec<String>, files: &mut F) -> Result<Reply, NoMemory>
-    ensures answered { F.tells → IfOk result (λ r. IfCommand (command_of (texts_of words.now)) (λ c. Answers c (F.held files.old) (F.held files.new) r.status r.text.items)) }
+    ensures ended { IfOk result (λ r. IfCommand (command_of (texts_of words.now)) (λ c. HasEnded F.tells (F.held files.old) (F.held files.new) (λ q. Rose (F.load_faults files.old q) (F.load_faults files.new q)) (λ q. Rose (F.save_faults files.old q) (F.save_faults files.new q)) c r.status r.text.items)) }
     ensures usage { IfOk result (λ r. r.status ≡ Status.Usage → (command_of (texts_of words.now) ≡ None) × (r.text.items ≡ usage_text)) }
     ensures only_usage { command_of (texts_of words.now) ≡ None → IfOk result (λ r. r.status ≡ Status.Usage) }
-    ensures read_fault { IfOk result (λ r. r.status ≡ Status.ReadFault → ForCommand (command_of (texts_of words.now)) (λ c. SomeFile (inputs_of c) (λ file. Rose (F.load_faults files.old file) (F.load_faults files.new file) × (F.tells → IsInTurn c (F.held files.old) file) × (r.text.items ≡ cannot_read file)))) }
-    ensures write_fault { IfOk result (λ r. r.status ≡ Status.WriteFault → ForCommand (command_of (texts_of words.now)) (λ c. SomeFile (outputs_of c) (λ file. Rose (F.save_faults files.old file) (F.save_faults files.new file) × (r.text.items ≡ cannot_write file)))) }
     ensures memory { IfOk result (λ r. r.status ≢ Status.NoMemory) }
-    ensures unchanged { IfOk result (λ r. r.status ≢ Status.Done → r.status ≢ Status.WriteFault → F.held files.new ≡ F.held files.old) }
-    ensures unchanged_too { OnErr result (F.held files.new ≡ F.held files.old) }
-    ensures elsewhere { F.tells → IfCommand (command_of (texts_of words.now)) (λ c. IsSameBut (outputs_of c) (F.held files.old) (F.held files.new)) }
+    ensures held { OnErr result (F.held files.new ≡ F.held files.old) }
     ensures untouched { command_of (texts_of words.now) ≡ None → files.new ≡ files.old }
 {
     let Some(command) = Command::of(words) else {
@@ -134,23 +132,12 @@ fn perform<'a, F: Files>(
     files: &mut F,
 ) -> Result<Reply, Refusal<'a>>
     requires { HasSteps command }
-    ensures ended { F.tells → IfOk result (λ r. Shows (command_as command.entry) (F.held files.old) r.status r.text.items ⊎ Makes (command_as command.entry) (F.held files.old) (F.held files.new) r.status r.text.items) }
-    ensures refused { F.tells → IfErr result (λ e. IsUncaused e ⊎ Refuses (command_as command.entry) (F.held files.old) e) }
+    ensures ended { IfOk result (λ r. IsDone F.tells (F.held files.old) (F.held files.new) (command_as command.entry) r.status r.text.items ⊎ ((r.status ≡ Status.WriteFault) × IsStopped F.tells (F.held files.old) (F.held files.new) (λ q. Rose (F.save_faults files.old q) (F.save_faults files.new q)) (command_as command.entry) r.text.items)) }
     ensures end { IfOk result (λ r. IsEnd r.status) }
-    ensures read_fault { IfErr result (λ e. IfReadFault e (λ file. Contains (inputs_of (command_as command.entry)) file × Rose (F.load_faults files.old file) (F.load_faults files.new file))) }
-    ensures in_turn { F.tells → IfErr result (λ e. IfReadFault e (IsInTurn (command_as command.entry) (F.held files.old))) }
-    ensures write_fault { IfOk result (λ r. r.status ≡ Status.WriteFault → SomeFile (outputs_of (command_as command.entry)) (λ file. Rose (F.save_faults files.old file) (F.save_faults files.new file) × (r.text.items ≡ cannot_write file))) }
-    ensures unchanged { IfOk result (λ r. r.status ≢ Status.Done → r.status ≢ Status.WriteFault → F.held files.new ≡ F.held files.old) }
-    ensures unchanged_too { OnErr result (F.held files.new ≡ F.held files.old) }
-    ensures elsewhere { F.tells → IsSameBut (outputs_of (command_as command.entry)) (F.held files.old) (F.held files.new) }
+    ensures refused { IfErr result (λ e. IsUncaused e ⊎ IsCaused F.tells (F.held files.old) (λ q. Rose (F.load_faults files.old q) (F.load_faults files.new q)) (command_as command.entry) e) }
+    ensures held { OnErr result (F.held files.new ≡ F.held files.old) }
 {
-    match command {
-        Command::Compile(source, object) => compile_file(alloc, source, object, files),
-        Command::Run(object, memory, steps) => run_files(alloc, object, memory, steps, files),
-        Command::Exec(source, memory, calls) => exec_files(alloc, source, memory, calls, files),
-        Command::Asm(text, object) => assemble_file(alloc, text, object, files),
-        Command::Dis(object) => list_file(alloc, object, files),
-        Command::Lint(object) => lint_file(alloc, object, files),
-        Command::Check(report) => check_file(alloc, report, files),
-    }
+    let inputs = load_inputs(alloc, command, files)?;
+    let made = work(alloc, command, &inputs)?;
+    Ok(made.save(files))
 }

@@ -5,7 +5,7 @@ use Rattle.nv_ast.specs.Sizes.{main_words}
 use Rattle.nv_ast.specs.Tree.{ProgramTree}
 use Rattle.nv_meaning.specs.Meaning.{source}
 use Rattle.uc_isa.specs.Agrees.{Agrees}
-use Rattle.novac.specs.Sum.{IsTermOf, sum_meaning}
+use Rattle.novac.specs.inner.Sum.{IsTermOf, sum_meaning}
 use Rattle.novac.specs.FirstForm.{IsFirst}
 use Rattle.novac.specs.declared.sum.Term.{Term}
 use Rattle.novac.proofs.Forms.{some-term, known-terms, first-agrees}

@@ -1,5 +1,5 @@
 use Rattle.std.proofs.Common.{◌≡◌, ◌++◌, drop}
-use Rattle.novac.specs.Sum.{plus_code}
+use Rattle.novac.specs.inner.Sum.{plus_code}
 use Rattle.novac.proofs.emit.add_all.Given as goal
 
 abbrev pub invariant-loop-next : goal.invariant-loop-next

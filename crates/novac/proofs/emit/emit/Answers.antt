@@ -1,6 +1,6 @@
 use Rattle.std.proofs.Common.{◌≡◌, ◌+◌, ◌*◌, ◌≤◌, length, refl, sym, ◌∙◌, ap, subst, arith}
 use Rattle.uc_isa.specs.Lawful.{IsLawful}
-use Rattle.novac.specs.Sum.{sum_code, sum_meaning}
+use Rattle.novac.specs.inner.Sum.{sum_code, sum_meaning}
 use Rattle.novac.proofs.Correct.{sum-lawful, sum-agrees, length-sum}
 use Rattle.novac.proofs.emit.emit.Goals as goal
 

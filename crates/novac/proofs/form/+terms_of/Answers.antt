@@ -1,7 +1,7 @@
 use Rattle.std.proofs.Common.{◌≡◌, rules}
 use Rattle.nv_ast.specs.ExprView.{tree_of}
 use Rattle.nv_ast.specs.Tree.{VarTree, NumberTree}
-use Rattle.novac.specs.Forming.{names_of_params}
+use Rattle.novac.specs.inner.Forming.{names_of_params}
 use Rattle.novac.proofs.Operands.{single-var, single-number, single-sum}
 use Rattle.novac.proofs.form.+terms_of.Goals as goal
 

@@ -2,7 +2,7 @@ use Rattle.std.proofs.Common.{◌≡◌, ℕ, ◌≤◌, List, length, refl, sub
 use Rattle.std.specs.Prelude.{codes}
 use Rattle.nv_ast.specs.declared.tree.TyText.{TyText}
 use Rattle.nv_ast.specs.ExprView.{tree_of}
-use Rattle.novac.specs.Forming.{AreWords, names_of_params}
+use Rattle.novac.specs.inner.Forming.{AreWords, names_of_params}
 use Rattle.novac.specs.FirstForm.{AreDifferent, IsSum}
 use Rattle.novac.proofs.Operands.{Sums}
 use Rattle.novac.proofs.Mains.{no-params, no-terms, long-terms, all-parts, none-found}

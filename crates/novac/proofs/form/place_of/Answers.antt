@@ -2,7 +2,7 @@ use Rattle.std.proofs.Common.{◌≡◌, ◌∷◌, ◌+◌, List, ℕ, true, fa
 use Rattle.std.specs.Str.{bytes_eq}
 use Rattle.std.proofs.lemmas.Slice.Eq.{bytes_eq-Decides}
 use Rattle.nv_ast.specs.declared.tree.TyText.{TyText}
-use Rattle.novac.specs.Forming.{names_of_params}
+use Rattle.novac.specs.inner.Forming.{names_of_params}
 use Rattle.novac.proofs.Names.{Passed, front, passed-more, found-place, found-among, bytes_eq-same}
 use Rattle.novac.proofs.form.place_of.Goals as goal
 

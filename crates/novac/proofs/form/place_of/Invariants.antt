@@ -1,5 +1,5 @@
 use Rattle.std.proofs.Common.{drop}
-use Rattle.novac.specs.Forming.{names_of_params}
+use Rattle.novac.specs.inner.Forming.{names_of_params}
 use Rattle.novac.proofs.Names.{Passed}
 use Rattle.novac.proofs.form.place_of.Given as goal
 

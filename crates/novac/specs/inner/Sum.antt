@@ -1,6 +1,5 @@
 -- Sums of parameters and numbers, and the code for them.
-use Rattle.std.specs.Prelude.{ℕ, ◌<◌, ◌^◌, List, [], ◌∷◌, ◌++◌, slice_index, if◌then◌else◌, ◌+◌}
-use Rattle.std.specs.Str.{bytes_eq}
+use Rattle.std.specs.Prelude.{ℕ, ◌<◌, ◌^◌, List, [], ◌∷◌, ◌++◌, slice_index}
 use Rattle.nv_base.specs.declared.term.Bin.TheVariants as bin
 use Rattle.nv_base.specs.declared.outcome.Outcome.TheVariants as outcome
 use Rattle.nv_base.specs.Memories.{Memories}
@@ -14,11 +13,6 @@ use Rattle.uc_isa.specs.declared.instruction.Instr.{Instr}
 use Rattle.uc_isa.specs.declared.instruction.Instr.TheVariants.{Alu, Un, Immed, Halt}
 use Rattle.novac.specs.declared.sum.Term.{Term}
 use Rattle.novac.specs.declared.sum.Term.TheVariants.{Param, Number}
-
--- the place of the first name that is x, or their number where none is
-abbrev pub place_of : List ℕ → List (List ℕ) → ℕ
-place_of x [] = 0
-place_of x (name ∷ names) = if bytes_eq x name then 0 else place_of x names + 1
 
 -- a term is one of so many parameters, or a number of 16 bits
 abbrev pub IsTermOf : ℕ → Term → Type 0

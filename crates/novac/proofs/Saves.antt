@@ -1,0 +1,126 @@
+-- The files that a command saves.
+use Rattle.std.proofs.Common.{◌≡◌, ℕ, ◌⊎◌, inl, inr, List, [], ◌∷◌, refl, ap, sym, ◌∙◌, subst, arith}
+use Rattle.std.specs.Prelude.{Contains}
+use Rattle.nv_outside.specs.Holding.{Holding, Replaced, SameElsewhere}
+use Rattle.novac.specs.Answers.{Makes, Refuses, IsCaused, IsDone, IsStopped}
+use Rattle.novac.specs.Command.{Command, Compile, Run, Exec, Asm, Dis, Lint, Check, SomeFile, outputs_of}
+use Rattle.novac.specs.Headline.{IsCompiled}
+use Rattle.novac.specs.Lines.{IsUncaused, cannot_write}
+use Rattle.novac.specs.Loading.{AreRead, StopsAt, IsUnread, inputs_of}
+use Rattle.novac.specs.Saving.{File, file, AreSaved, IsCut, IsSameBut}
+use Rattle.novac.specs.declared.refusal.Refusal.{Refusal}
+use Rattle.novac.specs.declared.status.Status.{Status}
+use Rattle.novac.specs.declared.status.Status.TheVariants.{WriteFault}
+
+pub cut-map : (T : Type 0) (fs : List File) (old new : Holding) (P Q : List ℕ → Type 0) → ((name : List ℕ) → P name → Q name) → IsCut T fs old new P → IsCut T fs old new Q
+cut-map T [] old new P Q f h = h
+cut-map T (x ∷ fs) old new P Q f (inl h) = inl (f x.name h.0, h.1)
+cut-map T (x ∷ fs) old new P Q f (inr h) = inr (h.0, h.1, cut-map T fs h.0 new P Q f h.2)
+
+-- the only file
+cut-one : (T : Type 0) (f : File) (old new : Holding) (P : List ℕ → Type 0) → IsCut T (f ∷ []) old new P → P f.name × (T → SameElsewhere old new f.name)
+cut-one T f old new P (inl h) = h
+cut-one T f old new P (inr h) = absurd h.2
+
+pub cut-only : (T : Type 0) (fs : List File) (f : File) (old new : Holding) (P : List ℕ → Type 0) → fs ≡ f ∷ [] → IsCut T fs old new P → P f.name × (T → SameElsewhere old new f.name)
+cut-only T fs f old new P is h = cut-one T f old new P (subst (λ (x : List File). IsCut T x old new P) is h)
+
+pub saved-only : (fs : List File) (f : File) (old new : Holding) → fs ≡ f ∷ [] → AreSaved fs old new → Replaced old new f.name f.bytes
+saved-only fs f old new is h =
+    let one : AreSaved (f ∷ []) old new = subst (λ (x : List File). AreSaved x old new) is h in
+    subst (λ (x : Holding). Replaced old x f.name f.bytes) (sym one.2) one.1
+
+-- a save that failed is of one of the outputs
+pub cut-output : (T : Type 0) (c : Command) (bs : List (List ℕ)) (s : Status) (fs : List File) (t : List ℕ) (old new : Holding) (P : List ℕ → Type 0) → Makes c bs s fs t → IsCut T fs old new P → SomeFile (outputs_of c) P
+cut-output T (Compile source object) (b ∷ []) s fs t old new P h k = (object, (0, omega arith, refl), (cut-only T fs (file object h.object) old new P h.saves k).0)
+cut-output T (Run object memory steps) (b ∷ g ∷ []) s fs t old new P h k = absurd (subst (λ (x : List File). IsCut T x old new P) h.0 k)
+cut-output T (Exec source memory calls) (b ∷ g ∷ []) s fs t old new P h k = absurd (subst (λ (x : List File). IsCut T x old new P) h.0 k)
+cut-output T (Asm input object) (b ∷ []) s fs t old new P h k = (object, (0, omega arith, refl), (cut-only T fs (file object h.object) old new P h.saves k).0)
+cut-output T (Dis object) (b ∷ []) s fs t old new P h k = absurd (subst (λ (x : List File). IsCut T x old new P) h.0 k)
+cut-output T (Lint object) (b ∷ []) s fs t old new P h k = absurd (subst (λ (x : List File). IsCut T x old new P) h.0 k)
+cut-output T (Check report) (b ∷ []) s fs t old new P h k = absurd (subst (λ (x : List File). IsCut T x old new P) h.0 k)
+cut-output T _ _ s fs t old new P h k = absurd h
+
+-- no other file changed
+same-but : (old new : Holding) (name : List ℕ) → SameElsewhere old new name → IsSameBut (name ∷ []) old new
+same-but old new name h = λ other not. h other (λ e. not (0, omega arith, sym e))
+
+pub same-all : (names : List (List ℕ)) (old new : Holding) → new ≡ old → IsSameBut names old new
+same-all names old new e = λ other not. ap (λ (h : Holding). h other) e
+
+pub nothing-saved : (fs : List File) (old new : Holding) → fs ≡ [] → AreSaved fs old new → new ≡ old
+nothing-saved fs old new is h = subst (λ (x : List File). AreSaved x old new) is h
+
+pub saved-elsewhere : (c : Command) (bs : List (List ℕ)) (s : Status) (fs : List File) (t : List ℕ) (old new : Holding) → Makes c bs s fs t → AreSaved fs old new → IsSameBut (outputs_of c) old new
+saved-elsewhere (Compile source object) (b ∷ []) s fs t old new h k = same-but old new object (saved-only fs (file object h.object) old new h.saves k).elsewhere
+saved-elsewhere (Run object memory steps) (b ∷ g ∷ []) s fs t old new h k = same-all [] old new (nothing-saved fs old new h.0 k)
+saved-elsewhere (Exec source memory calls) (b ∷ g ∷ []) s fs t old new h k = same-all [] old new (nothing-saved fs old new h.0 k)
+saved-elsewhere (Asm input object) (b ∷ []) s fs t old new h k = same-but old new object (saved-only fs (file object h.object) old new h.saves k).elsewhere
+saved-elsewhere (Dis object) (b ∷ []) s fs t old new h k = same-all [] old new (nothing-saved fs old new h.0 k)
+saved-elsewhere (Lint object) (b ∷ []) s fs t old new h k = same-all [] old new (nothing-saved fs old new h.0 k)
+saved-elsewhere (Check report) (b ∷ []) s fs t old new h k = same-all [] old new (nothing-saved fs old new h.0 k)
+saved-elsewhere _ _ s fs t old new h k = absurd h
+
+pub cut-elsewhere : (T : Type 0) (c : Command) (bs : List (List ℕ)) (s : Status) (fs : List File) (t : List ℕ) (old new : Holding) (P : List ℕ → Type 0) → T → Makes c bs s fs t → IsCut T fs old new P → IsSameBut (outputs_of c) old new
+cut-elsewhere T (Compile source object) (b ∷ []) s fs t old new P tells h k = same-but old new object ((cut-only T fs (file object h.object) old new P h.saves k).1 tells)
+cut-elsewhere T (Run object memory steps) (b ∷ g ∷ []) s fs t old new P tells h k = absurd (subst (λ (x : List File). IsCut T x old new P) h.0 k)
+cut-elsewhere T (Exec source memory calls) (b ∷ g ∷ []) s fs t old new P tells h k = absurd (subst (λ (x : List File). IsCut T x old new P) h.0 k)
+cut-elsewhere T (Asm input object) (b ∷ []) s fs t old new P tells h k = same-but old new object ((cut-only T fs (file object h.object) old new P h.saves k).1 tells)
+cut-elsewhere T (Dis object) (b ∷ []) s fs t old new P tells h k = absurd (subst (λ (x : List File). IsCut T x old new P) h.0 k)
+cut-elsewhere T (Lint object) (b ∷ []) s fs t old new P tells h k = absurd (subst (λ (x : List File). IsCut T x old new P) h.0 k)
+cut-elsewhere T (Check report) (b ∷ []) s fs t old new P tells h k = absurd (subst (λ (x : List File). IsCut T x old new P) h.0 k)
+cut-elsewhere T _ _ s fs t old new P tells h k = absurd h
+
+-- what `compile` saved is compiled
+compiled-of : (T : Type 0) (old new : Holding) (source object : List ℕ) (bs : List (List ℕ)) (s : Status) (fs : List File) (t : List ℕ)
+    → T → AreRead T old (inputs_of (Compile source object)) bs → Makes (Compile source object) bs s fs t → (T → AreSaved fs old new) → IsCompiled old new source object t
+compiled-of T old new source object (b ∷ []) s fs t tells read h saved = record {
+  text = b;
+  held = read.0.here tells;
+  short = read.0.short;
+  object = h.object;
+  saved = saved-only fs (file object h.object) old new h.saves (saved tells);
+  instructions = h.instructions;
+  compiled = h.compiled;
+  told = h.told;
+}
+compiled-of T old new source object _ s fs t tells read h saved = absurd h
+
+pub done-compiled : (T : Type 0) (old new : Holding) (source object : List ℕ) (s : Status) (t : List ℕ) → T → IsDone T old new (Compile source object) s t → IsCompiled old new source object t
+done-compiled T old new source object s t tells h = compiled-of T old new source object h.contents s h.files t tells h.read h.makes h.saved
+
+-- what was made is saved, or a save failed
+pub saves-end : (T : Type 0) (old mid new : Holding) (Rises Later : List ℕ → Type 0) (c : Command) (bs : List (List ℕ)) (made s : Status) (fs : List File) (line t : List ℕ)
+    → mid ≡ old → ((name : List ℕ) → Later name → Rises name) → AreRead T old (inputs_of c) bs → Makes c bs made fs line
+    → ((s ≡ made) × (t ≡ line) × (T → AreSaved fs mid new)) ⊎ ((s ≡ WriteFault) × IsCut T fs mid new (λ name. Later name × (t ≡ cannot_write name)))
+    → IsDone T old new c s t ⊎ ((s ≡ WriteFault) × IsStopped T old new Rises c t)
+saves-end T old mid new Rises Later c bs made s fs line t kept later read makes (inl h) = inl (record {
+  contents = bs;
+  files = fs;
+  read = read;
+  makes = subst (λ (x : Status). Makes c bs x fs t) (sym h.0) (subst (λ (x : List ℕ). Makes c bs made fs x) (sym h.1) makes);
+  saved = λ tells. subst (λ (x : Holding). AreSaved fs x new) kept (h.2 tells);
+})
+saves-end T old mid new Rises Later c bs made s fs line t kept later read makes (inr h) =
+    let cut : IsCut T fs old new (λ name. Later name × (t ≡ cannot_write name)) = subst (λ (x : Holding). IsCut T fs x new (λ name. Later name × (t ≡ cannot_write name))) kept h.1 in
+    inr (
+      h.0,
+      record {
+        contents = bs;
+        made = made;
+        files = fs;
+        line = line;
+        read = read;
+        makes = makes;
+        cut = cut-map T fs old new (λ name. Later name × (t ≡ cannot_write name)) (λ name. Rises name × (t ≡ cannot_write name)) (λ name both. (later name both.0, both.1)) cut;
+      },
+    )
+
+-- why a command is refused, passed on
+pub pass-unread : (T : Type 0) (held : Holding) (R : List ℕ → Type 0) (c : Command) (e : Refusal) → IsUncaused e ⊎ StopsAt T held (inputs_of c) (IsUnread T held R e) → IsUncaused e ⊎ IsCaused T held R c e
+pass-unread T held R c e (inl u) = inl u
+pass-unread T held R c e (inr h) = inr (inl h)
+
+pub pass-refused : (T : Type 0) (held : Holding) (R : List ℕ → Type 0) (c : Command) (bs : List (List ℕ)) (e : Refusal) → AreRead T held (inputs_of c) bs → IsUncaused e ⊎ Refuses c bs e → IsUncaused e ⊎ IsCaused T held R c e
+pass-refused T held R c bs e read (inl u) = inl u
+pass-refused T held R c bs e read (inr h) = inr (inr (bs, read, h))
