@@ -1,10 +1,10 @@
 // One function.
 
-ghost use Rattle.std.specs.Prelude.{◌≡◌, ◌+◌, ◌++◌, ◌<◌, ◌^◌, Bool, true, Some, None, [], IfOk};
-ghost use Rattle.flat_ir.specs.Formed.{defined};
+ghost use Rattle.std.specs.Prelude.{◌≡◌, true, IfOk};
 ghost use Rattle.cps_ir.specs.Term as cps;
-ghost use Rattle.cps_ir.specs.View.{term_view, fun_view};
-ghost use Rattle.cps_lower.specs.inner.Lowered.{lowered_fun, lowered_body, variables, operands, returning};
+ghost use Rattle.cps_ir.specs.View.{fun_view, term_view};
+ghost use Rattle.cps_lower.specs.inner.Lowered.{lowered_fun, lowered_body, variables, operands};
+ghost use Rattle.cps_lower.specs.inner.Lowered as inner;
 
 use crate::lowering::{lower_code, numbers};
 use crate::scan::{hands_on, variable_above, variable_behind};
@@ -17,17 +17,25 @@ use std::alloc::Global;
 pub fn lower_fun(alloc: Global, funs: &[FlatFun], f: &FlatFun) -> Result<CpsFun, NoMemory>
     ensures { IfOk result (λ g. fun_view g ≡ lowered_fun funs.now f.now) }
 {
-    let body = if hands_on(funs, f.group, &f.body) {
-        handing_on(alloc, funs, f)?
-    } else {
-        lower_code(alloc, funs, f.group, &f.body, None, &[], &mut 0)?
-    };
+    let body = body_of(alloc, funs, f)?;
+    let params = numbers(alloc, &f.params)?;
     Ok(CpsFun {
-        params: numbers(alloc, &f.params)?,
+        params,
         results: f.results,
         body,
         group: f.group,
     })
+}
+
+// What a function does, behind the label that returns the words of its last calls where it has some.
+fn body_of(alloc: Global, funs: &[FlatFun], f: &FlatFun) -> Result<Term, NoMemory>
+    ensures { IfOk result (λ t. term_view t ≡ lowered_body funs.now f.now (inner.hands_on funs.now f.now.group f.now.body)) }
+{
+    if hands_on(funs, f.group, &f.body) {
+        handing_on(alloc, funs, f)
+    } else {
+        lower_code(alloc, funs, f.group, &f.body, None, &[], &mut 0)
+    }
 }
 
 // What a function does behind a label that returns the words of its last calls.

@@ -5,5 +5,7 @@ mod function;
 mod lowering;
 mod program;
 mod scan;
+#[cfg(test)]
+mod tests;
 
 pub use program::lower;

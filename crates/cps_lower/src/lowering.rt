@@ -3,7 +3,8 @@
 ghost use Rattle.std.specs.Prelude.{◌≡◌, ◌+◌, ◌∷◌, ◌++◌, [], IfOk, slice_get};
 ghost use Rattle.cps_ir.specs.Meaning.{handler_of};
 ghost use Rattle.cps_ir.specs.View.{term_view};
-ghost use Rattle.cps_lower.specs.inner.Lowered.{lowered, labels, give_term, raise_term, call_term, is_earlier as earlier};
+ghost use Rattle.cps_lower.specs.inner.Lowered.{lowered, labels, give_term, raise_term, call_term};
+ghost use Rattle.cps_lower.specs.inner.Lowered as inner;
 
 use crate::scan::is_earlier;
 use cps_ir::{Step, Term, join};
@@ -116,20 +117,25 @@ fn call(
 {
     let words = atoms(alloc, bs)?;
     let handlers = handlers_behind(Vec::new(alloc), hs)?;
-    Ok(Term::Call(f, words, label_of_call(earlier, to), handlers))
+    match to {
+        Some(l) => Ok(Term::Call(f, words, Some(l), handlers)),
+        None => Ok(last_call(earlier, f, words, handlers)),
+    }
 }
 
-// Where the words of a call go: to label 0, where they are the function's and come from an earlier group.
-fn label_of_call(earlier: bool, to: Option<u32>) -> Option<u32> {
-    match to {
-        Some(l) => Some(l),
-        None => {
-            if earlier {
-                Some(0)
-            } else {
-                None
-            }
-        }
+// A call whose words are the function's: from an earlier group they come back to label 0.
+fn last_call(
+    earlier: bool,
+    f: u32,
+    words: Vec<Atom>,
+    handlers: Vec<(u16, u32)>,
+) -> Term
+    ensures { term_view result ≡ inner.last_call earlier f words.items handlers.items }
+{
+    if earlier {
+        Term::Call(f, words, Some(0), handlers)
+    } else {
+        Term::Call(f, words, None, handlers)
     }
 }
 

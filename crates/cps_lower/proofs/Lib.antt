@@ -1,0 +1,10 @@
+pub mod Along
+pub mod Scans
+pub mod Handing
+pub mod Simulates
+pub mod Returning
+pub mod Outcomes
+pub mod Agrees
+pub mod Sound
+pub mod Numbers
+pub mod Formedness
