@@ -5,11 +5,10 @@ use Rattle.nv_base.specs.declared.term.Atom.{Atom}
 use Rattle.nv_base.specs.declared.term.Mem.{Mem}
 use Rattle.nv_base.specs.declared.term.Primitive.{Primitive}
 use Rattle.nv_base.specs.Access.{is_known, all_known, is_primitive, can_move, is_address}
-use Rattle.nv_base.specs.Sets.{all_different}
 use Rattle.flat_ir.specs.declared.flat.Flat.{Flat}
 use Rattle.flat_ir.specs.declared.flat.Flat.TheVariants.{Let', Fetch', Store', If', Bind', Call, Raise, Try', Give}
 use Rattle.flat_ir.specs.declared.flat.FlatFun.{FlatFun}
-use Rattle.flat_ir.specs.Formed.{may_stand, can_call, is_formed, is_function, defined, agree, all_raised, is_main, is_program}
+use Rattle.flat_ir.specs.Formed.{may_stand, can_call, is_formed}
 
 pub record LetParts (funs : List FlatFun) (own : ℕ) (tail : Bool) (n : ℕ) (known : List ℕ) (x : ℕ) (a : Primitive) (t : Flat) : Type 0 where
   pub primitive : is_primitive known a ≡ true

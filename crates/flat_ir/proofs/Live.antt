@@ -1,11 +1,7 @@
 -- Live variables: what code does depends on their words alone, and in formed code they are known.
-use Rattle.std.proofs.Common.{◌≡◌, ℕ, Bool, true, false, not, nat_eq, nat_le, ◌&&◌, List, [], ◌∷◌, ◌++◌, refl, sym, ap, subst, ◌∙◌, ⊎_elim, length}
-use Rattle.std.proofs.lemmas.Bool.{and_parts, and_from, or_cases, or_left, or_right, not_from_false, not-true, false≢true, eq-eqb}
-use Rattle.nv_base.specs.declared.term.Atom.{Atom}
-use Rattle.nv_base.specs.declared.term.Atom.TheVariants.{Var, Lit}
-use Rattle.nv_base.specs.declared.term.Primitive.{Primitive}
-use Rattle.nv_base.specs.declared.term.Primitive.TheVariants.{Same, Una as UnaOf, Bin as BinOf}
-use Rattle.nv_base.specs.Words.{Env, una_word, bin_word, assigned, assigned_all, atom_word, atom_words, prim_word, atom_vars, prim_vars}
+use Rattle.std.proofs.Common.{◌≡◌, ℕ, Bool, true, false, nat_le, ◌&&◌, List, [], ◌∷◌, ◌++◌, refl, ap, ◌∙◌, length}
+use Rattle.std.proofs.lemmas.Bool.{and_parts, and_from}
+use Rattle.nv_base.specs.Words.{Env, assigned, assigned_all, atom_word, atom_words, prim_word, atom_vars, prim_vars}
 use Rattle.nv_base.proofs.Operands.{atom-known, atoms-known, prim-known, atom-same, atoms-same, prim-same}
 use Rattle.flat_ir.specs.declared.flat.Flat.{Flat}
 use Rattle.flat_ir.specs.declared.flat.Flat.TheVariants.{Let', Fetch', Store', If', Bind', Call, Raise, Try', Give}
@@ -13,11 +9,11 @@ use Rattle.flat_ir.specs.declared.flat.FlatFun.{FlatFun}
 use Rattle.nv_base.specs.Running.{Running}
 use Rattle.flat_ir.specs.Running.{Gives, Raises}
 use Rattle.flat_ir.specs.Meaning.{Calls, does}
-use Rattle.nv_base.specs.Sets.{is_in, AgreeOn, without, all_vars, Within}
-use Rattle.nv_base.specs.Access.{is_known, all_known, has_count, is_primitive, can_move, is_address}
+use Rattle.nv_base.specs.Sets.{AgreeOn, without, all_vars, Within}
+use Rattle.nv_base.specs.Access.{is_known, all_known, is_primitive, can_move, is_address}
 use Rattle.flat_ir.specs.Formed.{is_formed}
 use Rattle.flat_ir.specs.Wide.{live}
-use Rattle.nv_base.proofs.Sets.{same-number, in-append, in-without, within-left, within-right, within-both, within-without, agree-left, agree-right, agree-behind, agree-within}
+use Rattle.nv_base.proofs.Sets.{within-both, within-without, agree-left, agree-right, agree-behind, agree-within}
 use Rattle.flat_ir.proofs.Agreement.{then-same, handled-same, fetch-same, store-same, compared}
 
 -- ---- what code does

@@ -1,5 +1,5 @@
 -- Formed code makes words of words.
-use Rattle.std.proofs.Common.{◌≡◌, ℕ, zero, suc, ◌==◌, Bool, true, false, List, [], ◌∷◌, ◌++◌, All, refl, sym, subst, if◌then◌else◌, Option, Some, None, length, slice_get}
+use Rattle.std.proofs.Common.{◌≡◌, ℕ, zero, suc, ◌==◌, Bool, true, false, List, [], ◌∷◌, ◌++◌, All, refl, if◌then◌else◌, Option, Some, None, length, slice_get}
 use Rattle.nv_base.specs.declared.term.Mem.{Mem}
 use Rattle.nv_base.specs.Memories.{Memories, HasSizes, fetched, stored}
 use Rattle.nv_base.specs.Running.{Running}

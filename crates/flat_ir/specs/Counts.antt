@@ -1,5 +1,5 @@
 -- What the laws of flat programs say of results.
-use Rattle.std.specs.Prelude.{◌≡◌, ℕ, List, length, All}
+use Rattle.std.specs.Prelude.{◌≡◌, ℕ, length, All}
 use Rattle.nv_base.specs.Memories.{HasSizes}
 use Rattle.nv_base.specs.Words.{IsWord}
 use Rattle.flat_ir.specs.Running.{Result, Gives, Raises, Stops}
