@@ -16,9 +16,9 @@ known P v xs e h = subst P (ap (λ l. record v { items = l }) (sym e)) h
 pub two_groups : TwoGroups
 two_groups params bound given sum twice p q r s e1 e2 e3 e4 e5 =
     let f = λ (ps bs : Vec ℕ Global) (gs us ts : Vec Atom Global). AreMeasured (
-      record { params = ps; results = 1; body = Bind' bs p (Call 1 gs) q (Let' 2 (BinOf Add (Var 1) (Var 0)) r (Give us)); group = 1 }
-      ∷ record { params = ps; results = 1; body = Let' 1 (BinOf Add (Var 0) (Var 0)) s (Give ts); group = 0 }
-      ∷ []
+    record { params = ps; results = 1; body = Bind' bs p (Call 1 gs) q (Let' 2 (BinOf Add (Var 1) (Var 0)) r (Give us)); group = 1 }
+    ∷ record { params = ps; results = 1; body = Let' 1 (BinOf Add (Var 0) (Var 0)) s (Give ts); group = 0 }
+    ∷ []
     ) in
     known (λ v. f v bound given sum twice) params (0 ∷ []) e1
     (known (λ v. f _ v given sum twice) bound (1 ∷ []) e2

@@ -1,5 +1,5 @@
 // A new packet and its refusals, accesses at the edges of its memories, and what a log keeps.
-use crate::{Access, Mem, Packet, PacketError, Words, Write, WriteLog};
+use nv_base::{Access, Mem, Packet, PacketError, Words, Write, WriteLog};
 use std::test::Fail;
 
 #[test]

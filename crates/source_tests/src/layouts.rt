@@ -1,6 +1,6 @@
-use crate::{Field, LayoutError, extract, fields, insert, shape, size};
 use nv_ast::{FieldText, LayoutText, Name};
 use nv_base::NoMemory;
+use nv_layout::{Field, LayoutError, extract, fields, insert, shape, size};
 use std::alloc::Global;
 
 // The name of one small letter.

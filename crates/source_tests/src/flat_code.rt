@@ -1,5 +1,5 @@
 // The order of joined steps, and long code.
-use crate::{Flat, Step, join};
+use flat_ir::{Flat, Step, join};
 use nv_base::{Args, Atom, Bin, Mem, Prim, Vars};
 use std::alloc::{AllocError, Global};
 use std::test::Fail;

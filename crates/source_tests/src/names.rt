@@ -1,4 +1,4 @@
-use crate::Name;
+use nv_ast::Name;
 
 /// A name comes back by its bytes, and is equal to its copy.
 #[test]

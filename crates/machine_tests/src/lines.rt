@@ -1,4 +1,4 @@
-use crate::{
+use line_text::{
     Lines, Parts, push_decimal, push_signed, push_word, read_decimal, read_signed, read_word,
     split_once, strip,
 };

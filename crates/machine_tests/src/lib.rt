@@ -1,0 +1,8 @@
+//! Tests of the crates of the machine and of 0-1 programs: words and memories, the engine, objects, assembly, texts, certificates and the search.
+//! They stand here, over the built libraries, since a crate that holds tests is proved twice.
+#![tactic(auto)]
+
+#[cfg(test)]
+mod lines;
+#[cfg(test)]
+mod memories;
