@@ -3,6 +3,16 @@
 #![tactic(auto)]
 
 #[cfg(test)]
+mod assembly;
+#[cfg(test)]
+mod engine;
+#[cfg(test)]
 mod lines;
 #[cfg(test)]
 mod memories;
+#[cfg(test)]
+mod memory_texts;
+#[cfg(test)]
+mod objects;
+#[cfg(test)]
+mod simulator;

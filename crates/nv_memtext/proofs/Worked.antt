@@ -45,11 +45,16 @@ short_text = record {
     small = refl;
     arguments = record { parts = codes "FFFFFFFF" ∷ codes "0000000a" ∷ []; spelled = refl; words = (args_0, (args_1, tt)); eight = lit≤ tt };
     number = refl;
-    spelled =
-        ( record { parts = codes "00000005" ∷ codes "00000006" ∷ []; spelled = refl; words = (five, (six, tt)); number = (lit≤ tt, lit≤ tt); inside = lit≤ tt }
-        , ( record { parts = codes "00000007" ∷ []; spelled = refl; words = (seven, tt); number = (lit≤ tt, lit≤ tt); inside = lit≤ tt }
-          , ( record { parts = codes "00000008" ∷ codes "00000009" ∷ []; spelled = refl; words = (eight, (nine, tt)); number = (1, refl, lit≤ tt, lit≤ tt); inside = lit≤ tt }
-            , tt)));
+    spelled = (
+      record { parts = codes "00000005" ∷ codes "00000006" ∷ []; spelled = refl; words = (five, (six, tt)); number = (lit≤ tt, lit≤ tt); inside = lit≤ tt },
+      (
+        record { parts = codes "00000007" ∷ []; spelled = refl; words = (seven, tt); number = (lit≤ tt, lit≤ tt); inside = lit≤ tt },
+        (
+          record { parts = codes "00000008" ∷ codes "00000009" ∷ []; spelled = refl; words = (eight, (nine, tt)); number = (1, refl, lit≤ tt, lit≤ tt); inside = lit≤ tt },
+          tt,
+        ),
+      ),
+    );
     memories = refl;
   };
 }

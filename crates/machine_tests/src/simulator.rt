@@ -1,11 +1,11 @@
 // Whole runs, worked out by hand.
 ghost use Rattle.std.specs.Prelude.{◌≡◌, ◌+◌, ◌<◌, ◌^◌};
 
-use crate::simulate;
 use nv_base::{Bin, Mem, Outcome, Packet, Words, Write, WriteLog};
 use std::alloc::{AllocError, Global};
 use std::test::Fail;
 use uc_isa::{Code, Cond, Dst, Engine, Gpr, Instr, RegA, RegB, RegS, Src, UnOp, lint};
+use uc_sim::simulate;
 
 const A0: RegA = RegA { number: 0 };
 

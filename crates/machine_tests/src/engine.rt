@@ -1,10 +1,10 @@
 // Single steps and rules, against the machine's table worked out by hand.
 ghost use Rattle.std.specs.Prelude.{◌≡◌};
 
-use crate::{Code, Dst, Engine, Gpr, Instr, RegA, RegB, RegS, Src, Stepped, broken, lint, step};
 use nv_base::{Bin, Mem, Packet, Words};
 use std::alloc::{AllocError, Global};
 use std::test::Fail;
+use uc_isa::{Code, Dst, Engine, Gpr, Instr, RegA, RegB, RegS, Src, Stepped, broken, lint, step};
 
 const A0: RegA = RegA { number: 0 };
 

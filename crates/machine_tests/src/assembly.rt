@@ -1,9 +1,9 @@
 // Texts by hand, against codes, listings and faulty lines.
-use crate::laws::assemble_printed;
-use crate::{AsmError, assemble, print};
 use nv_base::Bin;
 use std::alloc::Global;
 use std::test::Fail;
+use uc_asm::laws::assemble_printed;
+use uc_asm::{AsmError, assemble, print};
 use uc_isa::{Dst, Instr, RegA, RegB, Src};
 
 const SUM: &[u8] = b"params 2\n\

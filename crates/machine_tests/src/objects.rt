@@ -1,9 +1,9 @@
 // An object by hand, against its code, and a byte that no object has.
-use crate::{ObjectError, decode, encode};
 use nv_base::{Bin, Mem};
 use std::alloc::{AllocError, Global};
 use std::test::Fail;
 use uc_isa::{Code, Dst, Gpr, Instr, RegA, RegB, RegL, RegLD, Src};
+use uc_object::{ObjectError, decode, encode};
 
 fn instructions(alloc: Global) -> Result<Vec<Instr>, AllocError> {
     let list = Vec::from_array(

@@ -1,5 +1,5 @@
-use crate::{Job, MemError, print_outcome, read_memory};
 use nv_base::{Access, Mem, Outcome, Packet, Words, Write, WriteLog};
+use nv_memtext::{Job, MemError, print_outcome, read_memory};
 use std::alloc::Global;
 use std::test::Fail;
 
