@@ -110,17 +110,18 @@ def certificates(top):
 
 
 def faults(top):
-    """docs/FAULTS.md: a block of code of kind `nova` behind which a line in backticks stands is a source that is refused so."""
+    """docs/FAULTS.md: a block of code of kind `nova` behind which a line begins with a refusal in backticks is refused so."""
     if not os.path.isfile(os.path.join(top, "docs/FAULTS.md")):
         return []
     found = []
-    document = read(top, "docs/FAULTS.md")
-    for first, kind, text in blocks(document):
-        answer = re.match(r"\n*`((?:syntax|type|too large) [^`]*)`", document.split("\n```\n" if False else text + "```\n", 1)[1])
+    lines = read(top, "docs/FAULTS.md").split("\n")
+    for first, kind, text in blocks("\n".join(lines)):
+        behind = [it for it in lines[first + text.count("\n") :] if it]
+        answer = re.match(r"`((?:syntax|type|too large) [^`]*)`", behind[0]) if behind else None
         if kind == "nova" and answer:
-            status = {"syntax": 6, "type": 7, "too": 8}[answer[1].split()[0]]
             row = Row(f"docs/FAULTS.md:{first}", answer[1])
             row.files = {"s.nova": text.encode()}
+            status = {"syntax": 6, "type": 7, "too": 8}[answer[1].split()[0]]
             row.calls = [Call(["compile", "s.nova", "s.obj"], status, answer[1].encode() + b"\n")]
             found.append(row)
     return found
