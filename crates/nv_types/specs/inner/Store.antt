@@ -4,7 +4,7 @@ use Rattle.std.specs.List.{list_any}
 use Rattle.nv_ast.specs.Tests.{is_among, has_twice}
 use Rattle.nv_types.specs.declared.table.Cell.{Cell}
 use Rattle.nv_types.specs.declared.table.Cell.TheVariants.{Word, Bool as BoolCell, NoParts, NoFields, Tuple, Record, Choice, Part, Field}
-use Rattle.nv_types.specs.Cells.{AreBelow}
+use Rattle.nv_types.specs.inner.Cells.{AreBelow}
 use Rattle.nv_ast.specs.Types.{Ty, WordTy, BoolTy, TupleTy, RecordTy, Tys, no_tys, ty_and, NamedTys, no_named_tys, named_ty_and, Form, WordForm, RecordForm, ChoiceForm, Forms, no_forms, form_and}
 
 pub record Store : Type 0 where

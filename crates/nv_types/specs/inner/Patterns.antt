@@ -8,9 +8,9 @@ use Rattle.nv_ast.specs.Tests.{look_up}
 use Rattle.nv_ast.specs.Faults.{at_span, variable_twice, not_fitting, raised_kinds}
 use Rattle.nv_types.specs.declared.error.TypeError.{TypeError}
 use Rattle.nv_types.specs.declared.functions.Checker.{Checker}
-use Rattle.nv_types.specs.Faulty.{Judges}
-use Rattle.nv_types.specs.Store.{IsParts, IsValue}
-use Rattle.nv_types.specs.Standing.{Holds, Sees, KeepsDeclared}
+use Rattle.nv_types.specs.inner.Faulty.{Judges}
+use Rattle.nv_types.specs.inner.Store.{IsParts, IsValue}
+use Rattle.nv_types.specs.inner.Standing.{Holds, Sees, KeepsDeclared}
 
 -- the variables in sight have new ones in front
 pub record Adds (old new : Checker) : Type 0 where

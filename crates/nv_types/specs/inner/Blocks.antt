@@ -14,9 +14,9 @@ use Rattle.nv_types.specs.declared.error.TypeError.{TypeError}
 use Rattle.nv_types.specs.declared.blocks.Step.{Step}
 use Rattle.nv_types.specs.declared.blocks.Held.{Held}
 use Rattle.nv_types.specs.declared.functions.Checker.{Checker}
-use Rattle.nv_types.specs.Faulty.{Judges}
-use Rattle.nv_types.specs.Costs.{still}
-use Rattle.nv_types.specs.Standing.{Holds, Sees, Counts, place, KeepsDeclared, written_in}
+use Rattle.nv_types.specs.inner.Faulty.{Judges}
+use Rattle.nv_types.specs.inner.Costs.{still}
+use Rattle.nv_types.specs.inner.Standing.{Holds, Sees, Counts, place, KeepsDeclared, written_in}
 
 -- of a let its names and the words of its value
 abbrev pub IsLet : Option Pat → ℕ → List (List (List ℕ) × ℕ) → Type 0

@@ -6,10 +6,10 @@ use Rattle.nv_ast.specs.Sizes.{GroupNumbers}
 use Rattle.nv_types.specs.declared.functions.Function.{Function}
 use Rattle.nv_types.specs.declared.functions.Checker.{Checker}
 use Rattle.nv_types.specs.declared.cost.Cost.{Cost}
-use Rattle.nv_types.specs.Costs.{still}
-use Rattle.nv_types.specs.Store.{Store, Grows, IsType, IsParts}
-use Rattle.nv_types.specs.Layouts.{IsDeclared}
-use Rattle.nv_types.specs.Named.{plain_names}
+use Rattle.nv_types.specs.inner.Costs.{still}
+use Rattle.nv_types.specs.inner.Store.{Store, Grows, IsType, IsParts}
+use Rattle.nv_types.specs.inner.Layouts.{IsDeclared}
+use Rattle.nv_types.specs.inner.Named.{plain_names}
 
 -- things of the same names in the same order, each pair related
 abbrev pub Alike : {A B : Type 0} → (A → B → Type 0) → List (List ℕ × A) → List (List ℕ × B) → Type 0

@@ -9,9 +9,9 @@ use Rattle.nv_ast.specs.Sizes.{GroupNumbers, sizes_behind, needs_behind, group_s
 use Rattle.nv_types.specs.declared.error.TypeError.{TypeError}
 use Rattle.nv_types.specs.declared.functions.Checker.{Checker}
 use Rattle.nv_types.specs.declared.cost.Cost.{Cost}
-use Rattle.nv_types.specs.Costs.{IsCost}
-use Rattle.nv_types.specs.Faulty.{Judges}
-use Rattle.nv_types.specs.Standing.{Holds, Sees, Counts, Keeps}
+use Rattle.nv_types.specs.inner.Costs.{IsCost}
+use Rattle.nv_types.specs.inner.Faulty.{Judges}
+use Rattle.nv_types.specs.inner.Standing.{Holds, Sees, Counts, Keeps}
 
 -- between two declarations: what is declared so far; each function's group is behind, and no variable is in sight
 pub record Between (c : Checker) (k : Known) : Type 0 where

@@ -4,8 +4,8 @@ use Rattle.nv_ast.specs.Outline.{OutlineTree, OutlineTrees, no_outlines, outline
 use Rattle.nv_ast.specs.Types.{RecordForm, form_of, record_forms, joined_forms, unpacked, unpacked_all}
 use Rattle.nv_types.specs.declared.layouts.Shape.{Shape}
 use Rattle.nv_types.specs.declared.layouts.Member.{Member}
-use Rattle.nv_types.specs.Costs.{still}
-use Rattle.nv_types.specs.Store.{Store, IsType, IsFields, IsForm, IsForms}
+use Rattle.nv_types.specs.inner.Costs.{still}
+use Rattle.nv_types.specs.inner.Store.{Store, IsType, IsFields, IsForm, IsForms}
 
 -- a layout's
 pub record IsShape (s : Store) (shape : Shape) (o : OutlineTree) : Type 0 where

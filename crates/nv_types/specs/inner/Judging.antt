@@ -5,7 +5,7 @@ use Rattle.nv_ast.specs.Types.{Ty, Tys, RecordForm, Forms, can_pack}
 use Rattle.nv_ast.specs.Faults.{Fault as FaultAt, at_span, Wanted as WantedTree, anything, a_value, of_type, same_as, wanted_stored, other_type, no_value, too_large_value, all_wanted}
 use Rattle.nv_types.specs.declared.wanted.Wanted.{Wanted}
 use Rattle.nv_types.specs.declared.wanted.Wanted.TheVariants.{Anything, Value, Typed, Same, Packed, Stored}
-use Rattle.nv_types.specs.Store.{Store, IsType, IsParts, IsForms}
+use Rattle.nv_types.specs.inner.Store.{Store, IsType, IsParts, IsForms}
 
 -- a value that can be packed by the record of some forms
 abbrev pub packed_by : Forms → WantedTree

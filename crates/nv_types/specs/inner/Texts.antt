@@ -13,11 +13,11 @@ use Rattle.nv_types.specs.declared.error.TypeError.{TypeError}
 use Rattle.nv_types.specs.declared.layouts.Shape.{Shape}
 use Rattle.nv_types.specs.declared.layouts.Member.{Member}
 use Rattle.nv_types.specs.declared.functions.Checker.{Checker}
-use Rattle.nv_types.specs.Faulty.{Judges}
-use Rattle.nv_types.specs.Named.{named}
-use Rattle.nv_types.specs.Store.{IsType, IsParts, AreFields}
-use Rattle.nv_types.specs.Layouts.{IsShape, IsDeclared, IsMember, AreMembers}
-use Rattle.nv_types.specs.Standing.{Holds, Keeps}
+use Rattle.nv_types.specs.inner.Faulty.{Judges}
+use Rattle.nv_types.specs.inner.Named.{named}
+use Rattle.nv_types.specs.inner.Store.{IsType, IsParts, AreFields}
+use Rattle.nv_types.specs.inner.Layouts.{IsShape, IsDeclared, IsMember, AreMembers}
+use Rattle.nv_types.specs.inner.Standing.{Holds, Keeps}
 
 pub record ShapesLayout (c new : Checker) (s : Span) (l : LayoutTree) (r : Result Shape TypeError) : Type 0 where
   pub judged : (k : Known) → Holds c k → Judges (at_span s (layout_faults k.layouts l)) r

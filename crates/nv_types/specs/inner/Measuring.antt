@@ -1,29 +1,17 @@
--- What a check of a program answers.
-use Rattle.std.specs.Prelude.{◌≡◌, ◌<◌, ◌≤◌, ℕ, [], min, Option, IfSome, is_some, Result, IfOk}
+-- What the walk over a program finds.
+use Rattle.std.specs.Prelude.{◌≡◌, ℕ, [], min, Option, IfSome, is_some, Result, IfOk}
 use Rattle.nv_ast.specs.Tree.{ProgramTree}
 use Rattle.nv_ast.specs.Tests.{is_among, names_of, value_at, look_up}
 use Rattle.nv_ast.specs.Scope.{Known, nothing_known}
-use Rattle.nv_ast.specs.Faults.{IsTyped, IsFault, main_name, program_faults}
+use Rattle.nv_ast.specs.Faults.{main_name, program_faults}
 use Rattle.nv_ast.specs.Sizes.{GroupNumbers, needs_behind, expanded_size, signature_words, main_words}
 use Rattle.nv_types.specs.declared.program.Sizes.{Sizes}
 use Rattle.nv_types.specs.declared.functions.Checker.{Checker}
 use Rattle.nv_types.specs.declared.error.TypeError.{TypeError}
-use Rattle.nv_types.specs.declared.error.TypeError.TheVariants.{NoMemory, Fault, TooLarge}
-use Rattle.nv_types.specs.Costs.{still}
-use Rattle.nv_types.specs.Faulty.{Judges}
-use Rattle.nv_types.specs.Standing.{Counts}
-use Rattle.nv_types.specs.Declarations.{Between, Started}
-
--- why a program is refused: its first fault, or where it has none that its expanded size is over 4,096
-abbrev pub IsRefusal : ProgramTree → TypeError → Type 0
-IsRefusal p NoMemory = Unit {0}
-IsRefusal p (Fault kind s) = IsFault p kind s
-IsRefusal p (TooLarge n) = IsTyped p × (n ≡ expanded_size p) × (4096 < n)
-
--- a program that is typed and not too large
-pub record IsAccepted (p : ProgramTree) : Type 0 where
-  pub typed : IsTyped p
-  pub small : expanded_size p ≤ 4096
+use Rattle.nv_types.specs.inner.Costs.{still}
+use Rattle.nv_types.specs.inner.Faulty.{Judges}
+use Rattle.nv_types.specs.inner.Standing.{Counts}
+use Rattle.nv_types.specs.inner.Declarations.{Between, Started}
 
 -- the need of main's group
 abbrev pub main_need : ProgramTree → ℕ

@@ -3,8 +3,8 @@ use Rattle.std.specs.Prelude.{◌≡◌, ℕ, true, List, All}
 use Rattle.nv_ast.specs.Types.{Ty, Tys, NamedTys, words, total_words, total_named_words, ty_height, highest_ty, highest_named_ty, has_bool, some_bool, some_named_bool, Form, can_pack}
 use Rattle.nv_ast.specs.Faults.{words_alone}
 use Rattle.nv_types.specs.declared.table.Facts.{Facts}
-use Rattle.nv_types.specs.Costs.{still}
-use Rattle.nv_types.specs.Store.{Store, IsType, IsForm}
+use Rattle.nv_types.specs.inner.Costs.{still}
+use Rattle.nv_types.specs.inner.Store.{Store, IsType, IsForm}
 
 pub record IsKnown (f : Facts) (t : Ty) : Type 0 where
   pub of_words : f.words ≡ still (words t)

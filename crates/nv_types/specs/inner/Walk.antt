@@ -10,11 +10,11 @@ use Rattle.nv_types.specs.declared.wanted.Wanted.{Wanted}
 use Rattle.nv_types.specs.declared.cost.Cost.{Cost}
 use Rattle.nv_types.specs.declared.functions.Checker.{Checker}
 use Rattle.nv_types.specs.declared.functions.Found.{Found}
-use Rattle.nv_types.specs.Faulty.{Judges}
-use Rattle.nv_types.specs.Store.{Store, IsValue}
-use Rattle.nv_types.specs.Costs.{IsCost}
-use Rattle.nv_types.specs.Judging.{IsWanted, AreWanted}
-use Rattle.nv_types.specs.Standing.{Holds, Sees, Counts, Keeps, place, written_in}
+use Rattle.nv_types.specs.inner.Faulty.{Judges}
+use Rattle.nv_types.specs.inner.Store.{Store, IsValue}
+use Rattle.nv_types.specs.inner.Costs.{IsCost}
+use Rattle.nv_types.specs.inner.Judging.{IsWanted, AreWanted}
+use Rattle.nv_types.specs.inner.Standing.{Holds, Sees, Counts, Keeps, place, written_in}
 
 -- an expression's first fault, or its type and its cost
 pub record Checks (c new : Checker) (tail : Bool) (wanted : Wanted) (e : Tree) (r : Result Found TypeError) : Type 0 where

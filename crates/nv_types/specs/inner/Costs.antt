@@ -1,7 +1,7 @@
 -- What expressions cost, as it is counted.
 use Rattle.std.specs.Prelude.{◌≡◌, ℕ, ◌+◌, min, max, Option, None, Some}
 use Rattle.nv_types.specs.declared.cost.Cost.{Cost}
-use Rattle.nv_types.specs.Cells.{most}
+use Rattle.nv_types.specs.inner.Cells.{most}
 
 -- a number that stands still at the greatest
 abbrev pub still : ℕ → ℕ
