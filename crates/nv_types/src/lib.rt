@@ -15,8 +15,6 @@ mod patterns;
 mod program;
 mod scope;
 mod table;
-#[cfg(test)]
-mod tests;
 mod texts;
 mod wanted;
 

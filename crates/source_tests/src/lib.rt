@@ -5,8 +5,12 @@
 #[cfg(test)]
 mod flat_code;
 #[cfg(test)]
+mod front;
+#[cfg(test)]
 mod layouts;
 #[cfg(test)]
 mod names;
 #[cfg(test)]
 mod texts;
+#[cfg(test)]
+mod types;

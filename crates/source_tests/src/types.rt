@@ -1,8 +1,10 @@
-use crate::declarations::MAIN;
-use crate::{TypeError, check};
 use nv_ast::{Decl, Expr, Fun, Kind, Name, Op, Pat, Program, Span, Stmt, TyText};
 use nv_base::NoMemory;
+use nv_types::{TypeError, check};
 use std::alloc::Global;
+
+// The name of the function that a program begins with.
+const MAIN: [u8; 4] = *b"main";
 
 fn at(first: u32, after: u32) -> Span {
     Span { first, after }

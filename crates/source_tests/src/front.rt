@@ -1,6 +1,5 @@
 // Texts through the front end.
-use crate::error::FrontError;
-use crate::texts::front;
+use nova_front::{FrontError, front};
 use nv_ast::Span;
 use nv_base::NoMemory;
 use nv_text::TextError;
