@@ -1,13 +1,11 @@
 -- Assignments that agree on some variables, and what follows equal results.
-use Rattle.std.proofs.Common.{◌≡◌, ℕ, ◌==◌, Bool, true, false, nat_eq, ◌||◌, List, [], ◌∷◌, ◌++◌, refl, sym, ap, subst, ◌∙◌, ⊎_elim, if◌then◌else◌, Option, Some, None}
-use Rattle.std.proofs.lemmas.Bool.{or_cases, or_left, or_right}
+use Rattle.std.proofs.Common.{◌≡◌, ℕ, ◌==◌, Bool, true, false, List, [], ◌∷◌, ◌++◌, refl, ap, ◌∙◌, if◌then◌else◌, Option, Some, None}
 use Rattle.nv_base.specs.declared.term.Mem.{Mem}
 use Rattle.nv_base.specs.declared.term.Cmp.{Cmp}
 use Rattle.nv_base.specs.Memories.{Memories, fetched, stored}
-use Rattle.nv_base.specs.Words.{Env, assigned, assigned_all, compares}
+use Rattle.nv_base.specs.Words.{compares}
 use Rattle.nv_base.specs.Running.{Running}
 use Rattle.flat_ir.specs.Running.{Result, Gives, Raises, Stops, and_then, handled, fetch, after_fetch, store, after_store}
-use Rattle.nv_base.specs.Sets.{is_in, AgreeOn}
 
 -- ---- what follows is the same
 

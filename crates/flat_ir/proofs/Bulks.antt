@@ -1,11 +1,11 @@
 -- The bulks of groups are the least that bound their functions together.
-use Rattle.std.proofs.Common.{◌≡◌, ℕ, zero, suc, ◌+◌, ◌-◌, ◌≤◌, ◌<◌, Bool, true, false, nat_lt, ◌==◌, List, [], ◌∷◌, refl, sym, subst, if◌then◌else◌, Option, Some, None, length, slice_get, arith}
+use Rattle.std.proofs.Common.{◌≡◌, ℕ, zero, suc, ◌+◌, ◌-◌, ◌≤◌, ◌<◌, Bool, true, false, nat_lt, ◌==◌, List, [], ◌∷◌, sym, subst, if◌then◌else◌, Option, Some, None, length, slice_get, arith}
 use Rattle.std.proofs.lemmas.Bool.{ltb-true, eqb-true}
 use Rattle.nv_base.proofs.Measures.{most-refl, most-trans, most-none, most-both, most-behind, most-if}
 use Rattle.flat_ir.specs.declared.flat.Flat.{Flat}
 use Rattle.flat_ir.specs.declared.flat.Flat.TheVariants.{Let', Fetch', Store', If', Bind', Call, Raise, Try', Give}
 use Rattle.flat_ir.specs.declared.flat.FlatFun.{FlatFun}
-use Rattle.nv_base.specs.Measures.{Bulk, nothing, a_label, a_jump, a_node, both, IsAtMost}
+use Rattle.nv_base.specs.Measures.{nothing, a_label, a_jump, a_node, both, IsAtMost}
 use Rattle.flat_ir.specs.Bulk.{Bulks, return_bulk, call_bulk, code_bulk, function_bulk, sum_bulk, bulks_within, group_bulk, main_bulk, bulk, AreBulks}
 
 -- the first gives each group below this one at most what the second gives it

@@ -10,3 +10,6 @@ pub mod Bulks
 pub mod Worked
 pub mod Appended
 pub mod Weaker
+pub mod Following
+pub mod FormedParts
+pub mod WordsStay

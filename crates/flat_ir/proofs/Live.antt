@@ -1,11 +1,7 @@
 -- Live variables: what code does depends on their words alone, and in formed code they are known.
-use Rattle.std.proofs.Common.{◌≡◌, ℕ, Bool, true, false, not, nat_eq, nat_le, ◌&&◌, List, [], ◌∷◌, ◌++◌, refl, sym, ap, subst, ◌∙◌, ⊎_elim, length}
-use Rattle.std.proofs.lemmas.Bool.{and_parts, and_from, or_cases, or_left, or_right, not_from_false, not-true, false≢true, eq-eqb}
-use Rattle.nv_base.specs.declared.term.Atom.{Atom}
-use Rattle.nv_base.specs.declared.term.Atom.TheVariants.{Var, Lit}
-use Rattle.nv_base.specs.declared.term.Primitive.{Primitive}
-use Rattle.nv_base.specs.declared.term.Primitive.TheVariants.{Same, Una as UnaOf, Bin as BinOf}
-use Rattle.nv_base.specs.Words.{Env, una_word, bin_word, assigned, assigned_all, atom_word, atom_words, prim_word, atom_vars, prim_vars}
+use Rattle.std.proofs.Common.{◌≡◌, ℕ, Bool, true, false, nat_le, ◌&&◌, List, [], ◌∷◌, ◌++◌, refl, ap, ◌∙◌, length}
+use Rattle.std.proofs.lemmas.Bool.{and_parts, and_from}
+use Rattle.nv_base.specs.Words.{Env, assigned, assigned_all, atom_word, atom_words, prim_word, atom_vars, prim_vars}
 use Rattle.nv_base.proofs.Operands.{atom-known, atoms-known, prim-known, atom-same, atoms-same, prim-same}
 use Rattle.flat_ir.specs.declared.flat.Flat.{Flat}
 use Rattle.flat_ir.specs.declared.flat.Flat.TheVariants.{Let', Fetch', Store', If', Bind', Call, Raise, Try', Give}
@@ -13,56 +9,45 @@ use Rattle.flat_ir.specs.declared.flat.FlatFun.{FlatFun}
 use Rattle.nv_base.specs.Running.{Running}
 use Rattle.flat_ir.specs.Running.{Gives, Raises}
 use Rattle.flat_ir.specs.Meaning.{Calls, does}
-use Rattle.nv_base.specs.Sets.{is_in, AgreeOn, without, all_vars, Within}
-use Rattle.nv_base.specs.Access.{is_known, all_known, has_count, is_primitive, can_move, is_address}
+use Rattle.nv_base.specs.Sets.{AgreeOn, without, all_vars, Within}
+use Rattle.nv_base.specs.Access.{is_known, all_known, is_primitive, can_move, is_address}
 use Rattle.flat_ir.specs.Formed.{is_formed}
 use Rattle.flat_ir.specs.Wide.{live}
-use Rattle.nv_base.proofs.Sets.{same-number, in-append, in-without, agree-all, within-left, within-right, within-both, within-without, within-behind, agree-within}
+use Rattle.nv_base.proofs.Sets.{within-both, within-without, agree-left, agree-right, agree-behind, agree-within}
 use Rattle.flat_ir.proofs.Agreement.{then-same, handled-same, fetch-same, store-same, compared}
 
 -- ---- what code does
 
--- the parts of a set
-left : (a b : List ℕ) (env env' : Env) → AgreeOn (a ++ b) env env' → AgreeOn a env env'
-left a b env env' h = agree-within a (a ++ b) env env' (within-left a b) h
-
-right : (a b : List ℕ) (env env' : Env) → AgreeOn (a ++ b) env env' → AgreeOn b env env'
-right a b env env' h = agree-within b (a ++ b) env env' (within-right a b) h
-
--- behind new variables
-agree-behind : (a xs ws : List ℕ) (env env' : Env) → AgreeOn (without a xs) env env' → AgreeOn a (assigned_all env xs ws) (assigned_all env' xs ws)
-agree-behind a xs ws env env' h = agree-within a (xs ++ without a xs) (assigned_all env xs ws) (assigned_all env' xs ws) (within-behind a xs) (agree-all xs ws (without a xs) env env' h)
-
 pub does-live : (call : Calls) (t : Flat) (env env' : Env) (now : Running) → AgreeOn (live t) env env' → does call t env now ≡ does call t env' now
 does-live call (Let' x a q t) env env' now h =
-    let same : prim_word env a ≡ prim_word env' a = prim-same env env' a (left (prim_vars a) (without (live t) (x ∷ [])) env env' h) in
-    does-live call t (assigned env x (prim_word env a)) (assigned env' x (prim_word env a)) now (agree-behind (live t) (x ∷ []) (prim_word env a ∷ []) env env' (right (prim_vars a) (without (live t) (x ∷ [])) env env' h))
+    let same : prim_word env a ≡ prim_word env' a = prim-same env env' a (agree-left (prim_vars a) (without (live t) (x ∷ [])) env env' h) in
+    does-live call t (assigned env x (prim_word env a)) (assigned env' x (prim_word env a)) now (agree-behind (live t) (x ∷ []) (prim_word env a ∷ []) env env' (agree-right (prim_vars a) (without (live t) (x ∷ [])) env env' h))
     ∙ ap (λ w. does call t (assigned env' x w) now) same
 does-live call (Fetch' m xs a q t) env env' now h =
     fetch-same m (length xs.items) (atom_word env a) (atom_word env' a) now (λ ws. does call t (assigned_all env xs.items ws) now) (λ ws. does call t (assigned_all env' xs.items ws) now)
-    (atom-same env env' a (left (atom_vars a) (without (live t) xs.items) env env' h))
-    (λ ws. does-live call t (assigned_all env xs.items ws) (assigned_all env' xs.items ws) now (agree-behind (live t) xs.items ws env env' (right (atom_vars a) (without (live t) xs.items) env env' h)))
+    (atom-same env env' a (agree-left (atom_vars a) (without (live t) xs.items) env env' h))
+    (λ ws. does-live call t (assigned_all env xs.items ws) (assigned_all env' xs.items ws) now (agree-behind (live t) xs.items ws env env' (agree-right (atom_vars a) (without (live t) xs.items) env env' h)))
 does-live call (Store' m a bs q t) env env' now h =
-    let front = left (all_vars (a ∷ bs.items)) (live t) env env' h in
+    let front = agree-left (all_vars (a ∷ bs.items)) (live t) env env' h in
     store-same m (atom_word env a) (atom_word env' a) (atom_words env bs.items) (atom_words env' bs.items) now (λ next. does call t env next) (λ next. does call t env' next)
-    (atom-same env env' a (left (atom_vars a) (all_vars bs.items) env env' front)) (atoms-same env env' bs.items (right (atom_vars a) (all_vars bs.items) env env' front))
-    (λ next. does-live call t env env' next (right (all_vars (a ∷ bs.items)) (live t) env env' h))
+    (atom-same env env' a (agree-left (atom_vars a) (all_vars bs.items) env env' front)) (atoms-same env env' bs.items (agree-right (atom_vars a) (all_vars bs.items) env env' front))
+    (λ next. does-live call t env env' next (agree-right (all_vars (a ∷ bs.items)) (live t) env env' h))
 does-live call (If' c a b q t r u) env env' now h =
-    let front = left (all_vars (a ∷ b ∷ [])) (live t ++ live u) env env' h in
-    let arms = right (all_vars (a ∷ b ∷ [])) (live t ++ live u) env env' h in
+    let front = agree-left (all_vars (a ∷ b ∷ [])) (live t ++ live u) env env' h in
+    let arms = agree-right (all_vars (a ∷ b ∷ [])) (live t ++ live u) env env' h in
     compared c (atom_word env a) (atom_word env' a) (atom_word env b) (atom_word env' b) (does call t env now) (does call u env now) (does call t env' now) (does call u env' now)
-    (atom-same env env' a (left (atom_vars a) (all_vars (b ∷ [])) env env' front)) (atom-same env env' b (left (atom_vars b) [] env env' (right (atom_vars a) (all_vars (b ∷ [])) env env' front)))
-    (does-live call t env env' now (left (live t) (live u) env env' arms)) (does-live call u env env' now (right (live t) (live u) env env' arms))
+    (atom-same env env' a (agree-left (atom_vars a) (all_vars (b ∷ [])) env env' front)) (atom-same env env' b (agree-left (atom_vars b) [] env env' (agree-right (atom_vars a) (all_vars (b ∷ [])) env env' front)))
+    (does-live call t env env' now (agree-left (live t) (live u) env env' arms)) (does-live call u env env' now (agree-right (live t) (live u) env env' arms))
 does-live call (Bind' xs q t r u) env env' now h =
     then-same (does call t env now) (does call t env' now) (λ ws next. does call u (assigned_all env xs.items ws) next) (λ ws next. does call u (assigned_all env' xs.items ws) next)
-    (does-live call t env env' now (left (live t) (without (live u) xs.items) env env' h))
-    (λ ws next. does-live call u (assigned_all env xs.items ws) (assigned_all env' xs.items ws) next (agree-behind (live u) xs.items ws env env' (right (live t) (without (live u) xs.items) env env' h)))
+    (does-live call t env env' now (agree-left (live t) (without (live u) xs.items) env env' h))
+    (λ ws next. does-live call u (assigned_all env xs.items ws) (assigned_all env' xs.items ws) next (agree-behind (live u) xs.items ws env env' (agree-right (live t) (without (live u) xs.items) env env' h)))
 does-live call (Call f bs) env env' now h = ap (λ ws. call f ws now) (atoms-same env env' bs.items h)
 does-live call (Raise k bs) env env' now h = ap (λ ws. Raises k ws now) (atoms-same env env' bs.items h)
 does-live call (Try' q t k xs r u) env env' now h =
     handled-same k (λ ws next. does call u (assigned_all env xs.items ws) next) (λ ws next. does call u (assigned_all env' xs.items ws) next) (does call t env now) (does call t env' now)
-    (does-live call t env env' now (left (live t) (without (live u) xs.items) env env' h))
-    (λ ws next. does-live call u (assigned_all env xs.items ws) (assigned_all env' xs.items ws) next (agree-behind (live u) xs.items ws env env' (right (live t) (without (live u) xs.items) env env' h)))
+    (does-live call t env env' now (agree-left (live t) (without (live u) xs.items) env env' h))
+    (λ ws next. does-live call u (assigned_all env xs.items ws) (assigned_all env' xs.items ws) next (agree-behind (live u) xs.items ws env env' (agree-right (live t) (without (live u) xs.items) env env' h)))
 does-live call (Give bs) env env' now h = ap (λ ws. Gives ws now) (atoms-same env env' bs.items h)
 
 -- ---- formed code

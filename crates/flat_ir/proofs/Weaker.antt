@@ -1,22 +1,18 @@
 -- Where more variables are known, code stays formed; where more are live outside of it, it is only wider.
-use Rattle.std.proofs.Common.{◌≡◌, ℕ, ◌+◌, ◌≤◌, ◌==◌, max, Bool, true, false, not, nat_le, nat_lt, ◌&&◌, List, [], ◌∷◌, ◌++◌, refl, sym, ◌∙◌, ⊎_elim, if◌then◌else◌, Option, Some, None, length, slice_get, arith}
-use Rattle.std.proofs.lemmas.Bool.{and_parts, and_from, or_cases, or_left, or_right}
-use Rattle.nv_base.specs.declared.term.Atom.{Atom}
-use Rattle.nv_base.specs.declared.term.Atom.TheVariants.{Var, Lit}
-use Rattle.nv_base.specs.declared.term.Primitive.{Primitive}
-use Rattle.nv_base.specs.declared.term.Primitive.TheVariants.{Same, Una as UnaOf, Bin as BinOf}
+use Rattle.std.proofs.Common.{◌≡◌, ℕ, ◌+◌, ◌≤◌, ◌==◌, max, Bool, true, false, nat_le, nat_lt, ◌&&◌, List, [], ◌∷◌, ◌++◌, if◌then◌else◌, Option, Some, None, length, slice_get, arith}
+use Rattle.std.proofs.lemmas.Bool.{and_parts, and_from}
 use Rattle.nv_base.specs.Words.{prim_vars}
 use Rattle.nv_base.proofs.Measures.{operands-more, let-more, entry-more, max-mono}
 use Rattle.nv_base.proofs.Operands.{atom-more, atoms-more, prim-more}
 use Rattle.flat_ir.specs.declared.flat.Flat.{Flat}
 use Rattle.flat_ir.specs.declared.flat.Flat.TheVariants.{Let', Fetch', Store', If', Bind', Call, Raise, Try', Give}
 use Rattle.flat_ir.specs.declared.flat.FlatFun.{FlatFun}
-use Rattle.nv_base.specs.Sets.{is_in, different, without, all_vars, Within}
-use Rattle.nv_base.specs.Access.{is_known, all_known, has_count, is_primitive, can_move, is_address}
+use Rattle.nv_base.specs.Sets.{different, without, Within}
+use Rattle.nv_base.specs.Access.{is_known, all_known, is_primitive, can_move, is_address}
 use Rattle.flat_ir.specs.Formed.{can_call, is_formed}
 use Rattle.nv_base.specs.Measures.{operands_wide, let_wide, entry_wide}
 use Rattle.flat_ir.specs.Wide.{live, Widths, call_wide, code_wide}
-use Rattle.nv_base.proofs.Sets.{in-append, in-without, different-below, within-behind_same, within-before_same}
+use Rattle.nv_base.proofs.Sets.{different-below, within-behind_same, within-before_same}
 
 -- ---- formed
 

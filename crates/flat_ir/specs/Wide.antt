@@ -2,13 +2,12 @@
 -- A width counts the different live variables and, of a node, its operands, literals among them. What a later pass does to a node in
 -- place stays within its width: a literal may want a second word while it is made, and a `Let` may get another primitive with two operands.
 use Rattle.std.specs.Prelude.{◌≡◌, ℕ, zero, suc, ◌+◌, ◌≤◌, max, nat_lt, ◌==◌, if◌then◌else◌, List, [], ◌∷◌, ◌++◌, Option, Some, None, slice_get, length}
-use Rattle.nv_base.specs.declared.term.Atom.{Atom}
 use Rattle.nv_base.specs.Words.{atom_vars, prim_vars}
 use Rattle.nv_base.specs.Measures.{operands_wide, let_wide, entry_wide}
 use Rattle.flat_ir.specs.declared.flat.Flat.{Flat}
 use Rattle.flat_ir.specs.declared.flat.Flat.TheVariants.{Let', Fetch', Store', If', Bind', Call, Raise, Try', Give}
 use Rattle.flat_ir.specs.declared.flat.FlatFun.{FlatFun}
-use Rattle.nv_base.specs.Sets.{is_in, different, without, all_vars}
+use Rattle.nv_base.specs.Sets.{different, without, all_vars}
 
 -- the live variables where code begins: those that it uses and doesn't define
 abbrev pub live : Flat → List ℕ

@@ -1,10 +1,10 @@
 //! Laws of the definitions in specs/: each is the contract of a function that does nothing.
-ghost use Rattle.std.specs.Prelude.{◌≡◌, ◌≤◌, ◌+◌, ◌&&◌, ℕ, Bool, true, List, ◌++◌, Some, slice_get, length};
-ghost use Rattle.nv_base.specs.Memories.{Memories};
-ghost use Rattle.nv_base.specs.Progress.{Grows};
-ghost use Rattle.nv_base.specs.Words.{Env};
+ghost use Rattle.std.specs.Prelude.{◌≡◌, ◌≤◌, ◌+◌, ◌&&◌, ℕ, Bool, true, List, ◌++◌, All, Some, slice_get, length};
+ghost use Rattle.nv_base.specs.Memories.{Memories, HasSizes};
+ghost use Rattle.nv_base.specs.Progress.{Grows, FollowsAll};
+ghost use Rattle.nv_base.specs.Words.{Env, IsEnv, IsWord};
 ghost use Rattle.nv_base.specs.Sets.{AgreeOn, is_in, all_different, different};
-ghost use Rattle.flat_ir.specs.Counts.{GivesMany};
+ghost use Rattle.flat_ir.specs.Counts.{GivesMany, HoldsWords};
 ghost use Rattle.nv_base.specs.Measures.{Bulk, a_label, a_jump, both, IsAtMost};
 ghost use Rattle.flat_ir.specs.Bulk.{Bulks, code_bulk, group_bulk, bulk, AreBulks};
 ghost use Rattle.flat_ir.specs.Formed.{is_formed, defined, raised, is_program};
@@ -91,4 +91,15 @@ pub fn bulks_are_the_least_bounds()
     ensures bounds { (funs : List FlatFun) → AreBulks funs (group_bulk funs) }
     ensures least { (funs : List FlatFun) (w : Bulks) → AreBulks funs w → (group : ℕ) → IsAtMost (group_bulk funs group) (w group) }
     ensures main { (funs : List FlatFun) (w : Bulks) (main : ℕ) (f : FlatFun) → AreBulks funs w → slice_get funs main ≡ Some f → IsAtMost (bulk funs main) (both (both a_label a_jump) (w f.group)) }
+{}
+
+/// In a formed program words come of words, and memories keep their sizes.
+pub fn words_stay_words()
+    ensures function { (funs : List FlatFun) (main depth f : ℕ) (ws : List ℕ) (now : Running) → is_program funs main ≡ true → All IsWord ws → HasSizes now.packet → HoldsWords (calls_within depth funs f ws now) }
+    ensures code { (funs : List FlatFun) (main depth own : ℕ) (tail : Bool) (n : ℕ) (known : List ℕ) (t : Flat) (env : Env) (now : Running) → is_program funs main ≡ true → is_formed funs own tail n known t ≡ true → IsEnv env → HasSizes now.packet → HoldsWords (does (calls_within depth funs) t env now) }
+{}
+
+/// The memories of a flat program's run are always the first ones after its writes so far.
+pub fn memories_follow_writes()
+    ensures { (funs : List FlatFun) (main : ℕ) (args : List ℕ) (p : Memories) → FollowsAll p (flat_meaning funs main args p) }
 {}

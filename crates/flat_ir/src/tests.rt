@@ -1,5 +1,5 @@
-// The order of joined steps, long code, and a program.
-use crate::{Flat, FlatFun, FlatProgram, Step, join};
+// The order of joined steps, and long code.
+use crate::{Flat, Step, join};
 use nv_base::{Args, Atom, Bin, Mem, Prim, Vars};
 use std::alloc::{AllocError, Global};
 use std::test::Fail;
@@ -57,26 +57,5 @@ fn long_code_is_joined_and_dropped(rt: HostRuntime) -> Result<(), Fail> {
     let code = join(alloc, steps, Flat::Give(Vec::new(alloc)))?;
     assert!(rt; matches!(&code, Flat::Let(0, _, _)));
     drop(code);
-    Ok(())
-}
-
-// One function, which takes and gives no words.
-fn idle(alloc: Global) -> Result<FlatProgram, AllocError> {
-    let main = FlatFun {
-        params: Vec::new(alloc),
-        results: 0,
-        body: Flat::Give(Vec::new(alloc)),
-        group: 0,
-    };
-    let mut funs = Vec::new(alloc);
-    funs.push(main)?;
-    Ok(FlatProgram { funs, main: 0 })
-}
-
-#[test]
-fn a_program_of_one_function_is_formed(rt: HostRuntime) -> Result<(), Fail> {
-    let program = idle(rt.alloc())?;
-    assert_eq!(rt; program.funs.len(), 1);
-    assert_eq!(rt; program.main, 0);
     Ok(())
 }

@@ -9,3 +9,6 @@ pub mod WordLemmas
 pub mod Sets
 pub mod Operands
 pub mod Measures
+pub mod Frames
+pub mod Environments
+pub mod Accesses

@@ -1,7 +1,9 @@
 -- What a log holds after many writes.
 use Rattle.std.proofs.Common.{◌≡◌, ℕ, zero, suc, ◌+◌, ◌-◌, ◌≤◌, ◌<◌, List, [], ◌∷◌, ◌++◌, Bool, true, false, cond, length, take, nat_lt, refl, sym, ap, ◌∙◌, append_assoc, arith}
 use Rattle.std.proofs.lemmas.List.{append-nil, length-append}
+use Rattle.std.proofs.lemmas.List.Elements.{filter-append}
 use Rattle.nv_base.specs.declared.outcome.Write.{Write}
+use Rattle.nv_base.specs.Meanings.{source_writes, is_source_write}
 use Rattle.nv_base.specs.Log.{Log, empty_log, noted, noted_all}
 
 abbrev log_of : ℕ → List Write → ℕ → Log
@@ -56,3 +58,19 @@ noted-append (w ∷ ws) vs log = noted-append ws vs (noted log w)
 pub keep_after : (ws : List Write) (log : Log) → (noted_all log ws).keep ≡ log.keep
 keep_after [] log = refl
 keep_after (w ∷ ws) log = keep_after ws (noted log w)
+
+-- ---- the writes of a source
+
+-- one write more
+pub noted-one : (log log0 : Log) (ws : List Write) (w : Write) → log ≡ noted_all log0 (source_writes ws) → noted_all log (source_writes (w ∷ [])) ≡ noted_all log0 (source_writes (ws ++ w ∷ []))
+noted-one log log0 ws w h =
+    ap (λ l. noted_all l (source_writes (w ∷ []))) h
+    ∙ sym (noted-append (source_writes ws) (source_writes (w ∷ [])) log0)
+    ∙ ap (noted_all log0) (sym (filter-append (λ w. is_source_write w.mem w.at) ws (w ∷ [])))
+
+noted-count-at : (b : Bool) (log : Log) (w : Write) → is_source_write w.mem w.at ≡ b → (noted_all log (cond b (w ∷ []) [])).count ≤ log.count + 1
+noted-count-at true log w e = omega arith
+noted-count-at false log w e = omega arith
+
+pub noted-count : (log : Log) (w : Write) → (noted_all log (source_writes (w ∷ []))).count ≤ log.count + 1
+noted-count log w = noted-count-at (is_source_write w.mem w.at) log w refl

@@ -62,4 +62,3 @@ most-if false c d h = most-refl nothing
 
 pub most-behind : (a c d : Bulk) → IsAtMost c d → IsAtMost (both a c) (both a d)
 most-behind a c d h = most-both a a c d (most-refl a) h
-

@@ -31,10 +31,10 @@ alike-cut p q a =
     ∙ ap (λ x. record { sram = q.sram; sdram = q.sdram; scratch = x }) a.scratch
 
 -- the memories with a stretch replaced, where it fits
-abbrev spliced : Bool → Mem → ℕ → List ℕ → Memories → Memories
+abbrev pub spliced : Bool → Mem → ℕ → List ℕ → Memories → Memories
 spliced b m a ws p = unwrap_or (if b then Some (with_words m p (splice a ws (words_at m p))) else None) p
 
-spliced-alike : (b : Bool) (m : Mem) (a : ℕ) (ws : List ℕ) (p q : Memories) → nat_le (a + length ws) (length (words_at m p)) ≡ b → Alike p q → Alike (spliced b m a ws p) (spliced b m a ws q)
+pub spliced-alike : (b : Bool) (m : Mem) (a : ℕ) (ws : List ℕ) (p q : Memories) → nat_le (a + length ws) (length (words_at m p)) ≡ b → Alike p q → Alike (spliced b m a ws p) (spliced b m a ws q)
 spliced-alike false m a ws p q e h = h
 spliced-alike true Sram a ws p q e h = record { sram = ap (splice a ws) h.sram; sdram = h.sdram; scratch = h.scratch; size = h.size }
 spliced-alike true Sdram a ws p q e h = record { sram = h.sram; sdram = ap (splice a ws) h.sdram; scratch = h.scratch; size = h.size }
@@ -48,7 +48,7 @@ spliced-alike true Scratch a ws p q e h =
       size = splice-length a ws p.scratch fits ∙ h.size ∙ sym (splice-length a ws q.scratch fits');
     }
 
-long-alike : (m : Mem) (p q : Memories) → Alike p q → length (words_at m p) ≡ length (words_at m q)
+pub long-alike : (m : Mem) (p q : Memories) → Alike p q → length (words_at m p) ≡ length (words_at m q)
 long-alike Sram p q h = ap length h.sram
 long-alike Sdram p q h = ap length h.sdram
 long-alike Scratch p q h = h.size
@@ -67,7 +67,7 @@ spliced-hidden true a ws p e le =
     record { sram = refl; sdram = refl; scratch = splice-behind 512 a ws p.scratch le (omega arith); size = splice-length a ws p.scratch fits }
 
 -- a write of the compiler's changes nothing that a source sees
-hidden-at : (m : Mem) (at : ℕ) (ws : List ℕ) (p : Memories) → is_source_write m at ≡ false → Alike (applied (record { mem = m; at = at; words = ws }) p) p
+pub hidden-at : (m : Mem) (at : ℕ) (ws : List ℕ) (p : Memories) → is_source_write m at ≡ false → Alike (applied (record { mem = m; at = at; words = ws }) p) p
 hidden-at Sram at ws p e = cc
 hidden-at Sdram at ws p e = cc
 hidden-at Scratch at ws p e = spliced-hidden (nat_le (at + length ws) (length p.scratch)) at ws p refl (grind arith)

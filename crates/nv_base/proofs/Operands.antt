@@ -1,7 +1,7 @@
 -- Operands, counts of shifts and accesses: their tests, and what they depend on.
-use Rattle.std.proofs.Common.{◌≡◌, ℕ, ◌*◌, ◌≤◌, ◌==◌, Bool, true, false, nat_eq, nat_le, ◌&&◌, ◌||◌, List, [], ◌∷◌, ◌++◌, refl, sym, ap, subst, ◌∙◌, ⊎_elim, zero, suc, inl, inr, arith}
+use Rattle.std.proofs.Common.{◌≡◌, ℕ, ◌*◌, ◌≤◌, true, false, nat_eq, List, [], ◌∷◌, ◌++◌, refl, sym, ap, subst, ◌∙◌, ⊎_elim, zero, suc, inl, inr, arith}
 use Rattle.std.proofs.lemmas.Bool.Decides.{nat_tests}
-use Rattle.std.proofs.lemmas.Bool.{cases_eq, and_parts, and_from, or_cases, or_left, or_right, false≢true, eq-eqb, eqb-true}
+use Rattle.std.proofs.lemmas.Bool.{cases_eq, and_parts, and_from, or_cases, or_left, false≢true, eq-eqb}
 use Rattle.nv_base.specs.declared.term.Atom.{Atom}
 use Rattle.nv_base.specs.declared.term.Atom.TheVariants.{Var, Lit}
 use Rattle.nv_base.specs.declared.term.Mem.{Mem}
@@ -65,7 +65,6 @@ prim-more known known' (Same a) h e = atom-more known known' a h e
 prim-more known known' (UnaOf op a) h e = let parts = and_parts (has_count op) (is_known known a) e in and_from (has_count op) (is_known known' a) parts.0 (atom-more known known' a h parts.1)
 prim-more known known' (BinOf op a b) h e =
     let parts = and_parts (is_known known a) (is_known known b) e in and_from (is_known known' a) (is_known known' b) (atom-more known known' a h parts.0) (atom-more known known' b h parts.1)
-
 
 -- ---- the tests tell the rules
 

@@ -6,9 +6,9 @@ use Rattle.std.proofs.lemmas.List.Elements.{filter-append}
 use Rattle.nv_base.specs.declared.outcome.Outcome.{Outcome}
 use Rattle.nv_base.specs.declared.outcome.Outcome.TheVariants.{Ended, Raised, Fault, Going}
 use Rattle.nv_base.specs.declared.outcome.Write.{Write}
-use Rattle.nv_base.specs.Memories.{Memories}
-use Rattle.nv_base.specs.Meanings.{FullOutcome, Meaning, Same, IsOver, IsPrefix, KeepsOutcomes, AreArguments, seen, source_writes, is_source_write}
-use Rattle.nv_base.specs.Progress.{Before, Reaches, Grows, Lands}
+use Rattle.nv_base.specs.Memories.{Memories, HasSizes}
+use Rattle.nv_base.specs.Meanings.{FullOutcome, Meaning, Same, IsOver, IsPrefix, KeepsOutcomes, AreEqual, AreArguments, left_by, seen, source_writes, is_source_write}
+use Rattle.nv_base.specs.Progress.{Before, Reaches, Grows, Lands, FollowsAll}
 
 pub prefix-refl : (a : List Write) → IsPrefix a a
 prefix-refl a = ([], sym (append-nil a))
@@ -153,3 +153,11 @@ keeps-trans a b c m n k s t = record {
   arguments = s.arguments ∙ t.arguments;
   same = λ args p fit sizes. same-trans _ _ _ (s.same args p fit sizes) (t.same args p (subst (λ x. AreArguments x args) s.arguments fit) sizes);
 }
+
+-- equal within each number of steps
+pub keeps-equal : (params : ℕ) (m n : List ℕ → Memories → Meaning) → AreEqual params m n → KeepsOutcomes params params m n
+keeps-equal params m n e = record { arguments = refl; same = λ args p a h. same_equal (m args p) (n args p) (e args p a h) }
+
+pub follows-equal : (params : ℕ) (m n : List ℕ → Memories → Meaning) (args : List ℕ) (p : Memories) → AreEqual params m n → AreArguments params args → HasSizes p → FollowsAll p (n args p) → FollowsAll p (m args p)
+follows-equal params m n args p e a h follows = λ i.
+    ap (λ (f : FullOutcome). f.packet) (e args p a h i) ∙ follows i ∙ sym (ap (λ (f : FullOutcome). left_by f.writes p) (e args p a h i))

@@ -180,3 +180,14 @@ pub agree-all : (xs : List ℕ) (ws : List ℕ) (known : List ℕ) (env env' : E
 agree-all [] ws known env env' h = h
 agree-all (x ∷ xs) [] known env env' h = λ y e. agree-all xs [] (x ∷ known) (assigned env x 0) (assigned env' x 0) (agree-assigned known env env' x 0 h) y (in-later (nat_eq y x) y xs x known refl e)
 agree-all (x ∷ xs) (w ∷ ws) known env env' h = λ y e. agree-all xs ws (x ∷ known) (assigned env x w) (assigned env' x w) (agree-assigned known env env' x w h) y (in-later (nat_eq y x) y xs x known refl e)
+
+-- the parts of a set
+pub agree-left : (a b : List ℕ) (env env' : Env) → AgreeOn (a ++ b) env env' → AgreeOn a env env'
+agree-left a b env env' h = agree-within a (a ++ b) env env' (within-left a b) h
+
+pub agree-right : (a b : List ℕ) (env env' : Env) → AgreeOn (a ++ b) env env' → AgreeOn b env env'
+agree-right a b env env' h = agree-within b (a ++ b) env env' (within-right a b) h
+
+-- behind new variables
+pub agree-behind : (a xs ws : List ℕ) (env env' : Env) → AgreeOn (without a xs) env env' → AgreeOn a (assigned_all env xs ws) (assigned_all env' xs ws)
+agree-behind a xs ws env env' h = agree-within a (xs ++ without a xs) (assigned_all env xs ws) (assigned_all env' xs ws) (within-behind a xs) (agree-all xs ws (without a xs) env env' h)

@@ -62,3 +62,48 @@ splice-stretch a ws x fits =
     ∙ ap (drop (length (take a x))) (append_assoc (take a x) ws rest)
     ∙ drop-append_seam (take a x) (ws ++ rest) in
     ap (take (length ws)) seam ∙ take-append_seam ws rest
+
+-- ---- words that the stretch doesn't touch
+
+-- those before it
+pub splice-before : (n c a : ℕ) (ws x : List ℕ) → c + n ≤ a → a ≤ length x → take n (drop c (splice a ws x)) ≡ take n (drop c x)
+splice-before n zero a ws x le fits = splice-behind n a ws x (omega arith) fits
+splice-before n (suc c) zero ws x le fits = absurd (omega arith)
+splice-before n (suc c) (suc a) ws [] le fits = absurd (omega arith)
+splice-before n (suc c) (suc a) ws (y ∷ x) le fits = ap (λ z. take n (drop (suc c) z)) (splice-cons a ws x y) ∙ splice-before n c a ws x (omega arith) (omega arith)
+
+drop-past : (ws x : List ℕ) (c : ℕ) → length ws ≤ c → length ws ≤ length x → drop c (ws ++ drop (length ws) x) ≡ drop c x
+drop-past [] x c le fits = refl
+drop-past (w ∷ ws) [] c le fits = absurd (omega arith)
+drop-past (w ∷ ws) (y ∷ x) zero le fits = absurd (omega arith)
+drop-past (w ∷ ws) (y ∷ x) (suc c) le fits = drop-past ws x c (omega arith) (omega arith)
+
+-- those after it
+pub splice-after : (c a : ℕ) (ws x : List ℕ) → a + length ws ≤ c → a + length ws ≤ length x → drop c (splice a ws x) ≡ drop c x
+splice-after c zero ws x le fits = ap (drop c) (splice-zero ws x) ∙ drop-past ws x c (omega arith) (omega arith)
+splice-after zero (suc a) ws x le fits = absurd (omega arith)
+splice-after (suc c) (suc a) ws [] le fits = absurd (omega arith)
+splice-after (suc c) (suc a) ws (y ∷ x) le fits = ap (drop (suc c)) (splice-cons a ws x y) ∙ splice-after c a ws x (omega arith) (omega arith)
+
+-- ---- two stretches
+
+front-first : (ws : List ℕ) (b : ℕ) (vs x : List ℕ) → length ws ≤ b → b ≤ length x → splice b vs (ws ++ drop (length ws) x) ≡ ws ++ drop (length ws) (splice b vs x)
+front-first [] b vs x le fits = refl
+front-first (w ∷ ws) zero vs x le fits = absurd (omega arith)
+front-first (w ∷ ws) (suc b) vs [] le fits = absurd (omega arith)
+front-first (w ∷ ws) (suc b) vs (y ∷ x) le fits =
+    splice-cons b vs (ws ++ drop (length ws) x) w
+    ∙ ap (λ z. w ∷ z) (front-first ws b vs x (omega arith) (omega arith))
+    ∙ sym (ap (λ z. (w ∷ ws) ++ drop (suc (length ws)) z) (splice-cons b vs x y))
+
+-- the order of two that are apart doesn't matter
+pub splice-order : (a b : ℕ) (ws vs x : List ℕ) → a + length ws ≤ b → b ≤ length x → splice b vs (splice a ws x) ≡ splice a ws (splice b vs x)
+splice-order zero b ws vs x le fits = ap (splice b vs) (splice-zero ws x) ∙ front-first ws b vs x (omega arith) fits ∙ sym (splice-zero ws (splice b vs x))
+splice-order (suc a) zero ws vs x le fits = absurd (omega arith)
+splice-order (suc a) (suc b) ws vs [] le fits = absurd (omega arith)
+splice-order (suc a) (suc b) ws vs (y ∷ x) le fits =
+    ap (splice (suc b) vs) (splice-cons a ws x y)
+    ∙ splice-cons b vs (splice a ws x) y
+    ∙ ap (λ z. y ∷ z) (splice-order a b ws vs x (omega arith) (omega arith))
+    ∙ sym (splice-cons a ws (splice b vs x) y)
+    ∙ sym (ap (splice (suc a) ws) (splice-cons b vs x y))

@@ -1,5 +1,5 @@
 -- A packet's three memories, and an access to one of them.
-use Rattle.std.specs.Prelude.{◌≡◌, ℕ, ◌+◌, ◌*◌, ◌/◌, ◌^◌, ◌<◌, ◌≤◌, List, Option, Some, None, length, take, drop, ◌++◌, All, if◌then◌else◌, nat_le, nat_lt, replicate}
+use Rattle.std.specs.Prelude.{◌≡◌, ℕ, ◌+◌, ◌*◌, ◌/◌, ◌^◌, ◌<◌, ◌≤◌, ◌⊎◌, ⊤, List, Option, Some, None, length, take, drop, ◌++◌, All, if◌then◌else◌, nat_le, nat_lt, replicate}
 use Rattle.nv_base.specs.declared.term.Mem.{Mem}
 use Rattle.nv_base.specs.declared.term.Mem.TheVariants.{Sram, Sdram, Scratch}
 
@@ -65,3 +65,13 @@ abbrev pub IsAccess : Mem → ℕ → Type 0
 IsAccess Sram n = (1 ≤ n) × (n ≤ 8)
 IsAccess Sdram n = (half : ℕ) × (n ≡ 2 * half) × (1 ≤ half) × (half ≤ 4)
 IsAccess Scratch n = (1 ≤ n) × (n ≤ 8)
+
+-- two stretches, each of so many words from an address on, have no word in common
+abbrev pub AreApart : Mem → ℕ → ℕ → Mem → ℕ → ℕ → Type 0
+AreApart m at n m' at' n' = (m ≡ m' → ⊥) ⊎ ((first_word m at + n ≤ first_word m' at') ⊎ (first_word m' at' + n' ≤ first_word m at))
+
+-- a stretch has none of the scratch words from 512 on
+abbrev pub IsSourceStretch : Mem → ℕ → ℕ → Type 0
+IsSourceStretch Sram at n = ⊤
+IsSourceStretch Sdram at n = ⊤
+IsSourceStretch Scratch at n = at + n ≤ 512

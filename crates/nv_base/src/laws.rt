@@ -1,16 +1,20 @@
 //! Laws of the definitions in specs/: each is the contract of a function that does nothing.
-ghost use Rattle.std.specs.Prelude.{◌≡◌, ◌≤◌, ◌+◌, ◌↔◌, ℕ, suc, Bool, true, List, ◌++◌, All, Some, length, take};
+ghost use Rattle.std.specs.Prelude.{◌≡◌, ◌≤◌, ◌+◌, ◌↔◌, ℕ, suc, Bool, true, List, [], ◌∷◌, ◌++◌, All, None, Some, length, take};
 ghost use Rattle.nv_base.specs.Log.{Log, empty_log, noted_all};
-ghost use Rattle.nv_base.specs.Memories.{Memories, HasSizes, IsAccess, fetched, stored};
-ghost use Rattle.nv_base.specs.Meanings.{Meaning, Same, KeepsOutcomes, seen};
+ghost use Rattle.nv_base.specs.Measures.{Bulk, operands_wide, let_wide, entry_wide, nothing, both, IsAtMost};
+ghost use Rattle.nv_base.specs.Memories.{Memories, HasSizes, IsAccess, AreApart, IsSourceStretch, words_at, fetched, stored};
+ghost use Rattle.nv_base.specs.Meanings.{Meaning, Same, KeepsOutcomes, AreEqual, AreArguments, seen, applied, left_by, source_memories};
 ghost use Rattle.nv_base.specs.Progress.{Before, Reaches, Grows, Lands, IsStepwise, FollowsAll, FollowsWrites};
-ghost use Rattle.nv_base.specs.Access.{can_move, has_count};
+ghost use Rattle.nv_base.specs.Access.{can_move, has_count, is_primitive, is_address};
+ghost use Rattle.nv_base.specs.Running.{Running};
 ghost use Rattle.nv_base.specs.Sets.{Within, is_in, all_different, different};
-ghost use Rattle.nv_base.specs.Words.{IsWord, HasCount, una_word, bin_word, Env, prim_word, prim_vars};
+ghost use Rattle.nv_base.specs.Words.{IsWord, HasCount, HasPrimCount, una_word, bin_word, Env, IsEnv, assigned, assigned_all, atom_word, atom_words, prim_word, prim_vars};
 ghost use Rattle.nv_base.specs.declared.outcome.Outcome.{Outcome};
 ghost use Rattle.nv_base.specs.declared.outcome.Write.{Write};
+ghost use Rattle.nv_base.specs.declared.term.Atom.{Atom};
 ghost use Rattle.nv_base.specs.declared.term.Bin.{Bin};
 ghost use Rattle.nv_base.specs.declared.term.Mem.{Mem};
+ghost use Rattle.nv_base.specs.declared.term.Mem.TheVariants.{Scratch};
 ghost use Rattle.nv_base.specs.declared.term.Primitive.{Primitive};
 ghost use Rattle.nv_base.specs.declared.term.Una.{Una};
 
@@ -100,4 +104,58 @@ pub fn sets_are_counted()
 pub fn tests_tell_the_rules()
     ensures access { (m : Mem) (n : ℕ) → can_move m n ≡ true ↔ IsAccess m n }
     ensures count { (op : Una) → has_count op ≡ true ↔ HasCount op }
+{}
+
+/// Environments of words stay so wherever variables are defined, and then operands are words and so
+/// are primitives whose shifts have counts of 1 to 31.
+pub fn environments_stay_words()
+    ensures blank { IsEnv (λ x. 0) }
+    ensures one { (env : Env) (x w : ℕ) → IsEnv env → IsWord w → IsEnv (assigned env x w) }
+    ensures many { (env : Env) (xs ws : List ℕ) → IsEnv env → All IsWord ws → IsEnv (assigned_all env xs ws) }
+    ensures operand { (env : Env) (a : Atom) → IsEnv env → IsWord (atom_word env a) }
+    ensures operands { (env : Env) (atoms : List Atom) → IsEnv env → All IsWord (atom_words env atoms) }
+    ensures primitive { (env : Env) (p : Primitive) → IsEnv env → HasPrimCount p → IsWord (prim_word env p) }
+    ensures formed { (env : Env) (known : List ℕ) (p : Primitive) → IsEnv env → is_primitive known p ≡ true → IsWord (prim_word env p) }
+{}
+
+/// Accesses that have no word in common don't touch one another: a fetch gives the same before and
+/// after such a store, and two such stores may come in either order.
+pub fn accesses_apart_keep_one_another()
+    ensures fetched { (m o : Mem) (at n to : ℕ) (ws : List ℕ) (p q : Memories) → AreApart m at n o to (length ws) → stored o to ws p ≡ Some q → fetched m at n q ≡ fetched m at n p }
+    ensures stored { (m o : Mem) (at to : ℕ) (ws vs : List ℕ) (p q r : Memories) → AreApart m at (length ws) o to (length vs) → stored m at ws p ≡ Some q → stored o to vs q ≡ Some r → (k : Memories) × (stored o to vs p ≡ Some k) × (stored m at ws k ≡ Some r) }
+    ensures writes { (w v : Write) (p : Memories) → AreApart w.mem w.at (length w.words) v.mem v.at (length v.words) → applied w (applied v p) ≡ applied v (applied w p) }
+    ensures sizes { (m : Mem) (w : Write) (p : Memories) → length (words_at m (applied w p)) ≡ length (words_at m p) }
+{}
+
+/// What a source sees of memories is unchanged by stores in scratch from 512 on, and tells what the
+/// source can fetch of them and what its stores leave.
+pub fn sources_see_enough()
+    ensures hidden { (at : ℕ) (ws : List ℕ) (p q : Memories) → 512 ≤ at → stored Scratch at ws p ≡ Some q → source_memories q ≡ source_memories p }
+    ensures fetched { (m : Mem) (at n : ℕ) (p q : Memories) → HasSizes p → HasSizes q → source_memories p ≡ source_memories q → IsSourceStretch m at n → fetched m at n p ≡ fetched m at n q }
+    ensures stored { (m : Mem) (at : ℕ) (ws : List ℕ) (p q k : Memories) → HasSizes p → HasSizes q → source_memories p ≡ source_memories q → stored m at ws p ≡ Some k → (l : Memories) × (stored m at ws q ≡ Some l) × (source_memories k ≡ source_memories l) }
+    ensures past { (m : Mem) (at : ℕ) (ws : List ℕ) (p q : Memories) → HasSizes p → HasSizes q → source_memories p ≡ source_memories q → stored m at ws p ≡ None → stored m at ws q ≡ None }
+    ensures addressed { (env : Env) (m : Mem) (a : Atom) (n : ℕ) → is_address m a n ≡ true → IsSourceStretch m (atom_word env a) n }
+{}
+
+/// Meanings whose outcomes are equal within each number of steps keep outcomes, and where one's
+/// memories follow its writes, so do the other's.
+pub fn equal_meanings_keep()
+    ensures outcomes { (params : ℕ) (m n : List ℕ → Memories → Meaning) → AreEqual params m n → KeepsOutcomes params params m n }
+    ensures memories { (params : ℕ) (m n : List ℕ → Memories → Meaning) (args : List ℕ) (p : Memories) → AreEqual params m n → AreArguments params args → HasSizes p → FollowsAll p (n args p) → FollowsAll p (m args p) }
+{}
+
+/// Where the memories of a run are the first ones after its writes, they are so behind a store.
+pub fn stores_are_followed()
+    ensures { (m : Mem) (at : ℕ) (ws : List ℕ) (q : Memories) (now : Running) (p : Memories) → stored m at ws now.packet ≡ Some q → now.packet ≡ left_by now.writes p → q ≡ left_by (now.writes ++ record { mem = m; at = at; words = ws } ∷ []) p }
+{}
+
+/// Widths grow with the variables that are live, and bulks are ordered in each of their numbers.
+pub fn measures_are_ordered()
+    ensures operands { (held more : List ℕ) (atoms : List Atom) → Within held more → operands_wide held atoms ≤ operands_wide more atoms }
+    ensures primitive { (held more : List ℕ) → Within held more → let_wide held ≤ let_wide more }
+    ensures entry { (held more : List ℕ) (n : ℕ) → Within held more → entry_wide held n ≤ entry_wide more n }
+    ensures reflexive { (a : Bulk) → IsAtMost a a }
+    ensures transitive { (a b c : Bulk) → IsAtMost a b → IsAtMost b c → IsAtMost a c }
+    ensures least { (a : Bulk) → IsAtMost nothing a }
+    ensures sums { (a b c d : Bulk) → IsAtMost a b → IsAtMost c d → IsAtMost (both a c) (both b d) }
 {}

@@ -14,7 +14,7 @@ pub mod word;
 mod words;
 
 pub use error::{NoMemory, PacketError};
-pub use log::WriteLog;
+pub use log::{COMPILER, WriteLog};
 pub use outcome::{Outcome, Write};
 pub use packet::Packet;
 pub use term::{Access, Args, Atom, Bin, Cmp, Mem, Primitive, Primitive as Prim, Una, Vars};

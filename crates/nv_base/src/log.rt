@@ -1,11 +1,16 @@
 // The log of a run's writes.
-ghost use Rattle.std.specs.Prelude.{◌≡◌, ◌<◌, ◌≤◌, ◌^◌, IfOk, length, min};
-ghost use Rattle.nv_base.specs.Log.{Log, empty_log, noted};
+ghost use Rattle.std.specs.Prelude.{◌≡◌, ◌<◌, ◌≤◌, ◌^◌, [], ◌∷◌, IfOk, length, min};
+ghost use Rattle.nv_base.specs.Log.{Log, empty_log, noted, noted_all};
+ghost use Rattle.nv_base.specs.Meanings.{source_writes};
 
 use crate::error::NoMemory;
 use crate::outcome::Write;
+use crate::term::Mem;
 use std::alloc::Global;
 use std::marker::Model;
+
+/// The first scratch word that belongs to the compiler: a source's are those below.
+pub const COMPILER: u32 = 512;
 
 /// A log that counts all writes of a run and keeps the first of them. Its room is taken when it is
 /// made, so noting a write needs no memory.
@@ -50,6 +55,16 @@ impl WriteLog {
             self.first.push_reserved(w);
         }
         self.all += 1;
+    }
+
+    /// Notes a write of the source's; one of the compiler's scratch words isn't noted.
+    pub fn note_source(&mut self, w: Write)
+        requires { self.old.count < 2 ^ 63 }
+        ensures { self.new ≡ noted_all self.old (source_writes (w ∷ [])) }
+    {
+        if w.mem != Mem::Scratch || w.at < COMPILER {
+            self.note(w);
+        }
     }
 
     /// How many writes were noted.
