@@ -11,6 +11,5 @@ pub mod OneReport
 pub mod OneAnswer
 pub mod Inputs
 pub mod Saves
-pub mod Arms
 pub mod Steps
 pub mod Printing

@@ -10,7 +10,6 @@ use Rattle.uc_isa.specs.Agrees.{Agrees}
 use Rattle.novac.specs.inner.Sum.{IsTermOf, sum_meaning}
 use Rattle.novac.specs.FirstForm.{HasFirstForm, IsFirst}
 use Rattle.novac.specs.Headline.{IsUnbuilt}
-use Rattle.novac.specs.declared.build.FirstError.{FirstError}
 use Rattle.novac.specs.declared.build.FirstError.TheVariants.{Unbuilt}
 use Rattle.novac.specs.declared.sum.Term.{Term}
 use Rattle.novac.proofs.Forms.{some-term, known-terms, first-agrees}
