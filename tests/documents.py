@@ -54,14 +54,34 @@ def examples(top):
     return found
 
 
-def constructs(top):
-    """Each line of a table of docs/LANGUAGE.md whose fourth cell is an outcome runs its third cell."""
+def compiled(where, source, status, output, made=False):
+    row = Row(where, source or "the empty text")
+    row.files = {"s.nova": source.encode()}
+    row.calls = [Call(["compile", "s.nova", "s.obj"], status, output, {"s.obj": ANY} if made else {})]
+    return row
+
+
+def language(top):
+    """docs/LANGUAGE.md: each source in a line of a table, with what stands behind it: an outcome by `exec`, a fault of types, a
+    fault of the text such as `Char(21)`, or a status with a colon, semicolon or comma."""
     found = []
     for number, line in enumerate(read(top, "docs/LANGUAGE.md").split("\n"), 1):
-        parts = cells(line)
+        parts, where = cells(line), f"docs/LANGUAGE.md:{number}"
+        if not line.startswith("|") or len(parts) < 2:
+            continue
+        fault = re.fullmatch(r"(Char|Number|Name|Syntax|Deep)\(([0-9]+)\)", parts[1])
+        status = re.match(r"([0-9]+)[:;,](?: `([^`]*)`:)?", parts[1])
         if len(parts) == 4 and parts[3].split(" ")[0] in STATUSES:
-            row = executed(f"docs/LANGUAGE.md:{number}", parts[0], parts[2], "memory 4 2\nargs\n", 100, status_of(parts[3]), parts[3] + "\n..\n")
-            found.append(row)
+            output = parts[3] + "\n..\n"
+            found.append(executed(where, parts[0], parts[2], "memory 4 2\nargs\n", 100, status_of(parts[3]), output))
+        elif len(parts) == 4 and re.fullmatch(r"type [0-9]+ at [0-9]+ [0-9]+", parts[3]):
+            source = "" if parts[2] == "the empty text" else parts[2]
+            found.append(compiled(where, source, 7, parts[3].encode() + b"\n"))
+        elif fault and parts[0].startswith("fun ") and ".." not in parts[0]:
+            found.append(compiled(where, parts[0], 6, f"syntax {fault[1].lower()} at {fault[2]}\n".encode()))
+        elif len(parts) == 2 and status and parts[0].startswith("fun "):
+            made = status[1] == "0"
+            found.append(compiled(where, parts[0], int(status[1]), status[2].encode() + b"\n" if status[2] else ANY, made))
     return found
 
 
@@ -145,4 +165,4 @@ def command_lines(top):
 
 
 def all_rows(top):
-    return [row for of in (examples, constructs, machine, certificates, faults, command_lines) for row in of(top)]
+    return [row for of in (examples, language, machine, certificates, faults, command_lines) for row in of(top)]

@@ -4,7 +4,7 @@ import re
 import shlex
 import subprocess
 
-SECONDS = 60
+SECONDS = 120
 ABSENT, ANY = object(), object()
 
 

@@ -8,7 +8,7 @@ import subprocess
 import threading
 import time
 
-SECONDS = 120
+SECONDS = 300
 NOBODY = 65534
 HALT = bytes.fromhex("0600000000000000")
 TEXT = b"params 0\nhalt 0 0\n"
