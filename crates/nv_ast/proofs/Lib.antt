@@ -4,3 +4,14 @@ pub mod Worked
 pub mod Names
 pub mod Reading
 pub mod ExceptionCounts
+pub mod Faultless
+pub mod NeedInSize
+pub mod RoomInSize
+pub mod MainWords
+pub mod Items
+pub mod Twice
+pub mod LayoutRows
+pub mod FieldCounts
+pub mod SameTypes
+pub mod TypeWords
+pub mod TreeKinds

@@ -20,4 +20,5 @@ pub mod Scope
 pub mod Typing
 pub mod Faults
 pub mod Sizes
+pub mod Accepted
 pub mod TypedView

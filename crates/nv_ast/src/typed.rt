@@ -22,7 +22,7 @@ pub struct Typed {
 }
 
 impl Typed {
-    ghost use Rattle.std.specs.Prelude.{◌≡◌, ◌≤◌};
+    ghost use Rattle.std.specs.Prelude.{◌≡◌, ◌≤◌, ◌+◌, ◌*◌};
     ghost use Rattle.nv_ast.specs.ProgramView.{program_of};
     ghost use Rattle.nv_ast.specs.Faults.{IsTyped};
     ghost use Rattle.nv_ast.specs.Sizes.{expanded_size, room as room_of, main_words};
@@ -63,14 +63,16 @@ impl Typed {
 
     /// How many words may be wanted at once.
     pub fn room(&self) -> u32
-        ensures { result ≡ room_of (typed_program self.now) }
+        ensures roomy { result ≡ room_of (typed_program self.now) }
+        ensures bounded { result ≤ 5 * expanded_size (typed_program self.now) + 8 }
     {
         self.room
     }
 
     /// The number of words of main's parameters.
     pub fn params(&self) -> u8
-        ensures { result ≡ main_words (typed_program self.now) }
+        ensures wide { result ≡ main_words (typed_program self.now) }
+        ensures narrow { result ≤ 8 }
     {
         self.params
     }

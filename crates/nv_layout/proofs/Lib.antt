@@ -1,7 +1,6 @@
 pub mod BitLists
 pub mod Rows
 pub mod Lists
-pub mod Twice
 pub mod Within
 pub mod Walks
 pub mod Sound

@@ -5,22 +5,11 @@ use Rattle.std.proofs.lemmas.List.{take_more}
 use Rattle.nv_layout.specs.declared.outline.Outline.{Outline}
 use Rattle.nv_ast.specs.Outline.{OutlineTree, BitsOutline, GapOutline, PartsOutline, OverlayOutline, JoinedOutline, OutlineTrees, no_outlines, outline_and, NamedOutlines, no_named_outlines, named_outline_and, size, total_named_size, longest, total_size, bit_fields, part_fields, alternative_fields, joined_fields, outline_height, highest_outline, highest_named_outline, named_list, record_of, records_of}
 use Rattle.nv_ast.specs.Tests.{names_of}
+use Rattle.nv_ast.proofs.Items.{take_item, split_item}
 use Rattle.nv_layout.specs.OutlineView.{outline_tree, list_outlines, list_named_outlines, layouts_of}
 
 abbrev pub Named : Type 0
 Named = List ℕ × Outline
-
--- what a turn of a loop takes on
-pub take_item : {A : Type 0} (xs : List A) (i : ℕ) (x : A) → i < length xs → x ≡ get_or xs i x → take (i + 1) xs ≡ take i xs ++ x ∷ []
-take_item xs i x h e = take_more xs i x h ∙ ap (λ y. take i xs ++ y ∷ []) (sym e)
-
--- what is before the item, the item, and what is behind it
-pub split_item : {A : Type 0} (xs : List A) (i : ℕ) (x : A) → i < length xs → x ≡ get_or xs i x → xs ≡ take i xs ++ x ∷ drop (i + 1) xs
-split_item xs i x h e = split_at xs i x h ∙ ap (λ y. take i xs ++ y ∷ drop (suc i) xs) (sym e) ∙ ap (λ k. take i xs ++ x ∷ drop k xs) (sym (add-one i))
-
--- a turn adds b to what was added before
-pub added_step : {A : Type 0} (new middle base a b whole : List A) → new ≡ middle ++ b → middle ≡ base ++ a → whole ≡ a ++ b → new ≡ base ++ whole
-added_step new middle base a b whole e f g = e ∙ ap (λ l. l ++ b) f ∙ append_assoc base a b ∙ ap (λ l. base ++ l) (sym g)
 
 -- ---- sizes
 total_named-append : (xs ys : List Named) → total_named_size (list_named_outlines (xs ++ ys)) ≡ total_named_size (list_named_outlines xs) + total_named_size (list_named_outlines ys)

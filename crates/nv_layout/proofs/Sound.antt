@@ -6,7 +6,8 @@ use Rattle.nv_ast.specs.Tree.{LayoutTree, NamedLayout, GapLayout, PartsLayout, J
 use Rattle.nv_ast.specs.Outline.{OutlineTree, PartsOutline, no_named_outlines, Layouts, outline, outlines, field_outline, field_outlines, IsSound, AllSound, AllNamedSound}
 use Rattle.nv_ast.specs.Tests.{where_true, within, has_twice, all_same, value_at}
 use Rattle.nv_ast.specs.LayoutFaults.{layout_faults, layouts_faults, field_faults, fields_faults, same_field, different_sizes, unfit, field_names, field_sizes}
-use Rattle.nv_layout.proofs.Walks.{shaped_names, shaped_sizes}
+use Rattle.nv_ast.proofs.LayoutRows.{text_sizes}
+use Rattle.nv_layout.proofs.Walks.{shaped_names}
 
 pub left_none : (a b : List ℕ) → a ++ b ≡ [] → a ≡ []
 left_none [] b h = refl
@@ -61,7 +62,7 @@ mutual
   field_sound k s (InnerField l) h = layout_sound k s l (left_none (layout_faults k l) (unfit (outline k l)) h)
   field_sound k s (OverlayField fs) h =
       let own : same_field (field_names fs) ++ different_sizes (field_sizes k fs) ≡ [] = right_none (fields_faults k fs) _ h in
-      (fields_sound k s fs (left_none (fields_faults k fs) _ h), ap has_twice (shaped_names k fs) ∙ never (has_twice (field_names fs)) 5 (left_none (same_field (field_names fs)) _ own), ap all_same (shaped_sizes k fs) ∙ always (all_same (field_sizes k fs)) 6 (right_none (same_field (field_names fs)) _ own))
+      (fields_sound k s fs (left_none (fields_faults k fs) _ h), ap has_twice (shaped_names k fs) ∙ never (has_twice (field_names fs)) 5 (left_none (same_field (field_names fs)) _ own), ap all_same (text_sizes k fs) ∙ always (all_same (field_sizes k fs)) 6 (right_none (same_field (field_names fs)) _ own))
 
   pub fields_sound : (k : Layouts) → All (λ p. IsSound p.1) k → (fs : FieldTrees) → fields_faults k fs ≡ [] → AllNamedSound (field_outlines k fs)
   fields_sound k s no_fields h = tt {0}

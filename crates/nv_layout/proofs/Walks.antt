@@ -15,25 +15,19 @@ use Rattle.nv_ast.proofs.Rows.{fields_items, layouts_items}
 use Rattle.nv_ast.specs.Outline.{OutlineTree, PartsOutline, OverlayOutline, JoinedOutline, outline_and, NamedOutlines, named_outline_and, Layouts, outline, outlines, field_outline, field_outlines, size, record_of, records_of, named_list, sizes_of}
 use Rattle.nv_ast.specs.Tests.{is_among, value_at, names_of}
 use Rattle.nv_ast.specs.LayoutFaults.{layout_faults, layouts_faults, field_faults, fields_faults, field_names, field_sizes, same_field, different_sizes}
+use Rattle.nv_ast.proofs.Items.{take_item, split_item}
+use Rattle.nv_ast.proofs.LayoutRows.{FieldNamed, fields_faults-append, layouts_faults-append, text_sizes}
 use Rattle.nv_layout.specs.declared.outline.Outline
 use Rattle.nv_layout.specs.declared.outline.Outline.{Outline}
 use Rattle.nv_layout.specs.declared.error.LayoutError.{LayoutError}
 use Rattle.nv_layout.specs.declared.error.LayoutError.TheVariants.{NoMemory, Fault}
 use Rattle.nv_layout.specs.OutlineView.{outline_tree, list_outlines, list_named_outlines, layouts_of}
-use Rattle.nv_layout.specs.Shaping.{IsFirstOf, Shapes}
+use Rattle.nv_layout.specs.Shaping.{IsFirstOf}
+use Rattle.nv_layout.specs.inner.Shapes.{Shapes}
 use Rattle.nv_layout.proofs.Rows.{parts_tree, joined_tree}
-use Rattle.nv_layout.proofs.Lists.{Named, take_item, split_item, named_from, named_from-layouts, layouts-append, all_from, all_from-trees, trees_of}
+use Rattle.nv_layout.proofs.Lists.{Named, named_from, named_from-layouts, layouts-append, all_from, all_from-trees, trees_of}
 
 -- ---- vectors in the text
-pub parts_text : (v : Vec (List ℕ × FieldText) Global) → layout_tree (LayoutText.Parts v) ≡ PartsLayout (list_fields v.items)
-parts_text v = ap PartsLayout (fields_items v)
-
-pub joined_text : (v : Vec LayoutText Global) → layout_tree (LayoutText.Joined v) ≡ JoinedLayout (list_layouts v.items)
-joined_text v = ap JoinedLayout (layouts_items v)
-
-pub overlay_text : (v : Vec (List ℕ × FieldText) Global) → field_tree (FieldText.Overlay v) ≡ OverlayField (list_fields v.items)
-overlay_text v = ap OverlayField (fields_items v)
-
 -- ---- first faults
 pub first_append : (a b : List ℕ) (e : LayoutError) → IsFirstOf a e → IsFirstOf (a ++ b) e
 first_append a b NoMemory h = tt {0}
@@ -47,13 +41,6 @@ shapes_behind a b b' t t' (Ok o) none e f h = (ap (λ l. l ++ b') none ∙ sym e
 shapes_behind a b b' t t' (Err x) none e f h = first_behind a b' x none (subst (λ l. IsFirstOf l x) e h)
 
 -- ---- fields in order
-abbrev pub FieldNamed : Type 0
-FieldNamed = List ℕ × FieldText
-
-fields_faults-append : (k : Layouts) (xs ys : List FieldNamed) → fields_faults k (list_fields (xs ++ ys)) ≡ fields_faults k (list_fields xs) ++ fields_faults k (list_fields ys)
-fields_faults-append k [] ys = refl
-fields_faults-append k (x ∷ xs) ys = ap (λ l. field_faults k (field_tree x.1) ++ l) (fields_faults-append k xs ys) ∙ sym (append_assoc (field_faults k (field_tree x.1)) (fields_faults k (list_fields xs)) (fields_faults k (list_fields ys)))
-
 pub fields_faults_more : (k : Layouts) (xs : List FieldNamed) (i : ℕ) (p : FieldNamed) → i < length xs → p ≡ get_or xs i p → fields_faults k (list_fields (take i xs)) ≡ [] → field_faults k (field_tree p.1) ≡ [] → fields_faults k (list_fields (take (i + 1) xs)) ≡ []
 fields_faults_more k xs i p h e none here =
     ap (λ l. fields_faults k (list_fields l)) (take_item xs i p h e) ∙ fields_faults-append k (take i xs) (p ∷ []) ∙ ap (λ l. l ++ (field_faults k (field_tree p.1) ++ [])) none ∙ append-nil (field_faults k (field_tree p.1)) ∙ here
@@ -88,25 +75,7 @@ shaped_fields_more k xs i p os y o h e before name shape =
     ∙ ap (λ z. shaped_fields k (take i xs) ++ (p.0, z) ∷ []) shape
     ∙ sym (ap (shaped_fields k) (take_item xs i p h e) ∙ shaped_fields-append k (take i xs) (p ∷ []))
 
-highest_field-append : (xs ys : List FieldNamed) → highest_field (list_fields (xs ++ ys)) ≡ max (highest_field (list_fields xs)) (highest_field (list_fields ys))
-highest_field-append [] ys = omega arith
-highest_field-append (x ∷ xs) ys = omega (arith, highest_field-append xs ys)
-
-pub highest_field_within : (xs : List FieldNamed) (i : ℕ) (p : FieldNamed) → i < length xs → p ≡ get_or xs i p → field_height (field_tree p.1) ≤ highest_field (list_fields xs)
-highest_field_within xs i p h e = omega (arith, ap (λ l. highest_field (list_fields l)) (split_item xs i p h e), highest_field-append (take i xs) (p ∷ drop (i + 1) xs))
-
 -- ---- layouts in order
-highest_layout-append : (xs ys : List LayoutText) → highest_layout (list_layouts (xs ++ ys)) ≡ max (highest_layout (list_layouts xs)) (highest_layout (list_layouts ys))
-highest_layout-append [] ys = omega arith
-highest_layout-append (x ∷ xs) ys = omega (arith, highest_layout-append xs ys)
-
-pub highest_layout_within : (xs : List LayoutText) (i : ℕ) (p : LayoutText) → i < length xs → p ≡ get_or xs i p → layout_height (layout_tree p) ≤ highest_layout (list_layouts xs)
-highest_layout_within xs i p h e = omega (arith, ap (λ l. highest_layout (list_layouts l)) (split_item xs i p h e), highest_layout-append (take i xs) (p ∷ drop (i + 1) xs))
-
-layouts_faults-append : (k : Layouts) (xs ys : List LayoutText) → layouts_faults k (list_layouts (xs ++ ys)) ≡ layouts_faults k (list_layouts xs) ++ layouts_faults k (list_layouts ys)
-layouts_faults-append k [] ys = refl
-layouts_faults-append k (x ∷ xs) ys = ap (λ l. layout_faults k (layout_tree x) ++ l) (layouts_faults-append k xs ys) ∙ sym (append_assoc (layout_faults k (layout_tree x)) (layouts_faults k (list_layouts xs)) (layouts_faults k (list_layouts ys)))
-
 pub layouts_faults_more : (k : Layouts) (xs : List LayoutText) (i : ℕ) (p : LayoutText) → i < length xs → p ≡ get_or xs i p → layouts_faults k (list_layouts (take i xs)) ≡ [] → layout_faults k (layout_tree p) ≡ [] → layouts_faults k (list_layouts (take (i + 1) xs)) ≡ []
 layouts_faults_more k xs i p h e none here =
     ap (λ l. layouts_faults k (list_layouts l)) (take_item xs i p h e) ∙ layouts_faults-append k (take i xs) (p ∷ []) ∙ ap (λ l. l ++ (layout_faults k (layout_tree p) ++ [])) none ∙ append-nil (layout_faults k (layout_tree p)) ∙ here
@@ -148,10 +117,6 @@ shaped_layouts_more k xs i p os o h e before shape =
 pub shaped_names : (k : Layouts) (fs : FieldTrees) → names_of (named_list (field_outlines k fs)) ≡ field_names fs
 shaped_names k no_fields = refl
 shaped_names k (field_and x f fs) = ap (λ l. x ∷ l) (shaped_names k fs)
-
-pub shaped_sizes : (k : Layouts) (fs : FieldTrees) → sizes_of (field_outlines k fs) ≡ field_sizes k fs
-shaped_sizes k no_fields = refl
-shaped_sizes k (field_and x f fs) = ap (λ l. size (field_outline k f) ∷ l) (shaped_sizes k fs)
 
 -- ---- known layouts
 turned : (x y : List ℕ) → bytes_eq x y ≡ bytes_eq y x
@@ -222,5 +187,5 @@ pub overlay_shaped : (k : Layouts) (fs : List FieldNamed) (os : List Named) (r :
 overlay_shaped k fs os r none shape h =
     let ts : NamedOutlines = field_outlines k (list_fields fs) in
     shapes_behind (fields_faults k (list_fields fs)) _ (same_field (field_names (list_fields fs)) ++ different_sizes (field_sizes k (list_fields fs))) _ (field_outline k (OverlayField (list_fields fs))) r none
-    (ap (λ t. same_field (names_of (named_list t)) ++ different_sizes (sizes_of t)) shape ∙ ap (λ l. same_field l ++ different_sizes (sizes_of ts)) (shaped_names k (list_fields fs)) ∙ ap (λ l. same_field (field_names (list_fields fs)) ++ different_sizes l) (shaped_sizes k (list_fields fs)))
+    (ap (λ t. same_field (names_of (named_list t)) ++ different_sizes (sizes_of t)) shape ∙ ap (λ l. same_field l ++ different_sizes (sizes_of ts)) (shaped_names k (list_fields fs)) ∙ ap (λ l. same_field (field_names (list_fields fs)) ++ different_sizes l) (text_sizes k (list_fields fs)))
     (ap OverlayOutline shape) h

@@ -20,22 +20,6 @@ fn bit_fields(alloc: Global, bits: &[(u8, u32)]) -> Result<Vec<(Name, FieldText)
     Ok(fields)
 }
 
-// A record with one overlay of such fields.
-fn overlay(alloc: Global, bits: &[(u8, u32)]) -> Result<LayoutText, NoMemory> {
-    let alternatives = FieldText::Overlay(bit_fields(alloc, bits)?);
-    let mut fields = Vec::new(alloc);
-    fields.push((name(alloc, b'v')?, alternatives))?;
-    Ok(LayoutText::Parts(fields))
-}
-
-// A field of one bit, and a gap behind it.
-fn with_gap(alloc: Global, n: u32) -> Result<LayoutText, NoMemory> {
-    let mut joined = Vec::new(alloc);
-    joined.push(LayoutText::Parts(bit_fields(alloc, &[(b'a', 1)])?))?;
-    joined.push(LayoutText::Gap(n))?;
-    Ok(LayoutText::Joined(joined))
-}
-
 // The kind of the first fault where no layout is known, or 0.
 fn kind(alloc: Global, l: &LayoutText) -> Result<u8, LayoutError> {
     match shape(alloc, &[], l) {
@@ -100,43 +84,5 @@ fn writing_a_field_changes_its_slice_alone(rt: HostRuntime) {
 fn an_unknown_layout_is_a_fault(rt: HostRuntime) -> Result<(), LayoutError> {
     let unknown = LayoutText::Named(name(rt.alloc(), b'q')?);
     assert_eq!(rt; kind(rt.alloc(), &unknown)?, 3);
-    Ok(())
-}
-
-#[test]
-fn faults_of_a_record(rt: HostRuntime) -> Result<(), LayoutError> {
-    let cases: [(&[(u8, u32)], u8); 6] = [
-        (&[(b'a', 32), (b'b', 1)], 0),
-        (&[(b'a', 0), (b'a', 1)], 4),
-        (&[(b'a', 33)], 4),
-        (&[(b'a', 1), (b'a', 0)], 4),
-        (&[(b'a', 1), (b'b', 1), (b'a', 1)], 5),
-        (&[], 7),
-    ];
-    for (bits, want) in cases {
-        let parts = LayoutText::Parts(bit_fields(rt.alloc(), bits)?);
-        assert_eq!(rt; kind(rt.alloc(), &parts)?, want);
-    }
-    Ok(())
-}
-
-#[test]
-fn alternatives_have_one_size(rt: HostRuntime) -> Result<(), LayoutError> {
-    let cases: [(&[(u8, u32)], u8); 3] = [
-        (&[(b'a', 8), (b'b', 8)], 0),
-        (&[(b'a', 8), (b'b', 7)], 6),
-        (&[(b'a', 8), (b'a', 7)], 5),
-    ];
-    for (bits, want) in cases {
-        assert_eq!(rt; kind(rt.alloc(), &overlay(rt.alloc(), bits)?)?, want);
-    }
-    Ok(())
-}
-
-#[test]
-fn gaps_have_1_to_1024_bits(rt: HostRuntime) -> Result<(), LayoutError> {
-    for (n, want) in [(0, 4), (1, 0), (1023, 0), (1024, 7), (1025, 4)] {
-        assert_eq!(rt; kind(rt.alloc(), &with_gap(rt.alloc(), n)?)?, want);
-    }
     Ok(())
 }

@@ -14,13 +14,11 @@ pub mod BlockStatements
 pub mod BlockWalked
 pub mod BlockWhole
 pub mod Bound
-pub mod Bounded
 pub mod BoundedRoom
 pub mod CellSame
 pub mod DeclWalk
 pub mod Declaring
 pub mod Entries
-pub mod Faultless
 pub mod FieldLists
 pub mod FieldWalks
 pub mod FindingMain
@@ -31,7 +29,6 @@ pub mod Groups
 pub mod Growing
 pub mod Holding
 pub mod Images
-pub mod Items
 pub mod Joining
 pub mod KnownTypes
 pub mod LayoutArms
@@ -50,7 +47,6 @@ pub mod Staying
 pub mod Sums
 pub mod TextWalk
 pub mod There
-pub mod Twice
 pub mod TypeCells
 pub mod WalkArms
 pub mod WalkCalls
@@ -69,3 +65,4 @@ pub mod WalkValues
 pub mod Walked
 pub mod Wanting
 pub mod WordLists
+pub mod OnlyRefusals

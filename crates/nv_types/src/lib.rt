@@ -9,6 +9,7 @@ mod error;
 mod expressions;
 mod functions;
 mod layouts;
+mod limits;
 mod names;
 mod patterns;
 mod program;

@@ -1,8 +1,9 @@
 use Rattle.std.proofs.Common.{◌∙◌, ◌++◌, ◌<◌, length, take, ap, sym, arith}
 use Rattle.nv_ast.specs.Outline.{size, total_named_size, longest, total_size, bit_fields, part_fields, joined_fields, outline_height, highest_named_outline, highest_outline}
+use Rattle.nv_ast.proofs.Items.{added_step}
 use Rattle.nv_layout.specs.OutlineView.{outline_tree, list_named_outlines, list_outlines}
 use Rattle.nv_layout.proofs.Rows.{parts_tree, overlay_tree, joined_tree}
-use Rattle.nv_layout.proofs.Lists.{added_step, total_named_more, total_named_within, longest_more, longest_within, total_more, total_within, highest_named_within, highest_within, part_fields_more, alternative_fields_more, joined_fields_more}
+use Rattle.nv_layout.proofs.Lists.{total_named_more, total_named_within, longest_more, longest_within, total_more, total_within, highest_named_within, highest_within, part_fields_more, alternative_fields_more, joined_fields_more}
 use Rattle.nv_layout.proofs.extent.+place.Goals as goal
 
 pub place-place_parts-requires : goal.place-place_parts-requires

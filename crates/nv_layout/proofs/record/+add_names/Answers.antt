@@ -1,5 +1,6 @@
 use Rattle.std.proofs.Common.{◌<◌, length, arith}
-use Rattle.nv_layout.proofs.Lists.{added_step, record_names_more}
+use Rattle.nv_ast.proofs.Items.{added_step}
+use Rattle.nv_layout.proofs.Lists.{record_names_more}
 use Rattle.nv_layout.proofs.record.+add_names.Goals as goal
 
 pub add_joined_names-loop-o-preserved : goal.add_joined_names-loop-o-preserved

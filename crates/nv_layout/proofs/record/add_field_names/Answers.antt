@@ -1,5 +1,6 @@
 use Rattle.std.proofs.Common.{◌≡◌, ◌∙◌, ◌∷◌, ◌++◌, [], ◌<◌, length, ap, arith}
-use Rattle.nv_layout.proofs.Lists.{added_step, field_names_more}
+use Rattle.nv_ast.proofs.Items.{added_step}
+use Rattle.nv_layout.proofs.Lists.{field_names_more}
 use Rattle.nv_layout.proofs.record.add_field_names.Goals as goal
 
 pub loop-f-preserved : goal.loop-f-preserved

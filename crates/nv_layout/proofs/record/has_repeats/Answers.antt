@@ -1,8 +1,8 @@
 use Rattle.std.proofs.Common.{rules, ◌≡◌, ◌∙◌, ◌+◌, Bool, true, false, cond, not, ◌||◌, ◌<◌, length, take, drop, bytes_eq, ap, sym, arith}
 use Rattle.std.specs.HashSet.{contains}
 use Rattle.nv_ast.specs.Tests.{is_among, has_twice}
-use Rattle.nv_layout.proofs.Lists.{take_item, split_item}
-use Rattle.nv_layout.proofs.Twice.{twice_more, twice_here, among_more}
+use Rattle.nv_ast.proofs.Items.{take_item, split_item}
+use Rattle.nv_ast.proofs.Twice.{twice_more, twice_here, among_more}
 use Rattle.nv_layout.proofs.record.has_repeats.Goals as goal
 
 turned_back : (b r : Bool) → r ≡ not b → b ≡ not r
