@@ -11,8 +11,9 @@ use Rattle.zo_model.specs.declared.program.ZeroOne.{ZeroOne}
 use Rattle.zo_model.proofs.Sums.{sum_below-same, sum_below-add}
 use Rattle.zo_model.proofs.Scale.{scale-zero, AtMost-more, AtMost-wider}
 use Rattle.zo_cert.specs.Certificate.{bound, column_part, least_part, least_sum, weight, coefficient, terms_of}
-use Rattle.zo_cert.specs.Leaf.{Avoids, change, changes}
-use Rattle.zo_cert.specs.Path.{HaveCosts, is_one, ones}
+use Rattle.zo_cert.specs.inner.Leaf.{Avoids, change, changes}
+use Rattle.zo_cert.specs.Fixing.{is_one, ones}
+use Rattle.zo_cert.specs.inner.Path.{HaveCosts}
 use Rattle.zo_cert.proofs.Duality.{cost_is, sum-scale, sum_zero}
 
 -- ---- one column changes

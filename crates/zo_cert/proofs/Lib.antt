@@ -20,3 +20,4 @@ pub mod VerdictStops
 pub mod ReportAnswers
 pub mod ReportWhole
 pub mod SameReports
+pub mod Worked

@@ -10,7 +10,7 @@ use Rattle.line_text.proofs.NumberLemmas.{decimal_one}
 use Rattle.zo_model.specs.Program.{Rise}
 use Rattle.zo_cert.specs.ReportText.{multiplier_text}
 use Rattle.zo_cert.proofs.ReadPieces.{ReadsMultipliers}
-use Rattle.zo_cert.specs.ReportLine.{IsMultiplier, SpellMultipliers}
+use Rattle.zo_cert.specs.inner.ReportLine.{IsMultiplier, SpellMultipliers}
 
 -- a multiplier's text is parted at its colon
 pub multiplier_parts : (lo : ℕ) (part front back : List ℕ) (m : ℕ × ℕ) → Lacks 58 front → part ≡ front ++ 58 ∷ back → IsMultiplier lo part m → (front ≡ decimal m.0) × (back ≡ decimal m.1)

@@ -11,7 +11,7 @@ use Rattle.zo_cert.specs.Contents.{Node, branch_on, bound_by, clash_of, left_ope
 use Rattle.zo_cert.specs.Report.{AreMultipliers}
 use Rattle.zo_cert.specs.ReportText.{multiplier_text, node_line}
 use Rattle.zo_cert.specs.ReportFault.{IsNodeText}
-use Rattle.zo_cert.specs.ReportLine.{SpellMultipliers, IsNodeLine, IsClashLine}
+use Rattle.zo_cert.specs.inner.ReportLine.{SpellMultipliers, IsNodeLine, IsClashLine}
 
 pub multipliers_lack : (lo : ℕ) (ms : List (ℕ × ℕ)) → Rise lo (2 ^ 26) ms → All (λ m. m.1 < 2 ^ 32) ms → AllLack 32 (map multiplier_text ms)
 multipliers_lack lo [] r h = tt

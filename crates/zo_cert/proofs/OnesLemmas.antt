@@ -5,7 +5,7 @@ use Rattle.line_text.proofs.SplitLaws.{parts-parted, Lacks-test}
 use Rattle.line_text.proofs.NumberLaws.{Lacks-decimal}
 use Rattle.line_text.proofs.NumberLemmas.{decimal_one}
 use Rattle.zo_cert.specs.ReportText.{ones_from}
-use Rattle.zo_cert.specs.ReportLine.{IsOnesLine}
+use Rattle.zo_cert.specs.inner.ReportLine.{IsOnesLine}
 use Rattle.zo_cert.proofs.ReadPieces.{Up, ReadsOnes}
 
 up_weaker : (lo lo' n : ℕ) (js : List ℕ) → lo' ≤ lo → Up lo n js → Up lo' n js

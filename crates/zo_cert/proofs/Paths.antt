@@ -14,7 +14,8 @@ use Rattle.std.proofs.lemmas.List.{get_or-set_same, get_or-set_other, get_or-rep
 use Rattle.std.proofs.lemmas.List.Elements.{All-get_or, All-replicate}
 use Rattle.zo_model.specs.Program.{cost_below, cost_where, costs_of, IsValid}
 use Rattle.zo_model.specs.declared.program.ZeroOne.{ZeroOne}
-use Rattle.zo_cert.specs.Path.{later, IsFixed, FixesExactly, Pending, open_fixings, Enters, rest_of, is_one, ones, HaveCosts, KeepsPlace}
+use Rattle.zo_cert.specs.Fixing.{is_one, ones}
+use Rattle.zo_cert.specs.inner.Path.{later, IsFixed, FixesExactly, Pending, open_fixings, Enters, rest_of, HaveCosts, KeepsPlace}
 
 -- no column of a new walk is fixed
 pub none_fixed : (n j : ℕ) → get_or {A = Option Bool} (replicate n None) j None ≡ None

@@ -6,7 +6,7 @@ use Rattle.std.proofs.lemmas.List.Elements.{All-nil, All-push}
 use Rattle.line_text.specs.Line.{parts, parted}
 use Rattle.line_text.proofs.SplitLaws.{parted-parts}
 use Rattle.zo_model.specs.Program.{Rise}
-use Rattle.zo_cert.specs.ReportLine.{IsMultiplier, SpellMultipliers}
+use Rattle.zo_cert.specs.inner.ReportLine.{IsMultiplier, SpellMultipliers}
 use Rattle.zo_cert.specs.ReportText.{multiplier_text, ones_from, x_line}
 
 -- these multipliers were read, and more may follow from the row lo on

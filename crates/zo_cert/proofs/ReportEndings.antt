@@ -13,7 +13,7 @@ use Rattle.zo_cert.specs.Contents.{left_open}
 use Rattle.zo_cert.specs.Report.{IsBlank}
 use Rattle.zo_cert.specs.ReportFault.{AreInLimits, HasCost, front_lines, stated_lines, tree_lines, AreStatedLines, IsMisstated, IsFirstReportFault, wrong_cost}
 use Rattle.zo_cert.specs.ReportAnswer.{IsTrueReportRefusal}
-use Rattle.zo_cert.specs.ReportPart.{AreVerdictLines, AreTreeLines, IsStop, MisstatesCost, stops, misstates, IsVerdictFault}
+use Rattle.zo_cert.specs.inner.ReportPart.{AreVerdictLines, AreTreeLines, IsStop, MisstatesCost, stops, misstates, IsVerdictFault}
 use Rattle.zo_cert.specs.declared.report.Verdict.{Verdict}
 use Rattle.zo_cert.specs.declared.report.Verdict.TheVariants as verdicts
 use Rattle.zo_cert.proofs.ReportPeel.{front_peel, SameVerdict, verdict_peel}

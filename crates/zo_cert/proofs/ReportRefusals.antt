@@ -9,8 +9,8 @@ use Rattle.line_text.proofs.SplitLaws.{same, longer, shorter, lie, after_longer,
 use Rattle.zo_model.specs.Contents.{Contents}
 use Rattle.zo_model.specs.Program.{vector, costs_of}
 use Rattle.zo_model.specs.ProgramText.{program_lines, columns_line, rows_line, IsValidContents, IsRowText, AreProgramLines}
-use Rattle.zo_model.specs.LineFault.{NoLine, cut, other}
-use Rattle.zo_model.specs.ProgramFault.{IsProgramFault}
+use Rattle.zo_model.specs.inner.LineFault.{NoLine, cut, other}
+use Rattle.zo_model.specs.inner.ProgramFault.{IsProgramFault}
 use Rattle.zo_model.specs.declared.error.ZoError.{ZoError}
 use Rattle.zo_model.specs.declared.error.ZoError.TheVariants.{NoMemory, Bad}
 use Rattle.zo_model.proofs.ExactLemmas.{Rest, last, line_first, rest_of}
@@ -21,7 +21,7 @@ use Rattle.zo_cert.specs.Report.{IsBlank}
 use Rattle.zo_cert.specs.ReportText.{counted_line}
 use Rattle.zo_cert.specs.ReportFault.{IsNodeText, AreInLimits, IsReport, HasCost, front_lines, stated_lines, tree_lines, AreStatedLines, IsFirstReportFault, wrong_line}
 use Rattle.zo_cert.specs.ReportAnswer.{IsTrueReportRefusal}
-use Rattle.zo_cert.specs.ReportPart.{AreFrontLines, StopsAt, IsStop}
+use Rattle.zo_cert.specs.inner.ReportPart.{AreFrontLines, StopsAt, IsStop}
 use Rattle.zo_cert.specs.declared.report.Verdict.{Verdict}
 use Rattle.zo_cert.specs.declared.report.Verdict.TheVariants as verdicts
 use Rattle.zo_cert.proofs.ReportPeel.{lines_length, program_peel}

@@ -2,21 +2,19 @@
 use Rattle.std.proofs.Common.{◌≡◌, ℕ, ◌+◌, ◌^◌, ◌<◌, ◌≤◌, List, [], ◌∷◌, ◌++◌, length, map, refl, ap, ◌∙◌, arith, Bool}
 use Rattle.std.specs.List.{All}
 use Rattle.std.proofs.lemmas.List.{length-append, length-map}
-use Rattle.std.proofs.lemmas.List.Elements.{All-nil, All-cons, All-head, All-tail}
 use Rattle.line_text.specs.Line.{text_of}
-use Rattle.zo_model.specs.Contents.{Contents, contents, row_contents}
-use Rattle.zo_model.specs.declared.program.Row.{Row}
-use Rattle.zo_model.specs.declared.program.ZeroOne.{ZeroOne}
-use Rattle.zo_model.specs.Program.{vector, costs_of, IsValid, IsRow}
-use Rattle.zo_model.specs.ProgramText.{program_lines, IsRowText, IsValidContents}
+use Rattle.zo_model.specs.Contents.{Contents, contents}
+use Rattle.zo_model.specs.Program.{vector, costs_of}
+use Rattle.zo_model.specs.ProgramText.{program_lines, IsValidContents}
 use Rattle.zo_model.specs.declared.error.ZoError.{ZoError}
+use Rattle.zo_model.proofs.ExactLemmas.{contents_fit}
 use Rattle.zo_model.proofs.FaultLemmas.{spelled_more}
 use Rattle.zo_cert.specs.Contents.{node_contents, report_contents}
 use Rattle.zo_cert.specs.Report.{IsBlank, IsValidReport}
 use Rattle.zo_cert.specs.ReportText.{verdict_lines, node_line}
 use Rattle.zo_cert.specs.ReportFault.{IsNodeText, AreInLimits, IsReport, front_lines, stated_lines, tree_lines, IsFirstReportFault}
 use Rattle.zo_cert.specs.ReportAnswer.{IsTrueReportRefusal}
-use Rattle.zo_cert.specs.ReportPart.{AreTreeLines, IsStop}
+use Rattle.zo_cert.specs.inner.ReportPart.{AreTreeLines, IsStop}
 use Rattle.zo_cert.specs.declared.report.Report.{Report}
 use Rattle.zo_cert.specs.declared.report.Verdict.{Verdict}
 use Rattle.zo_cert.proofs.ReportRefusals.{three_lines}
@@ -64,15 +62,5 @@ behind_report bytes r3 r4 r5 r7 n3 n4 n5 n7 q v e1 e2 e3 e4 some c1 c2 c3 c4 =
     (omega (arith, c1, c2, c3, c4, length-map q.tree.nodes.items node_contents, length-map nodes node_line, length-append (front ++ verdict) (tree_lines nodes), length-append front verdict))
 
 -- a valid report whose nodes keep the limits of their type, by its contents
-rows_fit : (n : ℕ) (rs : List Row) → All (IsRow n) rs → All (IsRowText n) (map row_contents rs)
-rows_fit n [] h = All-nil (IsRowText n)
-rows_fit n (r ∷ rs) h =
-    let head = All-head (IsRow n) r rs h in
-    All-cons (IsRowText n) (row_contents r) (map row_contents rs) (record { terms_fit = head.terms_fit; least_fits = head.least_fits }) (rows_fit n rs (All-tail (IsRow n) r rs h))
-
-program_fits : (z : ZeroOne) → IsValid z → IsValidContents (contents z)
-program_fits z v =
-    record { columns_fit = v.columns_fit; rows_fit = omega (arith, v.rows_fit, length-map z.rows.items row_contents); costs_fit = v.costs_fit; rows_ok = rows_fit (length z.costs.items) z.rows.items v.rows_ok }
-
 pub report_fits : (q : Report) → IsValidReport q → All IsNodeText (map node_contents q.tree.nodes.items) → IsReport (report_contents q)
-report_fits q v fit = report_made q v.slots_fit v.budget_low v.budget_high (program_fits q.z v.program_valid) v.one_a_column v.blank v.some_nodes v.few_nodes fit
+report_fits q v fit = report_made q v.slots_fit v.budget_low v.budget_high (contents_fit q.z v.program_valid) v.one_a_column v.blank v.some_nodes v.few_nodes fit

@@ -5,7 +5,7 @@ use Rattle.std.proofs.lemmas.List.{append-nil, length-append, length-replicate, 
 use Rattle.std.proofs.lemmas.List.Elements.{All-append, All-push, All-replicate}
 use Rattle.line_text.specs.Line.{Lacks, text_of}
 use Rattle.line_text.specs.Format.{Begins}
-use Rattle.zo_model.specs.LineFault.{IsCounted, NoLine, IsLineFault}
+use Rattle.zo_model.specs.inner.LineFault.{IsCounted, NoLine, IsLineFault}
 use Rattle.zo_model.specs.declared.error.ZoError.{ZoError}
 use Rattle.zo_model.specs.declared.error.ZoError.TheVariants.{NoMemory, Bad}
 use Rattle.zo_model.proofs.LineLemmas.{counted_one, no_line_other, no_line_weaker}
@@ -14,8 +14,8 @@ use Rattle.zo_model.proofs.TextLemmas.{at_map}
 use Rattle.zo_cert.specs.Contents.{Node, left_open}
 use Rattle.zo_cert.specs.ReportText.{counted_line, node_line}
 use Rattle.zo_cert.specs.ReportFault.{IsNodeText}
-use Rattle.zo_cert.specs.ReportLine.{IsNodeLine, IsNodeFault}
-use Rattle.zo_cert.specs.ReportPart.{AreFrontLines, AreTreeLines, IsStop}
+use Rattle.zo_cert.specs.inner.ReportLine.{IsNodeLine, IsNodeFault}
+use Rattle.zo_cert.specs.inner.ReportPart.{AreFrontLines, AreTreeLines, IsStop}
 use Rattle.zo_cert.proofs.ReportFormat.{counted_lacks}
 
 -- a next line that isn't of the kind that has to come

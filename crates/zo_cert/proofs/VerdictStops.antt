@@ -4,15 +4,15 @@ use Rattle.std.proofs.lemmas.List.{append_cancel_left, length-replicate}
 use Rattle.std.proofs.lemmas.List.Elements.{All-replicate}
 use Rattle.line_text.specs.Line.{Lacks, text_of}
 use Rattle.line_text.specs.Format.{Begins}
-use Rattle.zo_model.specs.LineFault.{NoLine, cut, other, IsLineFault}
+use Rattle.zo_model.specs.inner.LineFault.{NoLine, cut, other, IsLineFault}
 use Rattle.zo_model.specs.declared.error.ZoError.{ZoError}
 use Rattle.zo_model.specs.declared.error.ZoError.TheVariants.{NoMemory, Bad}
 use Rattle.zo_model.proofs.LineLemmas.{no_line_weaker}
 use Rattle.zo_model.proofs.FaultLemmas.{spelled_more, one_line_text}
 use Rattle.zo_cert.specs.ReportText.{x_line}
 use Rattle.zo_cert.specs.ReportFault.{HasCost, stated_lines}
-use Rattle.zo_cert.specs.ReportLine.{IsOnesLine}
-use Rattle.zo_cert.specs.ReportPart.{AreVerdictLines, CostedFault, no_number, no_columns, other_cost, IsCostedFault, VerdictFault, stops, misstates, IsVerdictFault}
+use Rattle.zo_cert.specs.inner.ReportLine.{IsOnesLine}
+use Rattle.zo_cert.specs.inner.ReportPart.{AreVerdictLines, CostedFault, no_number, no_columns, other_cost, IsCostedFault, VerdictFault, stops, misstates, IsVerdictFault}
 use Rattle.zo_cert.specs.declared.report.Verdict.{Verdict}
 use Rattle.zo_cert.specs.declared.report.Verdict.TheVariants as verdicts
 

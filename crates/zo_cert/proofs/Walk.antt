@@ -6,7 +6,7 @@ use Rattle.zo_cert.specs.declared.cert.Cert.{Cert}
 use Rattle.zo_cert.specs.declared.cert.Claim.{Claim}
 use Rattle.zo_cert.specs.declared.cert.Claim.TheVariants.{Least, Nothing}
 use Rattle.zo_cert.specs.Certificate.{Tree, leaf, branch, preorder, Closes, EachNode, IsShaped, IsTreeWith, IsWellNamed, OfLeaf, Proves, unfixed}
-use Rattle.zo_cert.specs.Walk.{Walks}
+use Rattle.zo_cert.specs.inner.Walk.{Walks}
 use Rattle.zo_cert.specs.declared.cert.CertNode.{CertNode}
 use Rattle.zo_cert.specs.declared.cert.CertNode.TheVariants.{Branch, Bound, Clash, Left}
 

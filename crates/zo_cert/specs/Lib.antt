@@ -1,12 +1,10 @@
 pub mod Certificate
+pub mod Fixing
 pub mod Contents
-pub mod Leaf
-pub mod Path
+pub mod Laws
 pub mod Report
 pub mod Searched
-pub mod Walk
 pub mod ReportText
 pub mod ReportFault
 pub mod ReportAnswer
-pub mod ReportLine
-pub mod ReportPart
+pub mod inner

@@ -5,7 +5,7 @@ use Rattle.zo_model.specs.Program.{total, where_one, cost_of, Feasible}
 use Rattle.zo_model.specs.declared.program.Row.{Row}
 use Rattle.zo_model.specs.declared.program.ZeroOne.{ZeroOne}
 use Rattle.zo_cert.specs.Certificate.{Tree, leaf, branch, preorder, EachNode, Closes, unfixed, HasLeft}
-use Rattle.zo_cert.specs.Path.{ones}
+use Rattle.zo_cert.specs.Fixing.{ones}
 use Rattle.zo_cert.specs.declared.cert.CertNode.{CertNode}
 use Rattle.zo_cert.specs.declared.cert.CertNode.TheVariants.{Branch, Bound, Clash, Left}
 use Rattle.zo_cert.specs.declared.cert.Claim.{Claim}

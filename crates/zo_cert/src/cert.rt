@@ -3,8 +3,8 @@
 ghost use Rattle.std.specs.Prelude.{◌≡◌, ◌<◌, ◌^◌, [], ◌∷◌, IfOk, IfSome, IsSome, IsTrue, ◌↔◌, length};
 ghost use Rattle.zo_model.specs.Program.{IsValid, columns};
 ghost use Rattle.zo_cert.specs.Certificate.{Closes, Holds, IsShaped, IsTreeWith, IsWellNamed, OfLeaf, Proves, branches};
-ghost use Rattle.zo_cert.specs.Leaf.{IsClear};
-ghost use Rattle.zo_cert.specs.Walk.{MayCome, Walks, after};
+ghost use Rattle.zo_cert.specs.inner.Leaf.{IsClear};
+ghost use Rattle.zo_cert.specs.inner.Walk.{MayCome, Walks, after};
 
 use crate::leaf::{closes, is_well_named};
 use crate::path::Path;
@@ -49,7 +49,7 @@ pub struct Work {
 
 impl Model for Work {
     ghost use Rattle.std.specs.Prelude.{ℕ, List, length};
-    ghost use Rattle.zo_cert.specs.Leaf.{IsClear};
+    ghost use Rattle.zo_cert.specs.inner.Leaf.{IsClear};
 
     ghost Value = { List ℕ };
 

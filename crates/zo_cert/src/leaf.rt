@@ -6,9 +6,9 @@
 ghost use Rattle.std.specs.Prelude.{◌≡◌, ◌≢◌, ℕ, ◌+◌, ◌-◌, ◌*◌, ◌<◌, ◌≤◌, ◌^◌, [], length, pos, ◌+ℤ◌, ◌-ℤ◌, ◌*ℤ◌, IsTrue, ◌↔◌, All, slice_index_or};
 ghost use Rattle.zo_model.specs.Program.{AreSmallTerms, AtMost, IsValid, Rise, columns};
 ghost use Rattle.zo_cert.specs.Certificate.{NamesRows, Closes, NamesItsRows, bound, coefficient, least_sum, weight};
-ghost use Rattle.zo_cert.specs.Leaf.{Avoids, IsClear, changes};
-ghost use Rattle.zo_cert.specs.Leaf as leaf;
-ghost use Rattle.zo_cert.specs.Path.{current};
+ghost use Rattle.zo_cert.specs.inner.Leaf.{Avoids, IsClear, changes};
+ghost use Rattle.zo_cert.specs.inner.Leaf as leaf;
+ghost use Rattle.zo_cert.specs.inner.Path.{current};
 
 use crate::cert::{CertNode, Claim};
 use crate::path::Path;

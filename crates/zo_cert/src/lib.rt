@@ -5,6 +5,7 @@
 #![tactic(auto)]
 
 pub mod cert;
+mod fits;
 pub mod laws;
 pub mod leaf;
 pub mod path;

@@ -2,7 +2,8 @@
 
 ghost use Rattle.std.specs.Prelude.{◌≡◌, ◌≢◌, ◌≤◌, ◌^◌, [], length, IfOk, IsTrue, ◌↔◌, slice_get};
 ghost use Rattle.zo_model.specs.Program.{IsValid, costs_of};
-ghost use Rattle.zo_cert.specs.Path.{IsFixed, Turns, Enters, begun, current, ones, rest_of};
+ghost use Rattle.zo_cert.specs.Fixing.{ones};
+ghost use Rattle.zo_cert.specs.inner.Path.{IsFixed, Turns, Enters, begun, current, rest_of};
 
 use std::alloc::{AllocError, Global};
 use std::marker::Model;
@@ -28,7 +29,7 @@ pub struct Path {
 
 impl Model for Path {
     ghost use Rattle.std.specs.Prelude.{drop};
-    ghost use Rattle.zo_cert.specs.Path.{Pending, KeepsPlace, open_fixings};
+    ghost use Rattle.zo_cert.specs.inner.Path.{Pending, KeepsPlace, open_fixings};
 
     ghost Value = { Pending };
 

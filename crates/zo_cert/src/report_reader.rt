@@ -5,15 +5,15 @@ ghost use Rattle.line_text.specs.Line.{Lacks, text_of, parts, parted};
 ghost use Rattle.zo_model.specs.Contents.{contents};
 ghost use Rattle.zo_model.specs.Program.{IsValid, columns, cost_of, vector};
 ghost use Rattle.zo_model.specs.ProgramText.{program_lines};
-ghost use Rattle.zo_model.specs.LineFault.{IsCounted, NoLine, IsLineFault};
+ghost use Rattle.zo_model.specs.inner.LineFault.{IsCounted, NoLine, IsLineFault};
 ghost use Rattle.zo_model.specs.declared.error.ZoError.{ZoError};
 ghost use Rattle.zo_model.specs.declared.error.ZoError.TheVariants.{Bad};
 ghost use Rattle.zo_cert.specs.Contents.{ReportContents, node_contents, report_contents};
 ghost use Rattle.zo_cert.specs.Report.{AreMultipliers, IsBlank, IsNode, IsValidReport};
 ghost use Rattle.zo_cert.specs.ReportFault.{IsNodeText, IsReport, IsFirstReportFault};
-ghost use Rattle.zo_cert.specs.ReportPart.{AreFrontLines, AreTreeLines, IsStop, IsCostedFault, IsVerdictFault};
+ghost use Rattle.zo_cert.specs.inner.ReportPart.{AreFrontLines, AreTreeLines, IsStop, IsCostedFault, IsVerdictFault};
 ghost use Rattle.zo_cert.specs.ReportAnswer.{IsTrueReportRefusal, AnswersReport, AnswersFault};
-ghost use Rattle.zo_cert.specs.ReportLine.{IsMultiplier, SpellMultipliers, IsNodeLine, IsClashLine, IsOnesLine, IsNodeFault};
+ghost use Rattle.zo_cert.specs.inner.ReportLine.{IsMultiplier, SpellMultipliers, IsNodeLine, IsClashLine, IsOnesLine, IsNodeFault};
 ghost use Rattle.zo_cert.specs.ReportText.{counted_line, x_line, verdict_lines, multiplier_text, node_line, report_text};
 
 use crate::cert::{Cert, CertNode};

@@ -6,9 +6,11 @@ ghost use Rattle.line_text.specs.Line.{text_of};
 ghost use Rattle.zo_model.specs.Program.{IsValid, columns, cost_of, vector};
 ghost use Rattle.zo_cert.specs.Contents.{node_contents, report_contents};
 ghost use Rattle.zo_cert.specs.Report.{IsValidReport};
+ghost use Rattle.zo_cert.specs.ReportFault.{IsReport};
 ghost use Rattle.zo_cert.specs.ReportText.{counted_line, ones_from, x_line, verdict_lines, multiplier_text, node_line, report_text};
 
 use crate::cert::CertNode;
+use crate::fits::nodes_fit;
 use crate::report::{Report, Verdict};
 use line_text::push_decimal;
 use std::alloc::{AllocError, Global};
@@ -140,8 +142,8 @@ fn push_verdict(out: &mut Vec<u8>, r: &Report) -> Result<(), AllocError>
     }
 }
 
-/// The text of a report.
-pub fn print_report(alloc: Global, r: &Report) -> Result<Vec<u8>, NoMemory>
+/// The lines of a report.
+fn report_bytes(alloc: Global, r: &Report) -> Result<Vec<u8>, AllocError>
     requires { IsValidReport r.now }
     ensures { IfOk result (λ text. text.items ≡ report_text (report_contents r.now)) }
 {
@@ -154,4 +156,14 @@ pub fn print_report(alloc: Global, r: &Report) -> Result<Vec<u8>, NoMemory>
     push_counted(&mut out, b"tree ", r.tree.nodes.len() as u64)?;
     push_nodes(&mut out, &r.tree.nodes)?;
     Ok(out)
+}
+
+/// The text of a report.
+pub fn print_report(alloc: Global, r: &Report) -> Result<Vec<u8>, NoMemory>
+    requires { IsValidReport r.now }
+    ensures text { IfOk result (λ text. text.items ≡ report_text (report_contents r.now)) }
+    ensures report { IsReport (report_contents r.now) }
+{
+    nodes_fit(&r.tree.nodes);
+    Ok(report_bytes(alloc, r)?)
 }

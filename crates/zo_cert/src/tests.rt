@@ -19,13 +19,6 @@ fn program(alloc: Global, costs: &[u32], rows: &[(Terms, i32)]) -> Result<ZeroOn
     })
 }
 
-/// A tree of one leaf.
-fn bound(alloc: Global, d: u32, multipliers: &[(u32, u32)]) -> Result<Cert, AllocError> {
-    let mut nodes = Vec::new(alloc);
-    nodes.push(CertNode::Bound(d, Vec::from_slice(alloc, multipliers)?))?;
-    Ok(Cert { nodes })
-}
-
 /// Three columns of cost 1, any two of which are covered: at least two are 1.
 fn triangle(alloc: Global) -> Result<ZeroOne, AllocError> {
     program(
@@ -44,30 +37,17 @@ fn a_multiplier_of_two_proves_the_cover_costs_two(rt: HostRuntime) {
     let alloc = rt.alloc();
     // min 3x + 2y with x + y >= 1
     let z = program(alloc, &[3, 2], &[(&[(0, 1), (1, 1)], 1)]).expect(&rt, "memory");
-    let c = bound(alloc, 1, &[(0, 2)]).expect(&rt, "memory");
+    let mut nodes = Vec::new(alloc);
+    let multipliers = Vec::from_slice(alloc, &[(0, 2)]).expect(&rt, "memory");
+    nodes
+        .push(CertNode::Bound(1, multipliers))
+        .expect(&rt, "memory");
+    let c = Cert { nodes };
     assert!(rt; is_valid(&z));
     let mut w = Work::new(alloc, &z).expect(&rt, "memory");
     assert!(rt; check(&z, &c, &Claim::Least(2), &mut w));
     assert!(rt; !check(&z, &c, &Claim::Least(3), &mut w));
     assert!(rt; !check(&z, &c, &Claim::Nothing, &mut w));
-}
-
-#[test]
-fn a_row_beyond_all_columns_is_a_clash(rt: HostRuntime) {
-    let alloc = rt.alloc();
-    for (least, want) in [(3, true), (2, false)] {
-        let z = program(alloc, &[3, 2], &[(&[(0, 1), (1, 1)], least)]).expect(&rt, "memory");
-        let mut nodes = Vec::new(alloc);
-        let multipliers = Vec::from_slice(alloc, &[(0, 1)]).expect(&rt, "memory");
-        nodes
-            .push(CertNode::Clash(multipliers))
-            .expect(&rt, "memory");
-        let c = Cert { nodes };
-        assert!(rt; is_valid(&z));
-        let mut w = Work::new(alloc, &z).expect(&rt, "memory");
-        assert_eq!(rt; check(&z, &c, &Claim::Nothing, &mut w), want);
-        assert_eq!(rt; check(&z, &c, &Claim::Least(9), &mut w), want);
-    }
 }
 
 #[test]
@@ -93,34 +73,9 @@ fn a_branch_splits_the_triangle(rt: HostRuntime) {
 }
 
 #[test]
-fn a_report_is_refused_where_its_bound_falls_short(rt: HostRuntime) {
-    let alloc = rt.alloc();
-    let rows: [&[(u32, u32)]; 2] = [&[(0, 1), (1, 1), (2, 1)], &[(0, 1), (1, 1)]];
-    for (multipliers, want) in [(rows[0], true), (rows[1], false)] {
-        let r = Report {
-            slots: 0,
-            budget: 1,
-            z: triangle(alloc).expect(&rt, "memory"),
-            verdict: Verdict::Optimal,
-            x: Assignment {
-                on: Vec::from_slice(alloc, &[true, true, false]).expect(&rt, "memory"),
-            },
-            tree: bound(alloc, 2, multipliers).expect(&rt, "memory"),
-        };
-        assert!(rt; is_valid_report(&r));
-        let mut w = Work::new(alloc, &r.z).expect(&rt, "memory");
-        assert_eq!(rt; check_report(&r, &mut w), want);
-    }
-}
-
-#[test]
 fn a_spent_report_has_its_budget_of_branches_and_a_left(rt: HostRuntime) {
     let alloc = rt.alloc();
-    for (budget, verdict, want) in [
-        (1, Verdict::Spent, true),
-        (2, Verdict::Spent, false),
-        (1, Verdict::Infeasible, false),
-    ] {
+    for (budget, want) in [(1, true), (2, false)] {
         let mut nodes = Vec::new(alloc);
         for node in [CertNode::Branch(1), CertNode::Left, CertNode::Left] {
             nodes.push(node).expect(&rt, "memory");
@@ -129,7 +84,7 @@ fn a_spent_report_has_its_budget_of_branches_and_a_left(rt: HostRuntime) {
             slots: 128,
             budget,
             z: triangle(alloc).expect(&rt, "memory"),
-            verdict,
+            verdict: Verdict::Spent,
             x: Assignment {
                 on: Vec::from_slice(alloc, &[false, false, false]).expect(&rt, "memory"),
             },

@@ -14,8 +14,8 @@ use Rattle.zo_model.specs.Contents.{Contents, RowContents, contents, row_content
 use Rattle.zo_model.specs.Program.{IsValid, IsRow}
 use Rattle.zo_model.specs.ProgramText.{columns_line, rows_line, cost_line, row_line, term_text, program_lines, program_text, IsRowText, IsValidContents, AreProgramLines, IsFirstFault}
 use Rattle.zo_model.specs.ProgramAnswer.{IsTrueRefusal, AnswersProgram, AnswersBad}
-use Rattle.zo_model.specs.LineFault.{NoLine, cut, other}
-use Rattle.zo_model.specs.ProgramFault.{Stops, IsProgramFault}
+use Rattle.zo_model.specs.inner.LineFault.{NoLine, cut, other}
+use Rattle.zo_model.specs.inner.ProgramFault.{Stops, IsProgramFault}
 use Rattle.zo_model.specs.declared.program.Row.{Row}
 use Rattle.zo_model.specs.declared.program.ZeroOne.{ZeroOne}
 use Rattle.zo_model.specs.declared.error.ZoError.{ZoError}
@@ -122,6 +122,17 @@ rows_valid n (r ∷ rs) h =
 pub valid_from_contents : (z : ZeroOne) → IsValidContents (contents z) → IsValid z
 valid_from_contents z v =
     record { columns_fit = v.columns_fit; rows_fit = omega (arith, v.rows_fit, length-map z.rows.items row_contents); costs_fit = v.costs_fit; rows_ok = rows_valid (length z.costs.items) z.rows.items v.rows_ok }
+
+-- a valid program, by its contents
+rows_fit : (n : ℕ) (rs : List Row) → All (IsRow n) rs → All (IsRowText n) (map row_contents rs)
+rows_fit n [] h = All-nil (IsRowText n)
+rows_fit n (r ∷ rs) h =
+    let head = All-head (IsRow n) r rs h in
+    All-cons (IsRowText n) (row_contents r) (map row_contents rs) (record { terms_fit = head.terms_fit; least_fits = head.least_fits }) (rows_fit n rs (All-tail (IsRow n) r rs h))
+
+pub contents_fit : (z : ZeroOne) → IsValid z → IsValidContents (contents z)
+contents_fit z v =
+    record { columns_fit = v.columns_fit; rows_fit = omega (arith, v.rows_fit, length-map z.rows.items row_contents); costs_fit = v.costs_fit; rows_ok = rows_fit (length z.costs.items) z.rows.items v.rows_ok }
 
 -- bytes go on with a whole line, or with one that isn't whole
 pub data Rest (bytes : List ℕ) : Type 0 where

@@ -8,8 +8,8 @@ use Rattle.line_text.specs.Format.{Begins, IsText, FirstFault, wrong, short}
 use Rattle.line_text.proofs.SplitLaws.{text_of-append, text_of-cons}
 use Rattle.zo_model.specs.Contents.{Contents, RowContents}
 use Rattle.zo_model.specs.ProgramText.{columns_line, rows_line, cost_line, row_line, program_lines, IsRowText, IsValidContents, AreProgramLines}
-use Rattle.zo_model.specs.LineFault.{IsCounted, IsCost, IsRowLine, NoLine, cut, other, IsLineFault}
-use Rattle.zo_model.specs.ProgramFault.{Stops, IsProgramFault, StopsAtCost, IsCostFault, StopsAtRow, IsRowFault}
+use Rattle.zo_model.specs.inner.LineFault.{IsCounted, IsCost, IsRowLine, NoLine, cut, other, IsLineFault}
+use Rattle.zo_model.specs.inner.ProgramFault.{Stops, IsProgramFault, StopsAtCost, IsCostFault, StopsAtRow, IsRowFault}
 use Rattle.zo_model.specs.declared.error.ZoError.{ZoError}
 use Rattle.zo_model.specs.declared.error.ZoError.TheVariants.{NoMemory, Bad}
 use Rattle.zo_model.proofs.LineLemmas.{no_line_weaker}

@@ -5,7 +5,7 @@ use Rattle.line_text.specs.Line.{Lacks, AllLack, parts, parted}
 use Rattle.line_text.proofs.SplitLaws.{parts-parted, parted-parts, split_one, lacks_not, Lacks-parted}
 use Rattle.line_text.proofs.NumberLaws.{Lacks-decimal}
 use Rattle.line_text.proofs.NumberLemmas.{decimal_one}
-use Rattle.zo_model.specs.LineFault.{IsCounted, NoLine, cut, other}
+use Rattle.zo_model.specs.inner.LineFault.{IsCounted, NoLine, cut, other}
 
 pub counted_parts : (name line : List ℕ) (n : ℕ) → Lacks 32 name → n < 2 ^ 64 → line ≡ parted (name ∷ decimal n ∷ []) → parts line ≡ name ∷ decimal n ∷ []
 counted_parts name line n h small e = ap parts e ∙ parts-parted name (decimal n ∷ []) (h, (Lacks-decimal 32 n (lit≤ tt) small, tt))

@@ -14,8 +14,8 @@ use Rattle.line_text.proofs.NumberLemmas.{decimal_one, signed_one, mag_small}
 use Rattle.zo_model.specs.Contents.{RowContents}
 use Rattle.zo_model.specs.Program.{Rise, IsCoefficient, AreTerms, AtMost}
 use Rattle.zo_model.specs.ProgramText.{term_text, row_line, IsRowText}
-use Rattle.zo_model.specs.LineFault.{IsRowLine}
-use Rattle.zo_model.specs.TermParts.{IsTerm, SpellTerms}
+use Rattle.zo_model.specs.inner.LineFault.{IsRowLine}
+use Rattle.zo_model.specs.inner.TermParts.{IsTerm, SpellTerms}
 
 pub coefficient_small : (a : ℤ) → IsCoefficient a → mag a < 2 ^ 63
 coefficient_small a h = mag_small a (omega (arith, ints, h.low)) (omega (arith, ints, h.high))

@@ -9,7 +9,7 @@ use Rattle.line_text.specs.Format.{Begins}
 use Rattle.zo_model.specs.Contents.{Contents, RowContents}
 use Rattle.zo_model.specs.Program.{AreTerms, AtMost, IsCoefficient}
 use Rattle.zo_model.specs.ProgramText.{columns_line, rows_line, cost_line, row_line, program_lines, IsRowText, IsValidContents, AreProgramLines}
-use Rattle.zo_model.specs.LineFault.{IsCost, IsRowLine, IsCounted}
+use Rattle.zo_model.specs.inner.LineFault.{IsCost, IsRowLine, IsCounted}
 use Rattle.zo_model.proofs.LineLemmas.{counted_one}
 
 -- a row without terms

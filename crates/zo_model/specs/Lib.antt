@@ -1,7 +1,5 @@
 pub mod Contents
 pub mod Program
 pub mod ProgramText
-pub mod LineFault
-pub mod ProgramFault
-pub mod TermParts
 pub mod ProgramAnswer
+pub mod inner

@@ -8,9 +8,9 @@ ghost use Rattle.zo_model.specs.Contents.{Contents, contents, row_contents};
 ghost use Rattle.zo_model.specs.Program.{IsCoefficient, IsValid};
 ghost use Rattle.zo_model.specs.ProgramAnswer.{IsTrueRefusal, AnswersProgram, AnswersBad};
 ghost use Rattle.zo_model.specs.ProgramText.{cost_line, term_text, row_line, program_lines, program_text, IsRowText, IsValidContents, AreProgramLines, IsFirstFault};
-ghost use Rattle.zo_model.specs.TermParts.{IsTerm, SpellTerms};
-ghost use Rattle.zo_model.specs.LineFault.{IsCounted, IsCost, IsRowLine, NoLine, IsLineFault};
-ghost use Rattle.zo_model.specs.ProgramFault.{IsProgramFault, IsCostFault, IsRowFault};
+ghost use Rattle.zo_model.specs.inner.TermParts.{IsTerm, SpellTerms};
+ghost use Rattle.zo_model.specs.inner.LineFault.{IsCounted, IsCost, IsRowLine, NoLine, IsLineFault};
+ghost use Rattle.zo_model.specs.inner.ProgramFault.{IsProgramFault, IsCostFault, IsRowFault};
 ghost use Rattle.zo_model.specs.declared.error.ZoError.{ZoError};
 ghost use Rattle.zo_model.specs.declared.error.ZoError.TheVariants.{Bad};
 

@@ -14,7 +14,7 @@ use Rattle.zo_model.specs.declared.program.ZeroOne.{ZeroOne}
 use Rattle.zo_model.proofs.Rows.{rise_below}
 use Rattle.zo_model.proofs.Sums.{sum_below-same, sum_below-add, sum_below-le}
 use Rattle.zo_cert.specs.Certificate.{bound, column_part, least_part, least_sum, weight, coefficient, terms_of, least_of, Closes, Tree, leaf, branch, preorder, EachNode, unfixed, branches}
-use Rattle.zo_cert.specs.Path.{is_one, ones}
+use Rattle.zo_cert.specs.Fixing.{is_one, ones}
 use Rattle.zo_cert.specs.Report.{IsNode, AreMultipliers}
 use Rattle.zo_cert.specs.Searched.{reach, reach_part, IsInReach, IsOpen}
 use Rattle.zo_cert.specs.declared.cert.CertNode.{CertNode}
@@ -26,7 +26,7 @@ use Rattle.zo_cert.proofs.Duality.{sum_zero}
 use Rattle.std.proofs.lemmas.Option.{get_or_from_slice_get}
 use Rattle.zo_solve.proofs.Grow.{branches_append}
 use Rattle.zo_solve.specs.Pick.{HasFree}
-use Rattle.zo_solve.specs.Search.{CostsAsMuch, IsPlainBound, IsClashOf}
+use Rattle.zo_solve.specs.inner.Search.{CostsAsMuch, IsPlainBound, IsClashOf}
 
 -- ---- a bound of no row is the cost of the columns fixed at 1
 

@@ -13,8 +13,9 @@ use Rattle.zo_cert.specs.declared.cert.CertNode.TheVariants.{Branch, Bound, Clas
 use Rattle.zo_cert.specs.declared.cert.Claim.{Claim}
 use Rattle.zo_cert.specs.declared.cert.Claim.TheVariants as claims
 use Rattle.zo_cert.proofs.Walk.{each_weaker}
-use Rattle.zo_solve.specs.Search.{IsAtMostStart, IsBelow, IsClaimOf, IsFound, IsGood, IsPicked, LeftsLast}
-use Rattle.zo_solve.specs.Solved.{CostsAtMost, EachIn, HadNoStart, IsAnswerOf, IsCutOff, IsDecided, IsProved, OfVector, claim_of, tree_of}
+use Rattle.zo_solve.specs.Nodes.{IsBelow, IsPicked}
+use Rattle.zo_solve.specs.inner.Search.{IsAnswerOf, IsAtMostStart, IsClaimOf, IsFound, IsGood, LeftsLast}
+use Rattle.zo_solve.specs.Solved.{CostsAtMost, EachIn, HadNoStart, IsCutOff, IsDecided, IsProved, OfVector, claim_of, tree_of}
 use Rattle.zo_solve.specs.Vector.{IsVector, cost_at, start_cost}
 use Rattle.zo_solve.specs.declared.node.Best.{Best}
 use Rattle.zo_solve.specs.declared.search.Solved.{Solved}
@@ -69,7 +70,8 @@ ended_no_dearer z start picks budget b ns s e = costs_at_most z start b.x b.clai
 no_start : (z : ZeroOne) (start : Option Assignment) (claim : Claim) (o : Option Assignment) (ns : List CertNode) (s : Solved) → IsClaimOf z o claim → IsAtMostStart (start_cost z start) claim → IsAnswerOf o ns s → HadNoStart start s
 no_start z start claim o ns (answers.Optimal x c) k m a = tt
 no_start z start claim o ns (answers.Feasible x c) k m a = tt
-no_start z start claim o ns (answers.Infeasible c) k m a = tt
+no_start z None claim o ns (answers.Infeasible c) k m a = refl
+no_start z (Some x) claim o ns (answers.Infeasible c) k m a = absurd (subst (IsAtMostStart (Some (cost_at z x))) (claim_is z o claim ns (answers.Infeasible c) k a) m)
 no_start z None claim o ns (answers.Spent c) k m a = refl
 no_start z (Some x) claim o ns (answers.Spent c) k m a = absurd (subst (IsAtMostStart (Some (cost_at z x))) (claim_is z o claim ns (answers.Spent c) k a) m)
 

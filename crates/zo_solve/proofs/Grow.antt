@@ -2,14 +2,14 @@
 use Rattle.std.proofs.Common.{◌≡◌, ◌≢◌, ℕ, ◌+◌, ◌*◌, ◌<◌, List, [], ◌∷◌, ◌++◌, length, Bool, true, false, inl, inr, ◌⊎◌, Option, Some, None, slice_get, slice_set, refl, sym, ◌∙◌, ap, subst, arith, append_assoc, length-append}
 use Rattle.std.proofs.lemmas.List.{append-nil}
 use Rattle.zo_cert.specs.Certificate.{Tree, leaf, branch, preorder, EachNode, IsLeaf, branches, HasLeft}
-use Rattle.zo_cert.specs.Path.{current}
+use Rattle.zo_cert.specs.inner.Path.{current}
 use Rattle.zo_cert.specs.Searched.{GoesDepthFirst, IsLeftOrDone}
-use Rattle.zo_cert.specs.Walk.{MayCome, Walks, after}
+use Rattle.zo_cert.specs.inner.Walk.{MayCome, Walks, after}
 use Rattle.zo_cert.specs.declared.cert.CertNode.{CertNode}
 use Rattle.zo_cert.specs.declared.cert.CertNode.TheVariants.{Branch, Bound, Clash, Left}
 use Rattle.zo_cert.proofs.Walk.{walks_tree}
 use Rattle.zo_cert.proofs.Nodes.{branches_cons}
-use Rattle.zo_solve.specs.Search.{Leaves, LeftsLast}
+use Rattle.zo_solve.specs.inner.Search.{Leaves, LeftsLast}
 
 -- ---- what walks the rest ends a walk of the whole
 

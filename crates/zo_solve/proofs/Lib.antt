@@ -3,3 +3,5 @@ pub mod Endings
 pub mod Grow
 pub mod Rows
 pub mod Steps
+pub mod Choice
+pub mod Reports

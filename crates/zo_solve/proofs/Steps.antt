@@ -5,19 +5,21 @@ use Rattle.zo_model.specs.Program.{cost_of}
 use Rattle.zo_model.specs.declared.program.ZeroOne.{ZeroOne}
 use Rattle.zo_model.proofs.Scale.{scale-le}
 use Rattle.zo_cert.specs.Certificate.{Closes, IsLeaf}
-use Rattle.zo_cert.specs.Path.{Pending, current, ones}
+use Rattle.zo_cert.specs.Fixing.{ones}
+use Rattle.zo_cert.specs.inner.Path.{Pending, current}
 use Rattle.zo_cert.specs.Report.{IsNode}
 use Rattle.zo_cert.specs.Searched.{IsClosed, IsMet, IsNoBetter, IsOpen}
-use Rattle.zo_cert.specs.Walk.{MayCome}
+use Rattle.zo_cert.specs.inner.Walk.{MayCome}
 use Rattle.zo_cert.specs.declared.cert.CertNode.{CertNode}
 use Rattle.zo_cert.specs.declared.cert.CertNode.TheVariants.{Branch, Bound, Clash, Left}
 use Rattle.zo_cert.specs.declared.cert.Claim.{Claim}
 use Rattle.zo_cert.specs.declared.cert.Claim.TheVariants.{Least, Nothing}
-use Rattle.zo_solve.specs.Search.{CostsAsMuch, CostsLess, IsAtMostStart, IsGood, IsWeaker, Leaves, Puts, Steps}
+use Rattle.zo_solve.specs.Nodes.{CostsLess}
+use Rattle.zo_solve.specs.inner.Search.{CostsAsMuch, IsAtMostStart, IsGood, IsWeaker, Leaves, Puts, Steps}
 use Rattle.zo_cert.specs.Certificate.{branches, HasLeft, unfixed}
-use Rattle.zo_cert.specs.Walk.{Walks}
+use Rattle.zo_cert.specs.inner.Walk.{Walks}
 use Rattle.zo_solve.specs.Pick.{Answers}
-use Rattle.zo_solve.specs.Search.{IsBest, IsFound, LeftsLast}
+use Rattle.zo_solve.specs.inner.Search.{IsBest, IsFound, LeftsLast}
 use Rattle.zo_solve.specs.declared.node.Best.{Best}
 use Rattle.std.specs.Borrow.{Bor}
 use Rattle.zo_cert.specs.declared.path.Fixed.{Fixed}

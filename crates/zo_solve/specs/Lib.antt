@@ -1,4 +1,7 @@
+pub mod Choice
+pub mod Nodes
 pub mod Pick
-pub mod Search
+pub mod Reported
 pub mod Solved
 pub mod Vector
+pub mod inner

@@ -50,7 +50,7 @@ IsCutOff budget (answers.Spent c) = IsSpent budget c
 abbrev pub HadNoStart : Option Assignment → Solved → Type 0
 HadNoStart start (answers.Optimal x c) = Unit {0}
 HadNoStart start (answers.Feasible x c) = Unit {0}
-HadNoStart start (answers.Infeasible c) = Unit {0}
+HadNoStart start (answers.Infeasible c) = start ≡ None
 HadNoStart start (answers.Spent c) = start ≡ None
 
 -- the search came to its end
@@ -68,10 +68,3 @@ CostsAtMost n (Some t) = n ≤ t
 -- P of each node of the answer's tree, with the columns fixed above it
 abbrev pub EachIn : ZeroOne → (List (Option Bool) → Rattle.zo_cert.specs.declared.cert.CertNode.CertNode → Type 0) → Solved → Type 0
 EachIn z P s = IsTreeWith (EachNode P (unfixed z)) (tree_of s)
-
--- the answer of a search with this best vector and these nodes
-abbrev pub IsAnswerOf : Option Assignment → List Rattle.zo_cert.specs.declared.cert.CertNode.CertNode → Solved → Type 0
-IsAnswerOf o ns (answers.Optimal x c) = (o ≡ Some x) × (c.nodes.items ≡ ns) × ¬ (HasLeft ns)
-IsAnswerOf o ns (answers.Feasible x c) = (o ≡ Some x) × (c.nodes.items ≡ ns) × HasLeft ns
-IsAnswerOf o ns (answers.Infeasible c) = (o ≡ None) × (c.nodes.items ≡ ns) × ¬ (HasLeft ns)
-IsAnswerOf o ns (answers.Spent c) = (o ≡ None) × (c.nodes.items ≡ ns) × HasLeft ns

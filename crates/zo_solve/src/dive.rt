@@ -6,7 +6,7 @@
 
 ghost use Rattle.std.specs.Prelude.{◌≡◌, IfOk, IfSome};
 ghost use Rattle.zo_model.specs.Program.{IsValid};
-ghost use Rattle.zo_solve.specs.Search.{IsBest};
+ghost use Rattle.zo_solve.specs.inner.Search.{IsBest};
 ghost use Rattle.zo_solve.specs.Vector.{IsVector, start_cost};
 
 use crate::node::Best;

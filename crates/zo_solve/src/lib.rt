@@ -5,10 +5,12 @@ mod dive;
 mod node;
 pub mod pick;
 mod reach;
+pub mod reported;
 mod rounds;
 pub mod search;
 
 pub use pick::{Pick, first_choice};
+pub use reported::report_of;
 pub use search::{Solved, solve};
 pub use zo_cert::Fixed;
 

@@ -3,12 +3,13 @@
 ghost use Rattle.std.specs.Prelude.{◌≡◌, ◌≢◌, ◌<◌, ◌≤◌, [], ◌∷◌, ◌++◌, Some, None, IfSome, IfOk, IsTrue, ◌↔◌, length, slice_get};
 ghost use Rattle.zo_model.specs.Program.{IsValid, columns, cost_of};
 ghost use Rattle.zo_cert.specs.Certificate.{IsLeaf};
-ghost use Rattle.zo_cert.specs.Leaf.{IsClear};
-ghost use Rattle.zo_cert.specs.Path.{current, ones};
+ghost use Rattle.zo_cert.specs.inner.Leaf.{IsClear};
+ghost use Rattle.zo_cert.specs.Fixing.{ones};
+ghost use Rattle.zo_cert.specs.inner.Path.{current};
 ghost use Rattle.zo_cert.specs.Searched.{IsMet, IsOpen};
 ghost use Rattle.zo_cert.specs.declared.cert.CertNode.TheVariants as certs;
 ghost use Rattle.zo_solve.specs.Pick.{Answers, CanPick};
-ghost use Rattle.zo_solve.specs.Search.{CostsAsMuch, IsBest, IsClashOf, IsGood, IsPlainBound, IsWeaker, Puts, Steps};
+ghost use Rattle.zo_solve.specs.inner.Search.{CostsAsMuch, IsBest, IsClashOf, IsGood, IsPlainBound, IsWeaker, Puts, Steps};
 ghost use Rattle.zo_solve.specs.Vector.{IsVector, start_cost};
 
 use crate::pick::Pick;

@@ -1,7 +1,10 @@
 //! The choice of the column to branch on.
 
-ghost use Rattle.std.specs.Prelude.{◌≡◌, ◌≤◌, ◌^◌, List, Bool, Option, IfSome, length, slice_get, Some, None};
-ghost use Rattle.zo_model.specs.Program.{AreSmallTerms, AreTerms, IsValid, columns};
+ghost use Rattle.std.specs.Prelude.{◌≡◌, ◌≤◌, ◌^◌, List, Bool, Option, length, slice_get, Some, None};
+ghost use Rattle.zo_model.specs.Program.{AreTerms, IsValid, columns};
+ghost use Rattle.zo_model.specs.declared.program.Row as rows;
+ghost use Rattle.zo_solve.specs.Choice.{IsFirstChoice, IsFree, IsLeast, IsWanted};
+ghost use Rattle.zo_solve.specs.inner.Least.{AnswersLeast, Either, IsFreeIn, IsWantedBy};
 ghost use Rattle.zo_solve.specs.Pick.{Answers, CanPick, HasFree};
 
 use crate::reach::is_row_met;
@@ -42,12 +45,11 @@ impl<F: Fn(&ZeroOne, &Fixed) -> u32> Pick<F> {
 
 /// The first unfixed column of a row, if there is one.
 fn first_free(terms: &[(u32, i32)], fixed: &[Option<bool>]) -> Option<u32>
-    requires terms { AreSmallTerms (length fixed.now) terms.now }
-    ensures { IfSome result (λ j. slice_get fixed.now j ≡ Some None) }
+    requires terms { AreTerms (length fixed.now) terms.now }
+    ensures { AnswersLeast (IsFreeIn fixed.now terms.now) result }
 {
     for (j, _) in terms {
-        let column = *j as usize;
-        if fixed[column].is_none() {
+        if fixed[*j as usize].is_none() {
             return Some(*j);
         }
     }
@@ -55,10 +57,9 @@ fn first_free(terms: &[(u32, i32)], fixed: &[Option<bool>]) -> Option<u32>
 }
 
 /// The first unfixed column of a row that isn't met, if there is one.
-#[tactic(auto, using(zo_model::proofs::Rows::terms_small))]
 fn first_free_of_unmet(row: &Row, fixed: &[Option<bool>]) -> Option<u32>
     requires terms { AreTerms (length fixed.now) row.now.terms.items }
-    ensures { IfSome result (λ j. slice_get fixed.now j ≡ Some None) }
+    ensures { AnswersLeast (IsWantedBy fixed.now row.now) result }
 {
     if is_row_met(row, fixed) {
         return None;
@@ -68,7 +69,7 @@ fn first_free_of_unmet(row: &Row, fixed: &[Option<bool>]) -> Option<u32>
 
 /// The lesser column, where there are two.
 fn lesser(a: Option<u32>, b: Option<u32>) -> Option<u32>
-    ensures { (fixed : List (Option Bool)) → IfSome a (λ j. slice_get fixed j ≡ Some None) → IfSome b (λ j. slice_get fixed j ≡ Some None) → IfSome result (λ j. slice_get fixed j ≡ Some None) }
+    ensures { (fixed : List (Option Bool)) (rs : List rows.Row) (r : rows.Row) → AnswersLeast (IsWanted rs fixed) a → AnswersLeast (IsWantedBy fixed r) b → AnswersLeast (Either (IsWanted rs fixed) (IsWantedBy fixed r)) result }
 {
     match (a, b) {
         (Some(i), Some(j)) => Some(i.min(j)),
@@ -80,7 +81,7 @@ fn lesser(a: Option<u32>, b: Option<u32>) -> Option<u32>
 /// The least unfixed column.
 fn least_free(fixed: &[Option<bool>]) -> u32
     requires few { length fixed.now ≤ 2 ^ 26 }
-    ensures { HasFree fixed.now → slice_get fixed.now result ≡ Some None }
+    ensures { HasFree fixed.now → IsLeast (IsFree fixed.now) result }
 {
     for (j, place) in fixed.iter().enumerate() {
         if place.is_none() {
@@ -90,18 +91,28 @@ fn least_free(fixed: &[Option<bool>]) -> u32
     0
 }
 
-/// The least unfixed column that stands in a row which isn't met yet, with 0 for the unfixed columns, else the least unfixed
-/// column.
-pub fn first_choice(z: &ZeroOne, fixed: &Fixed) -> u32
+/// The least unfixed column of the rows that aren't met, if there is one.
+fn least_wanted(z: &ZeroOne, fixed: &Fixed) -> Option<u32>
     requires valid { IsValid z.now }
     requires places { length fixed.now.at.items ≡ columns z.now }
-    ensures { HasFree fixed.now.at.items → slice_get fixed.now.at.items result ≡ Some None }
+    ensures { AnswersLeast (IsWanted z.now.rows.items fixed.now.at.items) result }
 {
     let mut best: Option<u32> = None;
     for i in 0..z.rows.len() {
         best = lesser(best, first_free_of_unmet(&z.rows[i], &fixed.at));
     }
-    match best {
+    best
+}
+
+/// The least unfixed column that stands in a row which isn't met yet, with 0 for the unfixed columns, else the least unfixed
+/// column.
+pub fn first_choice(z: &ZeroOne, fixed: &Fixed) -> u32
+    requires valid { IsValid z.now }
+    requires places { length fixed.now.at.items ≡ columns z.now }
+    ensures choice { HasFree fixed.now.at.items → IsFirstChoice z.now fixed.now.at.items result }
+    ensures free { HasFree fixed.now.at.items → slice_get fixed.now.at.items result ≡ Some None }
+{
+    match least_wanted(z, fixed) {
         Some(column) => column,
         None => least_free(&fixed.at),
     }

@@ -3,8 +3,8 @@
 ghost use Rattle.std.specs.Prelude.{◌≡◌, ◌<◌, length, IfSome, IfNone, IsTrue, ◌↔◌, All, slice_get, IfOk, map};
 ghost use Rattle.zo_model.specs.Program.{AreSmallTerms, AreTerms, Feasible, IsValid, cost_of, columns, vector};
 ghost use Rattle.zo_model.specs.Program as program;
-ghost use Rattle.zo_cert.specs.Path.{ones};
-ghost use Rattle.zo_cert.specs.Path as paths;
+ghost use Rattle.zo_cert.specs.Fixing.{ones};
+ghost use Rattle.zo_cert.specs.Fixing as fixing;
 ghost use Rattle.zo_cert.specs.Searched.{IsInReach, IsMet};
 ghost use Rattle.zo_cert.specs.Searched as searched;
 ghost use Rattle.zo_solve.specs.Vector.{IsVector, cost_at};
@@ -14,7 +14,7 @@ use zo_model::{Assignment, Row, ZeroOne};
 
 /// The coefficient of a column that is fixed at 1, else 0.
 fn one_part(place: Option<bool>, a: i32) -> i32
-    ensures { result ≡ program.where_one (paths.is_one place) a }
+    ensures { result ≡ program.where_one (fixing.is_one place) a }
 {
     match place {
         Some(true) => a,
@@ -102,7 +102,7 @@ pub fn out_of_reach(z: &ZeroOne, fixed: &[Option<bool>]) -> Option<u32>
 
 /// Whether the column is fixed at 1.
 fn is_one(place: Option<bool>) -> bool
-    ensures { result ≡ paths.is_one place }
+    ensures { result ≡ fixing.is_one place }
 {
     match place {
         Some(one) => one,
@@ -112,7 +112,7 @@ fn is_one(place: Option<bool>) -> bool
 
 /// Which columns are fixed at 1.
 fn ones_list(alloc: Global, fixed: &[Option<bool>]) -> Result<Vec<bool>, AllocError>
-    ensures { IfOk result (λ on. on.items ≡ map paths.is_one fixed.now) }
+    ensures { IfOk result (λ on. on.items ≡ map fixing.is_one fixed.now) }
 {
     fixed.iter().map(|place| is_one(*place)).collect(alloc)
 }

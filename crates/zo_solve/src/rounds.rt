@@ -8,8 +8,8 @@
 ghost use Rattle.std.specs.Prelude.{◌≡◌, ◌≢◌, [], IfOk, IfSome};
 ghost use Rattle.zo_model.specs.Program.{IsValid, columns};
 ghost use Rattle.zo_cert.specs.Certificate.{Closes};
-ghost use Rattle.zo_cert.specs.Leaf.{IsClear};
-ghost use Rattle.zo_cert.specs.Path.{current};
+ghost use Rattle.zo_cert.specs.inner.Leaf.{IsClear};
+ghost use Rattle.zo_cert.specs.inner.Path.{current};
 ghost use Rattle.zo_cert.specs.Report.{IsNode};
 
 use std::alloc::{AllocError, Global};

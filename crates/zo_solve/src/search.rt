@@ -6,8 +6,9 @@ ghost use Rattle.zo_cert.specs.Certificate.{IsShaped, IsTreeWith, branches};
 ghost use Rattle.zo_cert.specs.Report.{IsNode};
 ghost use Rattle.zo_cert.specs.Searched.{IsSearched};
 ghost use Rattle.zo_solve.specs.Pick.{Answers, CanPick};
-ghost use Rattle.zo_solve.specs.Search.{IsBelow, IsBest, IsFound, IsPicked};
-ghost use Rattle.zo_solve.specs.Solved.{CostsAtMost, EachIn, HadNoStart, IsAnswerOf, IsCutOff, IsDecided, IsProved, OfVector, claim_of, tree_of};
+ghost use Rattle.zo_solve.specs.Nodes.{IsBelow, IsPicked};
+ghost use Rattle.zo_solve.specs.inner.Search.{IsAnswerOf, IsBest, IsFound};
+ghost use Rattle.zo_solve.specs.Solved.{CostsAtMost, EachIn, HadNoStart, IsCutOff, IsDecided, IsProved, OfVector, claim_of, tree_of};
 ghost use Rattle.zo_solve.specs.Vector.{IsVector, cost_at, start_cost};
 
 use crate::dive::begin;

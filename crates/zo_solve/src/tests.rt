@@ -1,6 +1,6 @@
 use super::*;
 use std::alloc::{AllocError, Global};
-use zo_cert::{Cert, CertNode, Report, Verdict, Work, check_report, is_valid_report};
+use zo_cert::{Cert, CertNode, Verdict};
 use zo_model::{Assignment, Row, ZeroOne, cost, is_valid};
 
 type Terms<'a> = &'a [(u32, i32)];
@@ -71,67 +71,30 @@ fn an_odd_sum_is_refuted(rt: HostRuntime) {
 #[test]
 fn two_of_three_cover_a_triangle(rt: HostRuntime) {
     let alloc = rt.alloc();
-    for with_start in [false, true] {
-        let z = program(
-            alloc,
-            &[1, 1, 1],
-            &[
-                (&[(0, 1), (1, 1)], 1),
-                (&[(1, 1), (2, 1)], 1),
-                (&[(0, 1), (2, 1)], 1),
-            ],
-        )
-        .expect(&rt, "memory");
-        let start = Assignment {
-            on: Vec::from_slice(alloc, &[true, true, true]).expect(&rt, "memory"),
-        };
-        assert!(rt; is_valid(&z) && start.on.len() == z.costs.len());
-        assert!(rt; zo_model::feasible(&z, &start));
-        let start = if with_start { Some(start) } else { None };
-        let pick = Pick::new(first_choice);
-        match solve(alloc, &z, start, 15, &pick) {
-            Ok(Solved::Optimal(x, tree)) => {
-                let r = Report {
-                    slots: 0,
-                    budget: 15,
-                    z,
-                    verdict: Verdict::Optimal,
-                    x,
-                    tree,
-                };
-                assert!(rt; is_valid_report(&r));
-                assert_eq!(rt; cost(&r.z, &r.x), 2);
-                let mut w = Work::new(alloc, &r.z).expect(&rt, "memory");
-                assert!(rt; check_report(&r, &mut w));
-            }
-            _ => assert!(rt; false),
-        }
-    }
-}
-
-#[test]
-fn a_vector_is_found_before_the_first_branch(rt: HostRuntime) {
-    // two triangles, each pair of corners covered
     let z = program(
-        rt.alloc(),
-        &[1, 1, 1, 1, 1, 1],
+        alloc,
+        &[1, 1, 1],
         &[
             (&[(0, 1), (1, 1)], 1),
             (&[(1, 1), (2, 1)], 1),
             (&[(0, 1), (2, 1)], 1),
-            (&[(3, 1), (4, 1)], 1),
-            (&[(4, 1), (5, 1)], 1),
-            (&[(3, 1), (5, 1)], 1),
         ],
     )
     .expect(&rt, "memory");
-    assert!(rt; is_valid(&z));
+    let start = Assignment {
+        on: Vec::from_slice(alloc, &[true, true, true]).expect(&rt, "memory"),
+    };
+    assert!(rt; is_valid(&z) && start.on.len() == z.costs.len());
+    assert!(rt; zo_model::feasible(&z, &start));
     let pick = Pick::new(first_choice);
-    match solve(rt.alloc(), &z, None, 1, &pick) {
-        Ok(Solved::Optimal(x, tree)) => {
-            assert_eq!(rt; x.on.iter().filter(|v| **v).count(), 4);
-            assert_eq!(rt; counts(&tree), (1, 0));
-        }
-        _ => assert!(rt; false),
+    match solve(alloc, &z, Some(start), 15, &pick) {
+        Ok(solved) => match report_of(alloc, z, solved, 0, 15) {
+            Ok(r) => {
+                assert_eq!(rt; r.verdict, Verdict::Optimal);
+                assert_eq!(rt; cost(&r.z, &r.x), 2);
+            }
+            Err(_) => assert!(rt; false),
+        },
+        Err(_) => assert!(rt; false),
     }
 }

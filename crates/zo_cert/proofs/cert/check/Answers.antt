@@ -1,8 +1,8 @@
 use Rattle.std.proofs.Common.{◌≡◌, List, [], ◌∷◌, Bool, Option, subst, sym, replicate, None, length, ◌∙◌, ap}
 use Rattle.std.specs.Prelude.{IsTrue}
 use Rattle.zo_cert.specs.Certificate.{Closes, IsTreeWith, OfLeaf, Proves, unfixed}
-use Rattle.zo_cert.specs.Path.{Pending}
-use Rattle.zo_cert.specs.Walk.{Walks}
+use Rattle.zo_cert.specs.inner.Path.{Pending}
+use Rattle.zo_cert.specs.inner.Walk.{Walks}
 use Rattle.zo_cert.specs.declared.cert.CertNode.{CertNode}
 use Rattle.zo_cert.proofs.Walk.{walks_tree, tree_walks}
 use Rattle.zo_cert.proofs.Duality.{proves_holds}

@@ -2,8 +2,8 @@ use Rattle.std.proofs.Common.{◌≡◌, drop}
 use Rattle.std.specs.Prelude.{◌↔◌}
 use Rattle.zo_model.specs.Program.{columns}
 use Rattle.zo_cert.specs.Certificate.{Closes, OfLeaf}
-use Rattle.zo_cert.specs.Leaf.{IsClear}
-use Rattle.zo_cert.specs.Walk.{Walks}
+use Rattle.zo_cert.specs.inner.Leaf.{IsClear}
+use Rattle.zo_cert.specs.inner.Walk.{Walks}
 use Rattle.zo_cert.proofs.cert.walk.Given as goal
 
 abbrev pub invariant-loop-node : goal.invariant-loop-node

@@ -1,7 +1,7 @@
 use Rattle.std.proofs.Common.{◌≡◌, ◌≤◌, drop, take}
 use Rattle.std.specs.Prelude.{◌↔◌}
 use Rattle.zo_cert.specs.Certificate.{IsWellNamed, branches}
-use Rattle.zo_cert.specs.Walk.{Walks}
+use Rattle.zo_cert.specs.inner.Walk.{Walks}
 use Rattle.zo_cert.proofs.cert.walk_shape.Given as goal
 
 abbrev pub invariant-loop-node : goal.invariant-loop-node

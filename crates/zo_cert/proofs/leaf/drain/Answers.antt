@@ -4,7 +4,7 @@ use Rattle.std.proofs.lemmas.Int.{ints}
 use Rattle.std.proofs.lemmas.List.Elements.{All-from_get_or}
 use Rattle.zo_model.specs.Program.{AreSmallTerms, columns}
 use Rattle.zo_model.proofs.Rows.{rise_at, terms_small}
-use Rattle.zo_cert.specs.Leaf.{changes, Avoids}
+use Rattle.zo_cert.specs.inner.Leaf.{changes, Avoids}
 use Rattle.zo_cert.specs.Certificate.{terms_of}
 use Rattle.zo_cert.proofs.Drain.{drained, taken_small, rows_more, rows_none, weight_avoided, changes_clear}
 use Rattle.zo_cert.proofs.Leaves.{named}

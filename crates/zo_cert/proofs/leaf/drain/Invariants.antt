@@ -1,7 +1,7 @@
 use Rattle.std.proofs.Common.{◌≡◌, ℕ, ◌<◌, ◌^◌, drop, length, get_or, pos, ◌+ℤ◌}
 use Rattle.std.specs.List.{All}
 use Rattle.zo_model.specs.Program.{AtMost, columns}
-use Rattle.zo_cert.specs.Leaf.{changes}
+use Rattle.zo_cert.specs.inner.Leaf.{changes}
 use Rattle.zo_cert.proofs.Drain.{AvoidsRows}
 use Rattle.zo_cert.proofs.leaf.drain.Given as goal
 

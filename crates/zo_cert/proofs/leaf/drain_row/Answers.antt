@@ -7,7 +7,7 @@ use Rattle.std.proofs.lemmas.List.{length-set}
 use Rattle.std.proofs.lemmas.List.Elements.{All-get_or, All-set}
 use Rattle.zo_model.specs.Program.{AtMost, columns}
 use Rattle.zo_model.proofs.Scale.{AtMost-wider}
-use Rattle.zo_cert.specs.Leaf.{change, changes}
+use Rattle.zo_cert.specs.inner.Leaf.{change, changes}
 use Rattle.zo_cert.proofs.Drain.{changes_set, change_bounded, product_small, drained, cleared_more, avoids_none}
 use Rattle.zo_cert.proofs.Paths.{costs_valid}
 use Rattle.zo_cert.proofs.leaf.drain_row.Goals as goal

@@ -1,7 +1,7 @@
 use Rattle.std.proofs.Common.{◌≡◌, ℕ, ◌^◌, drop, length, get_or, pos, ◌+ℤ◌}
 use Rattle.std.specs.List.{All}
 use Rattle.zo_model.specs.Program.{AtMost, columns}
-use Rattle.zo_cert.specs.Leaf.{Avoids, changes}
+use Rattle.zo_cert.specs.inner.Leaf.{Avoids, changes}
 use Rattle.zo_cert.proofs.leaf.drain_row.Given as goal
 
 abbrev pub invariant-loop-j : goal.invariant-loop-j

@@ -1,8 +1,9 @@
 use Rattle.std.proofs.Common.{◌≡◌, pos, ◌*ℤ◌, ◌∙◌, ap, arith}
 use Rattle.std.proofs.lemmas.Int.{ints}
 use Rattle.zo_model.specs.Program.{costs_of, columns}
-use Rattle.zo_cert.specs.Leaf.{changes}
-use Rattle.zo_cert.specs.Path.{current, ones}
+use Rattle.zo_cert.specs.inner.Leaf.{changes}
+use Rattle.zo_cert.specs.Fixing.{ones}
+use Rattle.zo_cert.specs.inner.Path.{current}
 use Rattle.zo_cert.proofs.Drain.{bound_is}
 use Rattle.zo_cert.proofs.leaf.leaf_bound.Goals as goal
 

@@ -1,8 +1,8 @@
 use Rattle.std.proofs.Common.{◌≡◌, ◌∙◌, sym, subst, length, arith, rules}
 use Rattle.std.proofs.lemmas.Result.{err_from_is_err_and}
-use Rattle.zo_model.specs.LineFault.{IsLineFault}
-use Rattle.zo_cert.specs.ReportLine.{IsOnesLine}
-use Rattle.zo_cert.specs.ReportPart.{no_number, other_cost}
+use Rattle.zo_model.specs.inner.LineFault.{IsLineFault}
+use Rattle.zo_cert.specs.inner.ReportLine.{IsOnesLine}
+use Rattle.zo_cert.specs.inner.ReportPart.{no_number, other_cost}
 use Rattle.zo_cert.proofs.VerdictStops.{columns_fault}
 use Rattle.zo_cert.proofs.report_reader.read_costed.Goals as goal
 

@@ -2,7 +2,7 @@ use Rattle.std.proofs.Common.{◌≡◌, ◌++◌, ◌∷◌, [], length, map, s
 use Rattle.std.proofs.lemmas.List.{length-map, map-append, length-append}
 use Rattle.std.proofs.lemmas.Result.{err_from_is_err_and}
 use Rattle.zo_model.specs.Contents.{row_contents}
-use Rattle.zo_model.specs.LineFault.{cut}
+use Rattle.zo_model.specs.inner.LineFault.{cut}
 use Rattle.zo_model.proofs.LineLemmas.{no_line_other}
 use Rattle.zo_model.proofs.CostLemmas.{HasRows, one_row_more}
 use Rattle.zo_model.proofs.read_text.read_rows.Goals as goal

@@ -1,9 +1,10 @@
 use Rattle.std.proofs.Common.{◌≡◌, ◌∙◌, ◌<◌, ap, sym, subst, false, slice_get, length, arith}
 use Rattle.std.specs.Prelude.{IfSome, IsTrue}
 use Rattle.zo_model.specs.Program.{cost_of, costs_of}
-use Rattle.zo_cert.specs.Path.{current, ones}
+use Rattle.zo_cert.specs.Fixing.{ones}
+use Rattle.zo_cert.specs.inner.Path.{current}
 use Rattle.zo_cert.specs.Searched.{IsInReach, IsMet}
-use Rattle.zo_solve.specs.Search.{CostsAsMuch}
+use Rattle.zo_solve.specs.inner.Search.{CostsAsMuch}
 use Rattle.zo_solve.proofs.Close.{clash_closes, clash_node, plain_closes, plain_node}
 use Rattle.zo_solve.proofs.Steps.{closed_steps, no_better_met, no_better_open}
 use Rattle.zo_solve.proofs.node.step.Goals as goal

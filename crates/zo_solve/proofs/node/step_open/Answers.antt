@@ -3,10 +3,12 @@ use Rattle.std.specs.Prelude.{IfSome, IsTrue}
 use Rattle.std.proofs.lemmas.Option.{slice_get_within}
 use Rattle.zo_model.specs.Program.{cost_of, costs_of, columns}
 use Rattle.zo_cert.specs.Certificate.{Closes}
-use Rattle.zo_cert.specs.Path.{current, ones}
+use Rattle.zo_cert.specs.Fixing.{ones}
+use Rattle.zo_cert.specs.inner.Path.{current}
 use Rattle.zo_cert.specs.Report.{IsNode}
 use Rattle.zo_solve.specs.Pick.{HasFree}
-use Rattle.zo_solve.specs.Search.{CostsAsMuch, CostsLess}
+use Rattle.zo_solve.specs.Nodes.{CostsLess}
+use Rattle.zo_solve.specs.inner.Search.{CostsAsMuch}
 use Rattle.zo_solve.proofs.Close.{open_free, plain_closes, plain_node}
 use Rattle.zo_solve.proofs.Steps.{answers_at, branch_steps, closed_steps, costs_less, left_steps, no_better_open}
 use Rattle.zo_solve.proofs.node.step_open.Goals as goal

@@ -1,6 +1,6 @@
 use Rattle.std.proofs.Common.{◌≡◌, ◌*◌, ◌^◌, take, pos, neg_ℤ, ◌≤ℤ◌}
 use Rattle.zo_model.specs.Program.{terms_sum}
-use Rattle.zo_cert.specs.Path.{ones}
+use Rattle.zo_cert.specs.Fixing.{ones}
 use Rattle.zo_solve.proofs.reach.ones_total.Given as goal
 
 abbrev pub invariant-loop-j : goal.invariant-loop-j

@@ -4,10 +4,10 @@ use Rattle.std.proofs.lemmas.List.Elements.{All-replicate}
 use Rattle.std.specs.List.{All}
 use Rattle.zo_model.specs.Program.{columns}
 use Rattle.zo_cert.specs.Certificate.{branches, HasLeft, unfixed}
-use Rattle.zo_cert.specs.Leaf.{IsClear}
-use Rattle.zo_cert.specs.Path.{Pending}
+use Rattle.zo_cert.specs.inner.Leaf.{IsClear}
+use Rattle.zo_cert.specs.inner.Path.{Pending}
 use Rattle.zo_cert.proofs.Paths.{whole_back}
-use Rattle.zo_solve.specs.Search.{LeftsLast}
+use Rattle.zo_solve.specs.inner.Search.{LeftsLast}
 use Rattle.zo_solve.proofs.Grow.{left_falls, left_spent, lefts_last_more, measure_falls}
 use Rattle.zo_solve.proofs.Steps.{begun_first, begun_step, found}
 use Rattle.zo_solve.proofs.search.search.Goals as goal

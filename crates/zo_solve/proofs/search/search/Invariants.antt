@@ -1,9 +1,9 @@
 use Rattle.std.proofs.Common.{◌≡◌, ◌+◌, ◌*◌, length}
 use Rattle.zo_model.specs.Program.{columns}
 use Rattle.zo_cert.specs.Certificate.{branches, HasLeft}
-use Rattle.zo_cert.specs.Leaf.{IsClear}
+use Rattle.zo_cert.specs.inner.Leaf.{IsClear}
 use Rattle.zo_solve.specs.Pick.{Answers}
-use Rattle.zo_solve.specs.Search.{IsBest, LeftsLast}
+use Rattle.zo_solve.specs.inner.Search.{IsBest, LeftsLast}
 use Rattle.zo_solve.proofs.Steps.{BegunFor}
 use Rattle.zo_solve.proofs.search.search.Given as goal
 

@@ -1,6 +1,6 @@
 use Rattle.std.proofs.Common.{◌≡◌, ℕ, ◌-◌, ◌<◌, [], length, set, true, false, Some, None, slice_get, arith, rules}
 use Rattle.std.proofs.Common.{subst, sym, ◌≢◌}
-use Rattle.zo_cert.specs.Path.{Pending, Enters}
+use Rattle.zo_cert.specs.inner.Path.{Pending, Enters}
 use Rattle.std.proofs.lemmas.List.{length-set}
 use Rattle.zo_cert.proofs.Paths.{walk_of, still_exact, entered, reads_none, room_above, costs_entered}
 use Rattle.std.proofs.lemmas.Option.{slice_get_within}

@@ -1,7 +1,7 @@
 use Rattle.std.proofs.Common.{◌≡◌, ◌≢◌, [], ◌++◌, length, take, drop, get_or, true, false, Some, None, arith, rules, subst, sym, ◌∙◌, ap}
 use Rattle.std.proofs.lemmas.Grind.{get_or_default_zero}
 use Rattle.std.proofs.lemmas.List.{length-set}
-use Rattle.zo_cert.specs.Path.{Pending, rest_of}
+use Rattle.zo_cert.specs.inner.Path.{Pending, rest_of}
 use Rattle.zo_cert.proofs.Paths.{whole_back, turned_later, freed_later, turned_place, freed_place, cost_at_top, at_top, left, walk_of}
 use Rattle.zo_cert.proofs.path.Path.leave.Goals as goal
 

@@ -1,5 +1,5 @@
 use Rattle.std.proofs.Common.{◌≡◌, ◌-◌, length, drop}
-use Rattle.zo_cert.specs.Path.{later, KeepsPlace}
+use Rattle.zo_cert.specs.inner.Path.{later, KeepsPlace}
 use Rattle.zo_cert.proofs.path.Path.leave.Given as goal
 
 abbrev pub invariant-loop-self : goal.invariant-loop-self

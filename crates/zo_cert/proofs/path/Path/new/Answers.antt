@@ -1,5 +1,5 @@
 use Rattle.std.proofs.Common.{◌≡◌, List, Option, Bool, None, length, replicate, sym, ap, ◌∙◌, subst, rules}
-use Rattle.zo_cert.specs.Path.{HaveCosts, KeepsPlace}
+use Rattle.zo_cert.specs.inner.Path.{HaveCosts, KeepsPlace}
 use Rattle.zo_cert.proofs.Paths.{begins, costs_valid}
 use Rattle.zo_cert.proofs.path.Path.new.Goals as goal
 

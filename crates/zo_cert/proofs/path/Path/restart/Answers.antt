@@ -1,5 +1,5 @@
 use Rattle.std.proofs.Common.{◌≡◌, List, Option, Bool, None, length, replicate, sym, subst, rules}
-use Rattle.zo_cert.specs.Path.{KeepsPlace}
+use Rattle.zo_cert.specs.inner.Path.{KeepsPlace}
 use Rattle.zo_cert.proofs.Paths.{begins}
 use Rattle.zo_cert.proofs.path.Path.restart.Goals as goal
 

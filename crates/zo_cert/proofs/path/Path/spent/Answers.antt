@@ -1,6 +1,6 @@
 use Rattle.std.proofs.Common.{arith}
 use Rattle.zo_cert.proofs.Paths.{costs_small}
-use Rattle.zo_cert.specs.Path.{ones}
+use Rattle.zo_cert.specs.Fixing.{ones}
 use Rattle.zo_cert.proofs.path.Path.spent.Goals as goal
 
 pub returns-clause-small : goal.returns-clause-small

@@ -1,5 +1,5 @@
 use Rattle.zo_model.specs.Program.{columns}
-use Rattle.zo_cert.specs.Leaf.{IsClear}
+use Rattle.zo_cert.specs.inner.Leaf.{IsClear}
 use Rattle.zo_solve.proofs.rounds.Rounds.leaf.Given as goal
 
 abbrev pub invariant-loop-k : goal.invariant-loop-k

@@ -1,8 +1,0 @@
-use Rattle.std.proofs.Common.{map, take}
-use Rattle.std.specs.List.{All}
-use Rattle.zo_cert.specs.Contents.{node_contents}
-use Rattle.zo_cert.specs.ReportFault.{IsNodeText}
-use Rattle.zo_cert.proofs.laws.nodes_fit.Given as goal
-
-abbrev pub invariant-loop-node : goal.invariant-loop-node
-invariant-loop-node l = All IsNodeText (map node_contents (take l.node-index l.nodes))

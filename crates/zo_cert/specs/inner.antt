@@ -1,0 +1,5 @@
+pub mod Leaf
+pub mod Walk
+pub mod ReportLine
+pub mod ReportPart
+pub mod Path

@@ -1,0 +1,3 @@
+pub mod LineFault
+pub mod ProgramFault
+pub mod TermParts

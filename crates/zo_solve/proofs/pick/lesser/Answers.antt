@@ -1,0 +1,1 @@
+use Rattle.zo_solve.proofs.pick.lesser.Goals as goal
