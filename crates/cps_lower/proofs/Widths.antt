@@ -1,4 +1,4 @@
--- What the lowered code wants lies in what is live in the flat code or outside of it, and it is at most as wide.
+-- What is live outside of flat code holds what the labels want that its lowered code goes on to, and the ends of that code are at most as wide.
 use Rattle.std.proofs.Common.{◌≡◌, ℕ, ◌+◌, ◌≤◌, ◌<◌, max, Bool, true, false, nat_eq, nat_lt, List, [], ◌∷◌, ◌++◌, Option, Some, None, option_map, slice_get, if◌then◌else◌, refl, sym, ap, subst, arith}
 use Rattle.std.proofs.lemmas.Bool.{eq-eqb}
 use Rattle.std.proofs.lemmas.Option.{slice_get-map}
@@ -63,21 +63,6 @@ to_at : (phi : Wants) (n : ℕ) (vs : List ℕ) (k : Option ℕ) → Below n k �
 to_at phi n vs (Some l) lt = unhidden phi n l vs lt
 to_at phi n vs None lt = refl
 
-known_at : (phi : Wants) (n : ℕ) (vs out held : List ℕ) (hs : List Handler) → Known phi n out hs → Known (over phi n vs) (n + 1) (out ++ held) hs
-known_at phi n vs out held [] h = tt
-known_at phi n vs out held (x ∷ hs) h = (omega (arith, h.0), subst (λ a. IsWithin a (out ++ held)) (sym (unhidden phi n x.1 vs h.0)) (within-left held h.1), known_at phi n vs out held hs h.2)
-
--- under a new label, where more is live outside
-under : {phi : Wants} {n : ℕ} {k : Option ℕ} {hs : List Handler} {out : List ℕ} {returns : Bool} (vs held : List ℕ) → IsInside phi n k hs out returns → IsInside (over phi n vs) (n + 1) k hs (out ++ held) returns
-under {phi} {n} {k} {hs} {out} vs held h = record {
-  below = below_more n (n + 1) k (omega arith) h.below;
-  to = subst (λ a. IsWithin a (out ++ held)) (sym (to_at phi n vs k h.below)) (within-left held h.to);
-  handlers = known_at phi n vs out held hs h.handlers;
-  last = λ e.
-      let last' = h.last e in
-      (omega (arith, last'.0), subst (λ a. IsWithin a (out ++ held)) (sym (unhidden phi n 0 vs last'.0)) (within-left held last'.1));
-}
-
 known_under : (phi : Wants) (n m : ℕ) (vs out : List ℕ) (hs : List Handler) → n < m → Known phi n out hs → Known (over phi n vs) m out hs
 known_under phi n m vs out [] le h = tt
 known_under phi n m vs out (x ∷ hs) le h = (omega (arith, h.0), subst (λ a. IsWithin a out) (sym (unhidden phi n x.1 vs h.0)) h.1, known_under phi n m vs out hs le h.2)
@@ -91,11 +76,24 @@ in_body {phi} {n} {k} {hs} {out} vs m le h = record {
   last = λ e. let last' = h.last e in (omega (arith, last'.0), subst (λ a. IsWithin a out) (sym (unhidden phi n 0 vs last'.0)) last'.1);
 }
 
+-- where more is live outside
+known_wider : (phi : Wants) (n : ℕ) (out held : List ℕ) (hs : List Handler) → Known phi n out hs → Known phi n (out ++ held) hs
+known_wider phi n out held [] h = tt
+known_wider phi n out held (x ∷ hs) h = (h.0, within-left held h.1, known_wider phi n out held hs h.2)
+
+inside_wider : {phi : Wants} {n : ℕ} {k : Option ℕ} {hs : List Handler} {out : List ℕ} {returns : Bool} (held : List ℕ) → IsInside phi n k hs out returns → IsInside phi n k hs (out ++ held) returns
+inside_wider {phi} {n} {k} {hs} {out} held h = record {
+  below = h.below;
+  to = within-left held h.to;
+  handlers = known_wider phi n out held hs h.handlers;
+  last = λ e. let last' = h.last e in (last'.0, within-left held last'.1);
+}
+
 -- in the first part of a `Bind`
 pub in_bind : {phi : Wants} {n : ℕ} {k : Option ℕ} {hs : List Handler} {out : List ℕ} {returns : Bool} (vs held : List ℕ) → IsWithin vs (out ++ held) → IsInside phi n k hs out returns
     → IsInside (over phi n vs) (n + 1) (Some n) hs (out ++ held) returns
 in_bind {phi} {n} {k} {hs} {out} vs held here h =
-    let h' = under vs held h in
+    let h' = inside_wider held (in_body vs (n + 1) (omega arith) h) in
     record {
       below = omega arith;
       to = subst (λ a. IsWithin a (out ++ held)) (sym (new_label phi n vs)) here;
@@ -107,7 +105,7 @@ in_bind {phi} {n} {k} {hs} {out} vs held here h =
 pub in_try : {phi : Wants} {n : ℕ} {k : Option ℕ} {hs : List Handler} {out : List ℕ} {returns : Bool} (e : ℕ) (vs held : List ℕ) → IsWithin vs (out ++ held) → IsInside phi n k hs out returns
     → IsInside (over phi n vs) (n + 1) k ((e, n) ∷ hs) (out ++ held) returns
 in_try {phi} {n} {k} {hs} {out} e vs held here h =
-    let h' = under vs held h in
+    let h' = inside_wider held (in_body vs (n + 1) (omega arith) h) in
     record {
       below = h'.below;
       to = h'.to;
@@ -141,16 +139,16 @@ give_wants phi None bs out h = within-second out (all_vars bs)
 kept_within : {phi : Wants} {n : ℕ} {k : Option ℕ} {hs : List Handler} {out : List ℕ} {returns : Bool} (l : Option ℕ) → IsWithin (to_wants phi l) out → IsInside phi n k hs out returns → IsWithin (kept phi l hs) out
 kept_within {phi} {n} {k} {hs} {out} l to h = within-both to (handlers_within phi n out hs h.handlers)
 
--- a last call of an earlier group comes with the label 0
-abbrev pub Comes : Option ℕ → Bool → Bool → Type 0
-Comes k earlier returns = k ≡ None → earlier ≡ true → returns ≡ true
+-- what uses the label 0, where its words are the function's, comes with it
+abbrev pub Returns : Bool → Option ℕ → Bool → Type 0
+Returns uses k returns = k ≡ None → uses ≡ true → returns ≡ true
 
 last_wants : {phi : Wants} {n : ℕ} {hs : List Handler} {out : List ℕ} {returns : Bool} (earlier : Bool) (f : ℕ) (bs : List Atom) → IsInside phi n None hs out returns → (earlier ≡ true → returns ≡ true)
     → IsWithin (wants phi (last_call earlier f bs hs)) (out ++ all_vars bs)
 last_wants {out = out} true f bs h e = within-both (within-second out (all_vars bs)) (within-left (all_vars bs) (kept_within (Some 0) (h.last (e refl)).1 h))
 last_wants {out = out} false f bs h e = within-both (within-second out (all_vars bs)) (within-left (all_vars bs) (kept_within None (within-nil out) h))
 
-pub call_wants : (phi : Wants) (n : ℕ) (k : Option ℕ) (hs : List Handler) (out : List ℕ) (returns : Bool) (earlier : Bool) (f : ℕ) (bs : List Atom) → IsInside phi n k hs out returns → Comes k earlier returns
+pub call_wants : (phi : Wants) (n : ℕ) (k : Option ℕ) (hs : List Handler) (out : List ℕ) (returns : Bool) (earlier : Bool) (f : ℕ) (bs : List Atom) → IsInside phi n k hs out returns → Returns earlier k returns
     → IsWithin (wants phi (call_term earlier f bs k hs)) (out ++ all_vars bs)
 call_wants phi n (Some l) hs out returns earlier f bs h e = within-both (within-second out (all_vars bs)) (within-left (all_vars bs) (kept_within (Some l) h.to h))
 call_wants phi n None hs out returns earlier f bs h e = last_wants earlier f bs h (e refl)
@@ -187,7 +185,7 @@ module _ (funs : List FlatFun) (w : Widths) (own : ℕ) where
   last-wide {phi} {hs = hs} {out = out} true f bs h e = one-call phi f bs (Some 0) hs out (kept_within (Some 0) (h.last (e refl)).1 h)
   last-wide {phi} {hs = hs} {out = out} false f bs h e = one-call phi f bs None hs out (kept_within None (within-nil out) h)
 
-  pub calls-wide : (phi : Wants) (n : ℕ) (k : Option ℕ) (hs : List Handler) (out : List ℕ) (returns : Bool) (earlier : Bool) (f : ℕ) (bs : List Atom) → IsInside phi n k hs out returns → Comes k earlier returns
+  pub calls-wide : (phi : Wants) (n : ℕ) (k : Option ℕ) (hs : List Handler) (out : List ℕ) (returns : Bool) (earlier : Bool) (f : ℕ) (bs : List Atom) → IsInside phi n k hs out returns → Returns earlier k returns
       → term_wide (lowered_all funs) w own phi (call_term earlier f bs k hs) ≤ max (operands_wide out bs) (flat.call_wide w own (different out) (slice_get funs f))
   calls-wide phi n (Some l) hs out returns earlier f bs h e = one-call phi f bs (Some l) hs out (kept_within (Some l) h.to h)
   calls-wide phi n None hs out returns earlier f bs h e = last-wide earlier f bs h (e refl)

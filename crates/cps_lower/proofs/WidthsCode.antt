@@ -1,5 +1,5 @@
 -- Lowered code wants at most what is live in the flat code or outside of it, and is at most as wide.
-use Rattle.std.proofs.Common.{◌≡◌, ℕ, ◌+◌, ◌≤◌, max, Bool, true, ◌||◌, List, [], ◌∷◌, ◌++◌, length, Option, Some, None, slice_get, arith}
+use Rattle.std.proofs.Common.{ℕ, ◌+◌, ◌≤◌, max, Bool, ◌||◌, List, [], ◌∷◌, ◌++◌, length, Option, Some, slice_get, arith}
 use Rattle.std.proofs.lemmas.Bool.{or_left, or_right}
 use Rattle.nv_base.specs.Words.{prim_vars, atom_vars}
 use Rattle.nv_base.specs.Sets.{different, without, all_vars}
@@ -15,11 +15,9 @@ use Rattle.cps_ir.specs.Term.{Handler}
 use Rattle.cps_ir.specs.Wide.{Wants, wants, term_wide}
 use Rattle.cps_lower.specs.inner.Lowered.{labels, is_earlier, lowered, hands_on, lowered_all}
 use Rattle.cps_lower.proofs.WidthsSets.{IsWithin, within-trans, within-both, within-nil, within-behind, moved, joined, before}
-use Rattle.cps_lower.proofs.Widths.{over, IsInside, inside_more, in_body, in_bind, in_try, taken_within, raise_wants, give_wants, call_wants, raise-wide, give-wide, calls-wide}
+use Rattle.cps_lower.proofs.Widths.{over, IsInside, Returns, inside_more, in_body, in_bind, in_try, taken_within, raise_wants, give_wants, call_wants, raise-wide, give-wide, calls-wide}
 
--- code with a last call of an earlier group, where it is the function's, comes with the label 0
-abbrev pub Returns : Bool → Option ℕ → Bool → Type 0
-Returns uses k returns = k ≡ None → uses ≡ true → returns ≡ true
+-- ---- which parts use the label 0
 
 returns-first : (a b : Bool) (k : Option ℕ) (returns : Bool) → Returns (a || b) k returns → Returns a k returns
 returns-first a b k returns h = λ none uses. h none (or_left a b uses)
@@ -32,6 +30,8 @@ returns-label uses l returns = λ none used. cc
 
 fix-at : (e f b c t u : ℕ) → e ≤ f → b ≤ c → t ≤ u → max (max (max e b) 0) t ≤ max (max u f) c
 fix-at e f b c t u x y z = omega arith
+
+-- ---- code
 
 module _ (funs : List FlatFun) (own : ℕ) where
   -- what one label wants, of whose body this much is known

@@ -76,19 +76,26 @@ module _ (funs : List FlatFun) (w : Widths) (own : ℕ) where
   pub counted : (t : Flat) (tail : Bool) (n : ℕ) (known out : List ℕ) → is_formed funs own tail n known t ≡ true → hands_on funs own t ≡ true → n + 1 ≤ code_wide funs w own out t
   counted (Let' x a q t) tail n known out e h = rest-at _ _ _ (counted t tail n (x ∷ known) out (and_parts (is_primitive known a) _ e).1 h)
   counted (Fetch' m xs a q t) tail n known out e h =
-      let p1 = and_parts (is_known known a) _ e in
-      let p2 = and_parts (can_move m (length xs.items)) _ p1.1 in
-      let p3 = and_parts (is_address m a (length xs.items)) _ p2.1 in
+      let rest = is_formed funs own tail n (xs.items ++ known) t in
+      let address = is_address m a (length xs.items) in
+      let move = can_move m (length xs.items) in
+      let p1 = and_parts (is_known known a) (move && (address && rest)) e in
+      let p2 = and_parts move (address && rest) p1.1 in
+      let p3 = and_parts address rest p2.1 in
       rest-at _ _ _ (counted t tail n (xs.items ++ known) out p3.1 h)
   counted (Store' m a bs q t) tail n known out e h =
-      let p1 = and_parts (is_known known a) _ e in
-      let p2 = and_parts (all_known known bs.items) _ p1.1 in
-      let p3 = and_parts (can_move m (length bs.items)) _ p2.1 in
-      let p4 = and_parts (is_address m a (length bs.items)) _ p3.1 in
+      let rest = is_formed funs own tail n known t in
+      let address = is_address m a (length bs.items) in
+      let move = can_move m (length bs.items) in
+      let p1 = and_parts (is_known known a) (all_known known bs.items && (move && (address && rest))) e in
+      let p2 = and_parts (all_known known bs.items) (move && (address && rest)) p1.1 in
+      let p3 = and_parts move (address && rest) p2.1 in
+      let p4 = and_parts address rest p3.1 in
       rest-at _ _ _ (counted t tail n known out p4.1 h)
   counted (If' c a b q t r u) tail n known out e h =
-      let p1 = and_parts (is_known known a) _ e in
-      let p2 = and_parts (is_known known b) _ p1.1 in
+      let arms = is_formed funs own tail n known t && is_formed funs own tail n known u in
+      let p1 = and_parts (is_known known a) (is_known known b && arms) e in
+      let p2 = and_parts (is_known known b) arms p1.1 in
       let p3 = and_parts (is_formed funs own tail n known t) (is_formed funs own tail n known u) p2.1 in
       rest-at _ _ _
       (⊎_elim (λ (p : hands_on funs own t ≡ true). first-at (n + 1) (code_wide funs w own out t) (code_wide funs w own out u) (counted t tail n known out p3.0 p)) (λ (p : hands_on funs own u ≡ true). rest-at (n + 1) (code_wide funs w own out t) (code_wide funs w own out u) (counted u tail n known out p3.1 p))
@@ -99,7 +106,7 @@ module _ (funs : List FlatFun) (w : Widths) (own : ℕ) where
   counted (Raise x bs) tail n known out e h = absurd (false≢true h)
   counted (Try' q t x xs r u) tail n known out e h =
       let held = out ++ without (live u) xs.items in
-      let p1 = and_parts (is_formed funs own false n known t) _ e in
+      let p1 = and_parts (is_formed funs own false n known t) (nat_le 1 x && is_formed funs own tail n (xs.items ++ known) u) e in
       let p2 = and_parts (nat_le 1 x) (is_formed funs own tail n (xs.items ++ known) u) p1.1 in
       ⊎_elim (λ (p : hands_on funs own t ≡ true). middle-at (n + 1) (code_wide funs w own held t) (entry_wide held (length xs.items)) (code_wide funs w own out u) (counted t false n known held p1.0 p))
       (λ (p : hands_on funs own u ≡ true). rest-at (n + 1) (max (code_wide funs w own held t) (entry_wide held (length xs.items))) (code_wide funs w own out u) (counted u tail n (xs.items ++ known) out p2.1 p)) (or_cases (hands_on funs own t) (hands_on funs own u) h)
