@@ -2,7 +2,7 @@
 use Rattle.std.proofs.Common.{ℕ, ◌+◌, ◌≤◌, max, Bool, ◌||◌, List, [], ◌∷◌, ◌++◌, length, Option, Some, slice_get, arith}
 use Rattle.std.proofs.lemmas.Bool.{or_left, or_right}
 use Rattle.nv_base.specs.Words.{prim_vars, atom_vars}
-use Rattle.nv_base.specs.Sets.{different, without, all_vars}
+use Rattle.nv_base.specs.Sets.{without, all_vars}
 use Rattle.nv_base.specs.Measures.{Widths}
 use Rattle.nv_base.proofs.Sets.{different-below}
 use Rattle.nv_base.proofs.Measures.{operands-more, let-more, entry-more, max-mono}
