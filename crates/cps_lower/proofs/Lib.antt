@@ -8,3 +8,11 @@ pub mod Agrees
 pub mod Sound
 pub mod Numbers
 pub mod Formedness
+pub mod WidthsSets
+pub mod Widths
+pub mod WidthsCode
+pub mod WidthsReturn
+pub mod WidthsProgram
+pub mod BulksSums
+pub mod Bulks
+pub mod Bounds

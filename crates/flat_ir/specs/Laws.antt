@@ -22,7 +22,7 @@ abbrev pub TwoGroups : Type 0
 TwoGroups = (params bound : Vec ℕ Global) (given sum twice : Vec Atom Global) (p q r s : _)
     → params.items ≡ 0 ∷ [] → bound.items ≡ 1 ∷ [] → given.items ≡ Var 0 ∷ [] → sum.items ≡ Var 2 ∷ [] → twice.items ≡ Var 1 ∷ []
     → AreMeasured (
-      record { params = params; results = 1; body = Bind' bound p (Call 1 given) q (Let' 2 (BinOf Add (Var 1) (Var 0)) r (Give sum)); group = 1 }
-      ∷ record { params = params; results = 1; body = Let' 1 (BinOf Add (Var 0) (Var 0)) s (Give twice); group = 0 }
-      ∷ []
+    record { params = params; results = 1; body = Bind' bound p (Call 1 given) q (Let' 2 (BinOf Add (Var 1) (Var 0)) r (Give sum)); group = 1 }
+    ∷ record { params = params; results = 1; body = Let' 1 (BinOf Add (Var 0) (Var 0)) s (Give twice); group = 0 }
+    ∷ []
     )

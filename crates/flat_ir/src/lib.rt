@@ -4,8 +4,6 @@
 mod flat;
 pub mod laws;
 mod spine;
-#[cfg(test)]
-mod tests;
 
 pub use flat::{Flat, FlatFun, FlatProgram};
 pub use spine::{Step, join};

@@ -11,6 +11,3 @@ mod write;
 pub use lines::{Lines, Parts, split_once, strip};
 pub use number::{read_decimal, read_signed, read_word};
 pub use write::{push_decimal, push_signed, push_word};
-
-#[cfg(test)]
-mod tests;

@@ -6,7 +6,8 @@ use Rattle.nv_ast.specs.Height.{highest_decl}
 use Rattle.nv_ast.specs.Sizes.{expanded_size}
 use Rattle.nv_ast.specs.Tree.{ProgramTree}
 use Rattle.nv_text.specs.Program.{IsTextOf}
-use Rattle.nv_types.specs.Answers.{IsAccepted, IsRefusal}
+use Rattle.nv_ast.specs.Accepted.{IsAccepted}
+use Rattle.nv_types.specs.Refusals.{IsRefusal}
 use Rattle.nv_types.specs.declared.error.TypeError.{TypeError}
 use Rattle.nv_types.specs.declared.error.TypeError.TheVariants as types
 use Rattle.nova_front.specs.Sources.{IsSource, IsTypedSource, IsUntyped, IsLarge, IsCause}

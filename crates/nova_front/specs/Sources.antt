@@ -6,7 +6,7 @@ use Rattle.nv_ast.specs.Height.{highest_decl}
 use Rattle.nv_ast.specs.Sizes.{expanded_size}
 use Rattle.nv_ast.specs.Tree.{ProgramTree}
 use Rattle.nv_text.specs.Program.{IsTextOf, FaultOf}
-use Rattle.nv_types.specs.Answers.{IsAccepted}
+use Rattle.nv_ast.specs.Accepted.{IsAccepted}
 use Rattle.nova_front.specs.declared.error.FrontError.{FrontError}
 use Rattle.nova_front.specs.declared.error.FrontError.TheVariants.{NoMemory, Text, Fault, TooLarge}
 

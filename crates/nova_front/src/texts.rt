@@ -1,6 +1,6 @@
 // From a text to its programs.
 
-ghost use Rattle.std.specs.Prelude.{◌≡◌, ◌≤◌, ◌⊎◌, length, IfOk, IfErr, MatchResult};
+ghost use Rattle.std.specs.Prelude.{◌≡◌, ◌≤◌, ◌+◌, ◌*◌, ◌⊎◌, length, IfOk, IfErr, MatchResult};
 ghost use Rattle.nv_base.specs.Meanings.{KeepsOutcomes, AreEqual};
 ghost use Rattle.nv_ast.specs.Sizes.{expanded_size, main_words, room};
 ghost use Rattle.nv_ast.specs.Tree.{ProgramTree};
@@ -27,6 +27,7 @@ use std::alloc::Global;
 pub fn typed(alloc: Global, bytes: &[u8]) -> Result<Typed, FrontError>
     requires { length bytes.now ≤ 262144 }
     ensures program { IfOk result (λ t. IsTypedSource bytes.now (typed_program t)) }
+    ensures bounded { IfOk result (λ t. room (typed_program t) ≤ 5 * expanded_size (typed_program t) + 8) }
     ensures only_program { (p : ProgramTree) → IsTypedSource bytes.now p → MatchResult result (λ t. typed_program t ≡ p) (λ e. e ≡ FrontError.NoMemory) }
     ensures refused { IfErr result (λ e. (e ≡ FrontError.NoMemory) ⊎ IsCause bytes.now e) }
     ensures only_refused { (f : FrontError) → IsCause bytes.now f → MatchResult result (λ _. ⊥) (λ e. (e ≡ FrontError.NoMemory) ⊎ (e ≡ f)) }
@@ -53,6 +54,7 @@ pub fn front(alloc: Global, bytes: &[u8]) -> Result<(Typed, FlatProgram), FrontE
     ensures equal { IfOk result (λ r. AreEqual (main_words (typed_program r.0)) (source (typed_program r.0)) (flat_meaning r.1.funs.items r.1.main)) }
     ensures reached { IfOk result (λ r. AreReached r.1.funs.items r.1.main) }
     ensures wide { IfOk result (λ r. wide r.1.funs.items r.1.main ≤ room (typed_program r.0)) }
+    ensures bounded { IfOk result (λ r. room (typed_program r.0) ≤ 5 * expanded_size (typed_program r.0) + 8) }
     ensures bulk { IfOk result (λ r. IsAtMost (bulk r.1.funs.items r.1.main) (of_size (expanded_size (typed_program r.0)))) }
     ensures only_program { (p : ProgramTree) → IsTypedSource bytes.now p → MatchResult result (λ r. typed_program r.0 ≡ p) (λ e. e ≡ FrontError.NoMemory) }
     ensures refused { IfErr result (λ e. (e ≡ FrontError.NoMemory) ⊎ IsCause bytes.now e) }

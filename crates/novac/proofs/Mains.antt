@@ -154,3 +154,8 @@ pub only-function : {E : Type 0} (p : ProgramTree) (f : FunTree) (r : Result (Op
 only-function p f (Ok None) e h = λ has. h (record { params = has.params; terms = has.terms; main = first-main p f has.params has.terms e has.first })
 only-function p f (Ok (Some form)) e h = main-first p f form.params form.terms.items e h
 only-function p f (Err x) e h = h
+
+-- no form was found
+pub none-first : (p : ProgramTree) (found : Option Form) → ((form : Form) → found ≡ Some form → ⊥) → FirstFound p found → ¬ HasFirstForm p
+none-first p None not h = h
+none-first p (Some form) not h = absurd (not form refl)

@@ -170,3 +170,11 @@ only-want bytes p e s form (inr h) = absurd (first-good bytes p e s form h)
 pub only-cause : (bytes : List ℕ) (f e : FirstError) → IsFirstCause bytes f → (e ≡ first.NoMemory) ⊎ IsFirstCause bytes e → (e ≡ first.NoMemory) ⊎ (e ≡ f)
 only-cause bytes f e h (inl none) = inl none
 only-cause bytes f e h (inr k) = inr (first-one bytes e f k h)
+
+-- the same of what the front end refuses
+pub front-caused : (bytes : List ℕ) (error : FrontError) (e : FirstError) → (error ≡ front.NoMemory) ⊎ IsCause bytes error → IsPassedAs error e → (e ≡ first.NoMemory) ⊎ IsFirstCause bytes e
+front-caused bytes error e (inl none) is = inl (subst (λ (x : FrontError). IsPassedAs x e) none is)
+front-caused bytes front.NoMemory e (inr h) is = absurd h
+front-caused bytes (front.Text f) e (inr h) is = inr (subst (IsFirstCause bytes) (sym is) h)
+front-caused bytes (front.Fault kind place) e (inr h) is = inr (subst (IsFirstCause bytes) (sym is) h)
+front-caused bytes (front.TooLarge size) e (inr h) is = inr (subst (IsFirstCause bytes) (sym is) h)

@@ -3,12 +3,12 @@ use Rattle.std.proofs.Common.{◌≡◌, ◌≢◌, ℕ, ◌⊎◌, inl, inr, Li
 use Rattle.std.specs.Prelude.{⊤}
 use Rattle.std.proofs.lemmas.List.{append-nil}
 use Rattle.nv_outside.specs.Holding.{Holding, AppendsFront}
-use Rattle.novac.specs.Answers.{Makes, CanMake, Refuses, Shows, IsMakeable, IsRefusable, IsCaused, IsDone, IsStopped, IsRefused, Ends, IsPrinted, IsBegun, IsFree, IsOnly}
+use Rattle.novac.specs.Answers.{Makes, Refuses, Shows, IsMakeable, IsRefusable, IsCaused, IsDone, IsStopped, IsRefused, Ends, IsPrinted, IsBegun, IsFree, IsOnly}
 use Rattle.novac.specs.Command.{Command, Compile, Run, Exec, Asm, Dis, Lint, Check, IfCommand, IfCompile, ForCommand, SomeFile, outputs_of}
 use Rattle.novac.specs.Headline.{IsCompiled}
 use Rattle.novac.specs.Lines.{IsUncaused, refusal_status, refusal_text, cannot_read, cannot_write}
-use Rattle.novac.specs.Loading.{Input, AreRead, StopsAt, IsUnread, inputs_of}
-use Rattle.novac.specs.Saving.{File, AreSaved, IsCut, IsSameBut}
+use Rattle.novac.specs.Loading.{AreRead, StopsAt, IsUnread, inputs_of}
+use Rattle.novac.specs.Saving.{IsSameBut}
 use Rattle.novac.specs.Status.{MaySave}
 use Rattle.novac.specs.inner.Replies.{IsOutcome, HasEnded}
 use Rattle.novac.specs.declared.refusal.Refusal.{Refusal}
@@ -16,7 +16,7 @@ use Rattle.novac.specs.declared.refusal.Refusal.TheVariants.{NoMemory, ReadFault
 use Rattle.novac.specs.declared.status.Status.{Status}
 use Rattle.novac.specs.declared.status.Status.TheVariants as status
 use Rattle.novac.proofs.Inputs.{contents-one, stopped-read, stops-both, stops-map, unread-long, unread-one, none-long, Never}
-use Rattle.novac.proofs.OneAnswer.{IsFault, refusal-one, makes-good, can-good, can-one, shows-one, makes-outcome, makes-kept, refuses-unread}
+use Rattle.novac.proofs.OneAnswer.{refusal-one, makes-good, can-good, can-one, shows-one, makes-outcome, makes-kept, refuses-unread}
 use Rattle.novac.proofs.Saves.{cut-output, same-all, nothing-saved, saved-elsewhere, cut-elsewhere, done-compiled}
 
 -- the statuses of refusals

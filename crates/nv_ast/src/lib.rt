@@ -4,8 +4,6 @@
 pub mod laws;
 mod name;
 mod program;
-#[cfg(test)]
-mod tests;
 mod token;
 mod tree;
 mod typed;

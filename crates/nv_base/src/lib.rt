@@ -8,8 +8,6 @@ mod log;
 mod outcome;
 mod packet;
 mod term;
-#[cfg(test)]
-mod tests;
 pub mod word;
 mod words;
 

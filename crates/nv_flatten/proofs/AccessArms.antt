@@ -30,11 +30,12 @@ use Rattle.nv_flatten.specs.inner.Whole.{Whole}
 use Rattle.nv_flatten.specs.inner.Simulation.{Names, Done, IsValue}
 use Rattle.nv_flatten.proofs.Keeping.{keeps-then, words-fit, are-words}
 use Rattle.nv_flatten.proofs.Fresh.{numbers-keep, numbers-older, words-read, words-read-fit}
-use Rattle.nv_flatten.proofs.NoFaults.{none-left, set, some-same, value-has-type, clean as is-clean, is-right, wanted-type, among-known}
+use Rattle.nv_flatten.proofs.NoFaults.{set, some-same, value-has-type, clean as is-clean, is-right, wanted-type, among-known}
 use Rattle.nv_flatten.proofs.Following.{stands-inside, word-of}
 use Rattle.nv_flatten.proofs.ValueArms.{unary}
 use Rattle.nv_flatten.proofs.PackedWords.{symbol-operands}
 use Rattle.nv_flatten.proofs.WellBasics.{words-ty-words}
+use Rattle.nv_ast.proofs.Faultless.{no_front}
 
 -- ---- how many operands a symbolic value has
 mutual
@@ -99,7 +100,7 @@ module _ (w : Whole) (names : Names) (low high : ℕ) (scope : SymbolScope) (sp 
       unary w names low high (high + n) scope (FetchTree sp m n a) a ss (step ∷ []) s (words_symbol (variables (numbers_from high n))) (λ y last. fetch m n (word_of y) last) (λ p. of_type WordTy) v
       (λ call m' now. refl) (λ p wanted. refl)
       (λ own p wanted stands none o call env new last done rest next same.
-      let moves = set (can_move m n) 19 (none-left (wrong_access m n) (wrong_scratch m a n) (is-clean p wanted (FetchTree sp m n a) none).middle) in
+      let moves = set (can_move m n) 19 (no_front (wrong_access m n) (wrong_scratch m a n) (is-clean p wanted (FetchTree sp m n a) none).middle) in
       let at = atom_word new (word_operand s) in
       fetches call rest new (flat_run last)
       ∙ read-any low high m at env new last (Fits new s) rest next le done n (fetched m at n last.packet) (λ ws e. fetched-words m at n last.packet ws done.sizes e) same
@@ -129,7 +130,7 @@ module _ (w : Whole) (names : Names) (low mid high : ℕ) (scope : SymbolScope) 
       unary w names low mid high scope (UnpackTree sp l a) a ss ts s r (λ y last. Gives (unpacked_value layout y) last) (λ p. wanted_packed (look_up l p.known.layouts)) v
       (λ call m now. refl) (λ p wanted. refl)
       (λ own p wanted stands none o call env new last done rest next same.
-      let clean = none-left (faults (inside p) (wanted_packed (look_up l p.known.layouts)) a) (node_faults p wanted (UnpackTree sp l a)) none in
+      let clean = no_front (faults (inside p) (wanted_packed (look_up l p.known.layouts)) a) (node_faults p wanted (UnpackTree sp l a)) none in
       let found = unpack-known p wanted sp l a none in
       let known = stands.part.layouts l found.0 found.1 in
       let typed = wanted-type (inside p) (packed_ty found.0) a (subst (λ q. faults (inside p) (wanted_packed q) a ≡ []) found.1 clean) in
@@ -156,7 +157,7 @@ module _ (w : Whole) (names : Names) (low mid high : ℕ) (scope : SymbolScope) 
       unary w names low mid high scope (PackTree sp l a) a ss ts s r (λ y last. Gives (packed_value layout y) last) (λ p. wanted_unpacked (look_up l p.known.layouts)) v
       (λ call m now. refl) (λ p wanted. refl)
       (λ own p wanted stands none o call env new last done rest next same.
-      let clean = none-left (faults (inside p) (wanted_unpacked (look_up l p.known.layouts)) a) (node_faults p wanted (PackTree sp l a)) none in
+      let clean = no_front (faults (inside p) (wanted_unpacked (look_up l p.known.layouts)) a) (node_faults p wanted (PackTree sp l a)) none in
       let found = pack-known p wanted sp l a none in
       let known = stands.part.layouts l found.0 found.1 in
       let here = subst (λ q. faults (inside p) (wanted_unpacked q) a ≡ []) found.1 clean in

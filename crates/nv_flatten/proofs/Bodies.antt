@@ -18,7 +18,8 @@ use Rattle.nv_meaning.specs.inner.Tables.{place_from}
 use Rattle.nv_flatten.specs.inner.Whole.{Whole, whole_of, raised_tys, raised_in, groups_from, group_of, group_at, IsCallable, IsPart}
 use Rattle.nv_flatten.proofs.Knowing.{where_not, at_most, value-found, sound-found, types-stay, params-stay, result-stays, signatures-stay, function-front, function-behind, signature-found, signature-there, function-among, among-function, signatures-append, AllAre, are-also, are-both, are-replicate, slice-behind, grouped, group-behind, numbered, names-append, AllNarrow, narrow-append, narrow-found, with-layouts, with-exceptions, with-functions}
 use Rattle.std.proofs.lemmas.List.{map-append, length-append, length-replicate}
-use Rattle.nv_flatten.proofs.NoFaults.{some-same, none-left, none-right, no-kinds}
+use Rattle.nv_flatten.proofs.NoFaults.{some-same}
+use Rattle.nv_ast.proofs.Faultless.{no_front, no_rest, no_kinds}
 
 -- what is declared by what is known and some functions
 abbrev pub so_far : Known → List FunTree → Declared
@@ -52,7 +53,7 @@ one P x p (suc i) d h = absurd (omega arith)
 -- ---- a declaration further
 pub layout-step : (w : Whole) (k : Known) (funs : List FunTree) (gs : List ℕ) (n : ℕ) (x : List ℕ) (l : _) (s : _) (ds : List DeclTree) → SoFar w k funs gs n (LayoutDecl x l s ∷ ds) → decl_faults k (LayoutDecl x l s) ≡ [] → SoFar w (known_after k (LayoutDecl x l s)) funs gs n ds
 layout-step w k funs gs n x l s ds so h =
-    let none : layout_faults k.layouts l ≡ [] = none-left (layout_faults k.layouts l) (unfit (outline k.layouts l)) (none-right (declared_before x (names_of k.layouts)) (declared_faults k.layouts l) (no-kinds s _ h)) in
+    let none : layout_faults k.layouts l ≡ [] = no_front (layout_faults k.layouts l) (unfit (outline k.layouts l)) (no_rest (declared_before x (names_of k.layouts)) (declared_faults k.layouts l) (no_kinds s _ h)) in
     record {
       declared = so.declared;
       raised = so.raised;
@@ -66,9 +67,9 @@ layout-step w k funs gs n x l s ds so h =
 
 pub exception-step : (w : Whole) (k : Known) (funs : List FunTree) (gs : List ℕ) (n : ℕ) (x : List ℕ) (ts : _) (s : _) (ds : List DeclTree) → SoFar w k funs gs n (ExceptionDecl x ts s ∷ ds) → decl_faults k (ExceptionDecl x ts s) ≡ [] → SoFar w (known_after k (ExceptionDecl x ts s)) funs gs n ds
 exception-step w k funs gs n x ts s ds so h =
-    let own : types_faults k.layouts ts ++ wide_exception (types_of k.layouts ts) ≡ [] = none-right (declared_before x (names_of k.exceptions)) _ (no-kinds s _ h) in
+    let own : types_faults k.layouts ts ++ wide_exception (types_of k.layouts ts) ≡ [] = no_rest (declared_before x (names_of k.exceptions)) _ (no_kinds s _ h) in
     let front = layouts-front w k funs gs n (ExceptionDecl x ts s ∷ ds) so in
-    let stays : types_of w.declared.layouts ts ≡ types_of k.layouts ts = ap (λ l. types_of l ts) front.1 ∙ types-stay k.layouts front.0 ts (none-left (types_faults k.layouts ts) _ own) in
+    let stays : types_of w.declared.layouts ts ≡ types_of k.layouts ts = ap (λ l. types_of l ts) front.1 ∙ types-stay k.layouts front.0 ts (no_front (types_faults k.layouts ts) _ own) in
     let rest : List Tys = map (λ us. types_of w.declared.layouts us) (raised_in ds) in
     record {
       declared = ap (λ e. with_decls (record { layouts = k.layouts; exceptions = e; functions = funs }) ds) (names-append k.exceptions ((x, types_of k.layouts ts) ∷ [])) ∙ so.declared;
@@ -81,7 +82,7 @@ exception-step w k funs gs n x ts s ds so h =
       as_many = so.as_many;
       below = so.below;
       sound = so.sound;
-      narrow = narrow-append k.exceptions x (types_of k.layouts ts) so.narrow (at_most 8 (total_words (types_of k.layouts ts)) (none-right (types_faults k.layouts ts) _ own));
+      narrow = narrow-append k.exceptions x (types_of k.layouts ts) so.narrow (at_most 8 (total_words (types_of k.layouts ts)) (no_rest (types_faults k.layouts ts) _ own));
     }
 
 all-signed : (w : Whole) (k : Known) (funs : List FunTree) (gs : List ℕ) (n : ℕ) (fs : List FunTree) (ds : List DeclTree) → SoFar w k funs gs n (GroupDecl fs ∷ ds) → signatures_faults k.layouts fs ≡ [] → k.functions ++ signatures k.layouts fs ≡ signatures w.declared.layouts (funs ++ fs)
@@ -187,18 +188,18 @@ pub record IsBody (w : Whole) (f : List ℕ) (g : FunTree) : Type 0 where
 
 pub body-found : (k : Known) (fs : List FunTree) (f : List ℕ) (g : FunTree) → bodies_faults k fs ≡ [] → function_in fs f ≡ Some g → body_faults k g ≡ []
 body-found k [] f g h e = absurd (cc)
-body-found k (d ∷ fs) f g h e = by (bytes_eq f d.name) refl (λ q. body-found k fs f g (none-right (body_faults k d) (bodies_faults k fs) h) q)
+body-found k (d ∷ fs) f g h e = by (bytes_eq f d.name) refl (λ q. body-found k fs f g (no_rest (body_faults k d) (bodies_faults k fs) h) q)
   where
     by : (b : Bool) → bytes_eq f d.name ≡ b → (function_in fs f ≡ Some g → body_faults k g ≡ []) → body_faults k g ≡ []
-    by true q next = subst (λ c. body_faults k c ≡ []) (some-same _ _ (sym (ap (λ b. if b then Some d else function_in fs f) q) ∙ e)) (none-left (body_faults k d) (bodies_faults k fs) h)
+    by true q next = subst (λ c. body_faults k c ≡ []) (some-same _ _ (sym (ap (λ b. if b then Some d else function_in fs f) q) ∙ e)) (no_front (body_faults k d) (bodies_faults k fs) h)
     by false q next = next (sym (ap (λ b. if b then Some d else function_in fs f) q) ∙ e)
 
 pub signed-found : (k : Layouts) (fs : List FunTree) (f : List ℕ) (g : FunTree) → signatures_faults k fs ≡ [] → function_in fs f ≡ Some g → signature_faults k g ≡ []
 signed-found k [] f g h e = absurd (cc)
-signed-found k (d ∷ fs) f g h e = by (bytes_eq f d.name) refl (λ q. signed-found k fs f g (none-right (signature_faults k d) (signatures_faults k fs) h) q)
+signed-found k (d ∷ fs) f g h e = by (bytes_eq f d.name) refl (λ q. signed-found k fs f g (no_rest (signature_faults k d) (signatures_faults k fs) h) q)
   where
     by : (b : Bool) → bytes_eq f d.name ≡ b → (function_in fs f ≡ Some g → signature_faults k g ≡ []) → signature_faults k g ≡ []
-    by true q next = subst (λ c. signature_faults k c ≡ []) (some-same _ _ (sym (ap (λ b. if b then Some d else function_in fs f) q) ∙ e)) (none-left (signature_faults k d) (signatures_faults k fs) h)
+    by true q next = subst (λ c. signature_faults k c ≡ []) (some-same _ _ (sym (ap (λ b. if b then Some d else function_in fs f) q) ∙ e)) (no_front (signature_faults k d) (signatures_faults k fs) h)
     by false q next = next (sym (ap (λ b. if b then Some d else function_in fs f) q) ∙ e)
 
 -- the group of a function that stands in this one first
@@ -216,8 +217,8 @@ group-exact w k funs gs n fs ds so f g none found =
 
 pub group-body : (w : Whole) (k : Known) (funs : List FunTree) (gs : List ℕ) (n : ℕ) (fs : List FunTree) (ds : List DeclTree) → SoFar w k funs gs n (GroupDecl fs ∷ ds) → decl_faults k (GroupDecl fs) ≡ [] → (f : List ℕ) (g : FunTree) → function_in funs f ≡ None → function_in fs f ≡ Some g → IsBody w f g
 group-body w k funs gs n fs ds so h f g none found =
-    let rest : signatures_faults k.layouts fs ++ bodies_faults (in_group k fs) fs ≡ [] = none-right (name_faults (names_of k.functions) fs) _ h in
-    let signs : signatures_faults k.layouts fs ≡ [] = none-left (signatures_faults k.layouts fs) _ rest in
+    let rest : signatures_faults k.layouts fs ++ bodies_faults (in_group k fs) fs ≡ [] = no_rest (name_faults (names_of k.functions) fs) _ h in
+    let signs : signatures_faults k.layouts fs ≡ [] = no_front (signatures_faults k.layouts fs) _ rest in
     let front = layouts-front w k funs gs n (GroupDecl fs ∷ ds) so in
     let sign : signature_faults k.layouts g ≡ [] = signed-found k.layouts fs f g signs found in
     record {
@@ -225,7 +226,7 @@ group-body w k funs gs n fs ds so h f g none found =
       known = in_group k fs;
       part = part-of w k funs gs n fs ds so signs;
       grouped = group-exact w k funs gs n fs ds so f g none found;
-      none = body-found (in_group k fs) fs f g (none-right (signatures_faults k.layouts fs) _ rest) found;
+      none = body-found (in_group k fs) fs f g (no_rest (signatures_faults k.layouts fs) _ rest) found;
       params = sym (ap (λ l. named_types_of l g.params) front.1 ∙ params-stay k.layouts front.0 g sign);
       result = sym (ap (λ l. type_of l g.result) front.1 ∙ result-stays k.layouts front.0 g sign);
       signed = sign;
@@ -234,17 +235,17 @@ group-body w k funs gs n fs ds so h f g none found =
 bodies-from : (w : Whole) (k : Known) (funs : List FunTree) (gs : List ℕ) (n : ℕ) (ds : List DeclTree) → SoFar w k funs gs n ds → decls_faults k ds ≡ [] → (f : List ℕ) (g : FunTree) → function_in funs f ≡ None → function_in w.declared.functions f ≡ Some g → IsBody w f g
 bodies-from w k funs gs n [] so h f g none found = let e : None ≡ Some g = sym none ∙ ap (λ d. function_in d.functions f) so.declared ∙ found in absurd (cc)
 bodies-from w k funs gs n (LayoutDecl x l s ∷ ds) so h f g none found =
-    bodies-from w (known_after k (LayoutDecl x l s)) funs gs n ds (layout-step w k funs gs n x l s ds so (none-left (decl_faults k (LayoutDecl x l s)) _ h)) (none-right (decl_faults k (LayoutDecl x l s)) _ h) f g none found
+    bodies-from w (known_after k (LayoutDecl x l s)) funs gs n ds (layout-step w k funs gs n x l s ds so (no_front (decl_faults k (LayoutDecl x l s)) _ h)) (no_rest (decl_faults k (LayoutDecl x l s)) _ h) f g none found
 bodies-from w k funs gs n (ExceptionDecl x ts s ∷ ds) so h f g none found =
-    bodies-from w (known_after k (ExceptionDecl x ts s)) funs gs n ds (exception-step w k funs gs n x ts s ds so (none-left (decl_faults k (ExceptionDecl x ts s)) _ h)) (none-right (decl_faults k (ExceptionDecl x ts s)) _ h) f g none found
+    bodies-from w (known_after k (ExceptionDecl x ts s)) funs gs n ds (exception-step w k funs gs n x ts s ds so (no_front (decl_faults k (ExceptionDecl x ts s)) _ h)) (no_rest (decl_faults k (ExceptionDecl x ts s)) _ h) f g none found
 bodies-from w k funs gs n (GroupDecl fs ∷ ds) so h f g none found =
-    by (function_in fs f) refl (λ missing. bodies-from w (known_after k (GroupDecl fs)) (funs ++ fs) (numbers gs n fs) (suc n) ds (group-step w k funs gs n fs ds so signs) (none-right (decl_faults k (GroupDecl fs)) _ h) f g missing found)
+    by (function_in fs f) refl (λ missing. bodies-from w (known_after k (GroupDecl fs)) (funs ++ fs) (numbers gs n fs) (suc n) ds (group-step w k funs gs n fs ds so signs) (no_rest (decl_faults k (GroupDecl fs)) _ h) f g missing found)
   where
     own : decl_faults k (GroupDecl fs) ≡ []
-    own = none-left (decl_faults k (GroupDecl fs)) _ h
+    own = no_front (decl_faults k (GroupDecl fs)) _ h
 
     signs : signatures_faults k.layouts fs ≡ []
-    signs = none-left (signatures_faults k.layouts fs) _ (none-right (name_faults (names_of k.functions) fs) _ own)
+    signs = no_front (signatures_faults k.layouts fs) _ (no_rest (name_faults (names_of k.functions) fs) _ own)
 
     by : (o : Option FunTree) → function_in fs f ≡ o → (function_in (funs ++ fs) f ≡ None → IsBody w f g) → IsBody w f g
     by (Some d) q next =
@@ -266,7 +267,7 @@ at-first t = record {
 }
 
 pub bodies : (t : ProgramTree) → program_faults t ≡ [] → (f : List ℕ) (g : FunTree) → function_in (whole_of t).declared.functions f ≡ Some g → IsBody (whole_of t) f g
-bodies t h f g found = bodies-from (whole_of t) nothing_known [] [] 0 t.decls (at-first t) (none-left (decls_faults nothing_known t.decls) _ h) f g refl found
+bodies t h f g found = bodies-from (whole_of t) nothing_known [] [] 0 t.decls (at-first t) (no_front (decls_faults nothing_known t.decls) _ h) f g refl found
 
 -- ---- what is known at the end
 pub record Behind (w : Whole) (k : Known) : Type 0 where
@@ -278,16 +279,16 @@ pub record Behind (w : Whole) (k : Known) : Type 0 where
 behind-from : (w : Whole) (k : Known) (funs : List FunTree) (gs : List ℕ) (n : ℕ) (ds : List DeclTree) → SoFar w k funs gs n ds → decls_faults k ds ≡ [] → Behind w (known_behind k ds)
 behind-from w k funs gs n [] so h = record { funs = funs; gs = gs; n = n; so = so }
 behind-from w k funs gs n (LayoutDecl x l s ∷ ds) so h =
-    behind-from w (known_after k (LayoutDecl x l s)) funs gs n ds (layout-step w k funs gs n x l s ds so (none-left (decl_faults k (LayoutDecl x l s)) _ h)) (none-right (decl_faults k (LayoutDecl x l s)) _ h)
+    behind-from w (known_after k (LayoutDecl x l s)) funs gs n ds (layout-step w k funs gs n x l s ds so (no_front (decl_faults k (LayoutDecl x l s)) _ h)) (no_rest (decl_faults k (LayoutDecl x l s)) _ h)
 behind-from w k funs gs n (ExceptionDecl x ts s ∷ ds) so h =
-    behind-from w (known_after k (ExceptionDecl x ts s)) funs gs n ds (exception-step w k funs gs n x ts s ds so (none-left (decl_faults k (ExceptionDecl x ts s)) _ h)) (none-right (decl_faults k (ExceptionDecl x ts s)) _ h)
+    behind-from w (known_after k (ExceptionDecl x ts s)) funs gs n ds (exception-step w k funs gs n x ts s ds so (no_front (decl_faults k (ExceptionDecl x ts s)) _ h)) (no_rest (decl_faults k (ExceptionDecl x ts s)) _ h)
 behind-from w k funs gs n (GroupDecl fs ∷ ds) so h =
-    let own : decl_faults k (GroupDecl fs) ≡ [] = none-left (decl_faults k (GroupDecl fs)) _ h in
-    let signs : signatures_faults k.layouts fs ≡ [] = none-left (signatures_faults k.layouts fs) _ (none-right (name_faults (names_of k.functions) fs) _ own) in
-    behind-from w (known_after k (GroupDecl fs)) (funs ++ fs) (numbers gs n fs) (suc n) ds (group-step w k funs gs n fs ds so signs) (none-right (decl_faults k (GroupDecl fs)) _ h)
+    let own : decl_faults k (GroupDecl fs) ≡ [] = no_front (decl_faults k (GroupDecl fs)) _ h in
+    let signs : signatures_faults k.layouts fs ≡ [] = no_front (signatures_faults k.layouts fs) _ (no_rest (name_faults (names_of k.functions) fs) _ own) in
+    behind-from w (known_after k (GroupDecl fs)) (funs ++ fs) (numbers gs n fs) (suc n) ds (group-step w k funs gs n fs ds so signs) (no_rest (decl_faults k (GroupDecl fs)) _ h)
 
 behind : (t : ProgramTree) → program_faults t ≡ [] → Behind (whole_of t) (known_behind nothing_known t.decls)
-behind t h = behind-from (whole_of t) nothing_known [] [] 0 t.decls (at-first t) (none-left (decls_faults nothing_known t.decls) _ h)
+behind t h = behind-from (whole_of t) nothing_known [] [] 0 t.decls (at-first t) (no_front (decls_faults nothing_known t.decls) _ h)
 
 -- an exception's values have at most eight words
 pub narrow-raised : (t : ProgramTree) → program_faults t ≡ [] → (k : ℕ) (ts : Tys) → raised_tys (whole_of t) k ≡ Some ts → total_words ts ≤ 8
@@ -307,7 +308,7 @@ has-main t h =
     let b = behind t h in
     let w = whole_of t in
     let k = known_behind nothing_known t.decls in
-    let there : is_among main_name (names_of k.functions) ≡ true = where_not (is_among main_name (names_of k.functions)) 1 (no-kinds _ (no_main k) (none-right (decls_faults nothing_known t.decls) _ h)) in
+    let there : is_among main_name (names_of k.functions) ≡ true = where_not (is_among main_name (names_of k.functions)) 1 (no_kinds _ (no_main k) (no_rest (decls_faults nothing_known t.decls) _ h)) in
     let r = among-function w.declared.layouts b.funs main_name (ap (λ l. is_among main_name (names_of l)) (sym b.so.signed) ∙ there) in
     record {
       fun = r.0;

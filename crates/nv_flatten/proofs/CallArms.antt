@@ -25,8 +25,9 @@ use Rattle.nv_flatten.specs.inner.Soundness.{value_tys}
 use Rattle.nv_flatten.specs.inner.Whole.{Whole, Stands, result_of}
 use Rattle.nv_flatten.specs.inner.Simulation.{Names, Extends, IsEnd, AreValues, IsStated}
 use Rattle.nv_flatten.proofs.Keeping.{all-words-fit, all-are-words, forms-of-values}
-use Rattle.nv_flatten.proofs.NoFaults.{none-left, none-right, unset, given, clean, arguments-typed}
+use Rattle.nv_flatten.proofs.NoFaults.{given, clean, arguments-typed}
 use Rattle.nv_flatten.proofs.Following.{onward-all, onward-stated, stands-inside, values-more, stated-more}
+use Rattle.nv_ast.proofs.Faultless.{no_front, no_rest, not_where}
 
 -- ---- an exception
 pub raise-end : (w : Whole) (names : Names) (low high : ℕ) (scope : SymbolScope) (sp : Span) (x : List ℕ) (es : Trees) (steps : List Step) (ss : Symbols) (k : ℕ) (last t : Flat)
@@ -37,7 +38,7 @@ raise-end w names low high scope sp x es steps ss k last t v number raises joine
   simulates = λ own p wanted stands none older s env now begins.
       ap (λ act. act env (flat_run now)) (joined.by s.fcall)
       ∙ v.simulate own (inside p) (wanted_arguments (look_up x p.known.exceptions) es) (stands-inside w own scope p stands)
-      (none-left (list_faults (inside p) (wanted_arguments (look_up x p.known.exceptions) es) es) (node_faults p wanted (RaiseTree sp x es)) none) older s env now begins (code.does s.fcall last)
+      (no_front (list_faults (inside p) (wanted_arguments (look_up x p.known.exceptions) es) es) (node_faults p wanted (RaiseTree sp x es)) none) older s env now begins (code.does s.fcall last)
       (λ vs now. flat.Raises (exception_number w.declared.exceptions x) (all_words vs) (flat_run now)) (λ a now. flat.Gives (words_of a) (flat_run now))
       (λ new behind done.
       raises s.fcall new (flat_run behind)
@@ -64,10 +65,10 @@ block-end w names later low mid high scope inner sp sts e steps last t o v end m
     }
   where
     none-statements : (p : Place) (wanted : Wanted) → faults p wanted (BlockTree sp sts e) ≡ [] → statements_faults (inside p) sts ≡ []
-    none-statements p wanted none = none-left (statements_faults (inside p) sts) (faults (with_vars (vars_behind p.known p.vars sts) p) anything e ++ node_faults p wanted (BlockTree sp sts e)) none
+    none-statements p wanted none = no_front (statements_faults (inside p) sts) (faults (with_vars (vars_behind p.known p.vars sts) p) anything e ++ node_faults p wanted (BlockTree sp sts e)) none
 
     none-last : (p : Place) (wanted : Wanted) → faults p wanted (BlockTree sp sts e) ≡ [] → faults (with_vars (vars_behind p.known p.vars sts) p) anything e ≡ []
-    none-last p wanted none = none-left (faults (with_vars (vars_behind p.known p.vars sts) p) anything e) (node_faults p wanted (BlockTree sp sts e)) (none-right (statements_faults (inside p) sts) (faults (with_vars (vars_behind p.known p.vars sts) p) anything e ++ node_faults p wanted (BlockTree sp sts e)) none)
+    none-last p wanted none = no_front (faults (with_vars (vars_behind p.known p.vars sts) p) anything e) (node_faults p wanted (BlockTree sp sts e)) (no_rest (statements_faults (inside p) sts) (faults (with_vars (vars_behind p.known p.vars sts) p) anything e ++ node_faults p wanted (BlockTree sp sts e)) none)
 
     stands-behind : (own : ℕ) (p : Place) (wanted : Wanted) → Stands w own scope p → faults p wanted (BlockTree sp sts e) ≡ [] → Stands w own inner (with_vars (vars_behind p.known p.vars sts) p)
     stands-behind own p wanted stands none = record { part = stands.part; vars = v.formed own (inside p) (stands-inside w own scope p stands) (none-statements p wanted none) }
@@ -90,10 +91,10 @@ record IsKnown (w : Whole) (own : ℕ) (p : Place) (f : List ℕ) (es : Trees) :
 known-call : (w : Whole) (own : ℕ) (scope : SymbolScope) (p : Place) (wanted : Wanted) (sp : Span) (f : List ℕ) (es : Trees) → Stands w own scope p → faults p wanted (CallTree sp f es) ≡ [] → IsKnown w own p f es
 known-call w own scope p wanted sp f es stands none =
     let low = (clean p wanted (CallTree sp f es) none).low in
-    let g = given (look_up f (callable p.known)) (unset (is_none (look_up f (callable p.known))) 11 (none-left (unknown_function p.known f) (not_in_tail p f ++ wrong_number (params_of p.known f) es) low)) in
+    let g = given (look_up f (callable p.known)) (not_where (is_none (look_up f (callable p.known))) 11 (no_front (unknown_function p.known f) (not_in_tail p f ++ wrong_number (params_of p.known f) es) low)) in
     let params = ap (λ o. option_map (λ (s : Signature). plain_tys s.params) o) g.1 in
-    let number = none-right (not_in_tail p f) (wrong_number (params_of p.known f) es) (none-right (unknown_function p.known f) (not_in_tail p f ++ wrong_number (params_of p.known f) es) low) in
-    let list = none-left (list_faults (inside p) (wanted_arguments (params_of p.known f) es) es) (node_faults p wanted (CallTree sp f es)) none in
+    let number = no_rest (not_in_tail p f) (wrong_number (params_of p.known f) es) (no_rest (unknown_function p.known f) (not_in_tail p f ++ wrong_number (params_of p.known f) es) low) in
+    let list = no_front (list_faults (inside p) (wanted_arguments (params_of p.known f) es) es) (node_faults p wanted (CallTree sp f es)) none in
     let callable' = stands.part.functions f g.0 g.1 in
     record {
       signed = g.0;
@@ -129,7 +130,7 @@ call-end w names later low high scope sp f es steps ss i ws t o v more named is 
     }
   where
     none-list : (p : Place) (wanted : Wanted) → faults p wanted (CallTree sp f es) ≡ [] → list_faults (inside p) (wanted_arguments (params_of p.known f) es) es ≡ []
-    none-list p wanted none = none-left (list_faults (inside p) (wanted_arguments (params_of p.known f) es) es) (node_faults p wanted (CallTree sp f es)) none
+    none-list p wanted none = no_front (list_faults (inside p) (wanted_arguments (params_of p.known f) es) es) (node_faults p wanted (CallTree sp f es)) none
 
     still-named : (all : Names) → Extends later all → slice_get all i ≡ Some f
     still-named all h = ap (λ l. slice_get l i) h.1 ∙ get-append later h.0 i f named

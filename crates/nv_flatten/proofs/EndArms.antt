@@ -31,9 +31,10 @@ use Rattle.nv_flatten.specs.inner.Runs.{flat_run, ended}
 use Rattle.nv_flatten.specs.inner.Whole.{Whole, Stands}
 use Rattle.nv_flatten.specs.inner.Simulation.{Names, Extends, Setting, Begins, Done, IsValue, IsTest, IsEnd}
 use Rattle.nv_flatten.proofs.Keeping.{scope-later, keeps-scope, begins-then, extends-then, words-fit}
-use Rattle.nv_flatten.proofs.NoFaults.{none-left, none-right, wanted-type, given-has-type}
+use Rattle.nv_flatten.proofs.NoFaults.{wanted-type, given-has-type}
 use Rattle.nv_flatten.proofs.Following.{onward-then, stands-inside}
 use Rattle.nv_flatten.proofs.TestArms.{test-more}
+use Rattle.nv_ast.proofs.Faultless.{no_front, no_rest}
 
 -- ---- further names, and later assignments
 pub end-more : (w : Whole) (names more : Names) → Extends names more → (low high : ℕ) (scope : SymbolScope) (e : Tree) (t : Flat) (o : Option Symbol) → IsEnd w names low high scope e t o → IsEnd w more low high scope e t o
@@ -53,8 +54,8 @@ end-later w names low mid high scope e t o end le own p wanted stands none older
 -- ---- parentheses
 pub paren-end : (w : Whole) (names : Names) (low high : ℕ) (scope : SymbolScope) (sp : Span) (e : Tree) (t : Flat) (o : Option Symbol) → IsEnd w names low high scope e t o → IsEnd w names low high scope (ParenTree sp e) t o
 paren-end w names low high scope sp e t o v = record {
-  simulates = λ own p wanted stands none older c env now begins. v.simulates own p a_value stands (none-left (faults p a_value e) (node_faults p wanted (ParenTree sp e)) none) older c env now begins;
-  formed = λ own p wanted stands none. v.formed own p a_value stands (none-left (faults p a_value e) (node_faults p wanted (ParenTree sp e)) none);
+  simulates = λ own p wanted stands none older c env now begins. v.simulates own p a_value stands (no_front (faults p a_value e) (node_faults p wanted (ParenTree sp e)) none) older c env now begins;
+  formed = λ own p wanted stands none. v.formed own p a_value stands (no_front (faults p a_value e) (node_faults p wanted (ParenTree sp e)) none);
 }
 
 -- ---- an expression whose value steps give
@@ -154,10 +155,10 @@ pub both-end : (w : Whole) (names later : Names) (low mid high : ℕ) (scope : S
 both-end w names later low mid high scope sp a b steps c x y first second t o v end more le g joined = record {
   simulates = λ own p wanted stands none older s env now begins.
       branch-ends w later low mid scope a steps c x y (test-more w names later more low mid scope a steps c x y v) own (inside p) (stands-inside w own scope p stands)
-      (none-left (faults (inside p) (of_type BoolTy) a) (faults (inside p) (of_type BoolTy) b ++ node_faults p wanted (BinaryTree sp Both a b)) none) older s env now begins t first second joined
+      (no_front (faults (inside p) (of_type BoolTy) a) (faults (inside p) (of_type BoolTy) b ++ node_faults p wanted (BinaryTree sp Both a b)) none) older s env now begins t first second joined
       (λ last. eval w.declared s.call b (scope_in env scope) last) (λ last. Gives (meaning.Truth false) last)
       (λ new last done. end-later w later low mid high scope b first o end le own (inside p) (of_type BoolTy) (stands-inside w own scope p stands)
-      (none-left (faults (inside p) (of_type BoolTy) b) (node_faults p wanted (BinaryTree sp Both a b)) (none-right (faults (inside p) (of_type BoolTy) a) (faults (inside p) (of_type BoolTy) b ++ node_faults p wanted (BinaryTree sp Both a b)) none))
+      (no_front (faults (inside p) (of_type BoolTy) b) (node_faults p wanted (BinaryTree sp Both a b)) (no_rest (faults (inside p) (of_type BoolTy) a) (faults (inside p) (of_type BoolTy) b ++ node_faults p wanted (BinaryTree sp Both a b)) none))
       older s env new now last ⊤ begins done)
       (λ new last done. g s.fcall new (flat_run last));
   formed = λ own p wanted stands none. refl;
@@ -172,11 +173,11 @@ pub either-end : (w : Whole) (names later : Names) (low mid high : ℕ) (scope :
 either-end w names later low mid high scope sp a b steps c x y first second t o v end more le g joined = record {
   simulates = λ own p wanted stands none older s env now begins.
       branch-ends w later low mid scope a steps c x y (test-more w names later more low mid scope a steps c x y v) own (inside p) (stands-inside w own scope p stands)
-      (none-left (faults (inside p) (of_type BoolTy) a) (faults (inside p) (of_type BoolTy) b ++ node_faults p wanted (BinaryTree sp Either a b)) none) older s env now begins t first second joined
+      (no_front (faults (inside p) (of_type BoolTy) a) (faults (inside p) (of_type BoolTy) b ++ node_faults p wanted (BinaryTree sp Either a b)) none) older s env now begins t first second joined
       (λ last. Gives (meaning.Truth true) last) (λ last. eval w.declared s.call b (scope_in env scope) last)
       (λ new last done. g s.fcall new (flat_run last))
       (λ new last done. end-later w later low mid high scope b second o end le own (inside p) (of_type BoolTy) (stands-inside w own scope p stands)
-      (none-left (faults (inside p) (of_type BoolTy) b) (node_faults p wanted (BinaryTree sp Either a b)) (none-right (faults (inside p) (of_type BoolTy) a) (faults (inside p) (of_type BoolTy) b ++ node_faults p wanted (BinaryTree sp Either a b)) none))
+      (no_front (faults (inside p) (of_type BoolTy) b) (node_faults p wanted (BinaryTree sp Either a b)) (no_rest (faults (inside p) (of_type BoolTy) a) (faults (inside p) (of_type BoolTy) b ++ node_faults p wanted (BinaryTree sp Either a b)) none))
       older s env new now last ⊤ begins done);
   formed = λ own p wanted stands none. refl;
 }
@@ -196,7 +197,7 @@ choose-end w names between later low mid mid' high scope sp e a b steps c x y fi
     record {
       simulates = λ own p wanted stands none older s env now begins.
           branch-ends w later low mid scope e steps c x y (test-more w names later (extends-then names between later more more') low mid scope e steps c x y v) own (inside p) (stands-inside w own scope p stands)
-          (none-left (faults (inside p) (of_type BoolTy) e) (faults p anything a ++ (faults p (same_as (type_at p.known p.vars a)) b ++ node_faults p wanted (IfTree sp e a b))) none) older s env now begins t first second joined
+          (no_front (faults (inside p) (of_type BoolTy) e) (faults p anything a ++ (faults p (same_as (type_at p.known p.vars a)) b ++ node_faults p wanted (IfTree sp e a b))) none) older s env now begins t first second joined
           (λ last. eval w.declared s.call a (scope_in env scope) last) (λ last. eval w.declared s.call b (scope_in env scope) last)
           (λ new last done. end-later w later low mid mid' scope a first o enda' le own p anything stands (none-first p wanted none) older s env new now last ⊤ begins done)
           (λ new last done. end-later w later low mid' high scope b second u endb (le-then low mid mid' le le') own p (same_as (type_at p.known p.vars a)) stands (none-second p wanted none) older s env new now last ⊤ begins done);
@@ -207,13 +208,13 @@ choose-end w names between later low mid mid' high scope sp e a b steps c x y fi
     }
   where
     none-parts : (p : Place) (wanted : Wanted) → faults p wanted (IfTree sp e a b) ≡ [] → faults p anything a ++ (faults p (same_as (type_at p.known p.vars a)) b ++ node_faults p wanted (IfTree sp e a b)) ≡ []
-    none-parts p wanted none = none-right (faults (inside p) (of_type BoolTy) e) (faults p anything a ++ (faults p (same_as (type_at p.known p.vars a)) b ++ node_faults p wanted (IfTree sp e a b))) none
+    none-parts p wanted none = no_rest (faults (inside p) (of_type BoolTy) e) (faults p anything a ++ (faults p (same_as (type_at p.known p.vars a)) b ++ node_faults p wanted (IfTree sp e a b))) none
 
     none-first : (p : Place) (wanted : Wanted) → faults p wanted (IfTree sp e a b) ≡ [] → faults p anything a ≡ []
-    none-first p wanted none = none-left (faults p anything a) (faults p (same_as (type_at p.known p.vars a)) b ++ node_faults p wanted (IfTree sp e a b)) (none-parts p wanted none)
+    none-first p wanted none = no_front (faults p anything a) (faults p (same_as (type_at p.known p.vars a)) b ++ node_faults p wanted (IfTree sp e a b)) (none-parts p wanted none)
 
     none-second : (p : Place) (wanted : Wanted) → faults p wanted (IfTree sp e a b) ≡ [] → faults p (same_as (type_at p.known p.vars a)) b ≡ []
-    none-second p wanted none = none-left (faults p (same_as (type_at p.known p.vars a)) b) (node_faults p wanted (IfTree sp e a b)) (none-right (faults p anything a) (faults p (same_as (type_at p.known p.vars a)) b ++ node_faults p wanted (IfTree sp e a b)) (none-parts p wanted none))
+    none-second p wanted none = no_front (faults p (same_as (type_at p.known p.vars a)) b) (node_faults p wanted (IfTree sp e a b)) (no_rest (faults p anything a) (faults p (same_as (type_at p.known p.vars a)) b ++ node_faults p wanted (IfTree sp e a b)) (none-parts p wanted none))
 
     le-then : (l m n : ℕ) → l ≤ m → m ≤ n → l ≤ n
     le-then l m n h k = omega arith

@@ -30,7 +30,8 @@ use Rattle.nv_flatten.proofs.NarrowViews as narrow
 use Rattle.nv_flatten.proofs.SmallValues.{value-small-more}
 use Rattle.nv_flatten.proofs.SmallLists.{let-small, store-small}
 use Rattle.nv_flatten.proofs.SmallViews.{SmallFront, SmallFields, SmallLed, small-front-first, small-front-more, small-front-last, small-row-first, small-row-more, small-row-last, small-led-first, small-led-more, small-led-last}
-use Rattle.nv_meaning.proofs.Lists.{dropped, dropped-all}
+use Rattle.nv_meaning.proofs.Lists.{dropped-all}
+use Rattle.nv_ast.proofs.Items.{next_item}
 
 -- ---- statements
 pub let-flat : (w : Whole) (old names : Names) (low high : ℕ) (scope : SymbolScope) (sp : Span) (q : PatternTree) (e : Tree) (ss : List Step) (s : Symbol) → low ≤ high → IsFlatValue w old names low high scope e ss s
@@ -70,7 +71,7 @@ pub front-step : (w : Whole) (old names more : Names) (low mid high : ℕ) (l l'
     → l ≡ l' → Extends names more → low ≤ mid → mid ≤ high → FlatFront w old names low mid (scope_of l' []) es i ss vs → IsFlatValue w names more mid high (scope_of l []) (tree_of e) ts (view v) → FlatFront w old more low high (scope_of l' []) es (i + 1) ss' vs'
 front-step w old names more low mid high l l' es i e ss ts ss' vs vs' v h is steps values here ext le le' f g = record {
   same = subst (λ k. Front w low (scope_of l' []) es more high ss' k (drop (i + 1) es)) (sym values)
-      (front-more w low (scope_of l' []) es names more mid high ss ts ss' vs (drop i es) (drop (i + 1) es) e v (dropped es i e h is) le le' ext f.same (value-in-scope w more mid high l l' (tree_of e) ts (view v) here g.same) steps);
+      (front-more w low (scope_of l' []) es names more mid high ss ts ss' vs (drop i es) (drop (i + 1) es) e v (next_item es i e h is) le le' ext f.same (value-in-scope w more mid high l l' (tree_of e) ts (view v) here g.same) steps);
   well = each-at w old names more low mid high l l' es i e ss ts ss' vs vs' v h is steps values here ext f.well g.well;
   narrow = narrow.front-more w l l' es names more i e ss ts ss' vs vs' v h is steps values here ext f.narrow g.same.formed g.narrow;
   small = small-front-more w l l' es names more i e ss ts ss' vs vs' v h is steps values here ext f.small g.small;
@@ -104,7 +105,7 @@ pub fields-step : (w : Whole) (old names more : Names) (low mid high : ℕ) (l l
     → l ≡ l' → Extends names more → low ≤ mid → mid ≤ high → FlatFields w old names low mid (scope_of l' []) es i ss fs → IsFlatValue w names more mid high (scope_of l []) (tree_of e.1) ts (view f.1) → FlatFields w old more low high (scope_of l' []) es (i + 1) ss' fs'
 fields-step w old names more low mid high l l' es i e ss ts ss' fs fs' f name h is steps values here ext le le' front g = record {
   same = subst (λ k. FrontNamed w low (scope_of l' []) es more high ss' k (drop (i + 1) es)) (sym values)
-      (named-more w low (scope_of l' []) es names more mid high ss ts ss' fs (drop i es) (drop (i + 1) es) e f name (dropped es i e h is) le le' ext front.same (value-in-scope w more mid high l l' (tree_of e.1) ts (view f.1) here g.same) steps);
+      (named-more w low (scope_of l' []) es names more mid high ss ts ss' fs (drop i es) (drop (i + 1) es) e f name (next_item es i e h is) le le' ext front.same (value-in-scope w more mid high l l' (tree_of e.1) ts (view f.1) here g.same) steps);
   well = fields-at w old names more low mid high l l' es i e ss ts ss' fs fs' f h is steps values here ext front.well g.well;
   narrow = row-more w l l' es names more i e ss ts ss' fs fs' f h is steps values here ext front.narrow g.same.formed g.narrow;
   small = small-row-more w l l' es names more i e ss ts ss' fs fs' f h is steps values here ext front.small g.small;
@@ -139,7 +140,7 @@ led-start w names low scope sts ss none = record {
 pub led-step : (w : Whole) (old names more : Names) (low mid high : ℕ) (scope inner behind : SymbolScope) (sts : List Stmt) (i : ℕ) (st : Stmt) (ss ts ss' : List Step) → i < length sts → st ≡ get_or sts i st → ss' ≡ ss ++ ts → Extends names more → mid ≤ high
     → FlatLed w old names low mid scope inner sts i ss → IsFlatStatement w names more mid high inner (statement_tree st) ts behind → FlatLed w old more low high scope behind sts (i + 1) ss'
 led-step w old names more low mid high scope inner behind sts i st ss ts ss' h is steps ext le f g = record {
-  same = led-more w low scope sts names more mid high ss ts ss' inner behind (drop i sts) (drop (i + 1) sts) st (dropped sts i st h is) le ext f.same g.same steps;
+  same = led-more w low scope sts names more mid high ss ts ss' inner behind (drop i sts) (drop (i + 1) sts) st (next_item sts i st h is) le ext f.same g.same steps;
   typed = typed-at w scope inner behind sts i st h is f.typed g.same.formed;
   well = statements-at w old names more low mid high scope inner behind sts i st ss ts ss' h is steps ext f.well f.typed g.well;
   narrow = narrow.led-more w scope inner behind sts names more mid high i st ss ts ss' h is steps ext f.narrow g.same g.narrow;

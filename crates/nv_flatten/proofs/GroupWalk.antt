@@ -12,7 +12,8 @@ use Rattle.nv_meaning.specs.inner.Tables.{place_from}
 use Rattle.nv_flatten.specs.inner.Whole.{Whole, whole_of, groups_from, group_of, group_at, IsPart}
 use Rattle.nv_flatten.proofs.Knowing.{params-stay, function-front, function-behind, with-functions}
 use Rattle.nv_flatten.proofs.Bodies.{SoFar, so_far, numbers, at-first, layouts-front, functions-front, layout-step, exception-step, group-step, part-of, body-found, signed-found, group-exact}
-use Rattle.nv_flatten.proofs.NoFaults.{some-same, none-left, none-right}
+use Rattle.nv_flatten.proofs.NoFaults.{some-same}
+use Rattle.nv_ast.proofs.Faultless.{no_front, no_rest}
 
 -- a group: the numbers of the groups before, what is known in its bodies, and its functions
 pub record Group : Type 0 where
@@ -115,14 +116,14 @@ later-group : (w : Whole) (k : Known) (funs : List FunTree) (gs : List ℕ) (n :
     → (m : ℕ) × (group_of w f ≡ Some m) × (n ≤ m)
 later-group w k funs gs n [] so h f g none found = let e : None ≡ Some g = sym none ∙ (ap (λ d. function_in d.functions f) so.declared ∙ found) in cc
 later-group w k funs gs n (LayoutDecl x l s ∷ ds) so h f g none found =
-    later-group w (known_after k (LayoutDecl x l s)) funs gs n ds (layout-step w k funs gs n x l s ds so (none-left (decl_faults k (LayoutDecl x l s)) _ h)) (none-right (decl_faults k (LayoutDecl x l s)) _ h) f g none found
+    later-group w (known_after k (LayoutDecl x l s)) funs gs n ds (layout-step w k funs gs n x l s ds so (no_front (decl_faults k (LayoutDecl x l s)) _ h)) (no_rest (decl_faults k (LayoutDecl x l s)) _ h) f g none found
 later-group w k funs gs n (ExceptionDecl x ts s ∷ ds) so h f g none found =
-    later-group w (known_after k (ExceptionDecl x ts s)) funs gs n ds (exception-step w k funs gs n x ts s ds so (none-left (decl_faults k (ExceptionDecl x ts s)) _ h)) (none-right (decl_faults k (ExceptionDecl x ts s)) _ h) f g none found
+    later-group w (known_after k (ExceptionDecl x ts s)) funs gs n ds (exception-step w k funs gs n x ts s ds so (no_front (decl_faults k (ExceptionDecl x ts s)) _ h)) (no_rest (decl_faults k (ExceptionDecl x ts s)) _ h) f g none found
 later-group w k funs gs n (GroupDecl fs ∷ ds) so h f g none found =
-    by (function_in fs f) refl (λ missing. later-group w (known_after k (GroupDecl fs)) (funs ++ fs) (numbers gs n fs) (suc n) ds (group-step w k funs gs n fs ds so signs) (none-right (decl_faults k (GroupDecl fs)) _ h) f g missing found)
+    by (function_in fs f) refl (λ missing. later-group w (known_after k (GroupDecl fs)) (funs ++ fs) (numbers gs n fs) (suc n) ds (group-step w k funs gs n fs ds so signs) (no_rest (decl_faults k (GroupDecl fs)) _ h) f g missing found)
   where
     signs : signatures_faults k.layouts fs ≡ []
-    signs = none-left (signatures_faults k.layouts fs) _ (none-right (name_faults (names_of k.functions) fs) _ (none-left (decl_faults k (GroupDecl fs)) _ h))
+    signs = no_front (signatures_faults k.layouts fs) _ (no_rest (name_faults (names_of k.functions) fs) _ (no_front (decl_faults k (GroupDecl fs)) _ h))
 
     by : (o : Option FunTree) → function_in fs f ≡ o → (function_in (funs ++ fs) f ≡ None → (m : ℕ) × (group_of w f ≡ Some m) × (suc n ≤ m)) → (m : ℕ) × (group_of w f ≡ Some m) × (n ≤ m)
     by (Some d) q next = (n, group-exact w k funs gs n fs ds so f d none q, omega arith)
@@ -161,9 +162,9 @@ next-group count at nums k funs gs n fs ds many groups =
 in-this : (w : Whole) (count : Count) (at : ℕ → Group) (nums : GroupNumbers) (k : Known) (funs : List FunTree) (gs : List ℕ) (n : ℕ) (fs : List FunTree) (ds : List DeclTree) → SoFar w k funs gs n (GroupDecl fs ∷ ds) → GroupsSoFar count at nums k funs gs n (GroupDecl fs ∷ ds)
     → decls_faults k (GroupDecl fs ∷ ds) ≡ [] → (f : List ℕ) (g : FunTree) → function_in funs f ≡ None → function_in fs f ≡ Some g → IsIn w count at f g
 in-this w count at nums k funs gs n fs ds so groups all f g none found =
-    let h = none-left (decl_faults k (GroupDecl fs)) (decls_faults (known_after k (GroupDecl fs)) ds) all in
-    let rest : signatures_faults k.layouts fs ++ bodies_faults (in_group k fs) fs ≡ [] = none-right (name_faults (names_of k.functions) fs) _ h in
-    let signs : signatures_faults k.layouts fs ≡ [] = none-left (signatures_faults k.layouts fs) _ rest in
+    let h = no_front (decl_faults k (GroupDecl fs)) (decls_faults (known_after k (GroupDecl fs)) ds) all in
+    let rest : signatures_faults k.layouts fs ++ bodies_faults (in_group k fs) fs ≡ [] = no_rest (name_faults (names_of k.functions) fs) _ h in
+    let signs : signatures_faults k.layouts fs ≡ [] = no_front (signatures_faults k.layouts fs) _ rest in
     let front = layouts-front w k funs gs n (GroupDecl fs ∷ ds) so in
     let sign : signature_faults k.layouts g ≡ [] = signed-found k.layouts fs f g signs found in
     let here : this_group nums k fs ≡ at n = this-one count at nums k funs gs n fs ds groups in
@@ -172,7 +173,7 @@ in-this w count at nums k funs gs n fs ds so groups all f g none found =
       part = subst (λ (d : Group). IsPart w n d.known) here (part-of w k funs gs n fs ds so signs);
       grouped = group-exact w k funs gs n fs ds so f g none found;
       found = subst (λ (d : Group). function_in d.funs f ≡ Some g) here found;
-      none = subst (λ (d : Group). body_faults d.known g ≡ []) here (body-found (in_group k fs) fs f g (none-right (signatures_faults k.layouts fs) _ rest) found);
+      none = subst (λ (d : Group). body_faults d.known g ≡ []) here (body-found (in_group k fs) fs f g (no_rest (signatures_faults k.layouts fs) _ rest) found);
       params = subst (λ (d : Group). named_types_of d.known.layouts g.params ≡ named_types_of w.declared.layouts g.params) here (sym (ap (λ l. named_types_of l g.params) front.1 ∙ params-stay k.layouts front.0 g sign));
       earlier = λ x d m there grouped before. subst (λ (e : Group). value_at 0 x e.before ≡ number_of count (at m)) here (earlier x d m there grouped before (function_in funs x) refl);
     }
@@ -189,17 +190,17 @@ in-from : (w : Whole) (count : Count) (at : ℕ → Group) (nums : GroupNumbers)
     → (f : List ℕ) (g : FunTree) → function_in funs f ≡ None → function_in w.declared.functions f ≡ Some g → IsIn w count at f g
 in-from w count at nums k funs gs n [] so groups h f g none found = let e : None ≡ Some g = sym none ∙ (ap (λ d. function_in d.functions f) so.declared ∙ found) in absurd (cc)
 in-from w count at nums k funs gs n (LayoutDecl x l s ∷ ds) so groups h f g none found =
-    in-from w count at nums (known_after k (LayoutDecl x l s)) funs gs n ds (layout-step w k funs gs n x l s ds so (none-left (decl_faults k (LayoutDecl x l s)) _ h)) (record { tags = groups.tags; ahead = groups.ahead }) (none-right (decl_faults k (LayoutDecl x l s)) _ h) f g none found
+    in-from w count at nums (known_after k (LayoutDecl x l s)) funs gs n ds (layout-step w k funs gs n x l s ds so (no_front (decl_faults k (LayoutDecl x l s)) _ h)) (record { tags = groups.tags; ahead = groups.ahead }) (no_rest (decl_faults k (LayoutDecl x l s)) _ h) f g none found
 in-from w count at nums k funs gs n (ExceptionDecl x ts s ∷ ds) so groups h f g none found =
-    in-from w count at nums (known_after k (ExceptionDecl x ts s)) funs gs n ds (exception-step w k funs gs n x ts s ds so (none-left (decl_faults k (ExceptionDecl x ts s)) _ h)) (record { tags = groups.tags; ahead = groups.ahead })
-    (none-right (decl_faults k (ExceptionDecl x ts s)) _ h) f g none found
+    in-from w count at nums (known_after k (ExceptionDecl x ts s)) funs gs n ds (exception-step w k funs gs n x ts s ds so (no_front (decl_faults k (ExceptionDecl x ts s)) _ h)) (record { tags = groups.tags; ahead = groups.ahead })
+    (no_rest (decl_faults k (ExceptionDecl x ts s)) _ h) f g none found
 in-from w count at nums k funs gs n (GroupDecl fs ∷ ds) so groups h f g none found =
     by (function_in fs f) refl
     (λ missing. in-from w count at (with_group count nums k fs) (known_after k (GroupDecl fs)) (funs ++ fs) (numbers gs n fs) (suc n) ds (group-step w k funs gs n fs ds so signs) (next-group count at nums k funs gs n fs ds so.as_many groups)
-    (none-right (decl_faults k (GroupDecl fs)) _ h) f g missing found)
+    (no_rest (decl_faults k (GroupDecl fs)) _ h) f g missing found)
   where
     signs : signatures_faults k.layouts fs ≡ []
-    signs = none-left (signatures_faults k.layouts fs) _ (none-right (name_faults (names_of k.functions) fs) _ (none-left (decl_faults k (GroupDecl fs)) _ h))
+    signs = no_front (signatures_faults k.layouts fs) _ (no_rest (name_faults (names_of k.functions) fs) _ (no_front (decl_faults k (GroupDecl fs)) _ h))
 
     by : (o : Option FunTree) → function_in fs f ≡ o → (function_in (funs ++ fs) f ≡ None → IsIn w count at f g) → IsIn w count at f g
     by (Some d) q next =
@@ -214,15 +215,15 @@ last-number : (w : Whole) (count : Count) (at : ℕ → Group) (nums : GroupNumb
 last-number w count at nums k funs gs n [] so groups h f g found m grouped =
     ap (value_at 0 f) groups.tags ∙ tag-of w (λ i. number_of count (at i)) k funs gs n [] so f g (ap (λ d. function_in d.functions f) so.declared ∙ found) m grouped
 last-number w count at nums k funs gs n (LayoutDecl x l s ∷ ds) so groups h f g found m grouped =
-    last-number w count at nums (known_after k (LayoutDecl x l s)) funs gs n ds (layout-step w k funs gs n x l s ds so (none-left (decl_faults k (LayoutDecl x l s)) _ h)) (record { tags = groups.tags; ahead = groups.ahead })
-    (none-right (decl_faults k (LayoutDecl x l s)) _ h) f g found m grouped
+    last-number w count at nums (known_after k (LayoutDecl x l s)) funs gs n ds (layout-step w k funs gs n x l s ds so (no_front (decl_faults k (LayoutDecl x l s)) _ h)) (record { tags = groups.tags; ahead = groups.ahead })
+    (no_rest (decl_faults k (LayoutDecl x l s)) _ h) f g found m grouped
 last-number w count at nums k funs gs n (ExceptionDecl x ts s ∷ ds) so groups h f g found m grouped =
-    last-number w count at nums (known_after k (ExceptionDecl x ts s)) funs gs n ds (exception-step w k funs gs n x ts s ds so (none-left (decl_faults k (ExceptionDecl x ts s)) _ h)) (record { tags = groups.tags; ahead = groups.ahead })
-    (none-right (decl_faults k (ExceptionDecl x ts s)) _ h) f g found m grouped
+    last-number w count at nums (known_after k (ExceptionDecl x ts s)) funs gs n ds (exception-step w k funs gs n x ts s ds so (no_front (decl_faults k (ExceptionDecl x ts s)) _ h)) (record { tags = groups.tags; ahead = groups.ahead })
+    (no_rest (decl_faults k (ExceptionDecl x ts s)) _ h) f g found m grouped
 last-number w count at nums k funs gs n (GroupDecl fs ∷ ds) so groups h f g found m grouped =
     last-number w count at (with_group count nums k fs) (known_after k (GroupDecl fs)) (funs ++ fs) (numbers gs n fs) (suc n) ds
-    (group-step w k funs gs n fs ds so (none-left (signatures_faults k.layouts fs) _ (none-right (name_faults (names_of k.functions) fs) _ (none-left (decl_faults k (GroupDecl fs)) _ h))))
-    (next-group count at nums k funs gs n fs ds so.as_many groups) (none-right (decl_faults k (GroupDecl fs)) _ h) f g found m grouped
+    (group-step w k funs gs n fs ds so (no_front (signatures_faults k.layouts fs) _ (no_rest (name_faults (names_of k.functions) fs) _ (no_front (decl_faults k (GroupDecl fs)) _ h))))
+    (next-group count at nums k funs gs n fs ds so.as_many groups) (no_rest (decl_faults k (GroupDecl fs)) _ h) f g found m grouped
 
 -- ---- of a whole program
 abbrev pub group_in : Count → ProgramTree → ℕ → Group
@@ -232,10 +233,10 @@ groups-first : (count : Count) (t : ProgramTree) → GroupsSoFar count (group_in
 groups-first count t = record { tags = refl; ahead = λ i. let z : i ≡ 0 + i = omega arith in ap (group_in count t) z }
 
 pub stands-in : (count : Count) (t : ProgramTree) → program_faults t ≡ [] → (f : List ℕ) (g : FunTree) → function_in (whole_of t).declared.functions f ≡ Some g → IsIn (whole_of t) count (group_in count t) f g
-stands-in count t h f g found = in-from (whole_of t) count (group_in count t) [] nothing_known [] [] 0 t.decls (at-first t) (groups-first count t) (none-left (decls_faults nothing_known t.decls) _ h) f g refl found
+stands-in count t h f g found = in-from (whole_of t) count (group_in count t) [] nothing_known [] [] 0 t.decls (at-first t) (groups-first count t) (no_front (decls_faults nothing_known t.decls) _ h) f g refl found
 
 -- the number of a function among all numbers is that of its group
 pub number-in : (count : Count) (t : ProgramTree) → program_faults t ≡ [] → (f : List ℕ) (g : FunTree) → function_in (whole_of t).declared.functions f ≡ Some g → (m : ℕ) → group_of (whole_of t) f ≡ Some m
     → value_at 0 f (numbers_behind count [] nothing_known t.decls) ≡ number_of count (group_in count t m)
 number-in count t h f g found m grouped =
-    last-number (whole_of t) count (group_in count t) [] nothing_known [] [] 0 t.decls (at-first t) (groups-first count t) (none-left (decls_faults nothing_known t.decls) _ h) f g found m grouped
+    last-number (whole_of t) count (group_in count t) [] nothing_known [] [] 0 t.decls (at-first t) (groups-first count t) (no_front (decls_faults nothing_known t.decls) _ h) f g found m grouped

@@ -11,7 +11,8 @@ use Rattle.nv_ast.specs.Faults.{type_faults, types_faults, named_types_faults, t
 use Rattle.nv_meaning.specs.Meaning.{Declared, with_decl, with_decls, function_in}
 use Rattle.nv_meaning.specs.Running.{number_from}
 use Rattle.nv_meaning.specs.inner.Tables.{place_from}
-use Rattle.nv_flatten.proofs.NoFaults.{some-same, none-left, none-right, no-kinds}
+use Rattle.nv_flatten.proofs.NoFaults.{some-same}
+use Rattle.nv_ast.proofs.Faultless.{no_front, no_rest, no_kinds}
 
 -- ---- no faults
 
@@ -56,7 +57,7 @@ abbrev outline_in : Layouts → List ℕ → OutlineTree
 outline_in k x = outline k (NamedLayout x)
 
 named-stays : (k more : Layouts) (x : List ℕ) (others : List ℕ) → no_layout k x ++ others ≡ [] → outline_in (k ++ more) x ≡ outline_in k x
-named-stays k more x others h = value-front (PartsOutline no_named_outlines) x k more (where_not (is_among x (names_of k)) 8 (none-left (no_layout k x) others h))
+named-stays k more x others h = value-front (PartsOutline no_named_outlines) x k more (where_not (is_among x (names_of k)) 8 (no_front (no_layout k x) others h))
 
 mutual
   pub type-stays : (k more : Layouts) (t : TypeTree) → type_faults k t ≡ [] → type_of (k ++ more) t ≡ type_of k t
@@ -64,22 +65,22 @@ mutual
   type-stays k more BoolType h = refl
   type-stays k more (PackedType x) h = ap packed_ty (named-stays k more x (too_large (type_of k (PackedType x))) h)
   type-stays k more (UnpackedType x) h = ap unpacked_ty (named-stays k more x (too_large (type_of k (UnpackedType x))) h)
-  type-stays k more (TupleType ts) h = ap TupleTy (types-stay k more ts (none-left (types_faults k ts) (too_large (type_of k (TupleType ts))) h))
-  type-stays k more (RecordType ts) h = ap RecordTy (named-types-stay k more ts (none-left (named_types_faults k ts) (twice_in_type (type_names ts) ++ too_large (type_of k (RecordType ts))) h))
+  type-stays k more (TupleType ts) h = ap TupleTy (types-stay k more ts (no_front (types_faults k ts) (too_large (type_of k (TupleType ts))) h))
+  type-stays k more (RecordType ts) h = ap RecordTy (named-types-stay k more ts (no_front (named_types_faults k ts) (twice_in_type (type_names ts) ++ too_large (type_of k (RecordType ts))) h))
 
   pub types-stay : (k more : Layouts) (ts : TypeTrees) → types_faults k ts ≡ [] → types_of (k ++ more) ts ≡ types_of k ts
   types-stay k more no_types h = refl
-  types-stay k more (type_and t ts) h = ap (λ u. ty_and u (types_of (k ++ more) ts)) (type-stays k more t (none-left (type_faults k t) (types_faults k ts) h)) ∙ ap (ty_and (type_of k t)) (types-stay k more ts (none-right (type_faults k t) (types_faults k ts) h))
+  types-stay k more (type_and t ts) h = ap (λ u. ty_and u (types_of (k ++ more) ts)) (type-stays k more t (no_front (type_faults k t) (types_faults k ts) h)) ∙ ap (ty_and (type_of k t)) (types-stay k more ts (no_rest (type_faults k t) (types_faults k ts) h))
 
   pub named-types-stay : (k more : Layouts) (ts : NamedTypes) → named_types_faults k ts ≡ [] → named_types_of (k ++ more) ts ≡ named_types_of k ts
   named-types-stay k more no_named_types h = refl
-  named-types-stay k more (named_type_and x t ts) h = ap (λ u. named_ty_and x u (named_types_of (k ++ more) ts)) (type-stays k more t (none-left (type_faults k t) (named_types_faults k ts) h)) ∙ ap (named_ty_and x (type_of k t)) (named-types-stay k more ts (none-right (type_faults k t) (named_types_faults k ts) h))
+  named-types-stay k more (named_type_and x t ts) h = ap (λ u. named_ty_and x u (named_types_of (k ++ more) ts)) (type-stays k more t (no_front (type_faults k t) (named_types_faults k ts) h)) ∙ ap (named_ty_and x (type_of k t)) (named-types-stay k more ts (no_rest (type_faults k t) (named_types_faults k ts) h))
 
 pub params-stay : (k more : Layouts) (g : FunTree) → signature_faults k g ≡ [] → named_types_of (k ++ more) g.params ≡ named_types_of k g.params
-params-stay k more g h = named-types-stay k more g.params (none-left (named_types_faults k g.params) _ (no-kinds g.span _ h))
+params-stay k more g h = named-types-stay k more g.params (no_front (named_types_faults k g.params) _ (no_kinds g.span _ h))
 
 pub result-stays : (k more : Layouts) (g : FunTree) → signature_faults k g ≡ [] → type_of (k ++ more) g.result ≡ type_of k g.result
-result-stays k more g h = type-stays k more g.result (none-left (type_faults k g.result) _ (none-right (named_types_faults k g.params) _ (no-kinds g.span _ h)))
+result-stays k more g h = type-stays k more g.result (no_front (type_faults k g.result) _ (no_rest (named_types_faults k g.params) _ (no_kinds g.span _ h)))
 
 pub signature-stays : (k more : Layouts) (g : FunTree) → signature_faults k g ≡ [] → signature (k ++ more) g ≡ signature k g
 signature-stays k more g h = ap (λ t. record { params = t; result = type_of (k ++ more) g.result }) (params-stay k more g h) ∙ ap (λ t. record { params = named_types_of k g.params; result = t }) (result-stays k more g h)
@@ -87,8 +88,8 @@ signature-stays k more g h = ap (λ t. record { params = t; result = type_of (k 
 pub signatures-stay : (k more : Layouts) (fs : List FunTree) → signatures_faults k fs ≡ [] → signatures (k ++ more) fs ≡ signatures k fs
 signatures-stay k more [] h = refl
 signatures-stay k more (f ∷ fs) h =
-    ap (λ g. (f.name, g) ∷ signatures (k ++ more) fs) (signature-stays k more f (none-left (signature_faults k f) (signatures_faults k fs) h))
-    ∙ ap (λ l. (f.name, signature k f) ∷ l) (signatures-stay k more fs (none-right (signature_faults k f) (signatures_faults k fs) h))
+    ap (λ g. (f.name, g) ∷ signatures (k ++ more) fs) (signature-stays k more f (no_front (signature_faults k f) (signatures_faults k fs) h))
+    ∙ ap (λ l. (f.name, signature k f) ∷ l) (signatures-stay k more fs (no_rest (signature_faults k f) (signatures_faults k fs) h))
 
 -- ---- functions by name
 pub function-front : (fs more : List FunTree) (f : List ℕ) (g : FunTree) → function_in fs f ≡ Some g → function_in (fs ++ more) f ≡ Some g

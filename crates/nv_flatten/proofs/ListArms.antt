@@ -23,8 +23,9 @@ use Rattle.nv_flatten.specs.inner.Runs.{flat_run, onward}
 use Rattle.nv_flatten.specs.inner.Whole.{Whole}
 use Rattle.nv_flatten.specs.inner.Simulation.{Names, Extends, IsValue, AreValues, AreFields, onward_all, onward_named}
 use Rattle.nv_flatten.proofs.Keeping.{older-later, scope-later, keeps-value, keeps-fit, keeps-scope, begins-then, begins-done, done-then, extends-itself, extends-then}
-use Rattle.nv_flatten.proofs.NoFaults.{none-left, none-right, some-same, none-some, value-has-type}
+use Rattle.nv_flatten.proofs.NoFaults.{some-same, none-some, value-has-type}
 use Rattle.nv_flatten.proofs.Following.{onward-all, onward-named, steps-then, stands-inside, fewer}
+use Rattle.nv_ast.proofs.Faultless.{no_front, no_rest}
 
 -- ---- what follows the first of some values
 onward-more : (r : Result) (k : Value → Running → Results) (next : Values → Running → flat.Result) (never : Value → Running → flat.Result) → onward_all (then_more r k) next never ≡ onward r (λ v now. onward_all (k v now) next never)
@@ -84,8 +85,8 @@ module _ (w : Whole) (names more : Names) (low mid high : ℕ) (scope : SymbolSc
   values-and e es ss ts s us ext le le' v vs = record {
     simulate = λ own p wanted stands none o c env now begins rest next never same.
         let clean = sym (list-split p wanted e es) ∙ none in
-        let here = none-left (faults p (first_wanted wanted) e) (list_faults p (other_wanted wanted) es) clean in
-        let there = none-right (faults p (first_wanted wanted) e) (list_faults p (other_wanted wanted) es) clean in
+        let here = no_front (faults p (first_wanted wanted) e) (list_faults p (other_wanted wanted) es) clean in
+        let there = no_rest (faults p (first_wanted wanted) e) (list_faults p (other_wanted wanted) es) clean in
         let d = w.declared in
         steps-then c.fcall ss ts rest env (flat_run now)
         ∙ v.simulates.by own p (first_wanted wanted) stands here o (fewer w names more ext c) env now begins (steps_do c.fcall ts rest) (λ x last. onward_all (before_rest x (eval_all d c.call es (scope_in env scope) last)) next never)
@@ -100,8 +101,8 @@ module _ (w : Whole) (names more : Names) (low mid high : ℕ) (scope : SymbolSc
         ∙ sym (onward-more (eval d c.call e (scope_in env scope) now) (λ x last. before_rest x (eval_all d c.call es (scope_in env scope) last)) next never);
     formed = λ own p wanted stands none tys is.
         let clean = sym (list-split p wanted e es) ∙ none in
-        let here = none-left (faults p (first_wanted wanted) e) (list_faults p (other_wanted wanted) es) clean in
-        let there = none-right (faults p (first_wanted wanted) e) (list_faults p (other_wanted wanted) es) clean in
+        let here = no_front (faults p (first_wanted wanted) e) (list_faults p (other_wanted wanted) es) clean in
+        let there = no_rest (faults p (first_wanted wanted) e) (list_faults p (other_wanted wanted) es) clean in
         and-typed s us (type_at p.known p.vars e) (types_at p.known p.vars es) tys (λ t x. v.formed.by own p (first_wanted wanted) stands here t x) (λ qs x. vs.formed own p (other_wanted wanted) stands there qs x) is;
     older = λ o. All-append (IsOlder high) (operands s) (all_operands us) (older-later mid high (operands s) le' (v.older o)) (vs.older (scope-later low mid scope le o));
   }
@@ -110,8 +111,8 @@ module _ (w : Whole) (names more : Names) (low mid high : ℕ) (scope : SymbolSc
       → IsValue w names low mid scope e ss s → AreFields w more mid high scope es ts us → AreFields w more low high scope (named_tree_and x e es) (ss ++ ts) (named_symbol_and x s us)
   fields-and x e es ss ts s us ext le le' v vs = record {
     simulate = λ own p stands none o c env now begins rest next never same.
-        let here = none-left (faults p a_value e) (named_faults p es) none in
-        let there = none-right (faults p a_value e) (named_faults p es) none in
+        let here = no_front (faults p a_value e) (named_faults p es) none in
+        let there = no_rest (faults p a_value e) (named_faults p es) none in
         let d = w.declared in
         steps-then c.fcall ss ts rest env (flat_run now)
         ∙ v.simulates.by own p a_value stands here o (fewer w names more ext c) env now begins (steps_do c.fcall ts rest) (λ y last. onward_named (before_named x y (eval_named d c.call es (scope_in env scope) last)) next never)
@@ -125,8 +126,8 @@ module _ (w : Whole) (names more : Names) (low mid high : ℕ) (scope : SymbolSc
         ∙ ap (λ m. onward_named (before_named x (value_in new s) (eval_named d c.call es m last)) next never) (keeps-scope low env new scope done.keeps o))
         ∙ sym (onward-more_named (eval d c.call e (scope_in env scope) now) (λ y last. before_named x y (eval_named d c.call es (scope_in env scope) last)) next never);
     formed = λ own p stands none.
-        let here = none-left (faults p a_value e) (named_faults p es) none in
-        let there = none-right (faults p a_value e) (named_faults p es) none in
+        let here = no_front (faults p a_value e) (named_faults p es) none in
+        let there = no_rest (faults p a_value e) (named_faults p es) none in
         let t = value-has-type p a_value e refl here in
         ap (λ o. and_named_ty x o (named_types_at p.known p.vars es)) t.1
         ∙ ap (and_named_ty x (Some t.0)) (vs.formed own p stands there)
@@ -144,13 +145,13 @@ module _ (w : Whole) (names : Names) (low high : ℕ) (scope : SymbolScope) wher
   tuple-value sp es steps ss vs = record {
     simulates = record {
       by = λ own p wanted stands none o c env now begins rest next same.
-          let clean = none-left (list_faults (inside p) [] es) (node_faults p wanted (TupleTree sp es)) none in
+          let clean = no_front (list_faults (inside p) [] es) (node_faults p wanted (TupleTree sp es)) none in
           vs.simulate own (inside p) [] (stands-inside w own scope p stands) clean o c env now begins rest (λ xs last. next (meaning.Tuple xs) last) next (λ new last done. same new last (record { sizes = done.sizes; keeps = done.keeps; fits = done.fits }))
           ∙ sym (onward-all (eval_all w.declared c.call es (scope_in env scope) now) (λ xs last. Gives (meaning.Tuple xs) last) next);
     };
     formed = record {
       by = λ own p wanted stands none t is.
-          let clean = none-left (list_faults (inside p) [] es) (node_faults p wanted (TupleTree sp es)) none in
+          let clean = no_front (list_faults (inside p) [] es) (node_faults p wanted (TupleTree sp es)) none in
           tuple-typed ss (types_at p.known p.vars es) t (λ ts e. vs.formed own (inside p) [] (stands-inside w own scope p stands) clean ts e) is;
     };
     older = vs.older;
@@ -160,13 +161,13 @@ module _ (w : Whole) (names : Names) (low high : ℕ) (scope : SymbolScope) wher
   record-value sp es steps fs vs = record {
     simulates = record {
       by = λ own p wanted stands none o c env now begins rest next same.
-          let clean = none-left (named_faults (inside p) es) (node_faults p wanted (FieldsTree sp es)) none in
+          let clean = no_front (named_faults (inside p) es) (node_faults p wanted (FieldsTree sp es)) none in
           vs.simulate own (inside p) (stands-inside w own scope p stands) clean o c env now begins rest (λ xs last. next (meaning.Record xs) last) next (λ new last done. same new last (record { sizes = done.sizes; keeps = done.keeps; fits = done.fits }))
           ∙ sym (onward-named (eval_named w.declared c.call es (scope_in env scope) now) (λ xs last. Gives (meaning.Record xs) last) next);
     };
     formed = record {
       by = λ own p wanted stands none t is.
-          let clean = none-left (named_faults (inside p) es) (node_faults p wanted (FieldsTree sp es)) none in
+          let clean = no_front (named_faults (inside p) es) (node_faults p wanted (FieldsTree sp es)) none in
           some-same (RecordTy (named_forms fs)) t (sym (ap (option_map RecordTy) (vs.formed own (inside p) (stands-inside w own scope p stands) clean)) ∙ is);
     };
     older = vs.older;

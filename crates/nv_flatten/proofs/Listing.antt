@@ -5,7 +5,7 @@ use Rattle.std.proofs.lemmas.Bool.{eqb-true}
 use Rattle.nv_ast.specs.Tests.{value_at as found_at}
 use Rattle.nv_ast.specs.Tree.{LayoutTree, NamedLayout, GapLayout, PartsLayout, JoinedLayout}
 use Rattle.nv_ast.specs.Outline.{Layouts, OutlineTree, PartsOutline, no_named_outlines, outline}
-use Rattle.nv_ast.specs.Types.{Ty, WordTy, TupleTy, Tys, no_tys, ty_and, NamedTys, no_named_tys, named_ty_and, words, total_words, total_named_words, word_parts, words_ty, Forms, no_forms, form_and, RecordForm, ◌+++◌, form_of, record_forms, unpacked, unpacked_all}
+use Rattle.nv_ast.specs.Types.{Ty, WordTy, TupleTy, Tys, no_tys, ty_and, NamedTys, no_named_tys, named_ty_and, words, total_named_words, word_parts, words_ty, Forms, no_forms, form_and, RecordForm, ◌+++◌, form_of, record_forms, unpacked, unpacked_all}
 use Rattle.nv_meaning.specs.inner.Tables.{laid}
 use Rattle.nv_flatten.specs.declared.symbol.Symbol as code
 use Rattle.nv_flatten.specs.declared.symbol.Symbol.TheBlock.{hidden-the_row-Symbol-0, items_hidden-the_row-Symbol-0, hidden-the_row-Symbol-Record-0-2-1, items_hidden-the_row-Symbol-Record-0-2-1}
@@ -168,9 +168,6 @@ pub layout-form : (ls : List (List ℕ × LayoutTree)) (n : ℕ) (l : LayoutTree
 layout-form ls n l = outline-form (take n (laid [] ls)) l (first-forms n (laid [] ls) (laid-forms [] ls (tt {0})))
 
 -- ---- words
-pub parts-words : (n : ℕ) → total_words (word_parts n) ≡ n
-parts-words zero = refl
-parts-words (suc n) = let h = parts-words n in omega arith
 
 -- ---- parameters
 scope-more : (done : List Named) (d : Named) (outer : SymbolScope) → scope_of (done ++ d ∷ []) outer ≡ (d.0.now, view d.1) ∷ scope_of done outer

@@ -10,7 +10,7 @@ use Rattle.nv_flatten.specs.inner.Symbols as symbols
 use Rattle.nv_flatten.specs.inner.View.{Named, view, list_symbols, list_named_symbols}
 use Rattle.nv_flatten.specs.inner.Code.{variables}
 use Rattle.nv_flatten.proofs.Fresh.{numbers-append, variables-append}
-use Rattle.nv_layout.proofs.Lists.{take_item}
+use Rattle.nv_ast.proofs.Items.{take_item}
 
 -- a copy that a loop makes
 pub copied-item : {A : Type 0} (done new xs : List A) (i : ℕ) (x : A) → i < length xs → x ≡ get_or xs i x → done ≡ take i xs → new ≡ done ++ x ∷ [] → new ≡ take (i + 1) xs

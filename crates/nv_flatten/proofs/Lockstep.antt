@@ -32,8 +32,10 @@ use Rattle.nv_flatten.proofs.Sound.{typed-eval}
 use Rattle.nv_flatten.proofs.Knowing.{not_where, function-named}
 use Rattle.nv_flatten.proofs.Bodies.{IsBody, bodies, narrow-raised, has-main}
 use Rattle.nv_flatten.proofs.Entering.{type-same, word-count, all-word-count, entered-types, entered-words, params-values, params-types, params-fit, params-older, arguments-scope, from-types, all-from-words, plain-bool, take-whole}
-use Rattle.nv_flatten.proofs.NoFaults.{some-same, none-right, no-kinds}
-use Rattle.nv_flatten.proofs.WellTypes.{right-of, plain-words}
+use Rattle.nv_flatten.proofs.NoFaults.{some-same}
+use Rattle.nv_flatten.proofs.WellTypes.{right-of}
+use Rattle.nv_ast.proofs.Faultless.{no_rest, no_kinds}
+use Rattle.nv_ast.proofs.TypeWords.{plain_words}
 
 -- ---- an expression without faults has a type that is right
 
@@ -66,12 +68,12 @@ start w g vs = assigned_all code.blank (numbers_from 0 (total_named_words (param
 
 start-values : (w : Whole) (g : FunTree) (vs : Values) → value_tys vs ≡ plain_tys (params_in w g) → values_in (start w g vs) (all_fresh 0 (plain_tys (params_in w g))) ≡ vs
 start-values w g vs types =
-    subst (λ n. values_in (assigned_all code.blank (numbers_from 0 n) (all_words vs)) (all_fresh 0 (plain_tys (params_in w g))) ≡ vs) (plain-words (params_in w g))
+    subst (λ n. values_in (assigned_all code.blank (numbers_from 0 n) (all_words vs)) (all_fresh 0 (plain_tys (params_in w g))) ≡ vs) (plain_words (params_in w g))
     (subst (λ ts. values_in (assigned_all code.blank (numbers_from 0 (total_words ts)) (all_words vs)) (all_fresh 0 ts) ≡ vs) types (fresh-values 0 code.blank vs))
 
 start-fits : (w : Whole) (g : FunTree) (vs : Values) → value_tys vs ≡ plain_tys (params_in w g) → AreWords (all_words vs) → AllFit (start w g vs) (all_fresh 0 (plain_tys (params_in w g)))
 start-fits w g vs types are =
-    subst (λ n. AllFit (assigned_all code.blank (numbers_from 0 n) (all_words vs)) (all_fresh 0 (plain_tys (params_in w g)))) (plain-words (params_in w g))
+    subst (λ n. AllFit (assigned_all code.blank (numbers_from 0 n) (all_words vs)) (all_fresh 0 (plain_tys (params_in w g)))) (plain_words (params_in w g))
     (subst (λ ts. AllFit (assigned_all code.blank (numbers_from 0 (total_words ts)) (all_words vs)) (all_fresh 0 ts)) types (all-fresh-fit 0 code.blank vs are))
 
 body-agrees : (w : Whole) (f : List ℕ) (g : FunTree) → IsBody w f g → (all : Names) (fun : FlatFun) → IsMade w all g fun
@@ -158,7 +160,7 @@ main-narrow w g b found =
     let named : bytes_eq g.name main_name ≡ true = (bytes_eq-Decides g.name main_name).1 (sym ((bytes_eq-Decides main_name g.name).0 (function-named w.declared.functions main_name g found))) in
     let k = b.known.layouts in
     let last : (if bytes_eq g.name main_name then wide_main (signature k g) else []) ≡ [] =
-    none-right (variable_twice (type_names g.params)) _ (none-right (type_faults k g.result) _ (none-right (named_types_faults k g.params) _ (no-kinds g.span _ b.signed))) in
+    no_rest (variable_twice (type_names g.params)) _ (no_rest (type_faults k g.result) _ (no_rest (named_types_faults k g.params) _ (no_kinds g.span _ b.signed))) in
     let wide : wide_main (signature k g) ≡ [] = sym (ap (λ c. if c then wide_main (signature k g) else []) named) ∙ last in
     let rest : (some_named_bool (named_types_of k g.params) || nat_lt 8 (words (type_of k g.result))) ≡ false = (or_parts (nat_lt 8 (total_named_words (named_types_of k g.params))) _ (not_where {A = ℕ} _ 23 wide)).1 in
     record {
@@ -181,7 +183,7 @@ main-same t h all funs made g fun found there m args p count are sizes n =
     let lock = lockstep w (bodies t h) all funs made n in
     let vs : Values = values_from (plain_tys (params_in w g)) args in
     let types : value_tys vs ≡ plain_tys (params_in w g) = from-types (plain_tys (params_in w g)) args in
-    let plain : total_words (plain_tys (params_in w g)) ≡ total_named_words (params_in w g) = plain-words (params_in w g) in
+    let plain : total_words (plain_tys (params_in w g)) ≡ total_named_words (params_in w g) = plain_words (params_in w g) in
     let spelled : all_words vs ≡ args =
     all-from-words (plain_tys (params_in w g)) args (plain-bool (params_in w g) ∙ narrow.bools) (omega arith)
     ∙ take-whole (total_words (plain_tys (params_in w g))) args (omega arith) in

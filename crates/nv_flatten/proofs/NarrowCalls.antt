@@ -30,9 +30,9 @@ use Rattle.nv_flatten.proofs.NarrowFacts.{written-append, counted, counted-given
 use Rattle.nv_flatten.proofs.Bound.{written-all-bound}
 use Rattle.nv_flatten.proofs.NarrowValues.{roomier}
 use Rattle.nv_flatten.proofs.NarrowEnds.{arguments-counted}
-use Rattle.nv_flatten.proofs.NoFaults.{none-left, none-right, no-kinds}
 use Rattle.nv_flatten.proofs.CallArms.{get-append}
 use Rattle.nv_flatten.proofs.Following.{stands-inside}
+use Rattle.nv_ast.proofs.Faultless.{no_front, no_rest, no_kinds}
 
 module _ (w : Whole) (names others : Names) (low high : ℕ) (scope : SymbolScope) (sp : Span) (es : Trees) (ss : List Step) (us : Symbols) where
   -- arguments, and then code that takes their words
@@ -52,7 +52,7 @@ module _ (w : Whole) (names others : Names) (low high : ℕ) (scope : SymbolScop
   raise-narrow x k bs code f v same nodes = record {
     by = λ c p wanted stands none.
         let o = look_up x p.known.exceptions in
-        let first = none-left (list_faults (inside p) (wanted_arguments o es) es) (node_faults p wanted (RaiseTree sp x es)) none in
+        let first = no_front (list_faults (inside p) (wanted_arguments o es) es) (node_faults p wanted (RaiseTree sp x es)) none in
         let many : length bs.items ≡ words_all p.known p.vars es = ap length same ∙ arguments-counted w others low high scope es ss us f c.own (inside p) (wanted_arguments o es) (arguments-are-values o es) (stands-inside w c.own scope p stands) first in
         let all = need c.needs p.known p.vars (RaiseTree sp x es) in
         arguments-code c p o (Raise k bs) code all v stands first (omega arith) (raise-code c.funs c.widths c.own k bs all (omega arith)) same nodes;
@@ -73,10 +73,10 @@ module _ (w : Whole) (names others : Names) (low high : ℕ) (scope : SymbolScop
   call-narrow f i bs code t v named same nodes = record {
     by = λ c p wanted stands none.
         let o = params_of p.known f in
-        let first = none-left (list_faults (inside p) (wanted_arguments o es) es) (node_faults p wanted (CallTree sp f es)) none in
+        let first = no_front (list_faults (inside p) (wanted_arguments o es) es) (node_faults p wanted (CallTree sp f es)) none in
         let many : length bs.items ≡ words_all p.known p.vars es = ap length same ∙ arguments-counted w others low high scope es ss us t c.own (inside p) (wanted_arguments o es) (arguments-are-values o es) (stands-inside w c.own scope p stands) first in
         let all = need c.needs p.known p.vars (CallTree sp f es) in
-        let known = some-where (look_up f (callable p.known)) 11 (none-left (unknown_function p.known f) (not_in_tail p f ++ wrong_number o es) (low-of p wanted (CallTree sp f es) none)) in
+        let known = some-where (look_up f (callable p.known)) 11 (no_front (unknown_function p.known f) (not_in_tail p f ++ wrong_number o es) (low-of p wanted (CallTree sp f es) none)) in
         let callable' = stands.part.functions f known.0 known.1 in
         let n = words_at p.known p.vars (CallTree sp f es) in
         let results : words (type_of w.declared.layouts callable'.fun.result) ≡ n = ap (λ (s : Signature). words s.result) callable'.signed ∙ sym (ap (λ q. words_of_value (option_map (λ (s : Signature). s.result) q)) known.1) in
@@ -96,18 +96,18 @@ module _ (w : Whole) (names : Names) (scope : SymbolScope) (sp : Span) (a : Tree
   handler_faults p = faults (behind p) (same_as (type_at p.known p.vars a)) h
 
   rest-none : (p : Place) (wanted : Wanted) → faults p wanted (TryTree sp a x ps h) ≡ [] → around p ++ (handler_faults p ++ node_faults p wanted (TryTree sp a x ps h)) ≡ []
-  rest-none p wanted none = none-right (faults (inside p) anything a) (around p ++ (handler_faults p ++ node_faults p wanted (TryTree sp a x ps h))) none
+  rest-none p wanted none = no_rest (faults (inside p) anything a) (around p ++ (handler_faults p ++ node_faults p wanted (TryTree sp a x ps h))) none
 
   pub handler-none : (p : Place) (wanted : Wanted) → faults p wanted (TryTree sp a x ps h) ≡ [] → handler_faults p ≡ []
-  handler-none p wanted none = none-left (handler_faults p) (node_faults p wanted (TryTree sp a x ps h)) (none-right (around p) (handler_faults p ++ node_faults p wanted (TryTree sp a x ps h)) (rest-none p wanted none))
+  handler-none p wanted none = no_front (handler_faults p) (node_faults p wanted (TryTree sp a x ps h)) (no_rest (around p) (handler_faults p ++ node_faults p wanted (TryTree sp a x ps h)) (rest-none p wanted none))
 
   pub unknown-none : (p : Place) (wanted : Wanted) → faults p wanted (TryTree sp a x ps h) ≡ [] → unknown_exception p.known x ≡ []
   unknown-none p wanted none =
       let o = look_up x p.known.exceptions in
-      none-right (not_all_fitting ps o) (unknown_exception p.known x)
-      (none-right (wrong_number_of_patterns o ps) (not_all_fitting ps o ++ unknown_exception p.known x)
-      (none-right (variable_twice (names_in_all ps)) (wrong_number_of_patterns o ps ++ (not_all_fitting ps o ++ unknown_exception p.known x))
-      (no-kinds sp (raised_kinds p.known x ps) (none-left (around p) (handler_faults p ++ node_faults p wanted (TryTree sp a x ps h)) (rest-none p wanted none)))))
+      no_rest (not_all_fitting ps o) (unknown_exception p.known x)
+      (no_rest (wrong_number_of_patterns o ps) (not_all_fitting ps o ++ unknown_exception p.known x)
+      (no_rest (variable_twice (names_in_all ps)) (wrong_number_of_patterns o ps ++ (not_all_fitting ps o ++ unknown_exception p.known x))
+      (no_kinds sp (raised_kinds p.known x ps) (no_front (around p) (handler_faults p ++ node_faults p wanted (TryTree sp a x ps h)) (rest-none p wanted none)))))
 
   pub try-narrow : (q r : _) (t u : Flat) (k n : ℕ) (xs : _) (inner : SymbolScope) → IsNarrowEnd w names scope a t → IsNarrowEnd w names inner h u
       → inner ≡ all_bound ps (all_fresh n (raised_or_none w (exception_number w.declared.exceptions x))) scope
@@ -139,7 +139,7 @@ module _ (w : Whole) (names : Names) (scope : SymbolScope) (sp : Span) (a : Tree
         let same : v0 ≡ va ++ vh = written-append scope (variables a) (variables h) in
         subst (λ l. NarrowCode c.funs c.widths c.own (Try' q t k xs r u) l l all) (sym same)
         (try-code c.funs c.widths c.own q t k xs r u va vh (va ++ vh) na nh all
-        (recast-code c.funs c.widths c.own t va va va (va ++ vh) 0 na na (v.by c (inside p) anything (stands-inside w c.own scope p stands) (none-left (faults (inside p) anything a) (around p ++ (handler_faults p ++ node_faults p wanted (TryTree sp a x ps h))) none)) itself (grows-not (va ++ vh) va (into-left va va vh itself)) (omega arith))
+        (recast-code c.funs c.widths c.own t va va va (va ++ vh) 0 na na (v.by c (inside p) anything (stands-inside w c.own scope p stands) (no_front (faults (inside p) anything a) (around p ++ (handler_faults p ++ node_faults p wanted (TryTree sp a x ps h))) none)) itself (grows-not (va ++ vh) va (into-left va va vh itself)) (omega arith))
         (recast-code c.funs c.widths c.own u vi vi (xs.items ++ vh) (xs.items ++ (va ++ vh)) 0 nh nh (e.by c (behind p) (same_as (type_at p.known p.vars a)) stands' (handler-none p wanted none)) inside'
         (grows-not (xs.items ++ (va ++ vh)) vi (through inside' (behind-same xs.items vh (va ++ vh) (into-right vh va vh itself)))) (omega arith))
         (into-right vh va vh itself) (omega arith) (omega arith) (omega arith));
@@ -173,7 +173,7 @@ module _ (w : Whole) (names : Names) (scope : SymbolScope) (sp : Span) (l : List
   unpack-narrow f g v t = record {
     by = λ c p wanted stands none.
         let right = wanted_packed (look_up l p.known.layouts) in
-        let first = none-left (faults (inside p) right a) (node_faults p wanted (UnpackTree sp l a)) none in
+        let first = no_front (faults (inside p) right a) (node_faults p wanted (UnpackTree sp l a)) none in
         let stands' = stands-inside w c.own scope p stands in
         let least : 2 + words_at p.known p.vars a ≤ need c.needs p.known p.vars a = need-least c.needs p.known p.vars a in
         let many : length (operands s) ≡ words_at p.known p.vars a = counted w scope a s f c.own (inside p) right stands' first (packed-value (look_up l p.known.layouts)) in
@@ -189,7 +189,7 @@ module _ (w : Whole) (names : Names) (scope : SymbolScope) (sp : Span) (l : List
   pack-narrow f g v t = record {
     by = λ c p wanted stands none.
         let right = wanted_unpacked (look_up l p.known.layouts) in
-        let first = none-left (faults (inside p) right a) (node_faults p wanted (PackTree sp l a)) none in
+        let first = no_front (faults (inside p) right a) (node_faults p wanted (PackTree sp l a)) none in
         let stands' = stands-inside w c.own scope p stands in
         let least : 2 + words_at p.known p.vars a ≤ need c.needs p.known p.vars a = need-least c.needs p.known p.vars a in
         let many : length (operands s) ≡ words_at p.known p.vars a = counted w scope a s f c.own (inside p) right stands' first (unpacked-value (look_up l p.known.layouts)) in

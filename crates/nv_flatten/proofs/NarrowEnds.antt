@@ -32,8 +32,9 @@ use Rattle.nv_flatten.proofs.Within.{itself, of-none, one, both, unions, togethe
 use Rattle.nv_flatten.proofs.NarrowSteps.{last, beside, joined, recast-code, give-code, if-code}
 use Rattle.nv_flatten.proofs.NarrowFacts.{written-append, counted-given, words-of-forms, truth-operand-within, need-least}
 use Rattle.nv_flatten.proofs.NarrowValues.{roomier, less-behind, operands-narrow, result-words}
-use Rattle.nv_flatten.proofs.NoFaults.{none-left, none-right, some-same}
+use Rattle.nv_flatten.proofs.NoFaults.{some-same}
 use Rattle.nv_flatten.proofs.Following.{stands-inside}
+use Rattle.nv_ast.proofs.Faultless.{no_front, no_rest}
 
 module _ (funs : List FlatFun) (widths : Widths) (own : ℕ) where
   literal-code : (t : Flat) → GivesLiteral t → NarrowCode funs widths own t [] [] 2
@@ -122,7 +123,7 @@ module _ (w : Whole) (names : Names) (scope : SymbolScope) where
     by = λ c p wanted stands none.
         let v0 = written scope (variables e) in
         roomier c.funs c.widths c.own ss v0 v0 (all_vars (a ∷ b ∷ [])) (need c.needs p.known p.vars e) (need c.needs p.known p.vars (ParenTree sp e))
-        (v.by c p a_value stands (none-left (faults p a_value e) (node_faults p wanted (ParenTree sp e)) none)) (omega arith);
+        (v.by c p a_value stands (no_front (faults p a_value e) (node_faults p wanted (ParenTree sp e)) none)) (omega arith);
   }
 
   pub negate-test-narrow : (sp : Span) (e : Tree) (ss : List Step) (a b : Atom) → IsNarrowTest w names scope e ss a b → IsNarrowTest w names scope (NegateTree sp e) ss a b
@@ -130,7 +131,7 @@ module _ (w : Whole) (names : Names) (scope : SymbolScope) where
     by = λ c p wanted stands none.
         let v0 = written scope (variables e) in
         roomier c.funs c.widths c.own ss v0 v0 (all_vars (a ∷ b ∷ [])) (need c.needs p.known p.vars e) (need c.needs p.known p.vars (NegateTree sp e))
-        (v.by c (inside p) (of_type BoolTy) (stands-inside w c.own scope p stands) (none-left (faults (inside p) (of_type BoolTy) e) (node_faults p wanted (NegateTree sp e)) none)) (omega arith);
+        (v.by c (inside p) (of_type BoolTy) (stands-inside w c.own scope p stands) (no_front (faults (inside p) (of_type BoolTy) e) (node_faults p wanted (NegateTree sp e)) none)) (omega arith);
   }
 
   pub compare-narrow : (sp : Span) (op : Op) (a b : Tree) (ss ts : List Step) (s u : Symbol) (l r : Atom) → HasForm w scope a s → IsNarrowValue w names scope a ss s → IsNarrowValue w names scope b ts u
@@ -159,7 +160,7 @@ module _ (w : Whole) (names : Names) (scope : SymbolScope) where
   paren-end-narrow sp e code v = record {
     by = λ c p wanted stands none.
         let v0 = written scope (variables e) in
-        recast-code c.funs c.widths c.own code v0 v0 v0 v0 0 (need c.needs p.known p.vars e) (need c.needs p.known p.vars (ParenTree sp e)) (v.by c p a_value stands (none-left (faults p a_value e) (node_faults p wanted (ParenTree sp e)) none)) itself (grows-not v0 v0 itself) (omega arith);
+        recast-code c.funs c.widths c.own code v0 v0 v0 v0 0 (need c.needs p.known p.vars e) (need c.needs p.known p.vars (ParenTree sp e)) (v.by c p a_value stands (no_front (faults p a_value e) (node_faults p wanted (ParenTree sp e)) none)) itself (grows-not v0 v0 itself) (omega arith);
   }
 
   pub decided-narrow : (e : Tree) (ss : List Step) (cmp : Cmp) (l r : Atom) (q q' : _) (t u code : Flat) → is_comparison e ≡ true → IsNarrowTest w names scope e ss l r → GivesLiteral t → GivesLiteral u → AreNodes ss (If' cmp l r q t q' u) code → IsNarrowEnd w names scope e code
@@ -176,12 +177,12 @@ module _ (w : Whole) (names : Names) (scope : SymbolScope) where
   }
 
   pub first-none : (p : Place) (wanted : Wanted) (sp : Span) (op : Op) (a b : Tree) → faults p wanted (BinaryTree sp op a b) ≡ [] → faults (inside p) (of_type (operand_ty op)) a ≡ []
-  first-none p wanted sp op a b none = none-left (faults (inside p) (of_type (operand_ty op)) a) (faults (inside p) (of_type (operand_ty op)) b ++ node_faults p wanted (BinaryTree sp op a b)) none
+  first-none p wanted sp op a b none = no_front (faults (inside p) (of_type (operand_ty op)) a) (faults (inside p) (of_type (operand_ty op)) b ++ node_faults p wanted (BinaryTree sp op a b)) none
 
   pub second-none : (p : Place) (wanted : Wanted) (sp : Span) (op : Op) (a b : Tree) → faults p wanted (BinaryTree sp op a b) ≡ [] → faults (inside p) (of_type (operand_ty op)) b ≡ []
   second-none p wanted sp op a b none =
-      none-left (faults (inside p) (of_type (operand_ty op)) b) (node_faults p wanted (BinaryTree sp op a b))
-      (none-right (faults (inside p) (of_type (operand_ty op)) a) (faults (inside p) (of_type (operand_ty op)) b ++ node_faults p wanted (BinaryTree sp op a b)) none)
+      no_front (faults (inside p) (of_type (operand_ty op)) b) (node_faults p wanted (BinaryTree sp op a b))
+      (no_rest (faults (inside p) (of_type (operand_ty op)) a) (faults (inside p) (of_type (operand_ty op)) b ++ node_faults p wanted (BinaryTree sp op a b)) none)
 
   drop-last : (va vb : List ℕ) → IsWithin (va ++ (vb ++ [])) (va ++ vb)
   drop-last va vb = behind-same va (vb ++ []) vb (together vb [] vb itself (of-none vb))
@@ -237,11 +238,11 @@ module _ (w : Whole) (names : Names) (scope : SymbolScope) where
         let fb = faults p (same_as (type_at p.known p.vars a)) b in
         let own = node_faults p wanted (IfTree sp x a b) in
         let least = need-least c.needs p.known p.vars x in
-        let behind = none-right fx (fa ++ (fb ++ own)) none in
+        let behind = no_rest fx (fa ++ (fb ++ own)) none in
         let back : IsWithin (vx ++ (va ++ vb)) v0 = subst (IsWithin (vx ++ (va ++ vb))) (sym (written-three scope (variables x) (variables a) (variables b))) itself in
         recast-code c.funs c.widths c.own code (vx ++ (va ++ vb)) (vx ++ (va ++ vb)) v0 v0 0 all all
         (choice-code c.funs c.widths c.own ss cmp l r q q' t u code vx va vb (need c.needs p.known p.vars x) (need c.needs p.known p.vars a) (need c.needs p.known p.vars b) all
-        (v.by c (inside p) (of_type BoolTy) (stands-inside w c.own scope p stands) (none-left fx (fa ++ (fb ++ own)) none)) (e.by c p anything stands (none-left fa (fb ++ own) behind))
-        (i.by c p (same_as (type_at p.known p.vars a)) stands (none-left fb own (none-right fa (fb ++ own) behind))) nodes (omega arith) (omega arith) (omega arith) (omega arith))
+        (v.by c (inside p) (of_type BoolTy) (stands-inside w c.own scope p stands) (no_front fx (fa ++ (fb ++ own)) none)) (e.by c p anything stands (no_front fa (fb ++ own) behind))
+        (i.by c p (same_as (type_at p.known p.vars a)) stands (no_front fb own (no_rest fa (fb ++ own) behind))) nodes (omega arith) (omega arith) (omega arith) (omega arith))
         back (grows-not v0 (vx ++ (va ++ vb)) back) (omega arith);
   }

@@ -25,8 +25,8 @@ use Rattle.nv_flatten.proofs.NarrowSteps.{no-steps, recast, beside, follow, stor
 use Rattle.nv_flatten.proofs.NarrowFacts.{written-append, written-right, counted, vars-at-most, word-operand-within}
 use Rattle.nv_flatten.proofs.Bound.{written-bound, bound-pends, same-pends, pends-further}
 use Rattle.nv_flatten.proofs.NarrowValues.{roomier, two-parts, fewer}
-use Rattle.nv_flatten.proofs.NoFaults.{none-left, none-right}
 use Rattle.nv_flatten.proofs.Following.{stands-inside}
+use Rattle.nv_ast.proofs.Faultless.{no_front, no_rest}
 
 module _ (w : Whole) (names : Names) (scope : SymbolScope) where
   -- ---- lists
@@ -52,10 +52,10 @@ module _ (w : Whole) (names : Names) (scope : SymbolScope) where
       → NarrowSteps c.funs c.widths c.own (ss ++ ts) (written scope (variables e ++ variables_all es)) (written scope (variables e ++ variables_all es)) (all_vars (operands s ++ all_operands us)) (words_all p.known p.vars (tree_and e es) + need_all c.needs p.known p.vars (tree_and e es))
   cons-by e es ss ts s us f v rest c p [] values stands none =
       front c p a_value e (variables_all es) ss ts s (all_operands us) (words_all p.known p.vars es) (need_all c.needs p.known p.vars es) refl f v
-      (rest.by c p [] values stands (none-right (faults p a_value e) (list_faults p [] es) none)) stands (none-left (faults p a_value e) (list_faults p [] es) none)
+      (rest.by c p [] values stands (no_rest (faults p a_value e) (list_faults p [] es) none)) stands (no_front (faults p a_value e) (list_faults p [] es) none)
   cons-by e es ss ts s us f v rest c p (x ∷ xs) values stands none =
       front c p x e (variables_all es) ss ts s (all_operands us) (words_all p.known p.vars es) (need_all c.needs p.known p.vars es) (All-head (λ (y : Wanted). y.value ≡ true) x xs values) f v
-      (rest.by c p xs (All-tail (λ (y : Wanted). y.value ≡ true) x xs values) stands (none-right (faults p x e) (list_faults p xs es) none)) stands (none-left (faults p x e) (list_faults p xs es) none)
+      (rest.by c p xs (All-tail (λ (y : Wanted). y.value ≡ true) x xs values) stands (no_rest (faults p x e) (list_faults p xs es) none)) stands (no_front (faults p x e) (list_faults p xs es) none)
 
   pub values-cons : (e : Tree) (es : Trees) (ss ts : List Step) (s : Symbol) (us : Symbols) → HasForm w scope e s → IsNarrowValue w names scope e ss s → AreNarrowValues w names scope es ts us
       → AreNarrowValues w names scope (tree_and e es) (ss ++ ts) (symbol_and s us)
@@ -66,7 +66,7 @@ module _ (w : Whole) (names : Names) (scope : SymbolScope) where
   fields-cons x y e es ss ts s us f v rest = record {
     by = λ c p stands none.
         front c p a_value e (variables_named es) ss ts s (named_operands us) (words_named p.known p.vars es) (need_named c.needs p.known p.vars es) refl f v
-        (rest.by c p stands (none-right (faults p a_value e) (named_faults p es) none)) stands (none-left (faults p a_value e) (named_faults p es) none);
+        (rest.by c p stands (no_rest (faults p a_value e) (named_faults p es) none)) stands (no_front (faults p a_value e) (named_faults p es) none);
   }
 
   -- ---- statements
@@ -94,7 +94,7 @@ module _ (w : Whole) (names : Names) (scope : SymbolScope) where
   }
     where
       expression-none : (p : Place) → statement_faults p (LetStatement sp q e) ≡ [] → faults p a_value e ≡ []
-      expression-none p none = none-left (faults p a_value e) (at_span sp (variable_twice (names_in q) ++ not_fitting q (type_at p.known p.vars e))) none
+      expression-none p none = no_front (faults p a_value e) (at_span sp (variable_twice (names_in q) ++ not_fitting q (type_at p.known p.vars e))) none
 
   pub store-narrow : (sp : Span) (m : _) (a e : Tree) (ss ts : List Step) (s u : Symbol) (bs : _) → HasForm w scope a s → HasForm w scope e u → IsNarrowValue w names scope a ss s → IsNarrowValue w names scope e ts u
       → stored (Store m (word_operand s) bs) ≡ operands u → IsNarrowStatement w names scope (StoreStatement sp m a e) ((ss ++ ts) ++ Store m (word_operand s) bs ∷ []) scope
@@ -103,8 +103,8 @@ module _ (w : Whole) (names : Names) (scope : SymbolScope) where
     by = λ c p stands none outer lets pends tail.
         let n = words_of_value (type_at p.known p.vars e) in
         let last = at_span sp (wrong_access m n ++ wrong_scratch m a n) in
-        let first = none-left (faults p (of_type WordTy) a) (faults p wanted_stored e ++ last) none in
-        let second = none-left (faults p wanted_stored e) last (none-right (faults p (of_type WordTy) a) (faults p wanted_stored e ++ last) none) in
+        let first = no_front (faults p (of_type WordTy) a) (faults p wanted_stored e ++ last) none in
+        let second = no_front (faults p wanted_stored e) last (no_rest (faults p (of_type WordTy) a) (faults p wanted_stored e ++ last) none) in
         let wa = words_at p.known p.vars a in
         let we = words_at p.known p.vars e in
         let na = need c.needs p.known p.vars a in
@@ -137,13 +137,13 @@ module _ (w : Whole) (names : Names) (scope : SymbolScope) where
       → IsNarrowStated w names mid sts ts inner → IsNarrowStated w names scope (statement_and st sts) (ss ++ ts) inner
   stated-cons others low high mid inner st sts ss ts f v rest = record {
     pends = λ own p stands none.
-        let first = none-left (statement_faults p st) (statements_faults (with_vars (vars_after p.known p.vars st) p) sts) none in
+        let first = no_front (statement_faults p st) (statements_faults (with_vars (vars_after p.known p.vars st) p) sts) none in
         pends-further scope mid inner (let_of p.known p.vars st) (lets_behind p.known (vars_after p.known p.vars st) sts) (v.pends own p stands first)
-        (rest.pends own (with_vars (vars_after p.known p.vars st) p) (stands-after others low high mid st ss f own p stands first) (none-right (statement_faults p st) (statements_faults (with_vars (vars_after p.known p.vars st) p) sts) none));
+        (rest.pends own (with_vars (vars_after p.known p.vars st) p) (stands-after others low high mid st ss f own p stands first) (no_rest (statement_faults p st) (statements_faults (with_vars (vars_after p.known p.vars st) p) sts) none));
     by = λ c p stands none outer lets pends tail.
         let vars' = vars_after p.known p.vars st in
-        let first = none-left (statement_faults p st) (statements_faults (with_vars vars' p) sts) none in
-        let second = none-right (statement_faults p st) (statements_faults (with_vars vars' p) sts) none in
+        let first = no_front (statement_faults p st) (statements_faults (with_vars vars' p) sts) none in
+        let second = no_rest (statement_faults p st) (statements_faults (with_vars vars' p) sts) none in
         let xs = variables_statement st in
         let ys = variables_statements sts in
         let here = pending lets (xs ++ (ys ++ tail)) + need_statement c.needs p.known p.vars st in
@@ -187,12 +187,12 @@ module _ (w : Whole) (names others : Names) (low high : ℕ) (scope inner : Symb
       (grows-not all (written scope (variables e)) (written-right scope (variables_statements sts) (variables e))) (pends.by (variables e)))
 
   pub statements-none : (p : Place) (wanted : Wanted) → faults p wanted (BlockTree sp sts e) ≡ [] → statements_faults (inside p) sts ≡ []
-  statements-none p wanted none = none-left (statements_faults (inside p) sts) (faults (with_vars (vars_behind p.known p.vars sts) p) anything e ++ node_faults p wanted (BlockTree sp sts e)) none
+  statements-none p wanted none = no_front (statements_faults (inside p) sts) (faults (with_vars (vars_behind p.known p.vars sts) p) anything e ++ node_faults p wanted (BlockTree sp sts e)) none
 
   pub last-none : (p : Place) (wanted : Wanted) → faults p wanted (BlockTree sp sts e) ≡ [] → faults (with_vars (vars_behind p.known p.vars sts) p) anything e ≡ []
   last-none p wanted none =
-      none-left (faults (with_vars (vars_behind p.known p.vars sts) p) anything e) (node_faults p wanted (BlockTree sp sts e))
-      (none-right (statements_faults (inside p) sts) (faults (with_vars (vars_behind p.known p.vars sts) p) anything e ++ node_faults p wanted (BlockTree sp sts e)) none)
+      no_front (faults (with_vars (vars_behind p.known p.vars sts) p) anything e) (node_faults p wanted (BlockTree sp sts e))
+      (no_rest (statements_faults (inside p) sts) (faults (with_vars (vars_behind p.known p.vars sts) p) anything e ++ node_faults p wanted (BlockTree sp sts e)) none)
 
   pub block-narrow : (ts : List Step) (s : Symbol) → IsStated w others low high scope sts ss inner → IsNarrowStated w names scope sts ss inner → IsNarrowValue w names inner e ts s → IsNarrowValue w names scope (BlockTree sp sts e) (ss ++ ts) s
   block-narrow ts s f t v = record {

@@ -33,11 +33,11 @@ use Rattle.nv_flatten.proofs.Fresh.{fresh-operands, numbers-length}
 use Rattle.nv_flatten.proofs.Within.{itself, of-none, into-left, together, through, both-same, grows-by, grows-not}
 use Rattle.nv_flatten.proofs.NarrowSteps.{no-steps, recast, follow, in-turn, let-step, fetch-step, bind-step}
 use Rattle.nv_flatten.proofs.NarrowFacts.{written-append, counted, words-of-or-unit, vars-at-most, word-operand-within, truth-operand-within, field-within, fields-within, vars-of-variables, need-least}
-use Rattle.nv_flatten.proofs.NoFaults.{none-left, none-right}
 use Rattle.nv_flatten.proofs.PackedWords.{symbol-operands}
 use Rattle.nv_flatten.proofs.Following.{stands-inside}
 use Rattle.nv_flatten.proofs.Keeping.{extends-then}
 use Rattle.nv_flatten.proofs.WellBasics.{words-ty-words}
+use Rattle.nv_ast.proofs.Faultless.{no_front, no_rest}
 
 -- ---- steps and then a primitive of their results
 prim-length : (q : Primitive) → length (prim_vars q) ≤ 2
@@ -113,21 +113,21 @@ module _ (w : Whole) (names : Names) (scope : SymbolScope) where
         let v0 = written scope (variables a) in
         let m = need c.needs p.known p.vars a in
         roomier c.funs c.widths c.own ss v0 v0 (all_vars (operands s)) m (need c.needs p.known p.vars (ParenTree sp a))
-        (v.by c p a_value stands (none-left (faults p a_value a) (node_faults p wanted (ParenTree sp a)) none)) (omega arith);
+        (v.by c p a_value stands (no_front (faults p a_value a) (node_faults p wanted (ParenTree sp a)) none)) (omega arith);
   }
 
   pub tuple-narrow : (sp : Span) (es : Trees) (ss : List Step) (us : Symbols) → AreNarrowValues w names scope es ss us → IsNarrowValue w names scope (TupleTree sp es) ss (Tuple us)
   tuple-narrow sp es ss us v = record {
     by = λ c p wanted stands none.
         roomier c.funs c.widths c.own ss (written scope (variables_all es)) (written scope (variables_all es)) (all_vars (all_operands us)) _ (need c.needs p.known p.vars (TupleTree sp es))
-        (v.by c (inside p) [] (All-nil (λ (x : Wanted). x.value ≡ true)) (stands-inside w c.own scope p stands) (none-left (list_faults (inside p) [] es) (node_faults p wanted (TupleTree sp es)) none)) (omega arith);
+        (v.by c (inside p) [] (All-nil (λ (x : Wanted). x.value ≡ true)) (stands-inside w c.own scope p stands) (no_front (list_faults (inside p) [] es) (node_faults p wanted (TupleTree sp es)) none)) (omega arith);
   }
 
   pub record-narrow : (sp : Span) (es : NamedTrees) (ss : List Step) (us : NamedSymbols) → AreNarrowFields w names scope es ss us → IsNarrowValue w names scope (FieldsTree sp es) ss (Record us)
   record-narrow sp es ss us v = record {
     by = λ c p wanted stands none.
         roomier c.funs c.widths c.own ss (written scope (variables_named es)) (written scope (variables_named es)) (all_vars (named_operands us)) _ (need c.needs p.known p.vars (FieldsTree sp es))
-        (v.by c (inside p) (stands-inside w c.own scope p stands) (none-left (named_faults (inside p) es) (node_faults p wanted (FieldsTree sp es)) none)) (omega arith);
+        (v.by c (inside p) (stands-inside w c.own scope p stands) (no_front (named_faults (inside p) es) (node_faults p wanted (FieldsTree sp es)) none)) (omega arith);
   }
 
   pub dot-narrow : (sp : Span) (a : Tree) (x : List ℕ) (ss : List Step) (s : Symbol) → IsNarrowValue w names scope a ss s → IsNarrowValue w names scope (DotTree sp a x) ss (field_named x (fields_of s))
@@ -135,7 +135,7 @@ module _ (w : Whole) (names : Names) (scope : SymbolScope) where
     by = λ c p wanted stands none.
         let v0 = written scope (variables a) in
         less-behind c.funs c.widths c.own ss v0 v0 (all_vars (operands s)) (all_vars (operands (field_named x (fields_of s)))) (need c.needs p.known p.vars a) (need c.needs p.known p.vars (DotTree sp a x))
-        (v.by c (inside p) a_value (stands-inside w c.own scope p stands) (none-left (faults (inside p) a_value a) (node_faults p wanted (DotTree sp a x)) none))
+        (v.by c (inside p) a_value (stands-inside w c.own scope p stands) (no_front (faults (inside p) a_value a) (node_faults p wanted (DotTree sp a x)) none))
         (through (field-within x (fields_of s)) (fields-within s)) (omega arith);
   }
 
@@ -152,7 +152,7 @@ module _ (w : Whole) (names : Names) (scope : SymbolScope) where
   invert-narrow sp a ss s x op v = record {
     by = λ c p wanted stands none.
         one-let c p a ss s x (UnaOf op (word_operand s)) (need c.needs p.known p.vars (InvertTree sp a))
-        (v.by c (inside p) (of_type WordTy) (stands-inside w c.own scope p stands) (none-left (faults (inside p) (of_type WordTy) a) (node_faults p wanted (InvertTree sp a)) none))
+        (v.by c (inside p) (of_type WordTy) (stands-inside w c.own scope p stands) (no_front (faults (inside p) (of_type WordTy) a) (node_faults p wanted (InvertTree sp a)) none))
         (word-operand-within s) (omega arith);
   }
 
@@ -160,7 +160,7 @@ module _ (w : Whole) (names : Names) (scope : SymbolScope) where
   negate-narrow sp a ss s x n op v = record {
     by = λ c p wanted stands none.
         one-let c p a ss s x (BinOf op (truth_operand s) (Lit n)) (need c.needs p.known p.vars (NegateTree sp a))
-        (v.by c (inside p) (of_type BoolTy) (stands-inside w c.own scope p stands) (none-left (faults (inside p) (of_type BoolTy) a) (node_faults p wanted (NegateTree sp a)) none))
+        (v.by c (inside p) (of_type BoolTy) (stands-inside w c.own scope p stands) (no_front (faults (inside p) (of_type BoolTy) a) (node_faults p wanted (NegateTree sp a)) none))
         (together (atom_vars (truth_operand s)) [] (all_vars (operands s)) (truth-operand-within s) (of-none (all_vars (operands s)))) (omega arith);
   }
 
@@ -175,7 +175,7 @@ module _ (w : Whole) (names : Names) (scope : SymbolScope) where
     by = λ c p wanted stands none.
         let v0 = written scope (variables a) in
         less-behind c.funs c.widths c.own ss v0 v0 (all_vars (operands s)) (all_vars (word_operand s ∷ [])) (need c.needs p.known p.vars a) (need c.needs p.known p.vars (ShiftTree sp op a n))
-        (v.by c (inside p) (of_type WordTy) (stands-inside w c.own scope p stands) (none-left (faults (inside p) (of_type WordTy) a) (node_faults p wanted (ShiftTree sp op a n)) none))
+        (v.by c (inside p) (of_type WordTy) (stands-inside w c.own scope p stands) (no_front (faults (inside p) (of_type WordTy) a) (node_faults p wanted (ShiftTree sp op a n)) none))
         (together (atom_vars (word_operand s)) [] (all_vars (operands s)) (word-operand-within s) (of-none (all_vars (operands s)))) (omega arith);
   }
 
@@ -183,7 +183,7 @@ module _ (w : Whole) (names : Names) (scope : SymbolScope) where
   shift-narrow sp op a n ss s x v = record {
     by = λ c p wanted stands none.
         one-let c p a ss s x (shift_of op n (word_operand s)) (need c.needs p.known p.vars (ShiftTree sp op a n))
-        (v.by c (inside p) (of_type WordTy) (stands-inside w c.own scope p stands) (none-left (faults (inside p) (of_type WordTy) a) (node_faults p wanted (ShiftTree sp op a n)) none))
+        (v.by c (inside p) (of_type WordTy) (stands-inside w c.own scope p stands) (no_front (faults (inside p) (of_type WordTy) a) (node_faults p wanted (ShiftTree sp op a n)) none))
         (subst (λ l. IsWithin l (all_vars (operands s))) (sym (shift-vars op n (word_operand s))) (word-operand-within s)) (omega arith);
   }
 
@@ -193,8 +193,8 @@ module _ (w : Whole) (names : Names) (scope : SymbolScope) where
       → NarrowSteps c.funs c.widths c.own (ss ++ ts) (written scope (variables a ++ variables b)) (written scope (variables a ++ variables b)) (all_vars (operands s) ++ all_vars (operands u)) all
   operands-narrow c p wanted sp op a b ss ts s u f v t stands none all le =
       let right = of_type (operand_ty op) in
-      let first = none-left (faults (inside p) right a) (faults (inside p) right b ++ node_faults p wanted (BinaryTree sp op a b)) none in
-      let second = none-left (faults (inside p) right b) (node_faults p wanted (BinaryTree sp op a b)) (none-right (faults (inside p) right a) (faults (inside p) right b ++ node_faults p wanted (BinaryTree sp op a b)) none) in
+      let first = no_front (faults (inside p) right a) (faults (inside p) right b ++ node_faults p wanted (BinaryTree sp op a b)) none in
+      let second = no_front (faults (inside p) right b) (node_faults p wanted (BinaryTree sp op a b)) (no_rest (faults (inside p) right a) (faults (inside p) right b ++ node_faults p wanted (BinaryTree sp op a b)) none) in
       let stands' = stands-inside w c.own scope p stands in
       let many : length (operands s) ≡ words_at p.known p.vars a = counted w scope a s f c.own (inside p) right stands' first refl in
       two-parts c.funs c.widths c.own scope ss ts (variables a) (variables b) (all_vars (operands s)) (all_vars (operands u)) (need c.needs p.known p.vars a) (need c.needs p.known p.vars b) (words_at p.known p.vars a) all
@@ -243,7 +243,7 @@ module _ (w : Whole) (names : Names) (scope : SymbolScope) where
         let these : result ≡ xs.items = ap all_vars (symbol-operands (var_operands made')) ∙ (vars-of-variables made' ∙ sym made) in
         follow c.funs c.widths c.own ss (Fetch m xs (word_operand s) ∷ []) v0 v0 s0 result all
         (roomier c.funs c.widths c.own ss v0 v0 s0 (need c.needs p.known p.vars a) all
-        (v.by c (inside p) (of_type WordTy) (stands-inside w c.own scope p stands) (none-left (faults (inside p) (of_type WordTy) a) (node_faults p wanted (FetchTree sp m n a)) none)) (omega arith))
+        (v.by c (inside p) (of_type WordTy) (stands-inside w c.own scope p stands) (no_front (faults (inside p) (of_type WordTy) a) (node_faults p wanted (FetchTree sp m n a)) none)) (omega arith))
         (recast c.funs c.widths c.own (Fetch m xs (word_operand s) ∷ []) (atom_vars (word_operand s)) [] xs.items s0 v0 result 0 (2 + n) all (fetch-step c.funs c.widths c.own m xs (word_operand s) (2 + n) (omega arith) (omega arith))
         (word-operand-within s) (grows-not v0 [] (of-none v0)) (subst (λ l. IsWithin l xs.items) (sym these) itself) (omega arith));
   }

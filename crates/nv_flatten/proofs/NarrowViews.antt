@@ -26,9 +26,10 @@ use Rattle.nv_flatten.proofs.Within.{of-none, into-left, into-right, together, t
 use Rattle.nv_flatten.proofs.NarrowFacts.{word-operand-within}
 use Rattle.nv_flatten.proofs.NarrowValues.{value-narrow-more, shift-none-narrow, shift-narrow}
 use Rattle.nv_flatten.proofs.NarrowLists.{values-cons, fields-cons, values-nil, fields-nil, stated-cons, stated-nil, statement-narrow-more}
-use Rattle.nv_flatten.proofs.NoFaults.{unset}
 use Rattle.nv_flatten.proofs.Keeping.{extends-then}
-use Rattle.nv_meaning.proofs.Lists.{dropped, dropped-all}
+use Rattle.nv_meaning.proofs.Lists.{dropped-all}
+use Rattle.nv_ast.proofs.Items.{next_item}
+use Rattle.nv_ast.proofs.Faultless.{not_where}
 
 -- ---- at an equal scope, an equal tree and equal operands
 pub narrow-at : (w : Whole) (names : Names) (scope : SymbolScope) (e : Tree) (ss ss' : List Step) (v v' : Symbol) → ss' ≡ ss → v' ≡ v → IsNarrowValue w names scope e ss v → IsNarrowValue w names scope e ss' v'
@@ -54,7 +55,7 @@ pub shifted-narrow : (w : Whole) (names : Names) (scope : SymbolScope) (sp : Spa
     → (1 ≤ n → n ≤ 31 → (b ≡ Var x) × (ss' ≡ ss ++ Let x (shift_of op n (word_operand s)) ∷ [])) → IsNarrowValue w names scope a ss s → IsNarrowValue w names scope (ShiftTree sp op a n) ss' (Word b)
 shifted-narrow w names scope sp op a n ss ss' s b x none some v = record {
   by = λ c p wanted stands clean.
-      let le : n ≤ 31 = ltb-false 31 n (unset (nat_lt 31 n) 21 (middle-of p wanted (ShiftTree sp op a n) clean)) in
+      let le : n ≤ 31 = ltb-false 31 n (not_where (nat_lt 31 n) 21 (middle-of p wanted (ShiftTree sp op a n) clean)) in
       (shift-by w names scope sp op a n ss ss' s b x none some v le).by c p wanted stands clean;
 }
 
@@ -76,7 +77,7 @@ front-more w l l' es names more i e ss ts ss' vs vs' v h is es' ev same ext a f 
       let here : AreNarrowValues w later scope (list_trees (e ∷ drop (i + 1) es)) (ts ++ ts') (list_symbols (v ∷ us)) =
       values-cons w later scope (tree_of e) (list_trees (drop (i + 1) es)) ts ts' (view v) (list_symbols us) (narrow-form-in w l l' (tree_of e) (view v) same f)
       (value-narrow-more w more later ext' scope (tree_of e) ts (view v) (narrow-in w more l l' (tree_of e) ts (view v) same b)) rest in
-      let there = a.by later (ts ++ ts') (v ∷ us) (extends-then names more later ext ext') (subst (λ k. AreNarrowValues w later scope (list_trees k) (ts ++ ts') (list_symbols (v ∷ us))) (sym (dropped es i e h is)) here) in
+      let there = a.by later (ts ++ ts') (v ∷ us) (extends-then names more later ext ext') (subst (λ k. AreNarrowValues w later scope (list_trees k) (ts ++ ts') (list_symbols (v ∷ us))) (sym (next_item es i e h is)) here) in
       subst (λ k. AreNarrowValues w later scope (list_trees es) k (list_symbols (vs' ++ us))) (sym (append_assoc ss ts ts') ∙ ap (λ k. k ++ ts') (sym es'))
       (subst (λ k. AreNarrowValues w later scope (list_trees es) (ss ++ (ts ++ ts')) (list_symbols k)) (sym (append_assoc vs (v ∷ []) us) ∙ ap (λ k. k ++ us) (sym ev)) there);
 }
@@ -105,7 +106,7 @@ row-more w l l' es names more i e ss ts ss' vs vs' f h is es' ev same ext a g b 
       let here : AreNarrowFields w later scope (list_named_trees (e ∷ drop (i + 1) es)) (ts ++ ts') (list_named_symbols (f ∷ us)) =
       fields-cons w later scope e.0 f.0.now (tree_of e.1) (list_named_trees (drop (i + 1) es)) ts ts' (view f.1) (list_named_symbols us) (narrow-form-in w l l' (tree_of e.1) (view f.1) same g)
       (value-narrow-more w more later ext' scope (tree_of e.1) ts (view f.1) (narrow-in w more l l' (tree_of e.1) ts (view f.1) same b)) rest in
-      let there = a.by later (ts ++ ts') (f ∷ us) (extends-then names more later ext ext') (subst (λ k. AreNarrowFields w later scope (list_named_trees k) (ts ++ ts') (list_named_symbols (f ∷ us))) (sym (dropped es i e h is)) here) in
+      let there = a.by later (ts ++ ts') (f ∷ us) (extends-then names more later ext ext') (subst (λ k. AreNarrowFields w later scope (list_named_trees k) (ts ++ ts') (list_named_symbols (f ∷ us))) (sym (next_item es i e h is)) here) in
       subst (λ k. AreNarrowFields w later scope (list_named_trees es) k (list_named_symbols (vs' ++ us))) (sym (append_assoc ss ts ts') ∙ ap (λ k. k ++ ts') (sym es'))
       (subst (λ k. AreNarrowFields w later scope (list_named_trees es) (ss ++ (ts ++ ts')) (list_named_symbols k)) (sym (append_assoc vs (f ∷ []) us) ∙ ap (λ k. k ++ us) (sym ev)) there);
 }
@@ -130,7 +131,7 @@ led-more w scope now behind sts names more low high i st ss ts ss' h is es' ext 
       let here : IsNarrowStated w later now (list_statements (st ∷ drop (i + 1) sts)) (ts ++ ts') inner =
       stated-cons w later now more low high behind inner (statement_tree st) (list_statements (drop (i + 1) sts)) ts ts' f (statement-narrow-more w more later ext' now (statement_tree st) ts behind b) rest in
       subst (λ k. IsNarrowStated w later scope (list_statements sts) k inner) (sym (append_assoc ss ts ts') ∙ ap (λ k. k ++ ts') (sym es'))
-      (a.by later (ts ++ ts') inner (extends-then names more later ext ext') (subst (λ k. IsNarrowStated w later now (list_statements k) (ts ++ ts') inner) (sym (dropped sts i st h is)) here));
+      (a.by later (ts ++ ts') inner (extends-then names more later ext ext') (subst (λ k. IsNarrowStated w later now (list_statements k) (ts ++ ts') inner) (sym (next_item sts i st h is)) here));
 }
 
 pub led-last : (w : Whole) (scope now : SymbolScope) (sts : List Stmt) (names : Names) (i : ℕ) (ss : List Step) → length sts ≤ i → NarrowLed w scope sts names ss now (drop i sts) → IsNarrowStated w names scope (list_statements sts) ss now

@@ -3,7 +3,6 @@ use Rattle.std.proofs.Common.{◌≡◌, ℕ, Bool, true, false, not, ◌&&◌, 
 use Rattle.std.specs.List.{list_any}
 use Rattle.std.proofs.lemmas.List.Elements.{All-nil, All-cons, All-head, All-tail}
 use Rattle.std.proofs.lemmas.Slice.Eq.{bytes_eq-Decides}
-use Rattle.nv_ast.specs.declared.token.Span.{Span}
 use Rattle.nv_ast.specs.Tree.{Tree, NumberTree, TruthTree, VarTree, ParenTree, TupleTree, FieldsTree, DotTree, InvertTree, NegateTree, BinaryTree, ShiftTree, CallTree, UnpackTree, PackTree, RaiseTree, IfTree, TryTree, FetchTree, BlockTree, Trees, no_trees, tree_and, NamedTrees, no_named_trees, named_tree_and, span_of}
 use Rattle.nv_ast.specs.Tests.{where_true, is_among, names_of, look_up}
 use Rattle.nv_ast.specs.Types.{Ty, WordTy, BoolTy, TupleTy, RecordTy, Tys, no_tys, ty_and, NamedTys, no_named_tys, named_ty_and, same_type, same_types, same_named_types, words_ty, unpacked_ty, packed_ty}
@@ -12,23 +11,9 @@ use Rattle.nv_ast.specs.Typing.{field_ty, and_ty, and_named_ty, operand_ty, resu
 use Rattle.nv_ast.specs.Faults.{Wanted, anything, a_value, of_type, same_as, at_span, as_many, all_wanted, wanted_arguments, wrong_number, low_kinds, other_type, middle_kinds, no_value, no_field, too_large_value, node_faults, raised_kinds, wanted_packed, wanted_unpacked, params_of, faults, list_faults, named_faults, statements_faults}
 use Rattle.nv_flatten.specs.inner.Code.{is_given}
 use Rattle.std.proofs.lemmas.Bool.{and_parts}
+use Rattle.nv_ast.proofs.Faultless.{no_front, no_rest, no_kinds, not_where}
 
 -- ---- lists of faults
-pub none-left : {A : Type 0} (a b : List A) → a ++ b ≡ [] → a ≡ []
-none-left [] b h = refl
-none-left (x ∷ a) b h = cc
-
-pub none-right : {A : Type 0} (a b : List A) → a ++ b ≡ [] → b ≡ []
-none-right [] b h = h
-none-right (x ∷ a) b h = cc
-
-pub no-kinds : (s : Span) (kinds : List ℕ) → at_span s kinds ≡ [] → kinds ≡ []
-no-kinds s [] h = refl
-no-kinds s (k ∷ kinds) h = cc
-
-pub unset : (b : Bool) (k : ℕ) → where_true b k ≡ [] → b ≡ false
-unset true k h = cc
-unset false k h = refl
 
 pub set : (b : Bool) (k : ℕ) → where_true (not b) k ≡ [] → b ≡ true
 set true k h = refl
@@ -95,45 +80,45 @@ node-clean : (p : Place) (w : Wanted) (e : Tree) → node_faults p w e ≡ [] �
 node-clean p w e h =
     let t = type_at p.known p.vars e in
     let ends = no_value w t ++ too_large_value t in
-    let all : low_kinds p e ++ (other_type w t ++ (middle_kinds p e ++ ends)) ≡ [] = no-kinds (span_of e) (low_kinds p e ++ (other_type w t ++ (middle_kinds p e ++ ends))) h in
-    let behind : other_type w t ++ (middle_kinds p e ++ ends) ≡ [] = none-right (low_kinds p e) (other_type w t ++ (middle_kinds p e ++ ends)) all in
-    let last : middle_kinds p e ++ ends ≡ [] = none-right (other_type w t) (middle_kinds p e ++ ends) behind in
+    let all : low_kinds p e ++ (other_type w t ++ (middle_kinds p e ++ ends)) ≡ [] = no_kinds (span_of e) (low_kinds p e ++ (other_type w t ++ (middle_kinds p e ++ ends))) h in
+    let behind : other_type w t ++ (middle_kinds p e ++ ends) ≡ [] = no_rest (low_kinds p e) (other_type w t ++ (middle_kinds p e ++ ends)) all in
+    let last : middle_kinds p e ++ ends ≡ [] = no_rest (other_type w t) (middle_kinds p e ++ ends) behind in
     record {
-      low = none-left (low_kinds p e) (other_type w t ++ (middle_kinds p e ++ ends)) all;
-      other = none-left (other_type w t) (middle_kinds p e ++ ends) behind;
-      middle = none-left (middle_kinds p e) ends last;
-      value = none-left (no_value w t) (too_large_value t) (none-right (middle_kinds p e) ends last);
+      low = no_front (low_kinds p e) (other_type w t ++ (middle_kinds p e ++ ends)) all;
+      other = no_front (other_type w t) (middle_kinds p e ++ ends) behind;
+      middle = no_front (middle_kinds p e) ends last;
+      value = no_front (no_value w t) (too_large_value t) (no_rest (middle_kinds p e) ends last);
     }
 
 pub node-of : (p : Place) (w : Wanted) (e : Tree) → faults p w e ≡ [] → node_faults p w e ≡ []
 node-of p w (NumberTree s n) h = h
 node-of p w (TruthTree s b) h = h
 node-of p w (VarTree s x) h = h
-node-of p w (ParenTree s e) h = none-right (faults p a_value e) _ h
-node-of p w (TupleTree s es) h = none-right (list_faults (inside p) [] es) _ h
-node-of p w (FieldsTree s es) h = none-right (named_faults (inside p) es) _ h
-node-of p w (DotTree s e x) h = none-right (faults (inside p) a_value e) _ h
-node-of p w (InvertTree s e) h = none-right (faults (inside p) (of_type WordTy) e) _ h
-node-of p w (NegateTree s e) h = none-right (faults (inside p) (of_type BoolTy) e) _ h
-node-of p w (BinaryTree s op a b) h = none-right (faults (inside p) (of_type (operand_ty op)) b) _ (none-right (faults (inside p) (of_type (operand_ty op)) a) _ h)
-node-of p w (ShiftTree s op e n) h = none-right (faults (inside p) (of_type WordTy) e) _ h
-node-of p w (CallTree s f es) h = none-right (list_faults (inside p) (wanted_arguments (params_of p.known f) es) es) _ h
-node-of p w (UnpackTree s l e) h = none-right (faults (inside p) (wanted_packed (look_up l p.known.layouts)) e) _ h
-node-of p w (PackTree s l e) h = none-right (faults (inside p) (wanted_unpacked (look_up l p.known.layouts)) e) _ h
-node-of p w (RaiseTree s x es) h = none-right (list_faults (inside p) (wanted_arguments (look_up x p.known.exceptions) es) es) _ h
-node-of p w (IfTree s c a b) h = none-right (faults p (same_as (type_at p.known p.vars a)) b) _ (none-right (faults p anything a) _ (none-right (faults (inside p) (of_type BoolTy) c) _ h))
+node-of p w (ParenTree s e) h = no_rest (faults p a_value e) _ h
+node-of p w (TupleTree s es) h = no_rest (list_faults (inside p) [] es) _ h
+node-of p w (FieldsTree s es) h = no_rest (named_faults (inside p) es) _ h
+node-of p w (DotTree s e x) h = no_rest (faults (inside p) a_value e) _ h
+node-of p w (InvertTree s e) h = no_rest (faults (inside p) (of_type WordTy) e) _ h
+node-of p w (NegateTree s e) h = no_rest (faults (inside p) (of_type BoolTy) e) _ h
+node-of p w (BinaryTree s op a b) h = no_rest (faults (inside p) (of_type (operand_ty op)) b) _ (no_rest (faults (inside p) (of_type (operand_ty op)) a) _ h)
+node-of p w (ShiftTree s op e n) h = no_rest (faults (inside p) (of_type WordTy) e) _ h
+node-of p w (CallTree s f es) h = no_rest (list_faults (inside p) (wanted_arguments (params_of p.known f) es) es) _ h
+node-of p w (UnpackTree s l e) h = no_rest (faults (inside p) (wanted_packed (look_up l p.known.layouts)) e) _ h
+node-of p w (PackTree s l e) h = no_rest (faults (inside p) (wanted_unpacked (look_up l p.known.layouts)) e) _ h
+node-of p w (RaiseTree s x es) h = no_rest (list_faults (inside p) (wanted_arguments (look_up x p.known.exceptions) es) es) _ h
+node-of p w (IfTree s c a b) h = no_rest (faults p (same_as (type_at p.known p.vars a)) b) _ (no_rest (faults p anything a) _ (no_rest (faults (inside p) (of_type BoolTy) c) _ h))
 node-of p w (TryTree s a x ps e) h =
-    none-right (faults (with_vars (bind_raised ps (look_up x p.known.exceptions) p.vars) p) (same_as (type_at p.known p.vars a)) e) _
-    (none-right (at_span s (raised_kinds p.known x ps)) _ (none-right (faults (inside p) anything a) _ h))
-node-of p w (FetchTree s m n a) h = none-right (faults (inside p) (of_type WordTy) a) _ h
-node-of p w (BlockTree s sts e) h = none-right (faults (with_vars (vars_behind p.known p.vars sts) p) anything e) _ (none-right (statements_faults (inside p) sts) _ h)
+    no_rest (faults (with_vars (bind_raised ps (look_up x p.known.exceptions) p.vars) p) (same_as (type_at p.known p.vars a)) e) _
+    (no_rest (at_span s (raised_kinds p.known x ps)) _ (no_rest (faults (inside p) anything a) _ h))
+node-of p w (FetchTree s m n a) h = no_rest (faults (inside p) (of_type WordTy) a) _ h
+node-of p w (BlockTree s sts e) h = no_rest (faults (with_vars (vars_behind p.known p.vars sts) p) anything e) _ (no_rest (statements_faults (inside p) sts) _ h)
 
 pub clean : (p : Place) (w : Wanted) (e : Tree) → faults p w e ≡ [] → IsClean p w e
 clean p w e h = node-clean p w e (node-of p w e h)
 
 -- ---- types
 is-value : (w : Wanted) (o : Option Ty) → w.value ≡ true → no_value w o ≡ [] → (t : Ty) × (o ≡ Some t)
-is-value w None v h = absurd (true≢false (sym v ∙ unset w.value 22 h))
+is-value w None v h = absurd (true≢false (sym v ∙ not_where w.value 22 h))
 is-value w (Some t) v h = (t, refl)
 
 -- a type of which a right one is wanted is right
@@ -151,12 +136,12 @@ wanted-type p t e h =
 pub values-have-types : (p : Place) (ws : List Wanted) (es : Trees) → All (λ w. w.value ≡ true) ws → list_faults p ws es ≡ [] → (ts : Tys) × (types_at p.known p.vars es ≡ Some ts)
 values-have-types p ws no_trees v h = (no_tys, refl)
 values-have-types p [] (tree_and e es) v h =
-    let first = value-has-type p a_value e refl (none-left (faults p a_value e) (list_faults p [] es) h) in
-    let rest = values-have-types p [] es v (none-right (faults p a_value e) (list_faults p [] es) h) in
+    let first = value-has-type p a_value e refl (no_front (faults p a_value e) (list_faults p [] es) h) in
+    let rest = values-have-types p [] es v (no_rest (faults p a_value e) (list_faults p [] es) h) in
     (ty_and first.0 rest.0, ap (λ o. and_ty o (types_at p.known p.vars es)) first.1 ∙ ap (λ o. and_ty (Some first.0) o) rest.1)
 values-have-types p (w ∷ ws) (tree_and e es) v h =
-    let first = value-has-type p w e (All-head (λ w. w.value ≡ true) w ws v) (none-left (faults p w e) (list_faults p ws es) h) in
-    let rest = values-have-types p ws es (All-tail (λ w. w.value ≡ true) w ws v) (none-right (faults p w e) (list_faults p ws es) h) in
+    let first = value-has-type p w e (All-head (λ w. w.value ≡ true) w ws v) (no_front (faults p w e) (list_faults p ws es) h) in
+    let rest = values-have-types p ws es (All-tail (λ w. w.value ≡ true) w ws v) (no_rest (faults p w e) (list_faults p ws es) h) in
     (ty_and first.0 rest.0, ap (λ o. and_ty o (types_at p.known p.vars es)) first.1 ∙ ap (λ o. and_ty (Some first.0) o) rest.1)
 
 all-wanted-values : (ts : Tys) → All (λ w. w.value ≡ true) (all_wanted ts)
@@ -174,8 +159,8 @@ arguments-are-values (Some ts) es = by (as_many ts es)
 pub fields-have-types : (p : Place) (es : NamedTrees) → named_faults p es ≡ [] → (ts : NamedTys) × (named_types_at p.known p.vars es ≡ Some ts)
 fields-have-types p no_named_trees h = (no_named_tys, refl)
 fields-have-types p (named_tree_and x e es) h =
-    let first = value-has-type p a_value e refl (none-left (faults p a_value e) (named_faults p es) h) in
-    let rest = fields-have-types p es (none-right (faults p a_value e) (named_faults p es) h) in
+    let first = value-has-type p a_value e refl (no_front (faults p a_value e) (named_faults p es) h) in
+    let rest = fields-have-types p es (no_rest (faults p a_value e) (named_faults p es) h) in
     (named_ty_and x first.0 rest.0, ap (λ o. and_named_ty x o (named_types_at p.known p.vars es)) first.1 ∙ ap (λ o. and_named_ty x (Some first.0) o) rest.1)
 
 all-typed : (p : Place) (ts : Tys) (es : Trees) → as_many ts es ≡ true → list_faults p (all_wanted ts) es ≡ [] → types_at p.known p.vars es ≡ Some ts
@@ -183,8 +168,8 @@ all-typed p no_tys no_trees n h = refl
 all-typed p no_tys (tree_and e es) n h = absurd (true≢false (sym n))
 all-typed p (ty_and t ts) no_trees n h = absurd (true≢false (sym n))
 all-typed p (ty_and t ts) (tree_and e es) n h =
-    ap (λ o. and_ty o (types_at p.known p.vars es)) (wanted-type p t e (none-left (faults p (of_type t) e) (list_faults p (all_wanted ts) es) h))
-    ∙ ap (λ o. and_ty (Some t) o) (all-typed p ts es n (none-right (faults p (of_type t) e) (list_faults p (all_wanted ts) es) h))
+    ap (λ o. and_ty o (types_at p.known p.vars es)) (wanted-type p t e (no_front (faults p (of_type t) e) (list_faults p (all_wanted ts) es) h))
+    ∙ ap (λ o. and_ty (Some t) o) (all-typed p ts es n (no_rest (faults p (of_type t) e) (list_faults p (all_wanted ts) es) h))
 
 pub arguments-typed : (p : Place) (ts : Tys) (es : Trees) → list_faults p (wanted_arguments (Some ts) es) es ≡ [] → wrong_number (Some ts) es ≡ [] → types_at p.known p.vars es ≡ Some ts
 arguments-typed p ts es h n =
@@ -204,18 +189,18 @@ among-known {A} x ((y, a) ∷ rest) h = by (bytes_eq x y) h (λ g. among-known x
 pub given-has-type : (p : Place) (wanted : Wanted) (e : Tree) → faults p wanted e ≡ [] → is_given e ≡ true → (t : Ty) × (type_at p.known p.vars e ≡ Some t)
 given-has-type p w (NumberTree s n) h g = (WordTy, refl)
 given-has-type p w (TruthTree s b) h g = (BoolTy, refl)
-given-has-type p w (VarTree s x) h g = given (look_up x p.vars) (unset (is_none (look_up x p.vars)) 10 (clean p w (VarTree s x) h).low)
+given-has-type p w (VarTree s x) h g = given (look_up x p.vars) (not_where (is_none (look_up x p.vars)) 10 (clean p w (VarTree s x) h).low)
 given-has-type p w (ParenTree s e) h g = absurd (true≢false (sym g))
 given-has-type p w (TupleTree s es) h g =
-    let ts = values-have-types (inside p) [] es (All-nil (λ (w : Wanted). w.value ≡ true)) (none-left (list_faults (inside p) [] es) _ h) in
+    let ts = values-have-types (inside p) [] es (All-nil (λ (w : Wanted). w.value ≡ true)) (no_front (list_faults (inside p) [] es) _ h) in
     (TupleTy ts.0, ap (λ o. option_map (λ l. TupleTy l) o) ts.1)
 given-has-type p w (FieldsTree s es) h g =
-    let ts = fields-have-types (inside p) es (none-left (named_faults (inside p) es) _ h) in
+    let ts = fields-have-types (inside p) es (no_front (named_faults (inside p) es) _ h) in
     (RecordTy ts.0, ap (λ o. option_map (λ l. RecordTy l) o) ts.1)
 given-has-type p w (DotTree s e x) h g =
-    let t = value-has-type (inside p) a_value e refl (none-left (faults (inside p) a_value e) _ h) in
+    let t = value-has-type (inside p) a_value e refl (no_front (faults (inside p) a_value e) _ h) in
     let there : no_field x (Some t.0) ≡ [] = subst (λ o. no_field x o ≡ []) t.1 (clean p w (DotTree s e x) h).middle in
-    let u = given (field_ty x (Some t.0)) (unset (is_none (field_ty x (Some t.0))) 15 there) in
+    let u = given (field_ty x (Some t.0)) (not_where (is_none (field_ty x (Some t.0))) 15 there) in
     (u.0, ap (field_ty x) t.1 ∙ u.1)
 given-has-type p w (InvertTree s e) h g = (WordTy, refl)
 given-has-type p w (NegateTree s e) h g = (BoolTy, refl)

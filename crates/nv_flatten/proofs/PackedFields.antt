@@ -9,12 +9,11 @@ use Rattle.nv_ast.specs.Tests.{is_among, has_twice, names_of}
 use Rattle.nv_ast.specs.Outline.{Layouts, OutlineTree, BitsOutline, GapOutline, PartsOutline, OverlayOutline, JoinedOutline, OutlineTrees, no_outlines, outline_and, NamedOutlines, no_named_outlines, named_outline_and, outline, field_outline, size, named_list, record_of, records_of, bit_fields, part_fields, alternative_fields, joined_fields, IsSound, AllSound, AllNamedSound}
 use Rattle.nv_ast.specs.Types.{Forms, no_forms, form_and, ◌+++◌, form_of, forms_of, joined_forms, record_forms, can_pack, can_pack_all, can_pack_one}
 use Rattle.nv_meaning.proofs.Bindings.{if-true, if-false}
-use Rattle.nv_meaning.proofs.Lists.{dropped}
 use Rattle.nv_meaning.proofs.Unpacking.{FieldItem, outlines_of, joined_of}
 use Rattle.nv_flatten.specs.inner.Symbols.{Symbol, Word, Truth, Tuple, Record, NamedSymbols, no_named_symbols, named_symbol_and, form, named_forms, operands, named_operands, fields_of, field_named}
 use Rattle.nv_flatten.specs.inner.Reads.{has_symbol}
 use Rattle.nv_flatten.specs.inner.Written.{packed_fields, packed_layout, packed_parts, packed_chosen, packed_joined}
-use Rattle.nv_layout.proofs.Lists.{take_item}
+use Rattle.nv_ast.proofs.Items.{take_item, next_item}
 
 -- ---- as many as the layout has
 either-few : (b : Bool) (m n k : ℕ) → m ≤ k → n ≤ k → (if b then m else n) ≤ k
@@ -213,4 +212,4 @@ module _ (known : Layouts) where
 
   -- the first of the alternatives from the i-th on
   pub chosen-turn : (xs : List FieldItem) (i : ℕ) (p : FieldItem) (ss : NamedSymbols) → i < length xs → p ≡ get_or xs i p → packed_chosen (outlines_of known (drop i xs)) ss ≡ (if has_symbol p.0 ss then packed_fields (field_outline known (field_tree p.1)) (field_named p.0 ss) else packed_chosen (outlines_of known (drop (i + 1) xs)) ss)
-  chosen-turn xs i p ss h e = ap (λ l. packed_chosen (outlines_of known l) ss) (dropped xs i p h e)
+  chosen-turn xs i p ss h e = ap (λ l. packed_chosen (outlines_of known l) ss) (next_item xs i p h e)

@@ -21,7 +21,7 @@ use Rattle.nv_flatten.specs.inner.View.{Named, view, list_named_symbols}
 use Rattle.nv_flatten.specs.inner.Reads.{◌++_symbols◌, Makes, Reads, ReadsRecord, ReadsField, Unpacks}
 use Rattle.nv_flatten.proofs.Keeping.{older-later, keeps-operands, keeps-named, keeps-named_fit}
 use Rattle.nv_flatten.proofs.Computing.{computes-none, computes-then, computes-so}
-use Rattle.nv_layout.proofs.Lists.{take_item}
+use Rattle.nv_ast.proofs.Items.{take_item}
 use Rattle.nv_base.proofs.WordLemmas.{length-words}
 use Rattle.nv_flatten.proofs.Listing.{named-none, named-assoc}
 use Rattle.nv_flatten.proofs.Following.{one-older}

@@ -34,10 +34,11 @@ use Rattle.nv_flatten.proofs.NarrowCalls.{around, behind, handler_faults, handle
 use Rattle.nv_flatten.proofs.SmallBulks.{alone-most, jump-most, handled-most, lets-most, steps-then, code-then}
 use Rattle.nv_flatten.proofs.SmallValues.{of_steps, size_of, behind_value}
 use Rattle.nv_flatten.proofs.SmallEnds.{words-of-either}
-use Rattle.nv_flatten.proofs.NoFaults.{none-left, unset, among-known}
+use Rattle.nv_flatten.proofs.NoFaults.{among-known}
 use Rattle.nv_flatten.proofs.CallArms.{get-append}
 use Rattle.nv_flatten.proofs.Following.{stands-inside}
 use Rattle.nv_flatten.proofs.WellBasics.{words-ty-words}
+use Rattle.nv_ast.proofs.Faultless.{no_front, not_where}
 
 -- ---- what a call counts beside its jump
 returned : (last : Bool) (b : Bulk) (n : ℕ) → IsAtMost (both (both a_label a_jump) b) (of_parts n) → IsAtMost (both (return_bulk last) b) (of_parts n)
@@ -62,7 +63,7 @@ module _ (w : Whole) (names : Names) (scope : SymbolScope) (sp : Span) (es : Tre
     by = λ c p wanted stands none last.
         let args = wanted_arguments (look_up x p.known.exceptions) es in
         jump-most (code_bulk c.funs c.bulks c.own last code) (of_steps c ss) nothing 0 (expanded_all c.sizes p.known p.vars es) 0 (size_of c p (RaiseTree sp x es)) (code-then c.funs c.bulks c.own last ss (Raise k bs) code nodes)
-        (arguments-small c p args v stands (none-left (list_faults (inside p) args es) (node_faults p wanted (RaiseTree sp x es)) none)) (most-none (of_parts 0)) (omega arith);
+        (arguments-small c p args v stands (no_front (list_faults (inside p) args es) (node_faults p wanted (RaiseTree sp x es)) none)) (most-none (of_parts 0)) (omega arith);
   }
 
   pub call-small : (f : List ℕ) (i : ℕ) (bs : _) (code : Flat) (o : Option Symbol) → AreSmallValues w names scope es ss us → slice_get names i ≡ Some f → AreNodes ss (Call i bs) code → option_map form o ≡ result_of w f → IsSmallEnd w names scope (CallTree sp f es) code o
@@ -70,7 +71,7 @@ module _ (w : Whole) (names : Names) (scope : SymbolScope) (sp : Span) (es : Tre
     by = λ c p wanted stands none last.
         let params = params_of p.known f in
         let args = wanted_arguments params es in
-        let known = some-where (look_up f (callable p.known)) 11 (none-left (unknown_function p.known f) (not_in_tail p f ++ wrong_number params es) (low-of p wanted (CallTree sp f es) none)) in
+        let known = some-where (look_up f (callable p.known)) 11 (no_front (unknown_function p.known f) (not_in_tail p f ++ wrong_number params es) (low-of p wanted (CallTree sp f es) none)) in
         let callable' = stands.part.functions f known.0 known.1 in
         let n = words_at p.known p.vars (CallTree sp f es) in
         let given : words (type_of w.declared.layouts callable'.fun.result) ≡ n = ap (λ (s : Signature). words s.result) callable'.signed ∙ sym (ap (λ q. words_of_value (option_map (λ (s : Signature). s.result) q)) known.1) in
@@ -79,7 +80,7 @@ module _ (w : Whole) (names : Names) (scope : SymbolScope) (sp : Span) (es : Tre
         let named' : slice_get c.all i ≡ Some f = ap (λ l. slice_get l i) c.more.1 ∙ get-append names c.more.0 i f named in
         let size = value_at 0 f c.sizes in
         jump-most (code_bulk c.funs c.bulks c.own last code) (of_steps c ss) (call_bulk c.bulks c.own last (slice_get c.funs i)) (words (form_or_unit o)) (expanded_all c.sizes p.known p.vars es) size (size_of c p (CallTree sp f es))
-        (code-then c.funs c.bulks c.own last ss (Call i bs) code nodes) (arguments-small c p args v stands (none-left (list_faults (inside p) args es) (node_faults p wanted (CallTree sp f es)) none))
+        (code-then c.funs c.bulks c.own last ss (Call i bs) code nodes) (arguments-small c p args v stands (no_front (list_faults (inside p) args es) (node_faults p wanted (CallTree sp f es)) none))
         (call-most c.bulks c.own last (slice_get c.funs i) size (λ fun there earlier. c.calls.earlier i f callable'.fun fun named' callable'.found there earlier)) (omega arith);
   }
 
@@ -107,7 +108,7 @@ module _ (w : Whole) (names : Names) (scope : SymbolScope) (sp : Span) (a : Tree
         let behind' = behind w names scope sp a x ps h p in
         handled-most (code_bulk c.funs c.bulks c.own last t) (code_bulk c.funs c.bulks c.own last u) (words (form_or_unit o)) (words (form_or_unit o')) (words (form_or_unit (option_or o o'))) (size_of c p a) (size_of c behind' h) (size_of c p (TryTree sp a x ps h))
         (v.by c (inside p) anything (stands-inside w c.own scope p stands)
-        (none-left (faults (inside p) anything a) (around w names scope sp a x ps h p ++ (handler_faults w names scope sp a x ps h p ++ node_faults p wanted (TryTree sp a x ps h))) none) last)
+        (no_front (faults (inside p) anything a) (around w names scope sp a x ps h p ++ (handler_faults w names scope sp a x ps h p ++ node_faults p wanted (TryTree sp a x ps h))) none) last)
         (e.by c behind' (same_as (type_at p.known p.vars a)) (handler-stands c.own p wanted n inner stands none is) (handler-none w names scope sp a x ps h p wanted none) last) (words-of-either o o') (omega arith);
   }
 
@@ -132,14 +133,14 @@ module _ (w : Whole) (names : Names) (scope : SymbolScope) (sp : Span) (l : List
   unpack-small g v t = record {
     by = λ c p wanted stands none.
         let names' = names_of p.known.layouts in
-        let found = among-known l p.known.layouts (not-false (is_among l names') (unset (not (is_among l names')) 3 (low-of p wanted (UnpackTree sp l a) none))) in
+        let found = among-known l p.known.layouts (not-false (is_among l names') (not_where (not (is_among l names')) 3 (low-of p wanted (UnpackTree sp l a) none))) in
         let known = stands.part.layouts l found.0 found.1 in
         let fields = 4 * length (bit_fields 0 (outline w.declared.layouts (NamedLayout l))) in
         let size : fields ≡ field_size (look_up l p.known.layouts) = ap (λ o. 4 * length (bit_fields 0 o)) known.0 ∙ sym (ap field_size found.1) in
         let n = words_at p.known p.vars (UnpackTree sp l a) in
         let many : length (operands r) ≡ n = counted-given w scope (UnpackTree sp l a) r g c.own p wanted stands none refl in
         let right = wanted_packed (look_up l p.known.layouts) in
-        computed c p (UnpackTree sp l a) fields (1 + n + fields) (v.by c (inside p) right (stands-inside w c.own scope p stands) (none-left (faults (inside p) right a) (node_faults p wanted (UnpackTree sp l a)) none)) t
+        computed c p (UnpackTree sp l a) fields (1 + n + fields) (v.by c (inside p) right (stands-inside w c.own scope p stands) (no_front (faults (inside p) right a) (node_faults p wanted (UnpackTree sp l a)) none)) t
         (omega arith) (omega arith) (omega arith) (omega arith);
   }
 
@@ -148,12 +149,12 @@ module _ (w : Whole) (names : Names) (scope : SymbolScope) (sp : Span) (l : List
   pack-small f g v packs = record {
     by = λ c p wanted stands none.
         let names' = names_of p.known.layouts in
-        let found = among-known l p.known.layouts (not-false (is_among l names') (unset (not (is_among l names')) 3 (low-of p wanted (PackTree sp l a) none))) in
+        let found = among-known l p.known.layouts (not-false (is_among l names') (not_where (not (is_among l names')) 3 (low-of p wanted (PackTree sp l a) none))) in
         let known = stands.part.layouts l found.0 found.1 in
         let o = outline w.declared.layouts (NamedLayout l) in
         let stands' = stands-inside w c.own scope p stands in
         let want = wanted_unpacked (Some found.0) in
-        let clean : faults (inside p) want a ≡ [] = subst (λ q. faults (inside p) (wanted_unpacked q) a ≡ []) found.1 (none-left (faults (inside p) (wanted_unpacked (look_up l p.known.layouts)) a) (node_faults p wanted (PackTree sp l a)) none) in
+        let clean : faults (inside p) want a ≡ [] = subst (λ q. faults (inside p) (wanted_unpacked q) a ≡ []) found.1 (no_front (faults (inside p) (wanted_unpacked (look_up l p.known.layouts)) a) (node_faults p wanted (PackTree sp l a)) none) in
         let typed = value-has-type (inside p) want a refl clean in
         let formed : form s ≡ typed.0 = f.by c.own (inside p) want stands' clean typed.0 typed.1 in
         let right : can_pack (form_of found.0) (form s) ≡ true = subst (λ t. can_pack (form_of found.0) t ≡ true) (sym formed) (right-of (inside p) want a typed.0 clean typed.1) in

@@ -28,8 +28,8 @@ use Rattle.nv_flatten.proofs.NarrowValues.{result-words}
 use Rattle.nv_flatten.proofs.NarrowEnds.{first-none, second-none}
 use Rattle.nv_flatten.proofs.SmallBulks.{decision, alone-most, more-most, most-alone, choice-most, beside-most, given-most, branch-most, decided-most, word-given, code-then}
 use Rattle.nv_flatten.proofs.SmallValues.{of_steps, size_of, behind_value, operands-small}
-use Rattle.nv_flatten.proofs.NoFaults.{none-left, none-right}
 use Rattle.nv_flatten.proofs.Following.{stands-inside}
+use Rattle.nv_ast.proofs.Faultless.{no_front, no_rest}
 
 -- ---- what is left
 decision-most : (e : Tree) → IsAtMost (test_rest e) (of_parts 2)
@@ -61,7 +61,7 @@ module _ (w : Whole) (names : Names) (scope : SymbolScope) where
   paren-test-small sp e ss v = record {
     by = λ c p wanted stands none.
         most-alone (of_steps c ss) (size_of c p (ParenTree sp e))
-        (alone-most (of_steps c ss) (test_rest e) (size_of c p e) 0 (size_of c p (ParenTree sp e)) (v.by c p a_value stands (none-left (faults p a_value e) (node_faults p wanted (ParenTree sp e)) none)) (omega arith));
+        (alone-most (of_steps c ss) (test_rest e) (size_of c p e) 0 (size_of c p (ParenTree sp e)) (v.by c p a_value stands (no_front (faults p a_value e) (node_faults p wanted (ParenTree sp e)) none)) (omega arith));
   }
 
   pub negate-test-small : (sp : Span) (e : Tree) (ss : List Step) → IsSmallTest w names scope e ss → IsSmallTest w names scope (NegateTree sp e) ss
@@ -69,7 +69,7 @@ module _ (w : Whole) (names : Names) (scope : SymbolScope) where
     by = λ c p wanted stands none.
         most-alone (of_steps c ss) (size_of c p (NegateTree sp e))
         (alone-most (of_steps c ss) (test_rest e) (size_of c p e) 0 (size_of c p (NegateTree sp e))
-        (v.by c (inside p) (of_type BoolTy) (stands-inside w c.own scope p stands) (none-left (faults (inside p) (of_type BoolTy) e) (node_faults p wanted (NegateTree sp e)) none)) (omega arith));
+        (v.by c (inside p) (of_type BoolTy) (stands-inside w c.own scope p stands) (no_front (faults (inside p) (of_type BoolTy) e) (node_faults p wanted (NegateTree sp e)) none)) (omega arith));
   }
 
   pub compare-small : (sp : Span) (op : Op) (a b : Tree) (ss ts : List Step) (s u : Symbol) → IsSmallValue w names scope a ss s → IsSmallValue w names scope b ts u → IsSmallTest w names scope (BinaryTree sp op a b) (ss ++ ts)
@@ -93,7 +93,7 @@ module _ (w : Whole) (names : Names) (scope : SymbolScope) where
   paren-end-small sp e code o v = record {
     by = λ c p wanted stands none last.
         more-most (both (code_bulk c.funs c.bulks c.own last code) (both a_label (uses (words (form_or_unit o))))) (size_of c p e) (size_of c p (ParenTree sp e))
-        (v.by c p a_value stands (none-left (faults p a_value e) (node_faults p wanted (ParenTree sp e)) none) last) (omega arith);
+        (v.by c p a_value stands (no_front (faults p a_value e) (node_faults p wanted (ParenTree sp e)) none) last) (omega arith);
   }
 
   pub decided-small : (e : Tree) (ss : List Step) (cmp : Cmp) (l r : Atom) (q q' : _) (t u code : Flat) (a : Atom) → is_comparison e ≡ true → IsSmallTest w names scope e ss → GivesLiteral t → GivesLiteral u → AreNodes ss (If' cmp l r q t q' u) code → IsSmallEnd w names scope e code (Some (Truth a))
@@ -139,9 +139,9 @@ module _ (w : Whole) (names : Names) (scope : SymbolScope) where
         let fa = faults p anything a in
         let fb = faults p (same_as (type_at p.known p.vars a)) b in
         let own = node_faults p wanted (IfTree sp x a b) in
-        let behind = none-right fx (fa ++ (fb ++ own)) none in
+        let behind = no_rest fx (fa ++ (fb ++ own)) none in
         branch-most (first code) (of_steps c ss) (first t) (first u) (words (form_or_unit o)) (words (form_or_unit o')) (words (form_or_unit (option_or o o'))) (size_of c p x) (size_of c p a) (size_of c p b) (size_of c p (IfTree sp x a b))
         (code-then c.funs c.bulks c.own last ss (If' cmp l r q t q' u) code nodes)
-        (alone-most (of_steps c ss) (test_rest x) (size_of c p x) 0 (size_of c p x) (v.by c (inside p) (of_type BoolTy) (stands-inside w c.own scope p stands) (none-left fx (fa ++ (fb ++ own)) none)) (omega arith))
-        (e.by c p anything stands (none-left fa (fb ++ own) behind) last) (i.by c p (same_as (type_at p.known p.vars a)) stands (none-left fb own (none-right fa (fb ++ own) behind)) last) (words-of-either o o') (omega arith);
+        (alone-most (of_steps c ss) (test_rest x) (size_of c p x) 0 (size_of c p x) (v.by c (inside p) (of_type BoolTy) (stands-inside w c.own scope p stands) (no_front fx (fa ++ (fb ++ own)) none)) (omega arith))
+        (e.by c p anything stands (no_front fa (fb ++ own) behind) last) (i.by c p (same_as (type_at p.known p.vars a)) stands (no_front fb own (no_rest fa (fb ++ own) behind)) last) (words-of-either o o') (omega arith);
   }

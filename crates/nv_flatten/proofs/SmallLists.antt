@@ -24,8 +24,8 @@ use Rattle.nv_flatten.proofs.NarrowSteps.{stored}
 use Rattle.nv_flatten.proofs.NarrowLists.{stands-after, stands-behind, statements-none, last-none}
 use Rattle.nv_flatten.proofs.SmallBulks.{alone-most, both-most, after-most, front-most, stored-most, stay-most, steps-then, code-then}
 use Rattle.nv_flatten.proofs.SmallValues.{of_steps, size_of, behind_value}
-use Rattle.nv_flatten.proofs.NoFaults.{none-left, none-right}
 use Rattle.nv_flatten.proofs.Following.{stands-inside}
+use Rattle.nv_ast.proofs.Faultless.{no_front, no_rest}
 
 module _ (w : Whole) (names : Names) (scope : SymbolScope) where
   -- ---- lists
@@ -45,9 +45,9 @@ module _ (w : Whole) (names : Names) (scope : SymbolScope) where
   cons-by : (e : Tree) (es : Trees) (ss ts : List Step) (s : Symbol) (us : Symbols) → IsSmallValue w names scope e ss s → AreSmallValues w names scope es ts us → (c : Sized w names) (p : Place) (wanted : List Wanted) → Stands w c.own scope p → list_faults p wanted (tree_and e es) ≡ []
       → IsAtMost (both (of_steps c (ss ++ ts)) (uses (length (operands s ++ all_operands us)))) (of_parts (size_of c p e + expanded_all c.sizes p.known p.vars es))
   cons-by e es ss ts s us v rest c p [] stands none =
-      front c p a_value e ss ts s (all_operands us) (expanded_all c.sizes p.known p.vars es) v (rest.by c p [] stands (none-right (faults p a_value e) (list_faults p [] es) none)) stands (none-left (faults p a_value e) (list_faults p [] es) none)
+      front c p a_value e ss ts s (all_operands us) (expanded_all c.sizes p.known p.vars es) v (rest.by c p [] stands (no_rest (faults p a_value e) (list_faults p [] es) none)) stands (no_front (faults p a_value e) (list_faults p [] es) none)
   cons-by e es ss ts s us v rest c p (x ∷ xs) stands none =
-      front c p x e ss ts s (all_operands us) (expanded_all c.sizes p.known p.vars es) v (rest.by c p xs stands (none-right (faults p x e) (list_faults p xs es) none)) stands (none-left (faults p x e) (list_faults p xs es) none)
+      front c p x e ss ts s (all_operands us) (expanded_all c.sizes p.known p.vars es) v (rest.by c p xs stands (no_rest (faults p x e) (list_faults p xs es) none)) stands (no_front (faults p x e) (list_faults p xs es) none)
 
   pub small-values-cons : (e : Tree) (es : Trees) (ss ts : List Step) (s : Symbol) (us : Symbols) → IsSmallValue w names scope e ss s → AreSmallValues w names scope es ts us → AreSmallValues w names scope (tree_and e es) (ss ++ ts) (symbol_and s us)
   small-values-cons e es ss ts s us v rest = record { by = cons-by e es ss ts s us v rest }
@@ -56,7 +56,7 @@ module _ (w : Whole) (names : Names) (scope : SymbolScope) where
       → AreSmallFields w names scope (named_tree_and x e es) (ss ++ ts) (named_symbol_and y s us)
   small-fields-cons x y e es ss ts s us v rest = record {
     by = λ c p stands none.
-        front c p a_value e ss ts s (named_operands us) (expanded_named c.sizes p.known p.vars es) v (rest.by c p stands (none-right (faults p a_value e) (named_faults p es) none)) stands (none-left (faults p a_value e) (named_faults p es) none);
+        front c p a_value e ss ts s (named_operands us) (expanded_named c.sizes p.known p.vars es) v (rest.by c p stands (no_rest (faults p a_value e) (named_faults p es) none)) stands (no_front (faults p a_value e) (named_faults p es) none);
   }
 
   -- ---- statements
@@ -65,7 +65,7 @@ module _ (w : Whole) (names : Names) (scope : SymbolScope) where
     by = λ c p stands none.
         let own = at_span sp (variable_twice (names_in q) ++ not_fitting q (type_at p.known p.vars e)) in
         alone-most (of_steps c ss) (behind_value e s) (size_of c p e) 1 (expanded_statements c.sizes p.known p.vars (statement_and (LetStatement sp q e) no_statements))
-        (v.by c p a_value stands (none-left (faults p a_value e) own (none-left (faults p a_value e ++ own) [] none))) (omega arith);
+        (v.by c p a_value stands (no_front (faults p a_value e) own (no_front (faults p a_value e ++ own) [] none))) (omega arith);
   }
 
   pub store-small : (sp : Span) (m : _) (a e : Tree) (ss ts : List Step) (s u : Symbol) (bs : _) → IsSmallValue w names scope a ss s → IsSmallValue w names scope e ts u → stored (Store m (word_operand s) bs) ≡ operands u
@@ -74,13 +74,13 @@ module _ (w : Whole) (names : Names) (scope : SymbolScope) where
     by = λ c p stands none.
         let n = words_of_value (type_at p.known p.vars e) in
         let own = at_span sp (wrong_access m n ++ wrong_scratch m a n) in
-        let clean = none-left (faults p (of_type WordTy) a ++ (faults p wanted_stored e ++ own)) [] none in
+        let clean = no_front (faults p (of_type WordTy) a ++ (faults p wanted_stored e ++ own)) [] none in
         let last = Store m (word_operand s) bs ∷ [] in
         let few : length bs.items ≡ length (operands u) = ap length same in
         stored-most (of_steps c ((ss ++ ts) ++ last)) (of_steps c (ss ++ ts)) (of_steps c ss) (of_steps c ts) (value_rest a) (value_rest e) (length (operands s)) (length (operands u)) (length bs.items) (size_of c p a) (size_of c p e)
         (expanded_statements c.sizes p.known p.vars (statement_and (StoreStatement sp m a e) no_statements)) (steps-then c.funs c.bulks c.own (ss ++ ts) last) (steps-then c.funs c.bulks c.own ss ts)
-        (v.by c p (of_type WordTy) stands (none-left (faults p (of_type WordTy) a) (faults p wanted_stored e ++ own) clean))
-        (t.by c p wanted_stored stands (none-left (faults p wanted_stored e) own (none-right (faults p (of_type WordTy) a) (faults p wanted_stored e ++ own) clean))) (omega arith) (omega arith);
+        (v.by c p (of_type WordTy) stands (no_front (faults p (of_type WordTy) a) (faults p wanted_stored e ++ own) clean))
+        (t.by c p wanted_stored stands (no_front (faults p wanted_stored e) own (no_rest (faults p (of_type WordTy) a) (faults p wanted_stored e ++ own) clean))) (omega arith) (omega arith);
   }
 
   pub small-stated-nil : IsSmallStated w names scope no_statements []
@@ -91,8 +91,8 @@ module _ (w : Whole) (names : Names) (scope : SymbolScope) where
   small-stated-cons others low high mid st sts ss ts f v rest = record {
     by = λ c p stands none.
         let behind = with_vars (vars_after p.known p.vars st) p in
-        let first = none-left (statement_faults p st) (statements_faults behind sts) none in
-        let second = none-right (statement_faults p st) (statements_faults behind sts) none in
+        let first = no_front (statement_faults p st) (statements_faults behind sts) none in
+        let second = no_rest (statement_faults p st) (statements_faults behind sts) none in
         both-most (of_steps c (ss ++ ts)) (of_steps c ss) (of_steps c ts) (expanded_statements c.sizes p.known p.vars (statement_and st no_statements)) (expanded_statements c.sizes p.known (vars_after p.known p.vars st) sts)
         (expanded_statements c.sizes p.known p.vars (statement_and st sts)) (steps-then c.funs c.bulks c.own ss ts) (v.by c p stands (ap (λ l. l ++ []) first))
         (rest.by c behind (stands-after w names scope others low high mid st ss f c.own p stands first) second) (omega arith);

@@ -29,11 +29,11 @@ use Rattle.nv_flatten.proofs.Fresh.{fresh-operands, numbers-length}
 use Rattle.nv_flatten.proofs.NarrowFacts.{words-of-form}
 use Rattle.nv_flatten.proofs.NarrowValues.{result-words}
 use Rattle.nv_flatten.proofs.SmallBulks.{then-most, paid, stay-most, let-most, most-alone, most-words, bound-most, operands-most, steps-then}
-use Rattle.nv_flatten.proofs.NoFaults.{none-left, none-right}
 use Rattle.nv_flatten.proofs.PackedWords.{symbol-operands}
 use Rattle.nv_flatten.proofs.Following.{stands-inside}
 use Rattle.nv_flatten.proofs.Keeping.{extends-then}
 use Rattle.nv_flatten.proofs.WellBasics.{words-ty-words}
+use Rattle.nv_ast.proofs.Faultless.{no_front, no_rest}
 
 -- ---- further names
 abbrev pub fewer-sized : (w : Whole) (names more : Names) → Extends names more → Sized w more → Sized w names
@@ -118,7 +118,7 @@ module _ (w : Whole) (names : Names) (scope : SymbolScope) where
   paren-small sp a ss s v = record {
     by = λ c p wanted stands none.
         stay-most (of_steps c ss) (value_rest a) (ParenTree sp a) (length (operands s)) (length (operands s)) (size_of c p a) (size_of c p (ParenTree sp a))
-        (v.by c p a_value stands (none-left (faults p a_value a) (node_faults p wanted (ParenTree sp a)) none)) (omega arith) (omega arith);
+        (v.by c p a_value stands (no_front (faults p a_value a) (node_faults p wanted (ParenTree sp a)) none)) (omega arith) (omega arith);
   }
 
   pub tuple-small : (sp : Span) (es : Trees) (ss : List Step) (us : Symbols) → AreSmallValues w names scope es ss us → IsSmallValue w names scope (TupleTree sp es) ss (Tuple us)
@@ -126,7 +126,7 @@ module _ (w : Whole) (names : Names) (scope : SymbolScope) where
     by = λ c p wanted stands none.
         stay-most (of_steps c ss) nothing (TupleTree sp es) (length (all_operands us)) (length (all_operands us)) (expanded_all c.sizes p.known p.vars es) (size_of c p (TupleTree sp es))
         (most-words (of_steps c ss) (length (all_operands us)) (expanded_all c.sizes p.known p.vars es)
-        (v.by c (inside p) [] (stands-inside w c.own scope p stands) (none-left (list_faults (inside p) [] es) (node_faults p wanted (TupleTree sp es)) none))) (omega arith) (omega arith);
+        (v.by c (inside p) [] (stands-inside w c.own scope p stands) (no_front (list_faults (inside p) [] es) (node_faults p wanted (TupleTree sp es)) none))) (omega arith) (omega arith);
   }
 
   pub record-small : (sp : Span) (es : NamedTrees) (ss : List Step) (us : NamedSymbols) → AreSmallFields w names scope es ss us → IsSmallValue w names scope (FieldsTree sp es) ss (Record us)
@@ -134,7 +134,7 @@ module _ (w : Whole) (names : Names) (scope : SymbolScope) where
     by = λ c p wanted stands none.
         stay-most (of_steps c ss) nothing (FieldsTree sp es) (length (named_operands us)) (length (named_operands us)) (expanded_named c.sizes p.known p.vars es) (size_of c p (FieldsTree sp es))
         (most-words (of_steps c ss) (length (named_operands us)) (expanded_named c.sizes p.known p.vars es)
-        (v.by c (inside p) (stands-inside w c.own scope p stands) (none-left (named_faults (inside p) es) (node_faults p wanted (FieldsTree sp es)) none))) (omega arith) (omega arith);
+        (v.by c (inside p) (stands-inside w c.own scope p stands) (no_front (named_faults (inside p) es) (node_faults p wanted (FieldsTree sp es)) none))) (omega arith) (omega arith);
   }
 
   pub dot-small : (sp : Span) (a : Tree) (x : List ℕ) (ss : List Step) (s : Symbol) → IsSmallValue w names scope a ss s → IsSmallValue w names scope (DotTree sp a x) ss (field_named x (fields_of s))
@@ -143,7 +143,7 @@ module _ (w : Whole) (names : Names) (scope : SymbolScope) where
         let few = field-few x (fields_of s) in
         let all = fields-few s in
         stay-most (of_steps c ss) (value_rest a) (DotTree sp a x) (length (operands s)) (length (operands (field_named x (fields_of s)))) (size_of c p a) (size_of c p (DotTree sp a x))
-        (v.by c (inside p) a_value (stands-inside w c.own scope p stands) (none-left (faults (inside p) a_value a) (node_faults p wanted (DotTree sp a x)) none)) (omega arith) (omega arith);
+        (v.by c (inside p) a_value (stands-inside w c.own scope p stands) (no_front (faults (inside p) a_value a) (node_faults p wanted (DotTree sp a x)) none)) (omega arith) (omega arith);
   }
 
   -- a primitive of one operand
@@ -155,14 +155,14 @@ module _ (w : Whole) (names : Names) (scope : SymbolScope) where
   invert-small sp a ss s x op v = record {
     by = λ c p wanted stands none.
         one-let c p a (InvertTree sp a) ss s x (UnaOf op (word_operand s))
-        (v.by c (inside p) (of_type WordTy) (stands-inside w c.own scope p stands) (none-left (faults (inside p) (of_type WordTy) a) (node_faults p wanted (InvertTree sp a)) none)) (omega arith);
+        (v.by c (inside p) (of_type WordTy) (stands-inside w c.own scope p stands) (no_front (faults (inside p) (of_type WordTy) a) (node_faults p wanted (InvertTree sp a)) none)) (omega arith);
   }
 
   pub negate-small : (sp : Span) (a : Tree) (ss : List Step) (s : Symbol) (x n : ℕ) (op : _) → IsSmallValue w names scope a ss s → IsSmallValue w names scope (NegateTree sp a) (ss ++ Let x (BinOf op (truth_operand s) (Lit n)) ∷ []) (Truth (Var x))
   negate-small sp a ss s x n op v = record {
     by = λ c p wanted stands none.
         one-let c p a (NegateTree sp a) ss s x (BinOf op (truth_operand s) (Lit n))
-        (v.by c (inside p) (of_type BoolTy) (stands-inside w c.own scope p stands) (none-left (faults (inside p) (of_type BoolTy) a) (node_faults p wanted (NegateTree sp a)) none)) (omega arith);
+        (v.by c (inside p) (of_type BoolTy) (stands-inside w c.own scope p stands) (no_front (faults (inside p) (of_type BoolTy) a) (node_faults p wanted (NegateTree sp a)) none)) (omega arith);
   }
 
   -- by no place, and by some
@@ -170,14 +170,14 @@ module _ (w : Whole) (names : Names) (scope : SymbolScope) where
   shift-none-small sp op a n ss s v = record {
     by = λ c p wanted stands none.
         stay-most (of_steps c ss) (value_rest a) (ShiftTree sp op a n) (length (operands s)) 1 (size_of c p a) (size_of c p (ShiftTree sp op a n))
-        (v.by c (inside p) (of_type WordTy) (stands-inside w c.own scope p stands) (none-left (faults (inside p) (of_type WordTy) a) (node_faults p wanted (ShiftTree sp op a n)) none)) (omega arith) (omega arith);
+        (v.by c (inside p) (of_type WordTy) (stands-inside w c.own scope p stands) (no_front (faults (inside p) (of_type WordTy) a) (node_faults p wanted (ShiftTree sp op a n)) none)) (omega arith) (omega arith);
   }
 
   pub shift-small : (sp : Span) (op : ShiftOp) (a : Tree) (n : ℕ) (ss : List Step) (s : Symbol) (x : ℕ) → IsSmallValue w names scope a ss s → IsSmallValue w names scope (ShiftTree sp op a n) (ss ++ Let x (shift_of op n (word_operand s)) ∷ []) (Word (Var x))
   shift-small sp op a n ss s x v = record {
     by = λ c p wanted stands none.
         one-let c p a (ShiftTree sp op a n) ss s x (shift_of op n (word_operand s))
-        (v.by c (inside p) (of_type WordTy) (stands-inside w c.own scope p stands) (none-left (faults (inside p) (of_type WordTy) a) (node_faults p wanted (ShiftTree sp op a n)) none)) (omega arith);
+        (v.by c (inside p) (of_type WordTy) (stands-inside w c.own scope p stands) (no_front (faults (inside p) (of_type WordTy) a) (node_faults p wanted (ShiftTree sp op a n)) none)) (omega arith);
   }
 
   -- the steps of two operands of an operator
@@ -185,8 +185,8 @@ module _ (w : Whole) (names : Names) (scope : SymbolScope) where
       → IsAtMost (of_steps c (ss ++ ts)) (of_parts (size_of c p a + size_of c p b))
   operands-small c p wanted sp op a b ss ts s u v t stands none =
       let right = of_type (operand_ty op) in
-      let first = none-left (faults (inside p) right a) (faults (inside p) right b ++ node_faults p wanted (BinaryTree sp op a b)) none in
-      let second = none-left (faults (inside p) right b) (node_faults p wanted (BinaryTree sp op a b)) (none-right (faults (inside p) right a) (faults (inside p) right b ++ node_faults p wanted (BinaryTree sp op a b)) none) in
+      let first = no_front (faults (inside p) right a) (faults (inside p) right b ++ node_faults p wanted (BinaryTree sp op a b)) none in
+      let second = no_front (faults (inside p) right b) (node_faults p wanted (BinaryTree sp op a b)) (no_rest (faults (inside p) right a) (faults (inside p) right b ++ node_faults p wanted (BinaryTree sp op a b)) none) in
       let stands' = stands-inside w c.own scope p stands in
       operands-most (of_steps c (ss ++ ts)) (of_steps c ss) (of_steps c ts) (behind_value a s) (behind_value b u) (size_of c p a) (size_of c p b) (steps-then c.funs c.bulks c.own ss ts) (v.by c (inside p) right stands' first) (t.by c (inside p) right stands' second)
 
@@ -211,7 +211,7 @@ module _ (w : Whole) (names : Names) (scope : SymbolScope) where
         let few : length (operands result) ≡ n = ap length (symbol-operands (var_operands (numbers_from first n))) ∙ variables-length (numbers_from first n) ∙ numbers-length first n in
         let last = Fetch m xs (word_operand s) ∷ [] in
         then-most (of_steps c (ss ++ last)) (of_steps c ss) (behind_value a s) (both (a_node (length xs.items) 1) nothing) (behind_value (FetchTree sp m n a) result) (size_of c p a) (1 + n) (size_of c p (FetchTree sp m n a)) (steps-then c.funs c.bulks c.own ss last)
-        (v.by c (inside p) (of_type WordTy) (stands-inside w c.own scope p stands) (none-left (faults (inside p) (of_type WordTy) a) (node_faults p wanted (FetchTree sp m n a)) none))
+        (v.by c (inside p) (of_type WordTy) (stands-inside w c.own scope p stands) (no_front (faults (inside p) (of_type WordTy) a) (node_faults p wanted (FetchTree sp m n a)) none))
         (paid (both (a_node (length xs.items) 1) nothing) (behind_value (FetchTree sp m n a) result) (behind_value a s) (1 + n) (record { labels = omega arith; jumps = omega arith; nodes = omega arith; defined = omega arith; used = omega arith })) (omega arith);
   }
 

@@ -21,9 +21,10 @@ use Rattle.nv_flatten.specs.inner.Small.{IsSmallValue, AreSmallValues, AreSmallF
 use Rattle.nv_flatten.proofs.WellTypes.{middle-of}
 use Rattle.nv_flatten.proofs.SmallValues.{value-small-more, stated-small-more, shift-none-small, shift-small}
 use Rattle.nv_flatten.proofs.SmallLists.{small-values-nil, small-values-cons, small-fields-nil, small-fields-cons, small-stated-nil, small-stated-cons}
-use Rattle.nv_flatten.proofs.NoFaults.{unset}
 use Rattle.nv_flatten.proofs.Keeping.{extends-then}
-use Rattle.nv_meaning.proofs.Lists.{dropped, dropped-all}
+use Rattle.nv_meaning.proofs.Lists.{dropped-all}
+use Rattle.nv_ast.proofs.Items.{next_item}
+use Rattle.nv_ast.proofs.Faultless.{not_where}
 
 -- ---- at equal operands, and at an equal scope
 small-at : (w : Whole) (names : Names) (scope : SymbolScope) (e : Tree) (ss ss' : List Step) (v v' : Symbol) → ss' ≡ ss → v' ≡ v → IsSmallValue w names scope e ss v → IsSmallValue w names scope e ss' v'
@@ -46,7 +47,7 @@ pub shifted-small : (w : Whole) (names : Names) (scope : SymbolScope) (sp : Span
     → (1 ≤ n → n ≤ 31 → (b ≡ Var x) × (ss' ≡ ss ++ Let x (shift_of op n (word_operand s)) ∷ [])) → IsSmallValue w names scope a ss s → IsSmallValue w names scope (ShiftTree sp op a n) ss' (Word b)
 shifted-small w names scope sp op a n ss ss' s b x none some v = record {
   by = λ c p wanted stands clean.
-      let le : n ≤ 31 = ltb-false 31 n (unset (nat_lt 31 n) 21 (middle-of p wanted (ShiftTree sp op a n) clean)) in
+      let le : n ≤ 31 = ltb-false 31 n (not_where (nat_lt 31 n) 21 (middle-of p wanted (ShiftTree sp op a n) clean)) in
       (shift-by w names scope sp op a n ss ss' s b x none some v le).by c p wanted stands clean;
 }
 
@@ -68,7 +69,7 @@ small-front-more w l l' es names more i e ss ts ss' vs vs' v h is es' ev same ex
       let here : AreSmallValues w later scope (list_trees (e ∷ drop (i + 1) es)) (ts ++ ts') (list_symbols (v ∷ us)) =
       small-values-cons w later scope (tree_of e) (list_trees (drop (i + 1) es)) ts ts' (view v) (list_symbols us)
       (value-small-more w more later ext' scope (tree_of e) ts (view v) (small-in w more l l' (tree_of e) ts (view v) same b)) rest in
-      let there = a.by later (ts ++ ts') (v ∷ us) (extends-then names more later ext ext') (subst (λ k. AreSmallValues w later scope (list_trees k) (ts ++ ts') (list_symbols (v ∷ us))) (sym (dropped es i e h is)) here) in
+      let there = a.by later (ts ++ ts') (v ∷ us) (extends-then names more later ext ext') (subst (λ k. AreSmallValues w later scope (list_trees k) (ts ++ ts') (list_symbols (v ∷ us))) (sym (next_item es i e h is)) here) in
       subst (λ k. AreSmallValues w later scope (list_trees es) k (list_symbols (vs' ++ us))) (sym (append_assoc ss ts ts') ∙ ap (λ k. k ++ ts') (sym es'))
       (subst (λ k. AreSmallValues w later scope (list_trees es) (ss ++ (ts ++ ts')) (list_symbols k)) (sym (append_assoc vs (v ∷ []) us) ∙ ap (λ k. k ++ us) (sym ev)) there);
 }
@@ -97,7 +98,7 @@ small-row-more w l l' es names more i e ss ts ss' vs vs' f h is es' ev same ext 
       let here : AreSmallFields w later scope (list_named_trees (e ∷ drop (i + 1) es)) (ts ++ ts') (list_named_symbols (f ∷ us)) =
       small-fields-cons w later scope e.0 f.0.now (tree_of e.1) (list_named_trees (drop (i + 1) es)) ts ts' (view f.1) (list_named_symbols us)
       (value-small-more w more later ext' scope (tree_of e.1) ts (view f.1) (small-in w more l l' (tree_of e.1) ts (view f.1) same b)) rest in
-      let there = a.by later (ts ++ ts') (f ∷ us) (extends-then names more later ext ext') (subst (λ k. AreSmallFields w later scope (list_named_trees k) (ts ++ ts') (list_named_symbols (f ∷ us))) (sym (dropped es i e h is)) here) in
+      let there = a.by later (ts ++ ts') (f ∷ us) (extends-then names more later ext ext') (subst (λ k. AreSmallFields w later scope (list_named_trees k) (ts ++ ts') (list_named_symbols (f ∷ us))) (sym (next_item es i e h is)) here) in
       subst (λ k. AreSmallFields w later scope (list_named_trees es) k (list_named_symbols (vs' ++ us))) (sym (append_assoc ss ts ts') ∙ ap (λ k. k ++ ts') (sym es'))
       (subst (λ k. AreSmallFields w later scope (list_named_trees es) (ss ++ (ts ++ ts')) (list_named_symbols k)) (sym (append_assoc vs (f ∷ []) us) ∙ ap (λ k. k ++ us) (sym ev)) there);
 }
@@ -123,7 +124,7 @@ small-led-more w scope now behind sts names more low high i st ss ts ss' h is es
       let here : IsSmallStated w later now (list_statements (st ∷ drop (i + 1) sts)) (ts ++ ts') =
       small-stated-cons w later now more low high behind (statement_tree st) (list_statements (drop (i + 1) sts)) ts ts' f (stated-small-more w more later ext' now one ts b) rest in
       subst (λ k. IsSmallStated w later scope (list_statements sts) k) (sym (append_assoc ss ts ts') ∙ ap (λ k. k ++ ts') (sym es'))
-      (a.by later (ts ++ ts') (extends-then names more later ext ext') (subst (λ k. IsSmallStated w later now (list_statements k) (ts ++ ts')) (sym (dropped sts i st h is)) here));
+      (a.by later (ts ++ ts') (extends-then names more later ext ext') (subst (λ k. IsSmallStated w later now (list_statements k) (ts ++ ts')) (sym (next_item sts i st h is)) here));
 }
 
 pub small-led-last : (w : Whole) (scope now : SymbolScope) (sts : List Stmt) (names : Names) (i : ℕ) (ss : List Step) → length sts ≤ i → SmallLed w scope sts names ss now (drop i sts) → IsSmallStated w names scope (list_statements sts) ss

@@ -14,9 +14,10 @@ use Rattle.nv_ast.specs.Types.{no_tys, types_of}
 use Rattle.nv_meaning.specs.Meaning.{Declared, declared}
 use Rattle.nv_meaning.specs.inner.Tables.{place_from, functions_in}
 use Rattle.nv_meaning.proofs.Places.{declared-functions}
-use Rattle.nv_meaning.proofs.Lists.{dropped, dropped-all}
+use Rattle.nv_meaning.proofs.Lists.{dropped-all}
 use Rattle.nv_flatten.specs.inner.Whole.{Whole, whole_of, groups_from, raised_in, raised_or_none, group_at, group_of}
 use Rattle.std.proofs.lemmas.List.{map-append, length-append, length-replicate, length-map}
+use Rattle.nv_ast.proofs.Items.{next_item}
 
 -- a number more
 pub replicate-more : (i n : ℕ) → replicate i n ++ n ∷ [] ≡ replicate (i + 1) n
@@ -33,7 +34,7 @@ numbers-more old now new i n e f = f ∙ ap (λ l. l ++ n ∷ []) e ∙ append_a
 pub groups-turn : (decls : List Decl) (i : ℕ) (d : Decl) (now new whole : List ℕ) (n m : ℕ) → i < length decls → d ≡ get_or decls i d
     → ((ds : List DeclTree) → new ++ groups_from m ds ≡ now ++ groups_from n (decl_tree d ∷ ds))
     → now ++ groups_from n (map decl_tree (drop i decls)) ≡ whole → new ++ groups_from m (map decl_tree (drop (i + 1) decls)) ≡ whole
-groups-turn decls i d now new whole n m h is step before = step (map decl_tree (drop (i + 1) decls)) ∙ ap (λ l. now ++ groups_from n (map decl_tree l)) (sym (dropped decls i d h is)) ∙ before
+groups-turn decls i d now new whole n m h is step before = step (map decl_tree (drop (i + 1) decls)) ∙ ap (λ l. now ++ groups_from n (map decl_tree l)) (sym (next_item decls i d h is)) ∙ before
 
 pub groups-done : (decls : List Decl) (i : ℕ) (now whole : List ℕ) (n : ℕ) → length decls ≤ i → now ++ groups_from n (map decl_tree (drop i decls)) ≡ whole → now ≡ whole
 groups-done decls i now whole n h before = sym (append-nil now) ∙ ap (λ l. now ++ groups_from n (map decl_tree l)) (sym (dropped-all decls i h)) ∙ before
@@ -41,7 +42,7 @@ groups-done decls i now whole n h before = sym (append-nil now) ∙ ap (λ l. no
 pub raised-turn : (decls : List Decl) (i : ℕ) (d : Decl) (now new whole : List TypeTrees) → i < length decls → d ≡ get_or decls i d
     → ((ds : List DeclTree) → new ++ raised_in ds ≡ now ++ raised_in (decl_tree d ∷ ds))
     → now ++ raised_in (map decl_tree (drop i decls)) ≡ whole → new ++ raised_in (map decl_tree (drop (i + 1) decls)) ≡ whole
-raised-turn decls i d now new whole h is step before = step (map decl_tree (drop (i + 1) decls)) ∙ ap (λ l. now ++ raised_in (map decl_tree l)) (sym (dropped decls i d h is)) ∙ before
+raised-turn decls i d now new whole h is step before = step (map decl_tree (drop (i + 1) decls)) ∙ ap (λ l. now ++ raised_in (map decl_tree l)) (sym (next_item decls i d h is)) ∙ before
 
 pub raised-done : (decls : List Decl) (i : ℕ) (now whole : List TypeTrees) → length decls ≤ i → now ++ raised_in (map decl_tree (drop i decls)) ≡ whole → now ≡ whole
 raised-done decls i now whole h before = sym (append-nil now) ∙ ap (λ l. now ++ raised_in (map decl_tree l)) (sym (dropped-all decls i h)) ∙ before

@@ -26,10 +26,11 @@ use Rattle.nv_flatten.specs.inner.Whole.{Whole, Stands}
 use Rattle.nv_flatten.specs.inner.Simulation.{Names, Extends, Done, IsValue, IsStated, onward_stated}
 use Rattle.nv_flatten.proofs.Keeping.{scope-later, keeps-value, keeps-scope, keeps-scope_fits, begins-then, begins-done, done-then, words-fit, are-words, extends-itself, extends-then}
 use Rattle.nv_flatten.proofs.Fresh.{bound-values, bound-types, bound-fits, bound-older}
-use Rattle.nv_flatten.proofs.NoFaults.{none-left, none-right, no-kinds, set, value-has-type}
+use Rattle.nv_flatten.proofs.NoFaults.{set, value-has-type}
 use Rattle.nv_flatten.proofs.Following.{onward-stated, onward-further, steps-then, stands-inside, fewer, word-of}
 use Rattle.nv_flatten.proofs.AccessArms.{operands-count}
 use Rattle.nv_base.proofs.WordLemmas.{length-words}
+use Rattle.nv_ast.proofs.Faultless.{no_front, no_rest, no_kinds}
 
 -- ---- what follows a statement
 onward-alone : (r : Stated) (next : Scope → Running → flat.Result) (never : Value → Running → flat.Result) → onward_stated (and_further r (λ m now. GoesOn m now)) next never ≡ onward_stated r next never
@@ -49,7 +50,7 @@ module _ (w : Whole) (names : Names) (low high : ℕ) (scope : SymbolScope) (sp 
   let-clean : (p : Place) → statements_faults p the_let ≡ [] → faults p a_value e ≡ []
   let-clean p none =
       let fit = at_span sp (variable_twice (names_in q) ++ not_fitting q (type_at p.known p.vars e)) in
-      none-left (faults p a_value e) fit (none-left (faults p a_value e ++ fit) [] none)
+      no_front (faults p a_value e) fit (no_front (faults p a_value e ++ fit) [] none)
 
   pub let-stated : low ≤ high → IsValue w names low high scope e steps s → IsStated w names low high scope the_let steps (bound q s scope)
   let-stated le v = record {
@@ -97,22 +98,22 @@ module _ (w : Whole) (names more : Names) (low mid high : ℕ) (scope : SymbolSc
   access_faults p = at_span sp (wrong_access m (words_of_value (type_at p.known p.vars e)) ++ wrong_scratch m a (words_of_value (type_at p.known p.vars e)))
 
   store-none : (p : Place) → statements_faults p the_store ≡ [] → faults p (of_type WordTy) a ++ (faults p wanted_stored e ++ access_faults p) ≡ []
-  store-none p none = none-left (faults p (of_type WordTy) a ++ (faults p wanted_stored e ++ access_faults p)) [] none
+  store-none p none = no_front (faults p (of_type WordTy) a ++ (faults p wanted_stored e ++ access_faults p)) [] none
 
   address-clean : (p : Place) → statements_faults p the_store ≡ [] → faults p (of_type WordTy) a ≡ []
-  address-clean p none = none-left (faults p (of_type WordTy) a) (faults p wanted_stored e ++ access_faults p) (store-none p none)
+  address-clean p none = no_front (faults p (of_type WordTy) a) (faults p wanted_stored e ++ access_faults p) (store-none p none)
 
   behind-address : (p : Place) → statements_faults p the_store ≡ [] → faults p wanted_stored e ++ access_faults p ≡ []
-  behind-address p none = none-right (faults p (of_type WordTy) a) (faults p wanted_stored e ++ access_faults p) (store-none p none)
+  behind-address p none = no_rest (faults p (of_type WordTy) a) (faults p wanted_stored e ++ access_faults p) (store-none p none)
 
   value-clean : (p : Place) → statements_faults p the_store ≡ [] → faults p wanted_stored e ≡ []
-  value-clean p none = none-left (faults p wanted_stored e) (access_faults p) (behind-address p none)
+  value-clean p none = no_front (faults p wanted_stored e) (access_faults p) (behind-address p none)
 
   moves-words : (p : Place) (t : Ty) → statements_faults p the_store ≡ [] → type_at p.known p.vars e ≡ Some t → can_move m (words t) ≡ true
   moves-words p t none is =
       let n = words_of_value (type_at p.known p.vars e) in
-      let kinds = no-kinds sp (wrong_access m n ++ wrong_scratch m a n) (none-right (faults p wanted_stored e) (access_faults p) (behind-address p none)) in
-      ap (λ o. can_move m (words_of_value o)) (sym is) ∙ (set (can_move m n) 19 (none-left (wrong_access m n) (wrong_scratch m a n) kinds))
+      let kinds = no_kinds sp (wrong_access m n ++ wrong_scratch m a n) (no_rest (faults p wanted_stored e) (access_faults p) (behind-address p none)) in
+      ap (λ o. can_move m (words_of_value o)) (sym is) ∙ (set (can_move m n) 19 (no_front (wrong_access m n) (wrong_scratch m a n) kinds))
 
   pub store-stated : StoresTo m (word_operand s) (operands u) step → Extends names more → low ≤ mid → mid ≤ high → IsValue w names low mid scope a ss s → IsValue w more mid high scope e ts u
       → IsStated w more low high scope the_store ((ss ++ ts) ++ step ∷ []) scope
@@ -179,10 +180,10 @@ module _ (w : Whole) (names more : Names) (low mid high : ℕ) (scope inner : Sy
   }
     where
       first-clean : (p : Place) → statements_faults p (statement_and st sts) ≡ [] → statements_faults p (statement_and st no_statements) ≡ []
-      first-clean p none = append-nil (statement_faults p st) ∙ none-left (statement_faults p st) (statements_faults (with_vars (vars_after p.known p.vars st) p) sts) none
+      first-clean p none = append-nil (statement_faults p st) ∙ no_front (statement_faults p st) (statements_faults (with_vars (vars_after p.known p.vars st) p) sts) none
 
       others-clean : (p : Place) → statements_faults p (statement_and st sts) ≡ [] → statements_faults (with_vars (vars_after p.known p.vars st) p) sts ≡ []
-      others-clean p none = none-right (statement_faults p st) (statements_faults (with_vars (vars_after p.known p.vars st) p) sts) none
+      others-clean p none = no_rest (statement_faults p st) (statements_faults (with_vars (vars_after p.known p.vars st) p) sts) none
 
       stands-behind : (own : ℕ) (p : Place) → Stands w own scope p → statements_faults p (statement_and st sts) ≡ [] → Stands w own inner (with_vars (vars_after p.known p.vars st) p)
       stands-behind own p stands none = record { part = stands.part; vars = v.formed own p stands (first-clean p none) }
@@ -228,12 +229,12 @@ module _ (w : Whole) (names more : Names) (low mid high : ℕ) (scope inner : Sy
   }
     where
       statements-clean : (p : Place) (wanted : Wanted) → faults p wanted (BlockTree sp sts e) ≡ [] → statements_faults (inside p) sts ≡ []
-      statements-clean p wanted none = none-left (statements_faults (inside p) sts) (faults (with_vars (vars_behind p.known p.vars sts) p) anything e ++ node_faults p wanted (BlockTree sp sts e)) none
+      statements-clean p wanted none = no_front (statements_faults (inside p) sts) (faults (with_vars (vars_behind p.known p.vars sts) p) anything e ++ node_faults p wanted (BlockTree sp sts e)) none
 
       last-clean : (p : Place) (wanted : Wanted) → faults p wanted (BlockTree sp sts e) ≡ [] → faults (with_vars (vars_behind p.known p.vars sts) p) anything e ≡ []
       last-clean p wanted none =
-          none-left (faults (with_vars (vars_behind p.known p.vars sts) p) anything e) (node_faults p wanted (BlockTree sp sts e))
-          (none-right (statements_faults (inside p) sts) (faults (with_vars (vars_behind p.known p.vars sts) p) anything e ++ node_faults p wanted (BlockTree sp sts e)) none)
+          no_front (faults (with_vars (vars_behind p.known p.vars sts) p) anything e) (node_faults p wanted (BlockTree sp sts e))
+          (no_rest (statements_faults (inside p) sts) (faults (with_vars (vars_behind p.known p.vars sts) p) anything e ++ node_faults p wanted (BlockTree sp sts e)) none)
 
       stands-behind : (own : ℕ) (p : Place) (wanted : Wanted) → Stands w own scope p → faults p wanted (BlockTree sp sts e) ≡ [] → Stands w own inner (with_vars (vars_behind p.known p.vars sts) p)
       stands-behind own p wanted stands none = record { part = stands.part; vars = v.formed own (inside p) (stands-inside w own scope p stands) (statements-clean p wanted none) }

@@ -28,8 +28,9 @@ use Rattle.nv_flatten.specs.inner.Runs.{flat_run, onward}
 use Rattle.nv_flatten.specs.inner.Whole.{Whole, Stands}
 use Rattle.nv_flatten.specs.inner.Simulation.{Names, Extends, Setting, Begins, Done, IsValue, IsTest}
 use Rattle.nv_flatten.proofs.Keeping.{older-later, scope-later, keeps-then, keeps-value, keeps-fit, keeps-scope, begins-then, extends-then}
-use Rattle.nv_flatten.proofs.NoFaults.{none-left, none-right, wanted-type}
+use Rattle.nv_flatten.proofs.NoFaults.{wanted-type}
 use Rattle.nv_flatten.proofs.Following.{onward-then, steps-then, stands-inside, value-more, word-of}
+use Rattle.nv_ast.proofs.Faultless.{no_front, no_rest}
 
 -- ---- what follows a value, equal at each
 pub onward-same : (r : Result) (f g : Value → Running → flat.Result) → ((v : Value) (now : Running) → f v now ≡ g v now) → onward r f ≡ onward r g
@@ -80,7 +81,7 @@ pub paren-test : (w : Whole) (names : Names) (low high : ℕ) (scope : SymbolSco
     → IsTest w names low high scope e steps c a b → IsTest w names low high scope (ParenTree sp e) steps c a b
 paren-test w names low high scope sp e steps c a b v = record {
   simulate = λ own p wanted stands none ty older s env now begins rest next same.
-      v.simulate own p a_value stands (none-left (faults p a_value e) (node_faults p wanted (ParenTree sp e)) none) ty older s env now begins rest next same;
+      v.simulate own p a_value stands (no_front (faults p a_value e) (node_faults p wanted (ParenTree sp e)) none) ty older s env now begins rest next same;
   older = v.older;
 }
 
@@ -88,7 +89,7 @@ pub negate-test : (w : Whole) (names : Names) (low high : ℕ) (scope : SymbolSc
     → ((x y : ℕ) → compares d x y ≡ not (compares c x y)) → IsTest w names low high scope e steps c a b → IsTest w names low high scope (NegateTree sp e) steps d a b
 negate-test w names low high scope sp e steps c d a b turned v = record {
   simulate = λ own p wanted stands none ty older s env now begins rest next same.
-      let inner = none-left (faults (inside p) (of_type BoolTy) e) (node_faults p wanted (NegateTree sp e)) none in
+      let inner = no_front (faults (inside p) (of_type BoolTy) e) (node_faults p wanted (NegateTree sp e)) none in
       v.simulate own (inside p) (of_type BoolTy) (stands-inside w own scope p stands) inner (wanted-type (inside p) BoolTy e inner) older s env now begins rest (λ x last. next (meaning.Truth (not (truth_of x))) last)
       (λ new last done. same new last done ∙ ap (λ t. next (meaning.Truth t) last) (turned (atom_word new a) (atom_word new b)))
       ∙ sym (onward-then (eval w.declared s.call e (scope_in env scope) now) (λ x last. Gives (meaning.Truth (not (truth_of x))) last) next);
@@ -177,8 +178,8 @@ compare-test w names later low mid high scope a b ss ts s u va vb more le le' sp
     record {
       simulate = λ own p wanted stands none ty older set env now begins rest next same.
           two-values w later low mid high scope a b ss ts s u va' vb le own (inside p) (of_type (operand_ty op)) (of_type (operand_ty op)) (stands-inside w own scope p stands)
-          (none-left (faults (inside p) (of_type (operand_ty op)) a) (faults (inside p) (of_type (operand_ty op)) b ++ node_faults p wanted (BinaryTree sp op a b)) none)
-          (none-left (faults (inside p) (of_type (operand_ty op)) b) (node_faults p wanted (BinaryTree sp op a b)) (none-right (faults (inside p) (of_type (operand_ty op)) a) (faults (inside p) (of_type (operand_ty op)) b ++ node_faults p wanted (BinaryTree sp op a b)) none))
+          (no_front (faults (inside p) (of_type (operand_ty op)) a) (faults (inside p) (of_type (operand_ty op)) b ++ node_faults p wanted (BinaryTree sp op a b)) none)
+          (no_front (faults (inside p) (of_type (operand_ty op)) b) (node_faults p wanted (BinaryTree sp op a b)) (no_rest (faults (inside p) (of_type (operand_ty op)) a) (faults (inside p) (of_type (operand_ty op)) b ++ node_faults p wanted (BinaryTree sp op a b)) none))
           older set env now begins rest (λ v x last. next (combined op (word_of v) (word_of x)) last)
           (λ new last done. same new last (record { sizes = done.sizes; keeps = done.keeps; fits = tt }) ∙ ap (λ t. next t last) (compare-truth op c swapped k new s u))
           ∙ sym (compare-onward op c swapped k (eval w.declared set.call a (scope_in env scope) now) (λ middle. eval w.declared set.call b (scope_in env scope) middle) next);

@@ -25,9 +25,10 @@ use Rattle.nv_flatten.specs.inner.Simulation.{Names, Extends, Begins, IsEnd}
 use Rattle.nv_flatten.proofs.Keeping.{scope-later, keeps-scope, keeps-scope_fits, types-of-scope, scope-words}
 use Rattle.nv_flatten.proofs.Fresh.{fresh-forms, all-fresh-older, numbers-keep, fresh-values, all-fresh-fit, all-bound-values, all-bound-types, all-bound-fit, all-bound-older}
 use Rattle.nv_flatten.proofs.Sound.{typed-eval}
-use Rattle.nv_flatten.proofs.NoFaults.{none-left, none-right, no-kinds, unset, given}
+use Rattle.nv_flatten.proofs.NoFaults.{given}
 use Rattle.nv_flatten.proofs.Following.{stands-inside}
 use Rattle.nv_flatten.proofs.EndArms.{end-more, first-form}
+use Rattle.nv_ast.proofs.Faultless.{no_front, no_rest, no_kinds, not_where}
 
 -- what a handler does with a result of some type
 module _ (w : Whole) (k : ℕ) (h : List ℕ → flat.Running → flat.Result) (handler : Values → Running → Result)
@@ -76,25 +77,25 @@ module _ (w : Whole) (names : Names) (low mid high : ℕ) (scope : SymbolScope) 
   inner = all_bound ps (all_fresh mid (raised_or_none w (exception_number w.declared.exceptions x))) scope
 
   none-body : (p : Place) (wanted : Wanted) → faults p wanted (TryTree sp a x ps h) ≡ [] → faults (inside p) anything a ≡ []
-  none-body p wanted none = none-left (faults (inside p) anything a) (at_span sp (raised_kinds p.known x ps) ++ (faults (with_vars (bind_raised ps (look_up x p.known.exceptions) p.vars) p) (same_as (type_at p.known p.vars a)) h ++ node_faults p wanted (TryTree sp a x ps h))) none
+  none-body p wanted none = no_front (faults (inside p) anything a) (at_span sp (raised_kinds p.known x ps) ++ (faults (with_vars (bind_raised ps (look_up x p.known.exceptions) p.vars) p) (same_as (type_at p.known p.vars a)) h ++ node_faults p wanted (TryTree sp a x ps h))) none
 
   none-rest : (p : Place) (wanted : Wanted) → faults p wanted (TryTree sp a x ps h) ≡ [] → at_span sp (raised_kinds p.known x ps) ++ (faults (with_vars (bind_raised ps (look_up x p.known.exceptions) p.vars) p) (same_as (type_at p.known p.vars a)) h ++ node_faults p wanted (TryTree sp a x ps h)) ≡ []
-  none-rest p wanted none = none-right (faults (inside p) anything a) (at_span sp (raised_kinds p.known x ps) ++ (faults (with_vars (bind_raised ps (look_up x p.known.exceptions) p.vars) p) (same_as (type_at p.known p.vars a)) h ++ node_faults p wanted (TryTree sp a x ps h))) none
+  none-rest p wanted none = no_rest (faults (inside p) anything a) (at_span sp (raised_kinds p.known x ps) ++ (faults (with_vars (bind_raised ps (look_up x p.known.exceptions) p.vars) p) (same_as (type_at p.known p.vars a)) h ++ node_faults p wanted (TryTree sp a x ps h))) none
 
   none-handler : (p : Place) (wanted : Wanted) → faults p wanted (TryTree sp a x ps h) ≡ [] → faults (with_vars (bind_raised ps (look_up x p.known.exceptions) p.vars) p) (same_as (type_at p.known p.vars a)) h ≡ []
-  none-handler p wanted none = none-left (faults (with_vars (bind_raised ps (look_up x p.known.exceptions) p.vars) p) (same_as (type_at p.known p.vars a)) h) (node_faults p wanted (TryTree sp a x ps h))
-      (none-right (at_span sp (raised_kinds p.known x ps)) (faults (with_vars (bind_raised ps (look_up x p.known.exceptions) p.vars) p) (same_as (type_at p.known p.vars a)) h ++ node_faults p wanted (TryTree sp a x ps h)) (none-rest p wanted none))
+  none-handler p wanted none = no_front (faults (with_vars (bind_raised ps (look_up x p.known.exceptions) p.vars) p) (same_as (type_at p.known p.vars a)) h) (node_faults p wanted (TryTree sp a x ps h))
+      (no_rest (at_span sp (raised_kinds p.known x ps)) (faults (with_vars (bind_raised ps (look_up x p.known.exceptions) p.vars) p) (same_as (type_at p.known p.vars a)) h ++ node_faults p wanted (TryTree sp a x ps h)) (none-rest p wanted none))
 
   none-unknown : (p : Place) (wanted : Wanted) → faults p wanted (TryTree sp a x ps h) ≡ [] → unknown_exception p.known x ≡ []
   none-unknown p wanted none =
-      none-right (not_all_fitting ps (look_up x p.known.exceptions)) (unknown_exception p.known x)
-      (none-right (wrong_number_of_patterns (look_up x p.known.exceptions) ps) (not_all_fitting ps (look_up x p.known.exceptions) ++ unknown_exception p.known x)
-      (none-right (variable_twice (names_in_all ps)) (wrong_number_of_patterns (look_up x p.known.exceptions) ps ++ (not_all_fitting ps (look_up x p.known.exceptions) ++ unknown_exception p.known x))
-      (no-kinds sp (raised_kinds p.known x ps) (none-left (at_span sp (raised_kinds p.known x ps)) (faults (with_vars (bind_raised ps (look_up x p.known.exceptions) p.vars) p) (same_as (type_at p.known p.vars a)) h ++ node_faults p wanted (TryTree sp a x ps h)) (none-rest p wanted none)))))
+      no_rest (not_all_fitting ps (look_up x p.known.exceptions)) (unknown_exception p.known x)
+      (no_rest (wrong_number_of_patterns (look_up x p.known.exceptions) ps) (not_all_fitting ps (look_up x p.known.exceptions) ++ unknown_exception p.known x)
+      (no_rest (variable_twice (names_in_all ps)) (wrong_number_of_patterns (look_up x p.known.exceptions) ps ++ (not_all_fitting ps (look_up x p.known.exceptions) ++ unknown_exception p.known x))
+      (no_kinds sp (raised_kinds p.known x ps) (no_front (at_span sp (raised_kinds p.known x ps)) (faults (with_vars (bind_raised ps (look_up x p.known.exceptions) p.vars) p) (same_as (type_at p.known p.vars a)) h ++ node_faults p wanted (TryTree sp a x ps h)) (none-rest p wanted none)))))
 
   caught : (own : ℕ) (p : Place) (wanted : Wanted) → Stands w own scope p → faults p wanted (TryTree sp a x ps h) ≡ [] → IsCaught w p x
   caught own p wanted stands none =
-      let q = given (look_up x p.known.exceptions) (unset (is_none (look_up x p.known.exceptions)) 17 (none-unknown p wanted none)) in
+      let q = given (look_up x p.known.exceptions) (not_where (is_none (look_up x p.known.exceptions)) 17 (none-unknown p wanted none)) in
       record { types = q.0; found = q.1; raised = ap (λ r. unwrap_or r no_tys) (stands.part.exceptions x q.0 q.1) }
 
   stands-handler : (own : ℕ) (p : Place) (wanted : Wanted) → Stands w own scope p → faults p wanted (TryTree sp a x ps h) ≡ [] → Stands w own inner (with_vars (bind_raised ps (look_up x p.known.exceptions) p.vars) p)

@@ -27,8 +27,9 @@ use Rattle.nv_flatten.specs.inner.Runs.{flat_run, onward}
 use Rattle.nv_flatten.specs.inner.Whole.{Whole, Stands}
 use Rattle.nv_flatten.specs.inner.Simulation.{Names, Done, HasForm, IsValue}
 use Rattle.nv_flatten.proofs.Keeping.{older-left, older-right, older-later, begins-done}
-use Rattle.nv_flatten.proofs.NoFaults.{none-left, some-same, none-some}
+use Rattle.nv_flatten.proofs.NoFaults.{some-same, none-some}
 use Rattle.nv_flatten.proofs.Following.{onward-then, steps-then, stands-inside, word-of, truth-of, truth-fits, one-older, assigned-here, defined}
+use Rattle.nv_ast.proofs.Faultless.{no_front}
 
 -- ---- values without steps
 module _ (w : Whole) (names : Names) (low high : ℕ) (scope : SymbolScope) where
@@ -108,8 +109,8 @@ module _ (w : Whole) (names : Names) (low high : ℕ) (scope : SymbolScope) wher
   -- ---- parentheses
   pub paren-value : (sp : Span) (a : Tree) (steps : List Step) (s : Symbol) → IsValue w names low high scope a steps s → IsValue w names low high scope (ParenTree sp a) steps s
   paren-value sp a steps s v = record {
-    simulates = record { by = λ own p wanted stands none. v.simulates.by own p a_value stands (none-left (faults p a_value a) (node_faults p wanted (ParenTree sp a)) none) };
-    formed = record { by = λ own p wanted stands none. v.formed.by own p a_value stands (none-left (faults p a_value a) (node_faults p wanted (ParenTree sp a)) none) };
+    simulates = record { by = λ own p wanted stands none. v.simulates.by own p a_value stands (no_front (faults p a_value a) (node_faults p wanted (ParenTree sp a)) none) };
+    formed = record { by = λ own p wanted stands none. v.formed.by own p a_value stands (no_front (faults p a_value a) (node_faults p wanted (ParenTree sp a)) none) };
     older = v.older;
   }
 
@@ -130,7 +131,7 @@ module _ (w : Whole) (names : Names) (low mid high : ℕ) (scope : SymbolScope) 
   unary v means parts makes formed older = record {
     simulates = record {
       by = λ own p wanted stands none o c env now begins rest next same.
-          let clean = none-left (faults (inside p) (of p) a) (node_faults p wanted e) (sym (parts p wanted) ∙ none) in
+          let clean = no_front (faults (inside p) (of p) a) (node_faults p wanted e) (sym (parts p wanted) ∙ none) in
           let made = makes own p wanted stands none o in
           steps-then c.fcall ss ts rest env (flat_run now)
           ∙ v.simulates.by own (inside p) (of p) (stands-inside w own scope p stands) clean o c env now begins (steps_do c.fcall ts rest) (λ x last. onward (k x last) next) (λ new last done. made c.fcall env new last done rest next same)
@@ -208,7 +209,7 @@ module _ (w : Whole) (names : Names) (low high : ℕ) (scope : SymbolScope) wher
   dot-value sp a x ss s v = record {
     simulates = record {
       by = λ own p wanted stands none o c env now begins rest next same.
-          let clean = none-left (faults (inside p) a_value a) (node_faults p wanted (DotTree sp a x)) none in
+          let clean = no_front (faults (inside p) a_value a) (node_faults p wanted (DotTree sp a x)) none in
           let k : Value → Running → Result = λ y last. Gives (meaning.field_named x (meaning.fields_of y)) last in
           v.simulates.by own (inside p) a_value (stands-inside w own scope p stands) clean o c env now begins rest (λ y last. onward (k y last) next)
           (λ new last done. same new last (record { sizes = done.sizes; keeps = done.keeps; fits = field-fits new x s done.fits }) ∙ ap (λ z. next z last) (field-value new x s))
@@ -216,7 +217,7 @@ module _ (w : Whole) (names : Names) (low high : ℕ) (scope : SymbolScope) wher
     };
     formed = record {
       by = λ own p wanted stands none t is.
-          let clean = none-left (faults (inside p) a_value a) (node_faults p wanted (DotTree sp a x)) none in
+          let clean = no_front (faults (inside p) a_value a) (node_faults p wanted (DotTree sp a x)) none in
           field-typed x s (type_at p.known p.vars a) t (λ u e. v.formed.by own (inside p) a_value (stands-inside w own scope p stands) clean u e) is;
     };
     older = λ o. field-older high x s (v.older o);

@@ -33,13 +33,14 @@ use Rattle.nv_flatten.proofs.WellBasics.{knows-both, knows-left, knows-right, kn
 use Rattle.nv_flatten.proofs.WellTypes.{low-of, middle-of, right-of, move-same, address-formed}
 use Rattle.nv_flatten.proofs.WellNames.{called-none, steps-called-more, steps-called-then}
 use Rattle.nv_flatten.proofs.WellSteps.{steps-none, steps-names, steps-knowing, steps-then, steps-last, steps-compute}
-use Rattle.nv_flatten.proofs.NoFaults.{none-left, none-right, unset, among-known}
+use Rattle.nv_flatten.proofs.NoFaults.{among-known}
 use Rattle.nv_flatten.proofs.Fresh.{numbers-length}
 use Rattle.nv_flatten.proofs.PackedWords.{symbol-operands}
 use Rattle.nv_flatten.proofs.Following.{stands-inside}
 use Rattle.nv_flatten.proofs.WalkArms.{count-cases}
 use Rattle.nv_base.proofs.Operands.{atoms-more}
 use Rattle.nv_flatten.proofs.Lets.{shift-primitive}
+use Rattle.nv_ast.proofs.Faultless.{no_front, no_rest, not_where}
 
 -- ---- without steps
 pub number-well : (w : Whole) (names : Names) (low : ℕ) (scope : SymbolScope) (sp : Span) (n : ℕ) → IsWellValue w names names low low scope (NumberTree sp n) [] (Word (Lit n))
@@ -66,21 +67,21 @@ variable-well w names low scope sp x = record {
 -- ---- the steps of the parts alone
 pub paren-well : (w : Whole) (old names : Names) (low high : ℕ) (scope : SymbolScope) (sp : Span) (e : Tree) (ss : List Step) (v : Symbol) → IsWellValue w old names low high scope e ss v → IsWellValue w old names low high scope (ParenTree sp e) ss v
 paren-well w old names low high scope sp e ss v a = record {
-  well = λ own p wanted st f t. a.well own p a_value st (none-left (faults p a_value e) _ f) t;
+  well = λ own p wanted st f t. a.well own p a_value st (no_front (faults p a_value e) _ f) t;
   literal = tt {0};
   called = a.called;
 }
 
 pub tuple-well : (w : Whole) (old names : Names) (low high : ℕ) (scope : SymbolScope) (sp : Span) (es : Trees) (ss : List Step) (vs : Symbols) → AreWellValues w old names low high scope es ss vs → IsWellValue w old names low high scope (TupleTree sp es) ss (Tuple vs)
 tuple-well w old names low high scope sp es ss vs a = record {
-  well = λ own p wanted st f t. a.well own (inside p) [] (stands-inside w own scope p st) (none-left (list_faults (inside p) [] es) _ f) refl;
+  well = λ own p wanted st f t. a.well own (inside p) [] (stands-inside w own scope p st) (no_front (list_faults (inside p) [] es) _ f) refl;
   literal = tt {0};
   called = a.called;
 }
 
 pub record-well : (w : Whole) (old names : Names) (low high : ℕ) (scope : SymbolScope) (sp : Span) (es : NamedTrees) (ss : List Step) (vs : NamedSymbols) → AreWellFields w old names low high scope es ss vs → IsWellValue w old names low high scope (FieldsTree sp es) ss (Record vs)
 record-well w old names low high scope sp es ss vs a = record {
-  well = λ own p wanted st f t. a.well own (inside p) (stands-inside w own scope p st) (none-left (named_faults (inside p) es) _ f) refl;
+  well = λ own p wanted st f t. a.well own (inside p) (stands-inside w own scope p st) (no_front (named_faults (inside p) es) _ f) refl;
   literal = tt {0};
   called = a.called;
 }
@@ -89,7 +90,7 @@ pub dot-well : (w : Whole) (old names : Names) (low high : ℕ) (scope : SymbolS
 dot-well w old names low high scope sp e x ss v a = record {
   well = λ own p wanted st f t.
       steps-knowing w names low high high own scope ss (Knows (operands v)) (Knows (operands (field_named x (fields_of v)))) (omega arith)
-      (a.well own (inside p) a_value (stands-inside w own scope p st) (none-left (faults (inside p) a_value e) _ f) refl) (λ known k q. knows-field known x v q);
+      (a.well own (inside p) a_value (stands-inside w own scope p st) (no_front (faults (inside p) a_value e) _ f) refl) (λ known k q. knows-field known x v q);
   literal = tt {0};
   called = a.called;
 }
@@ -105,7 +106,7 @@ pub invert-well : (w : Whole) (old names : Names) (low mid : ℕ) (scope : Symbo
 invert-well w old names low mid scope sp e ss v a = record {
   well = λ own p wanted st f t.
       let-behind w names low mid own scope ss (UnaOf Not (word_operand v)) (Knows (operands v))
-      (a.well own (inside p) (of_type WordTy) (stands-inside w own scope p st) (none-left (faults (inside p) (of_type WordTy) e) _ f) refl) (λ known q. knows-word known v q);
+      (a.well own (inside p) (of_type WordTy) (stands-inside w own scope p st) (no_front (faults (inside p) (of_type WordTy) e) _ f) refl) (λ known q. knows-word known v q);
   literal = tt {0};
   called = steps-called-more old names ss (Let mid (UnaOf Not (word_operand v)) ∷ []) a.called;
 }
@@ -115,7 +116,7 @@ pub negate-well : (w : Whole) (old names : Names) (low mid : ℕ) (scope : Symbo
 negate-well w old names low mid scope sp e ss v a = record {
   well = λ own p wanted st f t.
       let-behind w names low mid own scope ss (BinOf Xor (truth_operand v) (Lit 1)) (Knows (operands v))
-      (a.well own (inside p) (of_type BoolTy) (stands-inside w own scope p st) (none-left (faults (inside p) (of_type BoolTy) e) _ f) refl)
+      (a.well own (inside p) (of_type BoolTy) (stands-inside w own scope p st) (no_front (faults (inside p) (of_type BoolTy) e) _ f) refl)
       (λ known q. and_from (is_known known (truth_operand v)) true (knows-truth known v q) refl);
   literal = tt {0};
   called = steps-called-more old names ss (Let mid (BinOf Xor (truth_operand v) (Lit 1)) ∷ []) a.called;
@@ -135,8 +136,8 @@ combine-well w old names more low mid high scope sp op bin a b ss ts u v h l r =
   well = λ own p wanted st f t.
       let want = of_type (operand_ty op) in
       let st' = stands-inside w own scope p st in
-      let left = l.well own (inside p) want st' (none-left (faults (inside p) want a) _ f) refl in
-      let right = r.well own (inside p) want st' (none-left (faults (inside p) want b) _ (none-right (faults (inside p) want a) _ f)) refl in
+      let left = l.well own (inside p) want st' (no_front (faults (inside p) want a) _ f) refl in
+      let right = r.well own (inside p) want st' (no_front (faults (inside p) want b) _ (no_rest (faults (inside p) want a) _ f)) refl in
       let-behind w more low high own scope (ss ++ ts) (BinOf bin (word_operand u) (word_operand v)) (Knows (operands u ++ operands v))
       (two-values w names more low mid high own scope ss ts (operands u) (operands v) h left right)
       (λ known q.
@@ -175,8 +176,8 @@ pub shift-well : (w : Whole) (old names : Names) (low mid high : ℕ) (scope : S
     → IsShift op n mid high (word_operand v) x ss ts → IsWellValue w old names low high scope (ShiftTree sp op e n) ts (Word x)
 shift-well w old names low mid high scope sp op e n ss ts v x a s = record {
   well = λ own p wanted st f t.
-      let le : n ≤ 31 = ltb-false 31 n (unset (nat_lt 31 n) 21 (middle-of p wanted (ShiftTree sp op e n) f)) in
-      shift-steps w names low mid high own scope op n ss ts v x le s (a.well own (inside p) (of_type WordTy) (stands-inside w own scope p st) (none-left (faults (inside p) (of_type WordTy) e) _ f) refl) (count-cases n);
+      let le : n ≤ 31 = ltb-false 31 n (not_where (nat_lt 31 n) 21 (middle-of p wanted (ShiftTree sp op e n) f)) in
+      shift-steps w names low mid high own scope op n ss ts v x le s (a.well own (inside p) (of_type WordTy) (stands-inside w own scope p st) (no_front (faults (inside p) (of_type WordTy) e) _ f) refl) (count-cases n);
   literal = tt {0};
   called = subst (λ k. AreCalled old names (steps_calls k)) (sym s.extends.1) (steps-called-more old names ss s.extends.0 a.called);
 }
@@ -188,10 +189,10 @@ pub unpack-well : (w : Whole) (old names : Names) (low mid high : ℕ) (scope : 
     → IsWellValue w old names low high scope (UnpackTree sp l e) (ss ++ ts) u
 unpack-well w old names low mid high scope sp l e ss ts v u a hf lets = record {
   well = λ own p wanted st f t.
-      let found = among-known l p.known.layouts (not-false (is_among l (names_of p.known.layouts)) (unset (not (is_among l (names_of p.known.layouts))) 3 (low-of p wanted (UnpackTree sp l e) f))) in
+      let found = among-known l p.known.layouts (not-false (is_among l (names_of p.known.layouts)) (not_where (not (is_among l (names_of p.known.layouts))) 3 (low-of p wanted (UnpackTree sp l e) f))) in
       let known = st.part.layouts l found.0 found.1 in
       let st' = stands-inside w own scope p st in
-      let part = none-left (faults (inside p) (wanted_packed (look_up l p.known.layouts)) e) _ f in
+      let part = no_front (faults (inside p) (wanted_packed (look_up l p.known.layouts)) e) _ f in
       let part' : faults (inside p) (of_type (packed_ty found.0)) e ≡ [] = subst (λ o. faults (inside p) (wanted_packed o) e ≡ []) found.1 part in
       let typed = wanted-type (inside p) (packed_ty found.0) e part' in
       let formed : form v ≡ packed_ty found.0 = hf.by own (inside p) (of_type (packed_ty found.0)) st' part' (packed_ty found.0) typed in
@@ -207,11 +208,11 @@ pub pack-well : (w : Whole) (old names : Names) (low mid high : ℕ) (scope : Sy
     → IsWellValue w old names low high scope (PackTree sp l e) (ss ++ ts) u
 pack-well w old names low mid high scope sp l e ss ts v u a hf lets = record {
   well = λ own p wanted st f t.
-      let found = among-known l p.known.layouts (not-false (is_among l (names_of p.known.layouts)) (unset (not (is_among l (names_of p.known.layouts))) 3 (low-of p wanted (PackTree sp l e) f))) in
+      let found = among-known l p.known.layouts (not-false (is_among l (names_of p.known.layouts)) (not_where (not (is_among l (names_of p.known.layouts))) 3 (low-of p wanted (PackTree sp l e) f))) in
       let known = st.part.layouts l found.0 found.1 in
       let st' = stands-inside w own scope p st in
       let want = wanted_unpacked (Some found.0) in
-      let part = none-left (faults (inside p) (wanted_unpacked (look_up l p.known.layouts)) e) _ f in
+      let part = no_front (faults (inside p) (wanted_unpacked (look_up l p.known.layouts)) e) _ f in
       let part' : faults (inside p) want e ≡ [] = subst (λ o. faults (inside p) (wanted_unpacked o) e ≡ []) found.1 part in
       let typed = value-has-type (inside p) want e refl part' in
       let formed : form v ≡ typed.0 = hf.by own (inside p) want st' part' typed.0 typed.1 in
@@ -231,10 +232,10 @@ fetch-well w old names low mid scope sp m n e ss ts v xs last same a = record {
       subst (λ k. WellSteps w names low (mid + n) own scope k (Knows (operands (words_symbol (variables (numbers_from mid n)))))) (sym last)
       (let many : length xs.items ≡ n = ap length same ∙ numbers-length mid n in
       let kinds = middle-of p wanted (FetchTree sp m n e) f in
-      let moves : flat.can_move m n ≡ true = move-same m n ∙ not-false (can_move m n) (unset (not (can_move m n)) 19 (none-left (wrong_access m n) _ kinds)) in
-      let address : flat.is_address m (word_operand v) n ≡ true = address-formed m e n v (none-right (wrong_access m n) (wrong_scratch m e n) kinds) a.literal in
+      let moves : flat.can_move m n ≡ true = move-same m n ∙ not-false (can_move m n) (not_where (not (can_move m n)) 19 (no_front (wrong_access m n) _ kinds)) in
+      let address : flat.is_address m (word_operand v) n ≡ true = address-formed m e n v (no_rest (wrong_access m n) (wrong_scratch m e n) kinds) a.literal in
       steps-last w names low mid (mid + n) own scope ss (Fetch m xs (word_operand v)) (Knows (operands v)) (Knows (operands (words_symbol (variables (numbers_from mid n)))))
-      (a.well own (inside p) (of_type WordTy) (stands-inside w own scope p st) (none-left (faults (inside p) (of_type WordTy) e) _ f) refl)
+      (a.well own (inside p) (of_type WordTy) (stands-inside w own scope p st) (no_front (faults (inside p) (of_type WordTy) e) _ f) refl)
       (λ l known k q.
       and_from (is_known known (word_operand v)) (flat.can_move m (length xs.items) && flat.is_address m (word_operand v) (length xs.items)) (knows-word known v q)
       (and_from (flat.can_move m (length xs.items)) (flat.is_address m (word_operand v) (length xs.items)) (subst (λ k. flat.can_move m k ≡ true) (sym many) moves) (subst (λ k. flat.is_address m (word_operand v) k ≡ true) (sym many) address)))
@@ -256,11 +257,11 @@ pub block-well : (w : Whole) (old names more : Names) (low mid high : ℕ) (scop
 block-well w old names more low mid high scope inner sp sts e ss ts v h a vars b = record {
   well = λ own p wanted st f t.
       let st' = stands-inside w own scope p st in
-      let none = none-left (statements_faults (inside p) sts) _ f in
-      let rest = none-right (statements_faults (inside p) sts) _ f in
+      let none = no_front (statements_faults (inside p) sts) _ f in
+      let rest = no_rest (statements_faults (inside p) sts) _ f in
       let behind = with_vars (vars_behind p.known p.vars sts) p in
       let first = steps-names w names more low mid own scope ss (λ known. ScopeKnown known inner) h (a.well own (inside p) st' none refl) in
-      let second = b.well own behind anything (stands-behind w own scope inner p sts st (vars own (inside p) st' none)) (none-left (faults behind anything e) _ rest) t in
+      let second = b.well own behind anything (stands-behind w own scope inner p sts st (vars own (inside p) st' none)) (no_front (faults behind anything e) _ rest) t in
       steps-then w more low mid high own scope inner ss ts (λ known. ScopeKnown known inner) (Knows (operands v)) (Knows (operands v)) first (λ known k q. q) second (λ known further le q r. r);
   literal = tt {0};
   called = steps-called-then old names more ss ts a.called b.called;

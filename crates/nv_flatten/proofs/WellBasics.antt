@@ -15,9 +15,9 @@ use Rattle.nv_ast.specs.Tree.{PatternTree, NamePattern, AnyPattern, TuplePattern
 use Rattle.nv_flatten.specs.inner.Whole.{Whole}
 use Rattle.nv_flatten.specs.inner.Well.{ScopeKnown, Rises, RaisedMatch}
 use Rattle.std.proofs.lemmas.List.{length-append}
-use Rattle.nv_flatten.proofs.Listing.{parts-words}
 use Rattle.nv_flatten.proofs.Following.{eq-same}
 use Rattle.nv_base.proofs.Operands.{atoms-more}
+use Rattle.nv_ast.proofs.TypeWords.{parts_words}
 
 -- ---- lists of nothing
 
@@ -133,7 +133,7 @@ mutual
 
 pub words-if : (b : Bool) (n : ℕ) → (b ≡ true → n ≡ 1) → words (if b then WordTy else TupleTy (word_parts n)) ≡ n
 words-if true n h = sym (h refl)
-words-if false n h = parts-words n
+words-if false n h = parts_words n
 
 pub words-ty-words : (n : ℕ) → words (words_ty n) ≡ n
 words-ty-words n = words-if (n == 1) n (λ e. eqb-true n 1 e)

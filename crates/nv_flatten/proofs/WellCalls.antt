@@ -24,15 +24,16 @@ use Rattle.nv_flatten.specs.inner.Well.{ScopeKnown, Rises, WellSteps, Knows, Giv
 use Rattle.nv_flatten.proofs.Fresh.{fresh-operands, numbers-length}
 use Rattle.nv_flatten.proofs.Sound.{arguments-typed}
 use Rattle.nv_flatten.proofs.WellBasics.{knows-variables, all-operands-words, rises-append, rises-numbers, raised-both}
-use Rattle.nv_flatten.proofs.WellTypes.{some-where, low-of, middle-of, plain-words}
+use Rattle.nv_flatten.proofs.WellTypes.{some-where, low-of, middle-of}
 use Rattle.flat_ir.specs.Reached.{calls}
 use Rattle.nv_flatten.proofs.WellNames.{called-more, code-called-more, code-called-then}
 use Rattle.nv_flatten.proofs.WellSteps.{steps-names, code-behind, code-inner}
 use Rattle.nv_flatten.proofs.WellArms.{stands-behind}
 use Rattle.nv_flatten.proofs.WellEnds.{gives-words, raised-from-one}
-use Rattle.nv_flatten.proofs.NoFaults.{none-left, none-right, unset}
 use Rattle.nv_flatten.proofs.CallArms.{get-append}
 use Rattle.nv_flatten.proofs.Following.{stands-inside}
+use Rattle.nv_ast.proofs.Faultless.{no_front, no_rest, not_where}
+use Rattle.nv_ast.proofs.TypeWords.{plain_words}
 
 pub get-extended : {A : Type 0} (xs zs : List A) (i : ℕ) (x : A) → Extends xs zs → slice_get xs i ≡ Some x → slice_get zs i ≡ Some x
 get-extended xs zs i x h e = ap (λ l. slice_get l i) h.1 ∙ get-append xs h.0 i x e
@@ -51,12 +52,12 @@ call-well w old names more low high scope sp f es ss vs t i bs nodes same at new
   well = λ own p wanted st fl.
       let st' = stands-inside w own scope p st in
       let args = wanted_arguments (params_of p.known f) es in
-      let none : list_faults (inside p) args es ≡ [] = none-left (list_faults (inside p) args es) _ fl in
+      let none : list_faults (inside p) args es ≡ [] = no_front (list_faults (inside p) args es) _ fl in
       let kinds = low-of p wanted (CallTree sp f es) fl in
-      let found = some-where (look_up f (callable p.known)) 11 (none-left (unknown_function p.known f) _ kinds) in
-      let rest = none-right (unknown_function p.known f) _ kinds in
-      let tailed : (is_among f (names_of p.known.own) && not p.tail) ≡ false = unset (is_among f (names_of p.known.own) && not p.tail) 12 (none-left (not_in_tail p f) _ rest) in
-      let number = none-right (not_in_tail p f) _ rest in
+      let found = some-where (look_up f (callable p.known)) 11 (no_front (unknown_function p.known f) _ kinds) in
+      let rest = no_rest (unknown_function p.known f) _ kinds in
+      let tailed : (is_among f (names_of p.known.own) && not p.tail) ≡ false = not_where (is_among f (names_of p.known.own) && not p.tail) 12 (no_front (not_in_tail p f) _ rest) in
+      let number = no_rest (not_in_tail p f) _ rest in
       let g = found.0 in
       let target = st.part.functions f g found.1 in
       let pe : params_of p.known f ≡ Some (plain_tys g.params) = ap (option_map (λ (g : Signature). plain_tys g.params)) found.1 in
@@ -64,7 +65,7 @@ call-well w old names more low high scope sp f es ss vs t i bs nodes same at new
       let number' : wrong_number (Some (plain_tys g.params)) es ≡ [] = subst (λ o. wrong_number o es ≡ []) pe number in
       let typed = arguments-typed (inside p) (plain_tys g.params) es none' number' in
       let tys : forms vs ≡ plain_tys g.params = types own (inside p) (wanted_arguments (Some (plain_tys g.params)) es) st' none' (plain_tys g.params) typed in
-      let many : length bs.items ≡ total_named_words g.params = ap length same ∙ all-operands-words vs ∙ ap total_words tys ∙ plain-words g.params in
+      let many : length bs.items ≡ total_named_words g.params = ap length same ∙ all-operands-words vs ∙ ap total_words tys ∙ plain_words g.params in
       let o = type_at p.known p.vars (CallTree sp f es) in
       let result : o ≡ Some g.result = ap (option_map (λ (g : Signature). g.result)) found.1 in
       code-behind w more low high high own scope p.tail o ss (Knows (all_operands vs)) (Call i bs) t (steps-names w names more low high own scope ss (Knows (all_operands vs)) h (a.well own (inside p) args st' none refl)) nodes
@@ -93,7 +94,7 @@ raise-well w old names low high scope sp x es ss vs t k bs nodes same number a t
       let st' = stands-inside w own scope p st in
       let ex = look_up x p.known.exceptions in
       let args = wanted_arguments ex es in
-      let none : list_faults (inside p) args es ≡ [] = none-left (list_faults (inside p) args es) _ fl in
+      let none : list_faults (inside p) args es ≡ [] = no_front (list_faults (inside p) args es) _ fl in
       let counted : wrong_number ex es ≡ [] = low-of p wanted (RaiseTree sp x es) fl in
       let found = some-where ex 17 (middle-of p wanted (RaiseTree sp x es) fl) in
       let ts = found.0 in
@@ -114,7 +115,7 @@ raise-well w old names low high scope sp x es ss vs t k bs nodes same number a t
 
 -- ---- the same words
 pub paren-end-well : (w : Whole) (old names : Names) (low high : ℕ) (scope : SymbolScope) (sp : Span) (e : Tree) (t : Flat) → IsWellEnd w old names low high scope e t → IsWellEnd w old names low high scope (ParenTree sp e) t
-paren-end-well w old names low high scope sp e t a = record { well = λ own p wanted st f. a.well own p a_value st (none-left (faults p a_value e) _ f); called = a.called }
+paren-end-well w old names low high scope sp e t a = record { well = λ own p wanted st f. a.well own p a_value st (no_front (faults p a_value e) _ f); called = a.called }
 
 pub block-end-well : (w : Whole) (old names more : Names) (low mid high : ℕ) (scope inner : SymbolScope) (sp : Span) (sts : StatementTrees) (e : Tree) (ss : List Step) (last t : Flat) → Extends names more → AreNodes ss last t
     → IsWellStated w old names low mid scope sts ss inner → ((own : ℕ) (p : Place) → Stands w own scope p → statements_faults p sts ≡ [] → vars_behind p.known p.vars sts ≡ vars_of inner) → IsWellEnd w names more mid high inner e last
@@ -122,11 +123,11 @@ pub block-end-well : (w : Whole) (old names more : Names) (low mid high : ℕ) (
 block-end-well w old names more low mid high scope inner sp sts e ss last t h nodes a vars b = record {
   well = λ own p wanted st f.
       let st' = stands-inside w own scope p st in
-      let none = none-left (statements_faults (inside p) sts) _ f in
-      let rest = none-right (statements_faults (inside p) sts) _ f in
+      let none = no_front (statements_faults (inside p) sts) _ f in
+      let rest = no_rest (statements_faults (inside p) sts) _ f in
       let behind = with_vars (vars_behind p.known p.vars sts) p in
       let first = steps-names w names more low mid own scope ss (λ known. ScopeKnown known inner) h (a.well own (inside p) st' none refl) in
-      let second = b.well own behind anything (stands-behind w own scope inner p sts st (vars own (inside p) st' none)) (none-left (faults behind anything e) _ rest) in
+      let second = b.well own behind anything (stands-behind w own scope inner p sts st (vars own (inside p) st' none)) (no_front (faults behind anything e) _ rest) in
       code-inner w more low mid high own scope inner p.tail (type_at p.known p.vars (BlockTree sp sts e)) ss (λ known. ScopeKnown known inner) last t first (λ known k q. q) second nodes;
   called = code-called-then old names more ss last t nodes a.called b.called;
 }

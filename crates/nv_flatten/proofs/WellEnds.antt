@@ -34,8 +34,8 @@ use Rattle.nv_flatten.proofs.WellTypes.{some-where, right-of, same-words, given-
 use Rattle.flat_ir.specs.Reached.{calls}
 use Rattle.nv_flatten.proofs.WellNames.{called-none, called-then, code-called-more, choice-called}
 use Rattle.nv_flatten.proofs.WellSteps.{steps-names, code-names, code-behind, code-choice}
-use Rattle.nv_flatten.proofs.NoFaults.{none-left, none-right, no-kinds}
 use Rattle.nv_flatten.proofs.Following.{stands-inside}
+use Rattle.nv_ast.proofs.Faultless.{no_front, no_rest, no_kinds}
 
 -- ---- how many words
 pub gives-words : (n : ℕ) (o : Option Ty) (t : Ty) → o ≡ Some t → GivesWords n o → words t ≡ n
@@ -196,11 +196,11 @@ both-well w old names more low mid high scope sp a b ss c x y first second t h t
   well = λ own p wanted st f.
       let want = of_type BoolTy in
       let st' = stands-inside w own scope p st in
-      let rest = none-right (faults (inside p) want a) _ f in
-      let right-none : faults (inside p) want b ≡ [] = none-left (faults (inside p) want b) _ rest in
+      let rest = no_rest (faults (inside p) want a) _ f in
+      let right-none : faults (inside p) want b ≡ [] = no_front (faults (inside p) want b) _ rest in
       let right' = code-tail w more mid high own scope p.tail (type_at p.known p.vars b) first (right.well own (inside p) want st' right-none) in
       code-choice w more low mid high high own scope p.tail (Some BoolTy) (type_at p.known p.vars b) (Some BoolTy) ss c x y first second t
-      (steps-names w names more low mid own scope ss (Knows (x ∷ y ∷ [])) h (test.well own (inside p) want st' (none-left (faults (inside p) want a) _ f) refl)) right'
+      (steps-names w names more low mid own scope ss (Knows (x ∷ y ∷ [])) h (test.well own (inside p) want st' (no_front (faults (inside p) want a) _ f) refl)) right'
       (literal-well w more high high own scope p.tail (Some BoolTy) second (omega arith) refl fails) (λ n q. gives-at n n (type_at p.known p.vars b) BoolTy (wanted-type (inside p) BoolTy b right-none) q) (λ n q. q) choice;
   called = choice-called old names more more ss c x y first second t choice test.called right.called (called-none more (calls second));
 }
@@ -211,11 +211,11 @@ either-well w old names more low mid high scope sp a b ss c x y first second t h
   well = λ own p wanted st f.
       let want = of_type BoolTy in
       let st' = stands-inside w own scope p st in
-      let rest = none-right (faults (inside p) want a) _ f in
-      let right-none : faults (inside p) want b ≡ [] = none-left (faults (inside p) want b) _ rest in
+      let rest = no_rest (faults (inside p) want a) _ f in
+      let right-none : faults (inside p) want b ≡ [] = no_front (faults (inside p) want b) _ rest in
       let right' = code-tail w more mid high own scope p.tail (type_at p.known p.vars b) second (right.well own (inside p) want st' right-none) in
       code-choice w more low mid mid high own scope p.tail (Some BoolTy) (Some BoolTy) (type_at p.known p.vars b) ss c x y first second t
-      (steps-names w names more low mid own scope ss (Knows (x ∷ y ∷ [])) h (test.well own (inside p) want st' (none-left (faults (inside p) want a) _ f) refl))
+      (steps-names w names more low mid own scope ss (Knows (x ∷ y ∷ [])) h (test.well own (inside p) want st' (no_front (faults (inside p) want a) _ f) refl))
       (literal-well w more mid mid own scope p.tail (Some BoolTy) first (omega arith) refl holds) right' (λ n q. q) (λ n q. gives-at n n (type_at p.known p.vars b) BoolTy (wanted-type (inside p) BoolTy b right-none) q) choice;
   called = choice-called old names names more ss c x y first second t choice test.called (called-none names (calls first)) right.called;
 }
@@ -241,12 +241,12 @@ pub choose-well : (w : Whole) (old names next more : Names) (low mid after high 
 choose-well w old names next more low mid after high scope sp e a b ss c x y first second t h1 h2 test f1 f2 choice = record {
   well = λ own p wanted st f.
       let want = of_type BoolTy in
-      let rest = none-right (faults (inside p) want e) _ f in
-      let none1 : faults p anything a ≡ [] = none-left (faults p anything a) _ rest in
+      let rest = no_rest (faults (inside p) want e) _ f in
+      let none1 : faults p anything a ≡ [] = no_front (faults p anything a) _ rest in
       let ta = type_at p.known p.vars a in
       let tb = type_at p.known p.vars b in
-      let none2 : faults p (same_as ta) b ≡ [] = none-left (faults p (same_as ta) b) _ (none-right (faults p anything a) _ rest) in
-      let test' = test.well own (inside p) want (stands-inside w own scope p st) (none-left (faults (inside p) want e) _ f) refl in
+      let none2 : faults p (same_as ta) b ≡ [] = no_front (faults p (same_as ta) b) _ (no_rest (faults p anything a) _ rest) in
+      let test' = test.well own (inside p) want (stands-inside w own scope p st) (no_front (faults (inside p) want e) _ f) refl in
       code-choice w more low mid after high own scope p.tail (or_ty ta tb) ta tb ss c x y first second t
       (steps-names w next more low mid own scope ss (Knows (x ∷ y ∷ [])) h2 (steps-names w names next low mid own scope ss (Knows (x ∷ y ∷ [])) h1 test'))
       (code-names w next more mid after own scope p.tail ta first h2 (f1.well own p anything st none1)) (f2.well own p (same_as ta) st none2)
@@ -272,11 +272,11 @@ pub try-well : (w : Whole) (old names more : Names) (low mid high : ℕ) (scope 
 try-well w old names more low mid high scope inner sp a x ps e first second t k q xs r node number same bound h f1 f2 = record {
   well = λ own p wanted st f.
       let st' = stands-inside w own scope p st in
-      let none1 : faults (inside p) anything a ≡ [] = none-left (faults (inside p) anything a) _ f in
-      let rest = none-right (faults (inside p) anything a) _ f in
-      let kinds : raised_kinds p.known x ps ≡ [] = no-kinds sp (raised_kinds p.known x ps) (none-left (at_span sp (raised_kinds p.known x ps)) _ rest) in
+      let none1 : faults (inside p) anything a ≡ [] = no_front (faults (inside p) anything a) _ f in
+      let rest = no_rest (faults (inside p) anything a) _ f in
+      let kinds : raised_kinds p.known x ps ≡ [] = no_kinds sp (raised_kinds p.known x ps) (no_front (at_span sp (raised_kinds p.known x ps)) _ rest) in
       let ex = look_up x p.known.exceptions in
-      let unknown : unknown_exception p.known x ≡ [] = none-right (not_all_fitting ps ex) (unknown_exception p.known x) (none-right (wrong_number_of_patterns ex ps) _ (none-right (variable_twice (names_in_all ps)) _ kinds)) in
+      let unknown : unknown_exception p.known x ≡ [] = no_rest (not_all_fitting ps ex) (unknown_exception p.known x) (no_rest (wrong_number_of_patterns ex ps) _ (no_rest (variable_twice (names_in_all ps)) _ kinds)) in
       let found = some-where ex 17 unknown in
       let ts = found.0 in
       let raised-k : raised_tys w k ≡ Some ts = ap (raised_tys w) number ∙ st.part.exceptions x ts found.1 in
@@ -284,7 +284,7 @@ try-well w old names more low mid high scope inner sp a x ps e first second t k 
       let behind = with_vars (bind_raised ps ex p.vars) p in
       let ta = type_at p.known p.vars a in
       let tb = type_at p.known (bind_raised ps ex p.vars) e in
-      let none2 : faults behind (same_as ta) e ≡ [] = none-left (faults behind (same_as ta) e) _ (none-right (at_span sp (raised_kinds p.known x ps)) _ rest) in
+      let none2 : faults behind (same_as ta) e ≡ [] = no_front (faults behind (same_as ta) e) _ (no_rest (at_span sp (raised_kinds p.known x ps)) _ rest) in
       let vars : bind_raised ps ex p.vars ≡ vars_of inner =
       ap (λ o. bind_raised ps o p.vars) found.1 ∙ ap (bind_all ps ts) st.vars ∙ ap (λ u. bind_all ps u (vars_of scope)) (sym (fresh-forms mid (raised_or_none w k) ∙ tys)) ∙ sym (all-bound-types ps (all_fresh mid (raised_or_none w k)) scope)
       ∙ ap vars_of (sym bound)

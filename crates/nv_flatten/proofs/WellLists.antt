@@ -28,20 +28,20 @@ use Rattle.nv_flatten.proofs.WellTypes.{move-same, address-formed}
 use Rattle.nv_flatten.proofs.WellNames.{called-none, steps-called-more, steps-called-then}
 use Rattle.nv_flatten.proofs.WellSteps.{steps-none, steps-names, steps-knowing, steps-then, steps-last}
 use Rattle.nv_flatten.proofs.WellArms.{two-values}
-use Rattle.nv_flatten.proofs.NoFaults.{none-left, none-right, no-kinds, unset}
 use Rattle.nv_flatten.proofs.Following.{stands-inside}
+use Rattle.nv_ast.proofs.Faultless.{no_front, no_rest, no_kinds, not_where}
 
 nil-both : {A : Type 0} (xs ys : List A) → xs ≡ [] → ys ≡ [] → xs ++ ys ≡ []
 nil-both xs ys e f = ap (λ l. l ++ ys) e ∙ f
 
 -- ---- expressions one after another
 list-last : (p : Place) (ws : List Wanted) (xs : List Expr) (e : Expr) → list_faults p ws (list_trees (xs ++ e ∷ [])) ≡ [] → (list_faults p ws (list_trees xs) ≡ []) × (w : Wanted) × (faults p w (tree_of e) ≡ [])
-list-last p [] [] e h = (refl, a_value, none-left (faults p a_value (tree_of e)) [] h)
-list-last p (w ∷ ws) [] e h = (refl, w, none-left (faults p w (tree_of e)) [] h)
+list-last p [] [] e h = (refl, a_value, no_front (faults p a_value (tree_of e)) [] h)
+list-last p (w ∷ ws) [] e h = (refl, w, no_front (faults p w (tree_of e)) [] h)
 list-last p [] (x ∷ xs) e h =
-    let rest = list-last p [] xs e (none-right (faults p a_value (tree_of x)) _ h) in (nil-both (faults p a_value (tree_of x)) _ (none-left (faults p a_value (tree_of x)) _ h) rest.0, rest.1, rest.2)
+    let rest = list-last p [] xs e (no_rest (faults p a_value (tree_of x)) _ h) in (nil-both (faults p a_value (tree_of x)) _ (no_front (faults p a_value (tree_of x)) _ h) rest.0, rest.1, rest.2)
 list-last p (w ∷ ws) (x ∷ xs) e h =
-    let rest = list-last p ws xs e (none-right (faults p w (tree_of x)) _ h) in (nil-both (faults p w (tree_of x)) _ (none-left (faults p w (tree_of x)) _ h) rest.0, rest.1, rest.2)
+    let rest = list-last p ws xs e (no_rest (faults p w (tree_of x)) _ h) in (nil-both (faults p w (tree_of x)) _ (no_front (faults p w (tree_of x)) _ h) rest.0, rest.1, rest.2)
 
 -- symbolic values and one more
 abbrev pub and_last : Symbols → Symbol → Symbols
@@ -67,9 +67,9 @@ each-more w old names more low mid high scope xs e ss ts vs v h a b = record {
 
 -- ---- the fields of a record
 named-last : (p : Place) (xs : List (List ℕ × Expr)) (e : List ℕ × Expr) → named_faults p (list_named_trees (xs ++ e ∷ [])) ≡ [] → (named_faults p (list_named_trees xs) ≡ []) × (faults p a_value (tree_of e.1) ≡ [])
-named-last p [] e h = (refl, none-left (faults p a_value (tree_of e.1)) [] h)
+named-last p [] e h = (refl, no_front (faults p a_value (tree_of e.1)) [] h)
 named-last p (x ∷ xs) e h =
-    let rest = named-last p xs e (none-right (faults p a_value (tree_of x.1)) _ h) in (nil-both (faults p a_value (tree_of x.1)) _ (none-left (faults p a_value (tree_of x.1)) _ h) rest.0, rest.1)
+    let rest = named-last p xs e (no_rest (faults p a_value (tree_of x.1)) _ h) in (nil-both (faults p a_value (tree_of x.1)) _ (no_front (faults p a_value (tree_of x.1)) _ h) rest.0, rest.1)
 
 abbrev pub and_last_named : NamedSymbols → List ℕ → Symbol → NamedSymbols
 and_last_named no_named_symbols x v = named_symbol_and x v no_named_symbols
@@ -98,7 +98,7 @@ pub let-well : (w : Whole) (old names : Names) (low high : ℕ) (scope : SymbolS
     → IsWellStated w old names low high scope (statement_and (LetStatement sp q e) no_statements) ss (bound q v scope)
 let-well w old names low high scope sp q e ss v a = record {
   well = λ own p st f t.
-      let none = none-left (faults p a_value e) _ (none-left (statement_faults p (LetStatement sp q e)) [] f) in
+      let none = no_front (faults p a_value e) _ (no_front (statement_faults p (LetStatement sp q e)) [] f) in
       steps-knowing w names low high high own scope ss (Knows (operands v)) (λ known. ScopeKnown known (bound q v scope)) (omega arith) (a.well own p a_value st none t) (λ known k r. bound-known known q v scope r k);
   called = a.called;
 }
@@ -111,17 +111,17 @@ pub store-well : (w : Whole) (old names more : Names) (low mid high : ℕ) (scop
     → IsWellStated w old more low high scope (statement_and (StoreStatement sp m a e) no_statements) us scope
 store-well w old names more low mid high scope sp m a e ss ts us u v bs last same h l r hf = record {
   well = λ own p st f t.
-      let f' = none-left (statement_faults p (StoreStatement sp m a e)) [] f in
-      let none1 : faults p (of_type WordTy) a ≡ [] = none-left (faults p (of_type WordTy) a) _ f' in
-      let rest = none-right (faults p (of_type WordTy) a) _ f' in
-      let none2 : faults p wanted_stored e ≡ [] = none-left (faults p wanted_stored e) _ rest in
+      let f' = no_front (statement_faults p (StoreStatement sp m a e)) [] f in
+      let none1 : faults p (of_type WordTy) a ≡ [] = no_front (faults p (of_type WordTy) a) _ f' in
+      let rest = no_rest (faults p (of_type WordTy) a) _ f' in
+      let none2 : faults p wanted_stored e ≡ [] = no_front (faults p wanted_stored e) _ rest in
       let n = words_of_value (type_at p.known p.vars e) in
-      let kinds : wrong_access m n ++ wrong_scratch m a n ≡ [] = no-kinds sp _ (none-right (faults p wanted_stored e) _ rest) in
+      let kinds : wrong_access m n ++ wrong_scratch m a n ≡ [] = no_kinds sp _ (no_rest (faults p wanted_stored e) _ rest) in
       let typed = value-has-type p wanted_stored e refl none2 in
       let formed : form v ≡ typed.0 = hf.by own p wanted_stored st none2 typed.0 typed.1 in
       let many : length bs.items ≡ n = ap length same ∙ operands-words v ∙ ap words formed ∙ sym (value-words (type_at p.known p.vars e) typed.0 typed.1) in
-      let moves : flat.can_move m n ≡ true = move-same m n ∙ not-false (can_move m n) (unset (not (can_move m n)) 19 (none-left (wrong_access m n) _ kinds)) in
-      let address : flat.is_address m (word_operand u) n ≡ true = address-formed m a n u (none-right (wrong_access m n) (wrong_scratch m a n) kinds) l.literal in
+      let moves : flat.can_move m n ≡ true = move-same m n ∙ not-false (can_move m n) (not_where (not (can_move m n)) 19 (no_front (wrong_access m n) _ kinds)) in
+      let address : flat.is_address m (word_operand u) n ≡ true = address-formed m a n u (no_rest (wrong_access m n) (wrong_scratch m a n) kinds) l.literal in
       subst (λ k. WellSteps w more low high own scope k (λ known. ScopeKnown known scope)) (sym last)
       (steps-last w more low high high own scope (ss ++ ts) (Store m (word_operand u) bs) (Knows (operands u ++ operands v)) (λ known. ScopeKnown known scope)
       (two-values w names more low mid high own scope ss ts (operands u) (operands v) h (l.well own p (of_type WordTy) st none1 t) (r.well own p wanted_stored st none2 t))
@@ -139,8 +139,8 @@ statements-last p [] x h = (refl, h)
 statements-last p (y ∷ xs) x h =
     let first = statement_faults p (statement_tree y) in
     let p' = with_vars (vars_after p.known p.vars (statement_tree y)) p in
-    let rest = statements-last p' xs x (none-right first _ h) in
-    (nil-both first _ (none-left first _ h) rest.0, rest.1)
+    let rest = statements-last p' xs x (no_rest first _ h) in
+    (nil-both first _ (no_front first _ h) rest.0, rest.1)
 
 -- the variables behind statements have the types of these symbolic values
 abbrev pub AreTyped : Whole → SymbolScope → StatementTrees → SymbolScope → Type 0
@@ -180,11 +180,11 @@ statements-more w old names more low mid high scope inner behind xs x ss ts h a 
 
 -- ---- conditions
 pub paren-test-well : (w : Whole) (old names : Names) (low high : ℕ) (scope : SymbolScope) (sp : Span) (e : Tree) (ss : List Step) (x y : Atom) → IsWellTest w old names low high scope e ss x y → IsWellTest w old names low high scope (ParenTree sp e) ss x y
-paren-test-well w old names low high scope sp e ss x y a = record { well = λ own p wanted st f t. a.well own p a_value st (none-left (faults p a_value e) _ f) t; called = a.called }
+paren-test-well w old names low high scope sp e ss x y a = record { well = λ own p wanted st f t. a.well own p a_value st (no_front (faults p a_value e) _ f) t; called = a.called }
 
 pub negate-test-well : (w : Whole) (old names : Names) (low high : ℕ) (scope : SymbolScope) (sp : Span) (e : Tree) (ss : List Step) (x y : Atom) → IsWellTest w old names low high scope e ss x y → IsWellTest w old names low high scope (NegateTree sp e) ss x y
 negate-test-well w old names low high scope sp e ss x y a = record {
-  well = λ own p wanted st f t. a.well own (inside p) (of_type BoolTy) (stands-inside w own scope p st) (none-left (faults (inside p) (of_type BoolTy) e) _ f) refl;
+  well = λ own p wanted st f t. a.well own (inside p) (of_type BoolTy) (stands-inside w own scope p st) (no_front (faults (inside p) (of_type BoolTy) e) _ f) refl;
   called = a.called;
 }
 
@@ -207,8 +207,8 @@ compare-well w old names more low mid high scope sp op a b ss ts u v x y swapped
   well = λ own p wanted st f t.
       let want = of_type (operand_ty op) in
       let st' = stands-inside w own scope p st in
-      let left = l.well own (inside p) want st' (none-left (faults (inside p) want a) _ f) refl in
-      let right = r.well own (inside p) want st' (none-left (faults (inside p) want b) _ (none-right (faults (inside p) want a) _ f)) refl in
+      let left = l.well own (inside p) want st' (no_front (faults (inside p) want a) _ f) refl in
+      let right = r.well own (inside p) want st' (no_front (faults (inside p) want b) _ (no_rest (faults (inside p) want a) _ f)) refl in
       steps-knowing w more low high high own scope (ss ++ ts) (Knows (operands u ++ operands v)) (Knows (x ∷ y ∷ [])) (omega arith) (two-values w names more low mid high own scope ss ts (operands u) (operands v) h left right)
       (λ known k q.
       knows-two known x y

@@ -7,40 +7,41 @@ use Rattle.nv_base.specs.declared.term.Atom.TheVariants.{Lit}
 use Rattle.nv_ast.specs.Tree.{Tree, NumberTree, TruthTree, VarTree, ParenTree, TupleTree, FieldsTree, DotTree, InvertTree, NegateTree, BinaryTree, ShiftTree, CallTree, UnpackTree, PackTree, RaiseTree, IfTree, TryTree, FetchTree, BlockTree, span_of}
 use Rattle.nv_ast.specs.Tests.{where_true}
 use Rattle.nv_ast.specs.Types.{Ty, WordTy, BoolTy, TupleTy, RecordTy, Tys, no_tys, ty_and, NamedTys, no_named_tys, named_ty_and, same_type, same_types, same_named_types, words, total_words, total_named_words}
-use Rattle.nv_ast.specs.Scope.{Place, inside, plain_tys}
+use Rattle.nv_ast.specs.Scope.{Place, inside}
 use Rattle.nv_ast.specs.Typing.{type_at}
 use Rattle.nv_ast.specs.Faults.{Wanted, faults, low_kinds, middle_kinds, other_type, no_value, too_large_value, wrong_scratch, can_move}
 use Rattle.nv_base.specs.Access as flat
 use Rattle.nv_flatten.specs.inner.Symbols.{Symbol, Word, word_operand}
 use Rattle.nv_flatten.specs.inner.Code.{is_given, is_comparison}
 use Rattle.nv_flatten.specs.inner.Well.{IsLiteral}
-use Rattle.nv_flatten.proofs.NoFaults.{none-left, none-right, no-kinds, unset, node-of}
+use Rattle.nv_flatten.proofs.NoFaults.{node-of}
+use Rattle.nv_ast.proofs.Faultless.{no_front, no_rest, no_kinds, not_where}
 
 -- ---- kinds
 
 pub some-where : {A : Type 0} (o : Option A) (k : ℕ) → where_true (is_none o) k ≡ [] → (a : A) × (o ≡ Some a)
-some-where None k e = absurd (false≢true (sym (unset true k e)))
+some-where None k e = absurd (false≢true (sym (not_where true k e)))
 some-where (Some a) k e = (a, refl)
 
 -- ---- the node
 
 node-kinds : (p : Place) (w : Wanted) (e : Tree) → faults p w e ≡ []
     → low_kinds p e ++ (other_type w (type_at p.known p.vars e) ++ (middle_kinds p e ++ (no_value w (type_at p.known p.vars e) ++ too_large_value (type_at p.known p.vars e)))) ≡ []
-node-kinds p w e h = no-kinds (span_of e) _ (node-of p w e h)
+node-kinds p w e h = no_kinds (span_of e) _ (node-of p w e h)
 
 pub low-of : (p : Place) (w : Wanted) (e : Tree) → faults p w e ≡ [] → low_kinds p e ≡ []
-low-of p w e h = none-left (low_kinds p e) _ (node-kinds p w e h)
+low-of p w e h = no_front (low_kinds p e) _ (node-kinds p w e h)
 
 pub middle-of : (p : Place) (w : Wanted) (e : Tree) → faults p w e ≡ [] → middle_kinds p e ≡ []
-middle-of p w e h = none-left (middle_kinds p e) _ (none-right (other_type w (type_at p.known p.vars e)) _ (none-right (low_kinds p e) _ (node-kinds p w e h)))
+middle-of p w e h = no_front (middle_kinds p e) _ (no_rest (other_type w (type_at p.known p.vars e)) _ (no_rest (low_kinds p e) _ (node-kinds p w e h)))
 
 right-at : (w : Wanted) (o : Option Ty) (t : Ty) → o ≡ Some t → other_type w o ≡ [] → w.right t ≡ true
-right-at w (Some u) t e h = let same : u ≡ t = cc in subst (λ x. w.right x ≡ true) same (not-false (w.right u) (unset (not (w.right u)) 14 h))
+right-at w (Some u) t e h = let same : u ≡ t = cc in subst (λ x. w.right x ≡ true) same (not-false (w.right u) (not_where (not (w.right u)) 14 h))
 right-at w None t e h = cc
 
 -- an expression's type is a right one
 pub right-of : (p : Place) (w : Wanted) (e : Tree) (t : Ty) → faults p w e ≡ [] → type_at p.known p.vars e ≡ Some t → w.right t ≡ true
-right-of p w e t h a = right-at w (type_at p.known p.vars e) t a (none-left (other_type w (type_at p.known p.vars e)) _ (none-right (low_kinds p e) _ (node-kinds p w e h)))
+right-of p w e t h a = right-at w (type_at p.known p.vars e) t a (no_front (other_type w (type_at p.known p.vars e)) _ (no_rest (low_kinds p e) _ (node-kinds p w e h)))
 
 -- ---- equal types have as many words
 mutual
@@ -77,10 +78,6 @@ mutual
       let p = and_parts (bytes_eq x y) (same_type t u && same_named_types ts us) e in
       let q = and_parts (same_type t u) (same_named_types ts us) p.1 in
       let a = same-words t u q.0 in let b = same-named ts us q.1 in omega arith
-
-pub plain-words : (ts : NamedTys) → total_words (plain_tys ts) ≡ total_named_words ts
-plain-words no_named_tys = refl
-plain-words (named_ty_and x t ts) = let a = plain-words ts in omega arith
 
 -- ---- places
 
@@ -139,7 +136,7 @@ address-at n at s e h = ap (λ x. flat.is_address Scratch (word_operand x) n) e 
 pub address-formed : (m : Mem) (a : Tree) (n : ℕ) (s : Symbol) → wrong_scratch m a n ≡ [] → IsLiteral a s → flat.is_address m (word_operand s) n ≡ true
 address-formed Sram a n s h l = refl
 address-formed Sdram a n s h l = refl
-address-formed Scratch (NumberTree sp at) n s h l = address-at n at s l (unset (nat_lt 512 (at + n)) 20 h)
+address-formed Scratch (NumberTree sp at) n s h l = address-at n at s l (not_where (nat_lt 512 (at + n)) 20 h)
 address-formed Scratch (TruthTree sp b) n s h l = cc
 address-formed Scratch (VarTree sp x) n s h l = cc
 address-formed Scratch (ParenTree sp e) n s h l = cc

@@ -13,7 +13,7 @@ use Rattle.nv_flatten.specs.inner.View.{view, list_symbols, list_named_symbols, 
 use Rattle.nv_flatten.specs.inner.Whole.{Whole}
 use Rattle.nv_flatten.specs.inner.Well.{AreWellLets, IsWellValue, AreWellValues, AreWellFields, IsWellStated}
 use Rattle.nv_flatten.proofs.WellLists.{and_last, and_last_named, each-none, each-more, fields-none, fields-more, AreTyped, typed-more, statements-none, statements-more}
-use Rattle.nv_layout.proofs.Lists.{take_item}
+use Rattle.nv_ast.proofs.Items.{take_item}
 
 -- ---- at an equal scope, an equal tree and equal operands
 pub value-in : (w : Whole) (old names : Names) (low high : ℕ) (l l' : List Named) (e : Tree) (ss : List Step) (v : Symbol) → l ≡ l' → IsWellValue w old names low high (scope_of l []) e ss v → IsWellValue w old names low high (scope_of l' []) e ss v

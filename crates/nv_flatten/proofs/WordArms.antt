@@ -31,9 +31,10 @@ use Rattle.nv_flatten.specs.inner.Runs.{flat_run, onward}
 use Rattle.nv_flatten.specs.inner.Whole.{Whole}
 use Rattle.nv_flatten.specs.inner.Simulation.{Names, Extends, IsValue}
 use Rattle.nv_flatten.proofs.Keeping.{scope-later, keeps-value, keeps-fit, keeps-scope, begins-then, done-then}
-use Rattle.nv_flatten.proofs.NoFaults.{none-left, none-right, unset, some-same, none-some, clean as is-clean}
+use Rattle.nv_flatten.proofs.NoFaults.{some-same, none-some, clean as is-clean}
 use Rattle.nv_flatten.proofs.Following.{onward-then, steps-then, stands-inside, fewer, word-of, word-fits, one-older, assigned-here, defined}
 use Rattle.nv_flatten.proofs.ValueArms.{unary}
+use Rattle.nv_ast.proofs.Faultless.{no_front, no_rest, not_where}
 
 -- ---- shifts
 shift-word : (op : ShiftOp) (n : ℕ) (a : Atom) (env : Env) → prim_word env (shift_of op n a) ≡ shifted op n (atom_word env a)
@@ -63,14 +64,14 @@ operand-older n (Record fs) o = one-older n (Lit 0) tt
 module _ (w : Whole) (names : Names) (low high : ℕ) (scope : SymbolScope) (sp : Span) (op : ShiftOp) (a : Tree) (n : ℕ) (ss : List Step) (s : Symbol) where
   -- at most 31 places in a typed program
   few : (p : Place) (wanted : Wanted) → faults p wanted (ShiftTree sp op a n) ≡ [] → n ≤ 31
-  few p wanted none = count-fits n (unset (nat_lt 31 n) 21 (is-clean p wanted (ShiftTree sp op a n) none).middle)
+  few p wanted none = count-fits n (not_where (nat_lt 31 n) 21 (is-clean p wanted (ShiftTree sp op a n) none).middle)
 
   -- by no place, the word itself; what isn't typed has no simulation
   pub shift-same : (1 ≤ n → n ≤ 31 → ⊥) → IsValue w names low high scope a ss s → IsValue w names low high scope (ShiftTree sp op a n) ss (Word (word_operand s))
   shift-same none_of v = record {
     simulates = record {
       by = λ own p wanted stands none o c env now begins rest next same.
-          let clean = none-left (faults (inside p) (of_type WordTy) a) (node_faults p wanted (ShiftTree sp op a n)) none in
+          let clean = no_front (faults (inside p) (of_type WordTy) a) (node_faults p wanted (ShiftTree sp op a n)) none in
           let k : Value → Running → Result = λ y last. Gives (meaning.Word (shifted op n (word_of y))) last in
           let nothing : n ≡ 0 = no-places n none_of (few p wanted none) in
           v.simulates.by own (inside p) (of_type WordTy) (stands-inside w own scope p stands) clean o c env now begins rest (λ y last. onward (k y last) next)
@@ -146,8 +147,8 @@ module _ (w : Whole) (names more : Names) (low mid high : ℕ) (scope : SymbolSc
           let f = faults (inside p) (of_type (operand_ty op)) x in
           let g = faults (inside p) (of_type (operand_ty op)) y in
           let own_faults = node_faults p wanted (BinaryTree sp op x y) in
-          let first = none-left f (g ++ own_faults) none in
-          let second = none-left g own_faults (none-right f (g ++ own_faults) none) in
+          let first = no_front f (g ++ own_faults) none in
+          let second = no_front g own_faults (no_rest f (g ++ own_faults) none) in
           let inner = stands-inside w own scope p stands in
           let m = scope_in env scope in
           let right : Running → Result = λ now'. eval w.declared c.call y m now' in

@@ -7,7 +7,7 @@ use Rattle.nv_ast.specs.LayoutFaults.{layout_faults, declared_faults, unfit}
 use Rattle.nv_layout.specs.declared.outline.Outline.{Outline}
 use Rattle.nv_layout.specs.declared.error.LayoutError.{LayoutError}
 use Rattle.nv_layout.specs.OutlineView.{outline_tree}
-use Rattle.nv_layout.specs.Shaping.{Shapes}
+use Rattle.nv_layout.specs.inner.Shapes.{Shapes}
 use Rattle.nv_layout.proofs.Walks.{shapes_behind}
 use Rattle.nv_layout.proofs.Sound.{layout_sound, left_none}
 

@@ -22,7 +22,8 @@ use Rattle.nv_layout.specs.declared.outline.Outline.{Outline}
 use Rattle.nv_layout.specs.declared.error.LayoutError.{LayoutError}
 use Rattle.nv_layout.specs.declared.error.LayoutError.TheVariants.{NoMemory, Fault}
 use Rattle.nv_layout.specs.OutlineView.{outline_tree, list_outlines, list_named_outlines, layouts_of}
-use Rattle.nv_layout.specs.Shaping.{IsFirstOf, Shapes}
+use Rattle.nv_layout.specs.Shaping.{IsFirstOf}
+use Rattle.nv_layout.specs.inner.Shapes.{Shapes}
 use Rattle.nv_layout.proofs.Rows.{parts_tree, joined_tree}
 use Rattle.nv_layout.proofs.Lists.{Named, named_from, named_from-layouts, layouts-append, all_from, all_from-trees, trees_of}
 

@@ -1,3 +1,4 @@
 pub mod OutlineView
 pub mod FieldList
 pub mod Shaping
+pub mod inner

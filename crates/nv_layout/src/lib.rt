@@ -6,8 +6,6 @@ mod error;
 mod extent;
 mod outline;
 mod record;
-#[cfg(test)]
-mod tests;
 mod walk;
 
 pub use bits::{extract, insert};

@@ -8,7 +8,8 @@ ghost use Rattle.nv_ast.specs.Tree.{NamedLayout};
 ghost use Rattle.nv_ast.specs.Tests.{names_of, all_same};
 ghost use Rattle.std.specs.List.{list_all};
 ghost use Rattle.nv_layout.specs.OutlineView.{outline_tree, list_named_outlines, layouts_of};
-ghost use Rattle.nv_layout.specs.Shaping.{IsFirstOf, Shapes, ShapesFields, ShapesAll, IsFit};
+ghost use Rattle.nv_layout.specs.Shaping.{IsFirstOf};
+ghost use Rattle.nv_layout.specs.inner.Shapes.{Shapes, ShapesFields, ShapesAll, IsFit};
 
 use crate::error::LayoutError;
 use crate::extent::measured;
@@ -17,6 +18,12 @@ use crate::record::{copy, has_field, is_within, repeats_a_name};
 use nv_ast::{FieldText, LayoutText, Name};
 use nv_base::NoMemory;
 use std::alloc::Global;
+
+/// The most bits of a layout or a gap.
+const MOST_BITS: u32 = 1024;
+
+/// The greatest height of a layout.
+const HIGHEST: u32 = 100;
 
 /// The outline of a layout text: the names of other layouts, of which the first of a name counts,
 /// written out. A fault is the first in the walk that takes a layout's parts from left to right and
@@ -126,7 +133,7 @@ fn named(alloc: Global, known: &[(Name, Outline)], x: &Name) -> Result<Outline, 
 fn gap(n: u32) -> Result<Outline, LayoutError>
     ensures { Shapes (wrong_gap n) (GapOutline n) result }
 {
-    if n < 1 || n > 1024 {
+    if n < 1 || n > MOST_BITS {
         return Err(LayoutError::Fault(4));
     }
     Ok(Outline::Gap(n))
@@ -207,5 +214,5 @@ fn fitting(o: Outline) -> Result<Outline, LayoutError>
 fn is_fit(o: &Outline) -> bool
     ensures { IsTrue result ↔ IsFit (outline_tree o.now) }
 {
-    has_field(o) && measured(o) <= 1024 && is_within(o, 100)
+    has_field(o) && measured(o) <= MOST_BITS as u64 && is_within(o, HIGHEST)
 }

@@ -6,7 +6,7 @@ use Rattle.nv_ast.specs.declared.tree.Stmt.{Stmt}
 use Rattle.nv_ast.specs.ExprView.{tree_of, list_trees, list_named_trees, list_statements, statement_tree}
 use Rattle.nv_ast.specs.Tree.{Tree, Trees, NamedTrees, PatternTree}
 use Rattle.nv_meaning.specs.Values.{Value, Tuple, Record, Values, Scope, word_of, words_of, matched}
-use Rattle.nv_meaning.specs.Running.{Running, Result, Gives, Raises, Results, GiveAll, Breaks, NamedResults, GiveNamed, BreaksNamed, Stated, GoesOn, and_then, and_all, and_named, and_further, then_more, then_named, then_stated, before_rest, before_named, store}
+use Rattle.nv_meaning.specs.Running.{Running, Result, Gives, Raises, Stated, GoesOn, and_then, and_all, and_named, and_further, then_more, then_named, then_stated, before_rest, before_named, store}
 use Rattle.nv_meaning.specs.Meaning.{Declared, Calls, eval, eval_all, eval_named, run_one, run_all}
 use Rattle.nv_meaning.specs.declared.value.Value as code
 use Rattle.nv_meaning.specs.declared.stop.Step.{Step}

@@ -7,7 +7,7 @@ use Rattle.nv_ast.specs.ExprView.{tree_of, list_trees, list_named_trees, list_st
 use Rattle.nv_ast.specs.Tree.{FunTree}
 use Rattle.nv_meaning.specs.Meaning.{function_in}
 use Rattle.nv_meaning.specs.inner.Weight.{weight, weight_all, weight_named, weight_statement, weight_statements, span}
-use Rattle.nv_meaning.proofs.Lists.{dropped}
+use Rattle.nv_ast.proofs.Items.{next_item}
 
 -- no more calls, and less text
 pub falls : (a b s x y : ℕ) → a ≤ b → x < y → a * s + x < b * s + y
@@ -61,7 +61,7 @@ rest-all (e ∷ es) (suc i) = let r : weight_all (list_trees (drop i es)) ≤ we
 pub item-weight : (es : List Expr) (i : ℕ) (t : Expr) → i < length es → t ≡ get_or es i t → weight (tree_of t) ≤ weight_all (list_trees es)
 item-weight es i t h is =
     let r : weight_all (list_trees (drop i es)) ≤ weight_all (list_trees es) = rest-all es i in
-    let d : weight_all (list_trees (drop i es)) ≡ weight (tree_of t) + weight_all (list_trees (drop (i + 1) es)) = ap (λ l. weight_all (list_trees l)) (dropped es i t h is) in
+    let d : weight_all (list_trees (drop i es)) ≡ weight (tree_of t) + weight_all (list_trees (drop (i + 1) es)) = ap (λ l. weight_all (list_trees l)) (next_item es i t h is) in
     omega arith
 
 rest-named : (es : List (List ℕ × Expr)) (i : ℕ) → weight_named (list_named_trees (drop i es)) ≤ weight_named (list_named_trees es)
@@ -72,7 +72,7 @@ rest-named (e ∷ es) (suc i) = let r : weight_named (list_named_trees (drop i e
 pub item-weight_named : (es : List (List ℕ × Expr)) (i : ℕ) (t : List ℕ × Expr) → i < length es → t ≡ get_or es i t → weight (tree_of t.1) ≤ weight_named (list_named_trees es)
 item-weight_named es i t h is =
     let r : weight_named (list_named_trees (drop i es)) ≤ weight_named (list_named_trees es) = rest-named es i in
-    let d : weight_named (list_named_trees (drop i es)) ≡ weight (tree_of t.1) + weight_named (list_named_trees (drop (i + 1) es)) = ap (λ l. weight_named (list_named_trees l)) (dropped es i t h is) in
+    let d : weight_named (list_named_trees (drop i es)) ≡ weight (tree_of t.1) + weight_named (list_named_trees (drop (i + 1) es)) = ap (λ l. weight_named (list_named_trees l)) (next_item es i t h is) in
     omega arith
 
 rest-statements : (sts : List Stmt) (i : ℕ) → weight_statements (list_statements (drop i sts)) ≤ weight_statements (list_statements sts)
@@ -83,5 +83,5 @@ rest-statements (st ∷ sts) (suc i) = let r : weight_statements (list_statement
 pub item-weight_statement : (sts : List Stmt) (i : ℕ) (st : Stmt) → i < length sts → st ≡ get_or sts i st → weight_statement (statement_tree st) ≤ weight_statements (list_statements sts)
 item-weight_statement sts i st h is =
     let r : weight_statements (list_statements (drop i sts)) ≤ weight_statements (list_statements sts) = rest-statements sts i in
-    let d : weight_statements (list_statements (drop i sts)) ≡ weight_statement (statement_tree st) + weight_statements (list_statements (drop (i + 1) sts)) = ap (λ l. weight_statements (list_statements l)) (dropped sts i st h is) in
+    let d : weight_statements (list_statements (drop i sts)) ≡ weight_statement (statement_tree st) + weight_statements (list_statements (drop (i + 1) sts)) = ap (λ l. weight_statements (list_statements l)) (next_item sts i st h is) in
     omega arith

@@ -1,12 +1,12 @@
 -- Values in lists: what is said of a list as far as a loop has come.
-use Rattle.std.proofs.Common.{◌≡◌, ◌∙◌, refl, ap, sym, ℕ, zero, suc, ◌+◌, ◌<◌, ◌≤◌, arith, List, [], ◌∷◌, ◌++◌, take, drop, length, get_or, append_assoc, append-nil, add-one, slice_index}
+use Rattle.std.proofs.Common.{◌≡◌, ◌∙◌, refl, ap, sym, ℕ, zero, suc, ◌+◌, ◌<◌, ◌≤◌, arith, List, [], ◌∷◌, ◌++◌, take, drop, length, get_or, append_assoc, append-nil, slice_index}
 use Rattle.std.proofs.Math.Seq.{split_at, drop-cons}
 use Rattle.std.proofs.lemmas.List.{take_more}
 use Rattle.nv_meaning.specs.declared.value.Value.{Value}
-use Rattle.nv_meaning.specs.Values.{value_and, named_value_and, words_of, all_words, all_named_words, Values, NamedValues, word_values}
+use Rattle.nv_meaning.specs.Values.{value_and, named_value_and, words_of, all_words, all_named_words, word_values}
 use Rattle.nv_meaning.specs.Values as meaning
 use Rattle.nv_meaning.specs.inner.View.{Named, view, list_values, list_named_values}
-use Rattle.nv_layout.proofs.Lists.{take_item, split_item}
+use Rattle.nv_ast.proofs.Items.{take_item}
 
 -- ---- copies
 values_again : (xs ys : List Value) (x y : Value) → list_values xs ≡ list_values ys → view x ≡ view y → list_values (xs ++ x ∷ []) ≡ list_values (ys ++ y ∷ [])
@@ -67,8 +67,6 @@ pub words_listed : (done new : List Value) (ws : List ℕ) (i : ℕ) → i < len
 words_listed done new ws i h e n = ap list_values n ∙ words-again done (take i ws) (slice_index ws i) e ∙ ap word_values (sym (take_more ws i 0 h))
 
 -- ---- what is left of a list
-pub dropped : {A : Type 0} (xs : List A) (i : ℕ) (x : A) → i < length xs → x ≡ get_or xs i x → drop i xs ≡ x ∷ drop (i + 1) xs
-dropped xs i x h e = drop-cons xs i x h ∙ ap (λ y. y ∷ drop (suc i) xs) (sym e) ∙ ap (λ k. x ∷ drop k xs) (sym (add-one i))
 
 pub dropped-all : {A : Type 0} (xs : List A) (i : ℕ) → length xs ≤ i → drop i xs ≡ []
 dropped-all [] zero h = refl

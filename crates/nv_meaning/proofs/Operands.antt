@@ -24,7 +24,7 @@ use Rattle.nv_meaning.specs.inner.View.{view}
 use Rattle.nv_meaning.specs.inner.Ran.{IsValue}
 use Rattle.nv_meaning.proofs.Arms.{value-as}
 use Rattle.nv_meaning.proofs.Choices.{made-grows}
-use Rattle.nv_meaning.proofs.TreeKinds.{number-is, truth-is, variable-is, paren-is, dot-is, invert-is, negate-is, shift-is, unpack-is, pack-is, fetch-is, binary-is, if-is, try-is, tuple-is, record-is, call-is, raise-is, block-is}
+use Rattle.nv_ast.proofs.TreeKinds.{number-is, truth-is, variable-is, paren-is, dot-is, invert-is, negate-is, shift-is, unpack-is, pack-is, fetch-is, binary-is, if-is, try-is, tuple-is, record-is, call-is, raise-is, block-is}
 
 module _ (d : Declared) (e : Expr) (v : Value) (now : Running) where
   pub made-dot : (a : Box Expr Global) (x : List ℕ) (r : code.Value) → (out-Expr e).kind ≡ kinds.Dot a x → view r ≡ field_named x (fields_of v) → IsValue (Ok r) now (made_of d (tree_of e) v now)

@@ -6,16 +6,15 @@ use Rattle.nv_ast.specs.TypeView.{type_tree, list_types, list_named_types}
 use Rattle.nv_ast.specs.Outline.{Layouts}
 use Rattle.nv_ast.specs.Types.{Ty, NamedTys, words, type_of, types_of, named_types_of, word_parts, words_ty, TupleTy, WordTy}
 use Rattle.nv_meaning.specs.declared.value.Value as code
-use Rattle.nv_meaning.specs.Values.{Value, Values, NamedValues, Tuple, value_and, no_values, named_value_and, no_named_values, words_of, all_words, all_named_words, value_from, named_values_from, Scope}
+use Rattle.nv_meaning.specs.Values.{Tuple, value_and, no_values, named_value_and, no_named_values, words_of, all_words, all_named_words, value_from, named_values_from, Scope}
 use Rattle.nv_meaning.specs.Values as meaning
 use Rattle.nv_meaning.specs.Meaning.{named_scope}
 use Rattle.nv_meaning.specs.inner.Blanks.{blank, blanks, named_blanks, filled, all_filled, fields_filled}
 use Rattle.nv_meaning.specs.inner.View.{Named, view, list_values, list_named_values, scope_of}
-use Rattle.nv_meaning.proofs.Lists.{dropped}
 use Rattle.nv_meaning.proofs.Bindings.{scope-append}
 use Rattle.nv_meaning.proofs.Filling.{blank-words, blank-filled}
 use Rattle.nv_meaning.proofs.Unpacking.{drop-further, drop-capped}
-use Rattle.nv_layout.proofs.Lists.{take_item}
+use Rattle.nv_ast.proofs.Items.{take_item, next_item}
 
 -- ---- blank values of types one after another
 module _ (known : Layouts) where
@@ -62,7 +61,7 @@ module _ (known : Layouts) where
       ap (λ l. scope_of l []) e ∙ scope-append old (x ∷ []) [] ∙ ap (λ y. (y, view x.1) ∷ scope_of old []) g ∙ ap (λ u. (param.0, u) ∷ scope_of old []) value in
       ap (λ l. named_scope (named_values_from rest l) (scope_of new [])) behind
       ∙ ap (λ s. named_scope (named_values_from rest (drop (words t) (drop here ws))) s) scope
-      ∙ ap (λ l. named_scope (named_values_from (named_types_of known (list_named_types l)) (drop here ws)) (scope_of old [])) (sym (dropped params i param h is))
+      ∙ ap (λ l. named_scope (named_values_from (named_types_of known (list_named_types l)) (drop here ws)) (scope_of old [])) (sym (next_item params i param h is))
       ∙ before
 
 -- ---- zeros

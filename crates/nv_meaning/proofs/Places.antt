@@ -20,8 +20,8 @@ use Rattle.nv_ast.specs.Tree.{LayoutTree, FunTree, DeclTree, LayoutDecl, Excepti
 use Rattle.nv_meaning.specs.Running.{number_from}
 use Rattle.nv_meaning.specs.Meaning.{Declared, with_decl, with_decls, declared, function_in}
 use Rattle.nv_meaning.specs.inner.Tables.{place_from, or_else, laid, layout_pairs, functions_in, layouts_in, exceptions_in}
-use Rattle.nv_meaning.proofs.Lists.{dropped, dropped-all}
-use Rattle.nv_layout.proofs.Lists.{take_item}
+use Rattle.nv_meaning.proofs.Lists.{dropped-all}
+use Rattle.nv_ast.proofs.Items.{take_item, next_item}
 use Rattle.nv_ast.proofs.ExceptionCounts.{exceptions_append}
 use Rattle.nv_meaning.proofs.Falls.{some_same}
 
@@ -80,7 +80,7 @@ place-turn name_of f g xs i a h is step before x =
     ap (λ o. or_else o (place_from (i + 1) x (map name_of (drop (i + 1) xs)))) (step x)
     ∙ ap (λ k. or_else (or_else (f x) (if bytes_eq x (name_of a) then Some i else None)) (place_from k x (map name_of (drop (i + 1) xs)))) (add-one i)
     ∙ place-step (f x) i x (name_of a) (map name_of (drop (i + 1) xs))
-    ∙ ap (λ l. or_else (f x) (place_from i x (map name_of l))) (sym (dropped xs i a h is))
+    ∙ ap (λ l. or_else (f x) (place_from i x (map name_of l))) (sym (next_item xs i a h is))
     ∙ before x
 
 pub place-done : {A : Type 0} (name_of : A → List ℕ) (f : List ℕ → Option ℕ) (xs : List A) (i : ℕ) → length xs ≤ i

@@ -10,7 +10,7 @@ use Rattle.nv_meaning.specs.Values.{NamedValues, no_named_values, named_value_an
 use Rattle.nv_meaning.specs.inner.Tables.{is_alias}
 use Rattle.nv_meaning.specs.Packing.{value_at, parts_at, alternatives_at, joined_at}
 use Rattle.nv_meaning.specs.inner.View.{Named, view, list_named_values}
-use Rattle.nv_layout.proofs.Lists.{take_item, split_item}
+use Rattle.nv_ast.proofs.Items.{take_item, split_item}
 
 abbrev pub FieldItem : Type 0
 FieldItem = List ℕ × FieldText

@@ -12,10 +12,10 @@ use Rattle.nv_layout.proofs.BitLists.{length-bits, bits-split, packed-append, pa
 use Rattle.nv_meaning.specs.Values.{Value, NamedValues, word_of, fields_of, field_named, has_field}
 use Rattle.nv_meaning.specs.Packing.{bits_of, parts_bits, chosen_bits, joined_bits, words_of_bits}
 use Rattle.nv_meaning.specs.inner.Blanks.{IsBlankFrom}
-use Rattle.nv_meaning.proofs.Lists.{dropped, dropped-all}
+use Rattle.nv_meaning.proofs.Lists.{dropped-all}
 use Rattle.nv_meaning.proofs.Packed.{replaced-more, replaced-zeros, replicate-split, blank-behind, number-word}
 use Rattle.nv_meaning.proofs.Unpacking.{FieldItem, outlines_of, joined_of, drop-nothing}
-use Rattle.nv_layout.proofs.Lists.{take_item}
+use Rattle.nv_ast.proofs.Items.{take_item, next_item}
 
 -- ---- no more bits than the size says
 either-within : (b : Bool) (xs ys : List ℕ) (m n : ℕ) → length xs ≤ m → length ys ≤ n → length (if b then xs else ys) ≤ max m n
@@ -71,7 +71,7 @@ module _ (known : Layouts) where
 
   -- the first of the alternatives from the i-th on
   pub chosen-turn : (xs : List FieldItem) (i : ℕ) (p : FieldItem) (vs : NamedValues) → i < length xs → p ≡ get_or xs i p → chosen_bits (outlines_of known (drop i xs)) vs ≡ (if has_field p.0 vs then bits_of (field_outline known (field_tree p.1)) (field_named p.0 vs) else chosen_bits (outlines_of known (drop (i + 1) xs)) vs)
-  chosen-turn xs i p vs h e = ap (λ l. chosen_bits (outlines_of known l) vs) (dropped xs i p h e)
+  chosen-turn xs i p vs h e = ap (λ l. chosen_bits (outlines_of known l) vs) (next_item xs i p h e)
 
 pub written-more : (first place : ℕ) (old mid new xs ys whole : List ℕ) → first + length xs ≤ length old → place ≡ first + length xs → mid ≡ replaced first xs old → new ≡ replaced place ys mid → whole ≡ xs ++ ys → new ≡ replaced first whole old
 written-more first place old mid new xs ys whole h a m n w =

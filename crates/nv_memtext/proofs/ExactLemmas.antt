@@ -14,7 +14,7 @@ use Rattle.nv_memtext.specs.declared.read.MemError.TheVariants.{NoMemory, Bad, T
 use Rattle.nv_memtext.specs.Spelling.{name_of, SpellWords}
 use Rattle.nv_memtext.specs.MemoryText.{SpellsSizes, SpellsArgs, SpellsStretch, SpellStretches, stretched, room, IsMemoryText, IsWhole, IsFront, nothing, one_line, lines, IsTooLarge, IsBad, Gives}
 use Rattle.nv_memtext.specs.Answer.{IsTrueError, AnswersJob, AnswersBad, AnswersTooLarge}
-use Rattle.nv_memtext.specs.Reading.{HasFirst}
+use Rattle.nv_memtext.specs.inner.Reading.{HasFirst}
 use Rattle.nv_memtext.proofs.LineLemmas.{args_one, stretch_parts, stretch_is, IsOne, at_small}
 use Rattle.nv_memtext.proofs.TextLemmas.{sizes_one, sizes_lack, args_lack, stretches_lack, text_lack, small_sizes, first_stretches, not_large}
 use Rattle.nv_memtext.proofs.FaultLemmas.{two_lines}

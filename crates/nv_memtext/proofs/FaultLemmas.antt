@@ -7,7 +7,7 @@ use Rattle.line_text.proofs.SplitLaws.{lines_one, lacks_not, split_one, text_of-
 use Rattle.nv_base.specs.Memories.{Memories, blank, first_too_large}
 use Rattle.nv_memtext.specs.declared.line.Stretch.{Stretch}
 use Rattle.nv_memtext.specs.MemoryText.{SpellsSizes, SpellsArgs, SpellsStretch, SpellStretches, IsMemoryText, IsWhole, IsFront, nothing, one_line, lines, IsTooLarge, IsBad, Gives}
-use Rattle.nv_memtext.specs.Reading.{HasFirst, HasLines}
+use Rattle.nv_memtext.specs.inner.Reading.{HasFirst, HasLines}
 use Rattle.nv_memtext.proofs.TextLemmas.{sizes_one, sizes_lack, text_lack, small_sizes, last_stretch, first_stretches, not_large, has_first, whole_of}
 
 -- a whole text has two lines at least

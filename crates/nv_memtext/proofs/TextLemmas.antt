@@ -14,7 +14,7 @@ use Rattle.nv_base.specs.declared.term.Mem.TheVariants.{Sram, Sdram, Scratch}
 use Rattle.nv_memtext.specs.declared.line.Stretch.{Stretch}
 use Rattle.nv_memtext.specs.Spelling.{name_of, SpellWords}
 use Rattle.nv_memtext.specs.MemoryText.{SpellsSizes, SpellsArgs, SpellsStretch, SpellStretches, stretched, room, IsMemoryText, IsWhole, IsFront, nothing, one_line, lines, IsTooLarge, IsBad, Gives}
-use Rattle.nv_memtext.specs.Reading.{HasFirst, HasLines, HasLengths}
+use Rattle.nv_memtext.specs.inner.Reading.{HasFirst, HasLines, HasLengths}
 use Rattle.nv_memtext.proofs.LineLemmas.{sizes_parts, at_small}
 use Rattle.nv_memtext.proofs.WordLemmas.{SpellWords-lack, SpellWords-one}
 

@@ -32,13 +32,13 @@ ShortText = Gives 2 short_text short_memories (4294967295 ∷ 10 ∷ [])
 abbrev pub ShortOutcome : Type 0
 ShortOutcome =
     outcome_text
-      (Raised 3 (3735928559 ∷ []))
-      (record { sram = 0 ∷ 0 ∷ 0 ∷ 0 ∷ 0 ∷ 0 ∷ 0 ∷ 0 ∷ 10 ∷ []; sdram = []; scratch = replicate 1024 0 })
-      (noted (empty_log 64) (record { mem = Sram; at = 8; words = 10 ∷ [] }))
+    (Raised 3 (3735928559 ∷ []))
+    (record { sram = 0 ∷ 0 ∷ 0 ∷ 0 ∷ 0 ∷ 0 ∷ 0 ∷ 0 ∷ 10 ∷ []; sdram = []; scratch = replicate 1024 0 })
+    (noted (empty_log 64) (record { mem = Sram; at = 8; words = 10 ∷ [] }))
     ≡ text_of (
-      codes "raised 3 deadbeef"
-      ∷ codes "writes 1"
-      ∷ codes "write sram 8 0000000a"
-      ∷ codes "memory 9 0"
-      ∷ codes "sram 8 0000000a"
-      ∷ [])
+    codes "raised 3 deadbeef"
+    ∷ codes "writes 1"
+    ∷ codes "write sram 8 0000000a"
+    ∷ codes "memory 9 0"
+    ∷ codes "sram 8 0000000a"
+    ∷ [])

@@ -9,6 +9,3 @@ mod read;
 
 pub use print::print_outcome;
 pub use read::{Job, MemError, read_memory};
-
-#[cfg(test)]
-mod tests;

@@ -11,7 +11,7 @@ use line_text::{Parts, read_word};
 use nv_base::{Mem, Words};
 
 /// The greatest number of at most ten digits.
-const MOST: u64 = 9_999_999_999;
+const TEN_DIGITS: u64 = 9_999_999_999;
 
 /// The sizes that the first line gives: words of SRAM and quadwords of SDRAM.
 #[derive(Clone, Copy)]
@@ -37,8 +37,8 @@ pub fn sizes_of(line: &[u8]) -> Option<Sizes>
     if !parts.next_is(b"memory") {
         return None;
     }
-    let sram = parts.next_decimal(MOST)?;
-    let sdram = parts.next_decimal(MOST)?;
+    let sram = parts.next_decimal(TEN_DIGITS)?;
+    let sdram = parts.next_decimal(TEN_DIGITS)?;
     if !parts.is_done() {
         return None;
     }
@@ -121,7 +121,7 @@ pub fn stretch_of(line: &[u8], sizes: &Sizes) -> Option<Stretch>
 {
     let mut parts = Parts::of(line);
     let mem = memory_of(parts.next_part()?)?;
-    let at = parts.next_decimal(MOST)?;
+    let at = parts.next_decimal(TEN_DIGITS)?;
     let words = words_of(parts)?;
     let count = words.list().len();
     if !is_access(mem, count) {

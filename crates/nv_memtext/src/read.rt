@@ -4,7 +4,7 @@ ghost use Rattle.std.specs.Prelude.{◌≡◌, ◌+◌, ◌<◌, ◌≤◌, ◌^
 ghost use Rattle.nv_base.specs.Memories.{Memories, IsAccess, blank, stored, first_word, words_at, first_too_large};
 ghost use Rattle.nv_memtext.specs.MemoryText.{Gives, IsBad, IsTooLarge};
 ghost use Rattle.nv_memtext.specs.Answer.{IsTrueError, AnswersJob, AnswersBad, AnswersTooLarge};
-ghost use Rattle.nv_memtext.specs.Reading.{HasFirst, HasLines, HasLengths};
+ghost use Rattle.nv_memtext.specs.inner.Reading.{HasFirst, HasLines, HasLengths};
 ghost use Rattle.nv_memtext.specs.declared.read.MemError.TheVariants.{NoMemory as WantOfMemory};
 
 use crate::line::{Sizes, Stretch, args_of, sizes_of, stretch_of};
@@ -34,7 +34,7 @@ pub enum MemError {
 }
 
 /// The greatest size of SRAM and of SDRAM.
-const MOST: u64 = 65_536;
+const GREATEST_SIZE: u64 = 65_536;
 
 /// Reads line 1.
 fn read_sizes(lines: &mut Lines) -> Result<Sizes, MemError>
@@ -47,10 +47,10 @@ fn read_sizes(lines: &mut Lines) -> Result<Sizes, MemError>
     let Some(sizes) = sizes_of(line) else {
         return Err(MemError::Bad(1));
     };
-    if sizes.sram > MOST {
+    if sizes.sram > GREATEST_SIZE {
         return Err(MemError::TooLarge(sizes.sram));
     }
-    if sizes.sdram > MOST {
+    if sizes.sdram > GREATEST_SIZE {
         return Err(MemError::TooLarge(sizes.sdram));
     }
     Ok(sizes)

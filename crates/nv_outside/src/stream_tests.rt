@@ -94,78 +94,102 @@ fn stripes(alloc: Global, length: usize) -> Result<Vec<u8>, Fail> {
     Ok(bytes)
 }
 
+// What a load of a reader of these bytes answers, and what a list with a 7 is then.
+fn loaded(
+    alloc: Global,
+    bytes: &[u8],
+    piece: usize,
+    fault: Option<(u32, ErrorKind)>,
+    limit: u64,
+) -> Result<(Loaded, Vec<u8>), Fail> {
+    let mut into = vec![in alloc; 7]?;
+    let mut reader = Pieces {
+        bytes,
+        piece,
+        fault,
+        reads: 0,
+    };
+    let answer = read_whole(&mut reader, limit, &mut into);
+    Ok((answer, into))
+}
+
 #[test]
 fn short_reads_lose_nothing(rt: HostRuntime) -> Result<(), Fail> {
     let alloc = rt.alloc();
-    for length in [0usize, 1, 4095, 4096, 4097, 9000] {
-        let bytes = stripes(alloc, length)?;
-        for piece in [1usize, 100, 4095, 4096, 5000] {
-            for fault in [None, Some((1, ErrorKind::Interrupted))] {
-                let mut into = vec![in alloc; 7]?;
-                let mut reader = Pieces {
-                    bytes: bytes.as_slice(),
-                    piece,
-                    fault,
-                    reads: 0,
-                };
-                assert_eq!(rt;
-                    read_whole(&mut reader, length as u64, &mut into),
-                    Loaded::Done
-                );
-                assert_eq!(rt; into[0], 7);
-                assert_eq!(rt; &into[1..], bytes.as_slice());
-            }
-        }
+    let bytes = stripes(alloc, 9000)?;
+    for piece in [100usize, 4095, 4096, 5000] {
+        let (answer, into) = loaded(alloc, bytes.as_slice(), piece, None, 9000)?;
+        assert_eq!(rt; answer, Loaded::Done);
+        assert_eq!(rt; into.get(1..), Some(bytes.as_slice()));
     }
     Ok(())
 }
 
 #[test]
-fn long_and_faulty_readers_leave_nothing(rt: HostRuntime) -> Result<(), Fail> {
-    let alloc = rt.alloc();
-    let bytes = stripes(alloc, 9000)?;
-    for (limit, fault, answer) in [
-        (8999u64, None, Loaded::TooLong),
-        (0, None, Loaded::TooLong),
-        (9000, Some((0, ErrorKind::BrokenPipe)), Loaded::Failed),
-        (9000, Some((2, ErrorKind::BrokenPipe)), Loaded::Failed),
-    ] {
-        let mut into = vec![in alloc; 7]?;
-        let mut reader = Pieces {
-            bytes: bytes.as_slice(),
-            piece: 4096,
-            fault,
-            reads: 0,
-        };
-        assert_eq!(rt; read_whole(&mut reader, limit, &mut into), answer);
-        assert_eq!(rt; into.as_slice(), [7u8].as_slice());
-    }
+fn a_read_that_is_interrupted_is_tried_again(rt: HostRuntime) -> Result<(), Fail> {
+    let fault = Some((0, ErrorKind::Interrupted));
+    let (answer, into) = loaded(rt.alloc(), b"ab", 1, fault, 2)?;
+    assert_eq!(rt; answer, Loaded::Done);
+    assert_eq!(rt; into.as_slice(), b"\x07ab".as_slice());
     Ok(())
+}
+
+#[test]
+fn a_long_reader_leaves_nothing(rt: HostRuntime) -> Result<(), Fail> {
+    let (answer, into) = loaded(rt.alloc(), b"abc", 1, None, 2)?;
+    assert_eq!(rt; answer, Loaded::TooLong);
+    assert_eq!(rt; into.as_slice(), b"\x07".as_slice());
+    Ok(())
+}
+
+#[test]
+fn a_fault_in_mid_stream_leaves_nothing(rt: HostRuntime) -> Result<(), Fail> {
+    let fault = Some((2, ErrorKind::BrokenPipe));
+    let (answer, into) = loaded(rt.alloc(), b"abc", 1, fault, 9)?;
+    assert_eq!(rt; answer, Loaded::Failed);
+    assert_eq!(rt; into.as_slice(), b"\x07".as_slice());
+    Ok(())
+}
+
+// What a new file holds behind these bytes, or none where that failed.
+fn filled(
+    alloc: Global,
+    bytes: &[u8],
+    piece: usize,
+    fault: Option<(u32, ErrorKind)>,
+    syncs: bool,
+) -> Option<Vec<u8>> {
+    let mut file = Slow {
+        bytes: Vec::new(alloc),
+        piece,
+        fault,
+        writes: 0,
+        syncs,
+    };
+    match fill(&mut file, bytes, None) {
+        Ok(()) => Some(file.bytes),
+        Err(_) => None,
+    }
 }
 
 #[test]
 fn short_writes_lose_nothing(rt: HostRuntime) -> Result<(), Fail> {
     let alloc = rt.alloc();
     let bytes = stripes(alloc, 9000)?;
-    for (piece, fault, syncs, is_whole) in [
-        (1usize, None, true, true),
-        (4096, Some((1, ErrorKind::Interrupted)), true, true),
-        (4096, Some((2, ErrorKind::StorageFull)), true, false),
-        (0, None, true, false),
-        (9000, None, false, false),
-    ] {
-        let mut file = Slow {
-            bytes: Vec::new(alloc),
-            piece,
-            fault,
-            writes: 0,
-            syncs,
-        };
-        let answer = fill(&mut file, bytes.as_slice(), None);
-        assert_eq!(rt; answer.is_ok(), is_whole);
-        if is_whole {
-            assert_eq!(rt; file.bytes.as_slice(), bytes.as_slice());
-        }
-    }
+    let fault = Some((1, ErrorKind::Interrupted));
+    let held = filled(alloc, bytes.as_slice(), 4096, fault, true);
+    assert_eq!(rt;
+        held.is_some_and(|it| it.as_slice() == bytes.as_slice()),
+        true
+    );
     Ok(())
+}
+
+#[test]
+fn a_write_or_a_sync_that_fails_shows(rt: HostRuntime) {
+    let alloc = rt.alloc();
+    let fault = Some((1, ErrorKind::StorageFull));
+    assert_eq!(rt; filled(alloc, b"abc", 1, fault, true).is_none(), true);
+    assert_eq!(rt; filled(alloc, b"abc", 0, None, true).is_none(), true);
+    assert_eq!(rt; filled(alloc, b"abc", 3, None, false).is_none(), true);
 }

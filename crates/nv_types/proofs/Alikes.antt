@@ -2,7 +2,7 @@
 use Rattle.std.proofs.Common.{◌≡◌, ◌∙◌, refl, ap, sym, subst, ℕ, Bool, true, false, cond, ◌||◌, ◌&&◌, List, [], ◌∷◌, ◌++◌, bytes_eq, Option, None, Some, is_some, is_none, true≢false}
 use Rattle.std.specs.Cmp.Lexicographic.{bytes_decides}
 use Rattle.nv_ast.specs.Tests.{is_among, names_of, look_up}
-use Rattle.nv_types.specs.Standing.{Alike}
+use Rattle.nv_types.specs.inner.Standing.{Alike}
 
 pub alike_names : {A B : Type 0} (R : A → B → Type 0) (as_ : List (List ℕ × A)) (bs : List (List ℕ × B)) → Alike R as_ bs → names_of as_ ≡ names_of bs
 alike_names R [] [] h = refl

@@ -15,12 +15,12 @@ use Rattle.nv_types.specs.declared.wanted.Wanted.TheVariants.{Anything, Typed}
 use Rattle.nv_types.specs.declared.cost.Cost.{Cost}
 use Rattle.nv_types.specs.declared.functions.Checker.{Checker}
 use Rattle.nv_types.specs.declared.functions.Found.{Found}
-use Rattle.nv_types.specs.Faulty.{Judges}
-use Rattle.nv_types.specs.Store.{Store, IsValue}
-use Rattle.nv_types.specs.Costs.{still, node_cost, two_costs}
-use Rattle.nv_types.specs.Judging.{IsWanted, judged_faults}
-use Rattle.nv_types.specs.Standing.{Holds, Sees, Keeps, written_in}
-use Rattle.nv_types.specs.Walk.{Checks}
+use Rattle.nv_types.specs.inner.Faulty.{Judges}
+use Rattle.nv_types.specs.inner.Store.{Store, IsValue}
+use Rattle.nv_types.specs.inner.Costs.{still, node_cost, two_costs}
+use Rattle.nv_types.specs.inner.Judging.{IsWanted, judged_faults}
+use Rattle.nv_types.specs.inner.Standing.{Holds, Sees, Keeps, written_in}
+use Rattle.nv_types.specs.inner.Walk.{Checks}
 use Rattle.nv_types.proofs.Firsts.{first_append, judges_behind}
 use Rattle.nv_types.proofs.Staying.{value_stays}
 use Rattle.nv_types.proofs.Holding.{holds_stays, sees_stay, counts_stay, wanted_stays, Keeps-trans}

@@ -1,7 +1,7 @@
 -- What parts cost together, and with the node above them.
 use Rattle.std.proofs.Common.{◌≡◌, ◌∙◌, refl, ap, sym, subst, ℕ, ◌+◌, max, arith}
 use Rattle.nv_types.specs.declared.cost.Cost.{Cost}
-use Rattle.nv_types.specs.Costs.{still, IsCost, two_costs, node_cost}
+use Rattle.nv_types.specs.inner.Costs.{still, IsCost, two_costs, node_cost}
 
 pub still_sum : (a b x y : ℕ) → a ≡ still x → b ≡ still y → still (a + b) ≡ still (x + y)
 still_sum a b x y h g = omega (arith, h, g)

@@ -7,10 +7,10 @@ use Rattle.std.proofs.lemmas.Bool.{false≢true, cases_lt}
 use Rattle.std.proofs.lemmas.List.{drop-append-le, drop_all, take_all}
 use Rattle.std.proofs.lemmas.List.Folds.{list_any-append}
 use Rattle.nv_ast.specs.Tests.{is_among, look_up}
+use Rattle.nv_ast.proofs.Items.{take_item}
 use Rattle.std.specs.Borrow.{Bor}
-use Rattle.nv_types.specs.Named.{plain_names}
-use Rattle.nv_types.specs.Blocks.{IsEnds, IsEnd}
-use Rattle.nv_types.proofs.Items.{take_item}
+use Rattle.nv_types.specs.inner.Named.{plain_names}
+use Rattle.nv_types.specs.inner.Blocks.{IsEnds, IsEnd}
 use Rattle.nv_types.proofs.Found.{plain-append}
 
 or_cases : (P : Type 0) (a b : Bool) → (a ≡ true → P) → (b ≡ true → P) → (a || (b || false)) ≡ true → P

@@ -14,11 +14,11 @@ use Rattle.nv_types.specs.declared.wanted.Wanted.{Wanted}
 use Rattle.nv_types.specs.declared.wanted.Wanted.TheVariants.{Typed}
 use Rattle.nv_types.specs.declared.functions.Checker.{Checker}
 use Rattle.nv_types.specs.declared.functions.Found.{Found}
-use Rattle.nv_types.specs.Faulty.{IsFirstOf, Judges}
-use Rattle.nv_types.specs.Store.{Store, Grows, IsType, IsValue}
-use Rattle.nv_types.specs.Costs.{still, node_cost}
-use Rattle.nv_types.specs.Judging.{IsWanted, judged_faults}
-use Rattle.nv_types.specs.Walk.{Checks}
+use Rattle.nv_types.specs.inner.Faulty.{IsFirstOf, Judges}
+use Rattle.nv_types.specs.inner.Store.{Store, Grows, IsType, IsValue}
+use Rattle.nv_types.specs.inner.Costs.{still, node_cost}
+use Rattle.nv_types.specs.inner.Judging.{IsWanted, judged_faults}
+use Rattle.nv_types.specs.inner.Walk.{Checks}
 use Rattle.nv_types.proofs.Firsts.{first_append, judges_behind, first_kind, then_kinds}
 use Rattle.nv_types.proofs.Holding.{wanted_stays, Keeps-trans, Keeps-table}
 use Rattle.nv_types.proofs.BlockNodes.{fails, node_checks}

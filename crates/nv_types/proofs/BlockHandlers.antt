@@ -17,14 +17,14 @@ use Rattle.nv_types.specs.declared.cost.Cost.{Cost}
 use Rattle.nv_types.specs.declared.table.Facts.{Facts}
 use Rattle.nv_types.specs.declared.functions.Checker.{Checker}
 use Rattle.nv_types.specs.declared.functions.Found.{Found}
-use Rattle.nv_types.specs.Faulty.{Judges}
-use Rattle.nv_types.specs.Store.{Store, IsParts, IsValue}
-use Rattle.nv_types.specs.Knowing.{AreKnown}
-use Rattle.nv_types.specs.Costs.{still, IsCost, node_cost, two_costs}
-use Rattle.nv_types.specs.Judging.{IsWanted, judged_faults}
-use Rattle.nv_types.specs.Patterns.{BindsHandler}
-use Rattle.nv_types.specs.Standing.{Holds, Sees, KeepsDeclared, Keeps, place, written_in}
-use Rattle.nv_types.specs.Walk.{Checks}
+use Rattle.nv_types.specs.inner.Faulty.{Judges}
+use Rattle.nv_types.specs.inner.Store.{Store, IsParts, IsValue}
+use Rattle.nv_types.specs.inner.Knowing.{AreKnown}
+use Rattle.nv_types.specs.inner.Costs.{still, IsCost, node_cost, two_costs}
+use Rattle.nv_types.specs.inner.Judging.{IsWanted, judged_faults}
+use Rattle.nv_types.specs.inner.Patterns.{BindsHandler}
+use Rattle.nv_types.specs.inner.Standing.{Holds, Sees, KeepsDeclared, Keeps, place, written_in}
+use Rattle.nv_types.specs.inner.Walk.{Checks}
 use Rattle.nv_types.proofs.Firsts.{first_append, judges_behind}
 use Rattle.nv_types.proofs.Staying.{value_stays, parts_stay}
 use Rattle.nv_types.proofs.Holding.{holds_stays, sees_stay, counts_stay, wanted_stays, declared_trans}

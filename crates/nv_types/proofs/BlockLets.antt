@@ -10,10 +10,10 @@ use Rattle.nv_ast.specs.Faults.{at_span, variable_twice, not_fitting}
 use Rattle.nv_types.specs.declared.error.TypeError.{TypeError}
 use Rattle.nv_types.specs.declared.error.TypeError.TheVariants.{NoMemory}
 use Rattle.nv_types.specs.declared.functions.Checker.{Checker}
-use Rattle.nv_types.specs.Faulty.{IsFirstOf}
-use Rattle.nv_types.specs.Store.{Store, IsType, IsValue}
-use Rattle.nv_types.specs.Patterns.{Adds, BindsLet}
-use Rattle.nv_types.specs.Standing.{Sees}
+use Rattle.nv_types.specs.inner.Faulty.{IsFirstOf}
+use Rattle.nv_types.specs.inner.Store.{Store, IsType, IsValue}
+use Rattle.nv_types.specs.inner.Patterns.{Adds, BindsLet}
+use Rattle.nv_types.specs.inner.Standing.{Sees}
 use Rattle.nv_types.proofs.Firsts.{first_kind, then_kinds}
 use Rattle.nv_types.proofs.Bound.{Adds-refl}
 

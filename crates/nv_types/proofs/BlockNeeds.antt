@@ -11,12 +11,12 @@ use Rattle.nv_ast.specs.PatternView.{pattern_tree}
 use Rattle.nv_ast.specs.Tests.{is_among}
 use Rattle.nv_ast.specs.Scope.{names_in}
 use Rattle.nv_ast.specs.Sizes.{pending, Lets}
+use Rattle.nv_ast.proofs.Items.{take_item}
 use Rattle.nv_types.specs.declared.blocks.Step.{Step}
 use Rattle.nv_types.specs.declared.blocks.Held.{Held}
-use Rattle.nv_types.specs.Cells.{most}
-use Rattle.nv_types.specs.Costs.{still}
-use Rattle.nv_types.specs.Blocks.{IsEnd, pattern_lets, step_lets, held_for, held_at, block_needs}
-use Rattle.nv_types.proofs.Items.{take_item}
+use Rattle.nv_types.specs.inner.Cells.{most}
+use Rattle.nv_types.specs.inner.Costs.{still}
+use Rattle.nv_types.specs.inner.Blocks.{IsEnd, pattern_lets, step_lets, held_for, held_at, block_needs}
 
 -- the lets of some steps
 abbrev pub lets_of : List Step → Lets
@@ -34,7 +34,7 @@ pub pending-append : (xs ys : Lets) (w : List (List ℕ)) → pending (xs ++ ys)
 pending-append [] ys w = omega arith
 pending-append ((names, n) ∷ xs) ys w = omega (arith, pending-append xs ys w)
 
-held-append : (xs ys : List Held) (at : ℕ) → held_for (xs ++ ys) at ≡ held_for xs at + held_for ys at
+pub held-append : (xs ys : List Held) (at : ℕ) → held_for (xs ++ ys) at ≡ held_for xs at + held_for ys at
 held-append [] ys at = omega arith
 held-append (x ∷ xs) ys at = omega (arith, held-append xs ys at)
 

@@ -12,10 +12,10 @@ use Rattle.nv_ast.specs.Faults.{at_span, as_many_patterns, variable_twice, wrong
 use Rattle.nv_types.specs.declared.error.TypeError.{TypeError}
 use Rattle.nv_types.specs.declared.error.TypeError.TheVariants.{NoMemory, Fault}
 use Rattle.nv_types.specs.declared.functions.Checker.{Checker}
-use Rattle.nv_types.specs.Faulty.{IsFirstOf}
-use Rattle.nv_types.specs.Store.{IsParts, count_tys}
-use Rattle.nv_types.specs.Patterns.{Adds, BindsHandler}
-use Rattle.nv_types.specs.Standing.{Alike, Holds, Sees}
+use Rattle.nv_types.specs.inner.Faulty.{IsFirstOf}
+use Rattle.nv_types.specs.inner.Store.{IsParts, count_tys}
+use Rattle.nv_types.specs.inner.Patterns.{Adds, BindsHandler}
+use Rattle.nv_types.specs.inner.Standing.{Alike, Holds, Sees}
 use Rattle.nv_types.proofs.Firsts.{first_kind, then_kinds}
 use Rattle.nv_types.proofs.Staying.{parts_stay}
 

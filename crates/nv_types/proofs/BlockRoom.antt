@@ -11,8 +11,8 @@ use Rattle.nv_ast.specs.Scope.{Known, Vars}
 use Rattle.nv_ast.specs.Typing.{vars_after}
 use Rattle.nv_ast.specs.Sizes.{GroupNumbers, Lets, pending, let_of, lets_behind, need_statement, need_statements, variables_statement, variables_statements}
 use Rattle.nv_types.specs.declared.blocks.Step.{Step}
-use Rattle.nv_types.specs.Costs.{still}
-use Rattle.nv_types.specs.Blocks.{IsLet, pattern_lets, step_lets, held_at, block_needs}
+use Rattle.nv_types.specs.inner.Costs.{still}
+use Rattle.nv_types.specs.inner.Blocks.{IsLet, pattern_lets, step_lets, held_at, block_needs}
 
 -- the steps of some statements, the first of which begins at a place
 pub record StepAt (k : Known) (needs : GroupNumbers) (at : ℕ) (vars : Vars) (step : Step) (st : StatementTree) : Type 0 where

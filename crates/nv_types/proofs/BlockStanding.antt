@@ -2,10 +2,10 @@
 use Rattle.std.proofs.Common.{◌≡◌, ◌∙◌, refl, ap, ℕ, ◌-◌, List, ◌++◌, drop, length, Result, Ok, Err, arith, length-append, append_assoc, Vec, Global}
 use Rattle.std.specs.Result.{OnOk}
 use Rattle.std.specs.Borrow.{Bor}
-use Rattle.nv_types.specs.Named.{plain_names}
+use Rattle.nv_types.specs.inner.Named.{plain_names}
 use Rattle.std.proofs.lemmas.List.{drop_at}
 use Rattle.nv_types.specs.declared.functions.Checker.{Checker}
-use Rattle.nv_types.specs.Standing.{written_in}
+use Rattle.nv_types.specs.inner.Standing.{written_in}
 
 -- variables that were bound, and forgotten again
 pub scope_left : (old newer now left : List (List ℕ × ℕ)) → now ≡ newer ++ old → left ≡ drop (length now - length old) now → left ≡ old

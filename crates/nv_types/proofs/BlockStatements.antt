@@ -22,15 +22,15 @@ use Rattle.nv_types.specs.declared.cost.Cost.{Cost}
 use Rattle.nv_types.specs.declared.blocks.Step.{Step}
 use Rattle.nv_types.specs.declared.functions.Checker.{Checker}
 use Rattle.nv_types.specs.declared.functions.Found.{Found}
-use Rattle.nv_types.specs.Cells.{most}
-use Rattle.nv_types.specs.Faulty.{IsFirstOf}
-use Rattle.nv_types.specs.Named.{plain_names}
-use Rattle.nv_types.specs.Costs.{still, node_cost, two_costs}
-use Rattle.nv_types.specs.Store.{IsValue}
-use Rattle.nv_types.specs.Patterns.{BindsLet}
-use Rattle.nv_types.specs.Blocks.{ChecksStatement}
-use Rattle.nv_types.specs.Standing.{Holds, Sees, Keeps, place, written_in}
-use Rattle.nv_types.specs.Walk.{Checks}
+use Rattle.nv_types.specs.inner.Cells.{most}
+use Rattle.nv_types.specs.inner.Faulty.{IsFirstOf}
+use Rattle.nv_types.specs.inner.Named.{plain_names}
+use Rattle.nv_types.specs.inner.Costs.{still, node_cost, two_costs}
+use Rattle.nv_types.specs.inner.Store.{IsValue}
+use Rattle.nv_types.specs.inner.Patterns.{BindsLet}
+use Rattle.nv_types.specs.inner.Blocks.{ChecksStatement}
+use Rattle.nv_types.specs.inner.Standing.{Holds, Sees, Keeps, place, written_in}
+use Rattle.nv_types.specs.inner.Walk.{Checks}
 use Rattle.nv_types.proofs.Firsts.{first_append, judges_behind, first_kind, then_kinds}
 use Rattle.nv_types.proofs.Holding.{holds_stays, sees_stay, counts_stay, declared_trans, Keeps-trans}
 use Rattle.nv_types.proofs.BlockStanding.{writes_trans, written_same}

@@ -8,13 +8,13 @@ use Rattle.nv_ast.specs.Scope.{Known, Vars}
 use Rattle.nv_ast.specs.Typing.{vars_after, vars_behind}
 use Rattle.nv_ast.specs.Faults.{statement_faults, statements_faults}
 use Rattle.nv_ast.specs.Sizes.{GroupNumbers, expanded_statement, expanded_statements, variables_statement, variables_statements}
+use Rattle.nv_ast.proofs.Items.{take_item}
 use Rattle.nv_types.specs.declared.blocks.Step.{Step}
 use Rattle.nv_types.specs.declared.functions.Checker.{Checker}
-use Rattle.nv_types.specs.Cells.{most}
-use Rattle.nv_types.specs.Costs.{still}
-use Rattle.nv_types.specs.Blocks.{ChecksStatement}
-use Rattle.nv_types.specs.Standing.{Holds, Sees, Counts, KeepsDeclared, place, written_in}
-use Rattle.nv_types.proofs.Items.{take_item}
+use Rattle.nv_types.specs.inner.Cells.{most}
+use Rattle.nv_types.specs.inner.Costs.{still}
+use Rattle.nv_types.specs.inner.Blocks.{ChecksStatement}
+use Rattle.nv_types.specs.inner.Standing.{Holds, Sees, Counts, KeepsDeclared, place, written_in}
 use Rattle.nv_types.proofs.Holding.{holds_stays, counts_stay, declared_refl, declared_trans}
 use Rattle.nv_types.proofs.BlockStanding.{writes_trans}
 use Rattle.nv_types.proofs.BlockRoom.{StepAt, AreSteps}

@@ -15,14 +15,14 @@ use Rattle.nv_types.specs.declared.wanted.Wanted.TheVariants.{Anything}
 use Rattle.nv_types.specs.declared.blocks.Step.{Step}
 use Rattle.nv_types.specs.declared.functions.Checker.{Checker}
 use Rattle.nv_types.specs.declared.functions.Found.{Found}
-use Rattle.nv_types.specs.Cells.{most}
-use Rattle.nv_types.specs.Costs.{still}
-use Rattle.nv_types.specs.Faulty.{IsFirstOf}
-use Rattle.nv_types.specs.Store.{IsValue}
-use Rattle.nv_types.specs.Judging.{IsWanted, judged_faults}
-use Rattle.nv_types.specs.Blocks.{ChecksStatement, block_needs}
-use Rattle.nv_types.specs.Standing.{KeepsDeclared, place, written_in}
-use Rattle.nv_types.specs.Walk.{Checks}
+use Rattle.nv_types.specs.inner.Cells.{most}
+use Rattle.nv_types.specs.inner.Costs.{still}
+use Rattle.nv_types.specs.inner.Faulty.{IsFirstOf}
+use Rattle.nv_types.specs.inner.Store.{IsValue}
+use Rattle.nv_types.specs.inner.Judging.{IsWanted, judged_faults}
+use Rattle.nv_types.specs.inner.Blocks.{ChecksStatement, block_needs}
+use Rattle.nv_types.specs.inner.Standing.{KeepsDeclared, place, written_in}
+use Rattle.nv_types.specs.inner.Walk.{Checks}
 use Rattle.nv_types.proofs.Firsts.{first_append, judges_behind}
 use Rattle.nv_types.proofs.Holding.{holds_stays, counts_stay, wanted_stays, declared_trans}
 use Rattle.nv_types.proofs.BlockStanding.{scope_left, writes_trans}

@@ -7,9 +7,9 @@ use Rattle.nv_ast.specs.PatternView.{pattern_tree, list_patterns}
 use Rattle.nv_ast.specs.Scope.{Vars, bind, bind_all}
 use Rattle.nv_ast.specs.Types.{Ty, WordTy, BoolTy, TupleTy, RecordTy, Tys}
 use Rattle.nv_types.specs.declared.functions.Checker.{Checker}
-use Rattle.nv_types.specs.Store.{Store, IsStore, IsType, IsParts, tuple_of, part_of}
-use Rattle.nv_types.specs.Standing.{Sees}
-use Rattle.nv_types.specs.Patterns.{Adds}
+use Rattle.nv_types.specs.inner.Store.{Store, IsStore, IsType, IsParts, tuple_of, part_of}
+use Rattle.nv_types.specs.inner.Standing.{Sees}
+use Rattle.nv_types.specs.inner.Patterns.{Adds}
 use Rattle.nv_types.proofs.Growing.{Grows-refl, Grows-trans}
 use Rattle.nv_types.proofs.Staying.{parts_stay}
 use Rattle.nv_types.proofs.Walked.{part_none, part_some}

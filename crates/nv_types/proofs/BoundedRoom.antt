@@ -1,15 +1,23 @@
 -- The room of a program without a fault whose expanded size is at most 4,096.
-use Rattle.std.proofs.Common.{◌≡◌, ◌∙◌, ap, sym, subst, ℕ, ◌+◌, ◌≤◌, arith}
+use Rattle.std.proofs.Common.{◌≡◌, ◌∙◌, ap, sym, subst, ℕ, ◌+◌, ◌*◌, ◌≤◌, arith}
 use Rattle.nv_ast.specs.Tree.{ProgramTree}
 use Rattle.nv_ast.specs.Faults.{IsTyped, program_faults}
 use Rattle.nv_ast.specs.Sizes.{expanded_size, room}
+use Rattle.nv_ast.specs.Accepted.{IsAccepted}
 use Rattle.nv_ast.proofs.RoomInSize.{room_bounded}
 use Rattle.nv_types.specs.declared.program.Sizes.{Sizes}
-use Rattle.nv_types.specs.Costs.{still}
+use Rattle.nv_types.specs.inner.Costs.{still}
 use Rattle.nv_types.specs.declared.error.TypeError.{TypeError}
 use Rattle.nv_types.specs.declared.error.TypeError.TheVariants.{NoMemory, Fault, TooLarge}
-use Rattle.nv_types.specs.Faulty.{IsFirstOf}
-use Rattle.nv_types.specs.Answers.{IsRefusal, IsSized, main_need}
+use Rattle.nv_types.specs.inner.Faulty.{IsFirstOf}
+use Rattle.nv_types.specs.Refusals.{IsRefusal}
+use Rattle.nv_types.specs.inner.Measuring.{IsSized, main_need}
+
+pub accepted : (p : ProgramTree) (s : Sizes) → IsTyped p → IsSized p s → s.expanded ≤ 4096 → IsAccepted p
+accepted p s typed is le = record { typed = typed; small = subst (λ e. e ≤ 4096) is.of_expanded le }
+
+pub bounded : (p : ProgramTree) → IsAccepted p → room p ≤ 5 * expanded_size p + 8
+bounded p a = room_bounded p a.typed (omega (arith, a.small))
 
 need_small : (p : ProgramTree) → IsTyped p → expanded_size p ≤ 4096 → main_need p ≤ 20480
 need_small p typed small =

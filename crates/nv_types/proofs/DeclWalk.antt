@@ -10,6 +10,7 @@ use Rattle.nv_ast.specs.Types.{Tys, NamedTys, no_named_tys, named_ty_and, types_
 use Rattle.nv_ast.specs.Scope.{Signature, Known, callable, plain_tys, param_vars, signature, in_group}
 use Rattle.nv_ast.specs.Faults.{at_span, same_as, name_faults, signature_faults, signatures_faults, body_faults, bodies_faults, decl_faults}
 use Rattle.nv_ast.specs.Sizes.{param_words, body_vars, expanded, need, group_size, group_need}
+use Rattle.nv_ast.proofs.TypeWords.{plain_words}
 use Rattle.nv_types.specs.declared.error.TypeError.{TypeError}
 use Rattle.nv_types.specs.declared.error.TypeError.TheVariants.{NoMemory as WantOfMemory}
 use Rattle.nv_types.specs.declared.layouts.Shape.{Shape}
@@ -19,21 +20,21 @@ use Rattle.nv_types.specs.declared.functions.Function.{Function}
 use Rattle.nv_types.specs.declared.functions.Found.{Found}
 use Rattle.nv_types.specs.declared.functions.Checker.{Checker}
 use Rattle.nv_types.specs.declared.wanted.Wanted.TheVariants.{Same}
-use Rattle.nv_types.specs.Cells.{most}
-use Rattle.nv_types.specs.Costs.{still, two_costs}
-use Rattle.nv_types.specs.Faulty.{IsFirstOf}
-use Rattle.nv_types.specs.Knowing.{AreKnown}
-use Rattle.nv_types.specs.Judging.{IsWanted}
-use Rattle.nv_types.specs.Store.{IsParts, field_names}
-use Rattle.nv_types.specs.Standing.{IsFunction, Holds, Sees, KeepsDeclared, Keeps}
-use Rattle.nv_types.specs.Texts.{ShapesWhole, TypesTexts}
-use Rattle.nv_types.specs.Walk.{Checks}
-use Rattle.nv_types.specs.Declarations.{Between, ChecksDecl, AreNew, SignsFunction, SignsAll, IsSigned, ChecksBody, ChecksBodies, costing, AddsCosts}
+use Rattle.nv_types.specs.inner.Cells.{most}
+use Rattle.nv_types.specs.inner.Costs.{still, two_costs}
+use Rattle.nv_types.specs.inner.Faulty.{IsFirstOf}
+use Rattle.nv_types.specs.inner.Knowing.{AreKnown}
+use Rattle.nv_types.specs.inner.Judging.{IsWanted}
+use Rattle.nv_types.specs.inner.Store.{IsParts, field_names}
+use Rattle.nv_types.specs.inner.Standing.{IsFunction, Holds, Sees, KeepsDeclared, Keeps}
+use Rattle.nv_types.specs.inner.Texts.{ShapesWhole, TypesTexts}
+use Rattle.nv_types.specs.inner.Walk.{Checks}
+use Rattle.nv_types.specs.inner.Declarations.{Between, ChecksDecl, AreNew, SignsFunction, SignsAll, IsSigned, ChecksBody, ChecksBodies, costing, AddsCosts}
 use Rattle.nv_types.proofs.Growing.{Grows-refl, Grows-trans}
 use Rattle.nv_types.proofs.Staying.{type_stays, parts_stay}
 use Rattle.nv_types.proofs.Firsts.{first_append}
 use Rattle.nv_types.proofs.Alikes.{alike_at, both_none, both_some}
-use Rattle.nv_types.proofs.Holding.{holds_stays, counts_same}
+use Rattle.nv_types.proofs.Holding.{holds_stays, counts_same, declared_trans, Keeps-refl, Keeps-trans}
 use Rattle.nv_types.proofs.Standings.{sees_nothing, between_layout, between_exception}
 use Rattle.nv_types.proofs.Groups.{are_new, known_names, all_signed, SignedSo, unknown, uncounted, signed_more, between_group, counts_group, BodiedSo, CountedSo, bodied_more, cost_more}
 use Rattle.nv_types.proofs.Declaring.{found_nothing, layout_first, layout_then, exception_first, exception_types, exception_wide, group_first, group_texts, group_bodies}
@@ -151,24 +152,6 @@ signs_end c now all r so costs scope = record {
 }
 
 -- ---- bodies
-pub KeepsDeclared-trans : (a b c : Checker) → KeepsDeclared a b → KeepsDeclared b c → KeepsDeclared a c
-KeepsDeclared-trans a b c f g = record {
-  grows = Grows-trans a.table b.table c.table f.grows g.grows;
-  same_layouts = g.same_layouts ∙ f.same_layouts;
-  same_exceptions = g.same_exceptions ∙ f.same_exceptions;
-  same_functions = g.same_functions ∙ f.same_functions;
-  same_costs = g.same_costs ∙ f.same_costs;
-}
-
-pub KeepsDeclared-refl : (c : Checker) → KeepsDeclared c c
-KeepsDeclared-refl c = record { grows = Grows-refl c.table; same_layouts = refl; same_exceptions = refl; same_functions = refl; same_costs = refl }
-
-pub Keeps-refl : (c : Checker) → Keeps c c
-Keeps-refl c = record { declared = KeepsDeclared-refl c; same_scope = refl }
-
-pub Keeps-trans : (a b c : Checker) → Keeps a b → Keeps b c → Keeps a c
-Keeps-trans a b c f g = record { declared = KeepsDeclared-trans a b c f.declared g.declared; same_scope = g.same_scope ∙ f.same_scope }
-
 pub bodies_err : (c now new : Checker) (all rest : List FunTree) (f : FunTree) (e : TypeError) → BodiedSo c all (f ∷ rest) → (c.scope ≡ [] → Keeps c now) → ChecksBody now new f (Err e) → ChecksBodies c new all (Err e)
 bodies_err c now new all rest f e so kept h = record {
   judged = λ k holds scope signed.
@@ -258,10 +241,6 @@ body_err c now last new f g e written names named bound known h = record {
   keeps = λ scope. tt;
 }
 
-total_plain : (ts : NamedTys) → total_words (plain_tys ts) ≡ total_named_words ts
-total_plain no_named_tys = refl
-total_plain (named_ty_and x t ts) = ap (λ n. words t + n) (total_plain ts)
-
 all_dropped : {A : Type 0} (xs : List A) (n : ℕ) → n ≡ 0 → drop (length xs - n) xs ≡ []
 all_dropped xs n e = drop_of_length-le xs (omega (arith, e))
 
@@ -284,7 +263,7 @@ body_ok c now last f g found facts scope mark size most_need written names named
       let is = body_inside c now k f g written names named bound known holds none signed in
       let cost = h.counted k (body_vars k f) sizes needs is.holds is.sees (counts_same c now bound.keeps.same_costs sizes needs counts) in
       let ts = named_types_of k.layouts f.params in
-      let params = (knows (plain_tys ts) (parts_stay now.table last.table h.keeps.declared.grows g.params (plain_tys ts) is.params)).of_words ∙ ap still (total_plain ts) in
+      let params = (knows (plain_tys ts) (parts_stay now.table last.table h.keeps.declared.grows g.params (plain_tys ts) is.params)).of_words ∙ ap still (plain_words ts) in
       record {
         of_words = refl;
         of_size = x ∙ size_with found.cost.size facts.words (expanded sizes k (body_vars k f) f.body) (param_words k f) cost.of_size params;
@@ -292,7 +271,7 @@ body_ok c now last f g found facts scope mark size most_need written names named
       };
   keeps = λ none. record {
     declared =
-        let all = KeepsDeclared-trans c now last (uncleared c now written bound.keeps) h.keeps.declared in
+        let all = declared_trans c now last (uncleared c now written bound.keeps) h.keeps.declared in
         record { grows = all.grows; same_layouts = all.same_layouts; same_exceptions = all.same_exceptions; same_functions = all.same_functions; same_costs = all.same_costs };
     same_scope = left ∙ all_dropped last.scope mark (marked ∙ ap length none) ∙ sym none;
   };

@@ -9,11 +9,11 @@ use Rattle.nv_ast.specs.Scope.{Known, signature, in_group}
 use Rattle.nv_ast.specs.Faults.{Fault as FaultAt, main_name, at_span, types_faults, declared_before, wide_exception, named_types_faults, type_faults, type_names, variable_twice, wide_main, name_faults, signature_faults, signatures_faults, bodies_faults, decl_faults}
 use Rattle.nv_types.specs.declared.error.TypeError.{TypeError}
 use Rattle.nv_types.specs.declared.functions.Checker.{Checker}
-use Rattle.nv_types.specs.Costs.{still}
-use Rattle.nv_types.specs.Faulty.{IsFirstOf, Judges}
-use Rattle.nv_types.specs.Layouts.{IsDeclared}
-use Rattle.nv_types.specs.Store.{IsParts}
-use Rattle.nv_types.specs.Declarations.{Between}
+use Rattle.nv_types.specs.inner.Costs.{still}
+use Rattle.nv_types.specs.inner.Faulty.{IsFirstOf, Judges}
+use Rattle.nv_types.specs.inner.Layouts.{IsDeclared}
+use Rattle.nv_types.specs.inner.Store.{IsParts}
+use Rattle.nv_types.specs.inner.Declarations.{Between}
 use Rattle.nv_types.proofs.Firsts.{first_append, judges_behind, first_kind, then_kinds}
 use Rattle.nv_types.proofs.Alikes.{alike_names, among_look_up}
 

@@ -3,7 +3,7 @@ use Rattle.std.proofs.Common.{◌≡◌, refl, ap, ℕ, cond, List, [], ◌∷�
 use Rattle.std.specs.Borrow.{Bor}
 use Rattle.std.specs.Map.{lookup}
 use Rattle.nv_ast.specs.Tests.{look_up}
-use Rattle.nv_types.specs.Named.{named}
+use Rattle.nv_types.specs.inner.Named.{named}
 
 pub look_up-named : {T : Type 0} (x : List ℕ) (es : List (Bor (List ℕ) × T)) → lookup (λ k. bytes_eq x k.now) es ≡ look_up x (named es)
 look_up-named x [] = refl

@@ -3,7 +3,7 @@ use Rattle.std.proofs.Common.{◌≡◌, ◌∙◌, refl, ap, sym, subst, ℕ, �
 use Rattle.nv_ast.specs.Types.{Ty, NamedTys, no_named_tys, named_ty_and, Form, Forms, no_forms, form_and}
 use Rattle.nv_types.specs.declared.table.Cell.{Cell}
 use Rattle.nv_types.specs.declared.table.Cell.TheVariants.{Word, Bool as BoolCell, NoParts, NoFields, Tuple, Record, Choice, Part, Field}
-use Rattle.nv_types.specs.Store.{Store, IsStore, IsType, IsFields, IsForm, IsForms, field_of}
+use Rattle.nv_types.specs.inner.Store.{Store, IsStore, IsType, IsFields, IsForm, IsForms, field_of}
 
 not_some : (p : ℕ × ℕ × ℕ) → None ≡ Some p → ⊥
 not_some p q = cc

@@ -12,11 +12,11 @@ use Rattle.nv_ast.specs.Types.{Ty, WordTy, BoolTy, TupleTy, RecordTy, NamedTys, 
 use Rattle.nv_ast.specs.Typing.{fields_of, field_ty}
 use Rattle.nv_types.specs.declared.table.Cell.{Cell}
 use Rattle.nv_types.specs.declared.table.Cell.TheVariants.{Word, Bool as BoolCell, NoParts, NoFields, Tuple, Record, Choice, Part, Field}
-use Rattle.nv_types.specs.Store.{Store, IsStore, IsType, IsFields, IsForms, IsValue, record_in, field_of, field_names, form_names, AreCells, AreNamed, AreSeen}
-use Rattle.nv_types.specs.Named.{plain_names}
+use Rattle.nv_types.specs.inner.Store.{Store, IsStore, IsType, IsFields, IsForms, IsValue, record_in, field_of, field_names, form_names, AreCells, AreNamed, AreSeen}
+use Rattle.nv_types.specs.inner.Named.{plain_names}
 use Rattle.nv_types.proofs.Found.{name_at, any_name, absent_name}
 use Rattle.nv_types.proofs.FieldLists.{fields_none, fields_some}
-use Rattle.nv_types.proofs.Twice.{twice_more, twice_here}
+use Rattle.nv_ast.proofs.Twice.{twice_more, twice_here}
 use Rattle.nv_types.proofs.TypeCells.{record_some}
 
 not_some : (p : ℕ × ℕ × ℕ) → None ≡ Some p → ⊥

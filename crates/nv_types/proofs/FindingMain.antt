@@ -5,18 +5,18 @@ use Rattle.nv_ast.specs.Types.{Tys, total_named_words}
 use Rattle.nv_ast.specs.Scope.{Signature, callable, plain_tys}
 use Rattle.nv_ast.specs.Faults.{main_name}
 use Rattle.nv_ast.specs.Sizes.{GroupNumbers, signature_words}
+use Rattle.nv_ast.proofs.TypeWords.{plain_words}
 use Rattle.nv_types.specs.declared.cost.Cost.{Cost}
 use Rattle.nv_types.specs.declared.table.Facts.{Facts}
 use Rattle.nv_types.specs.declared.functions.Function.{Function}
 use Rattle.nv_types.specs.declared.functions.Checker.{Checker}
-use Rattle.nv_types.specs.Costs.{still}
-use Rattle.nv_types.specs.Knowing.{AreKnown}
-use Rattle.nv_types.specs.Store.{IsParts}
-use Rattle.nv_types.specs.Standing.{Alike, IsFunction}
-use Rattle.nv_types.specs.Answers.{FindsMain}
+use Rattle.nv_types.specs.inner.Costs.{still}
+use Rattle.nv_types.specs.inner.Knowing.{AreKnown}
+use Rattle.nv_types.specs.inner.Store.{IsParts}
+use Rattle.nv_types.specs.inner.Standing.{Alike, IsFunction}
+use Rattle.nv_types.specs.inner.Measuring.{FindsMain}
 use Rattle.nv_types.proofs.Alikes.{Both, alike_at, among_look_up}
 use Rattle.nv_types.proofs.Groups.{known_names, own_none}
-use Rattle.nv_types.proofs.Signing.{plain_words}
 
 some_same : {A : Type 0} (x y : A) → Some x ≡ Some y → x ≡ y
 some_same x y q = cc

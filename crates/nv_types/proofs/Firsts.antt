@@ -4,7 +4,7 @@ use Rattle.nv_ast.specs.declared.token.Span.{Span}
 use Rattle.nv_ast.specs.Faults.{Fault as FaultAt, at_span}
 use Rattle.nv_types.specs.declared.error.TypeError.{TypeError}
 use Rattle.nv_types.specs.declared.error.TypeError.TheVariants.{NoMemory, Fault, TooLarge}
-use Rattle.nv_types.specs.Faulty.{IsFirstOf, Judges}
+use Rattle.nv_types.specs.inner.Faulty.{IsFirstOf, Judges}
 
 pub first_append : (a b : List FaultAt) (e : TypeError) → IsFirstOf a e → IsFirstOf (a ++ b) e
 first_append a b NoMemory h = tt

@@ -10,7 +10,7 @@ use Rattle.std.proofs.lemmas.List.Quantifiers.{position-Some}
 use Rattle.std.proofs.lemmas.List.Folds.{list_any_at}
 use Rattle.nv_types.specs.declared.table.Cell.{Cell}
 use Rattle.nv_types.specs.contracts.table.CellPartialEq.TheImpl.{eq-value}
-use Rattle.nv_types.specs.Named.{plain_names}
+use Rattle.nv_types.specs.inner.Named.{plain_names}
 use Rattle.nv_types.proofs.CellSame.{cell_same, cell_itself}
 
 pub was_ok : {T E : Type 0} (r : Result T E) (P : Type 0) → is_err r ≡ false → OnOk r P → P

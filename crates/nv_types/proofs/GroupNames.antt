@@ -9,7 +9,7 @@ use Rattle.nv_ast.specs.Tests.{is_among, where_true}
 use Rattle.nv_ast.specs.Faults.{Fault as FaultAt, at_span, declared_before, name_faults}
 use Rattle.nv_types.specs.declared.error.TypeError.{TypeError}
 use Rattle.nv_types.specs.declared.error.TypeError.TheVariants.{NoMemory, Fault, TooLarge}
-use Rattle.nv_types.specs.Faulty.{IsFirstOf}
+use Rattle.nv_types.specs.inner.Faulty.{IsFirstOf}
 use Rattle.nv_ast.proofs.Faultless.{no_kinds, not_where}
 use Rattle.nv_types.proofs.Firsts.{first_append}
 

@@ -9,11 +9,11 @@ use Rattle.nv_ast.specs.Faults.{at_span, declared_before, name_faults, signature
 use Rattle.nv_ast.specs.Sizes.{GroupNumbers, numbered, param_words, body_vars, expanded, need, group_size, group_need}
 use Rattle.nv_types.specs.declared.functions.Checker.{Checker}
 use Rattle.nv_types.specs.declared.cost.Cost.{Cost}
-use Rattle.nv_types.specs.Costs.{still, IsCost, two_costs}
-use Rattle.nv_types.specs.Layouts.{IsDeclared}
-use Rattle.nv_types.specs.Store.{IsParts}
-use Rattle.nv_types.specs.Standing.{Alike, IsFunction, Holds, Counts}
-use Rattle.nv_types.specs.Declarations.{Between, AreNew, with_own, AreSigned, costing}
+use Rattle.nv_types.specs.inner.Costs.{still, IsCost, two_costs}
+use Rattle.nv_types.specs.inner.Layouts.{IsDeclared}
+use Rattle.nv_types.specs.inner.Store.{IsParts}
+use Rattle.nv_types.specs.inner.Standing.{Alike, IsFunction, Holds, Counts}
+use Rattle.nv_types.specs.inner.Declarations.{Between, AreNew, with_own, AreSigned, costing}
 use Rattle.nv_types.proofs.Alikes.{alike_names, alike_append, absent, names_of-append, look_up-append, look_up-here, none_waits}
 use Rattle.nv_ast.proofs.Faultless.{no_front, no_rest, no_kinds, not_where}
 

@@ -7,8 +7,8 @@ use Rattle.std.proofs.Math.Seq.{get_or-append_seam}
 use Rattle.nv_types.specs.declared.table.Facts.{Facts}
 use Rattle.nv_types.specs.declared.table.Cell.{Cell}
 use Rattle.nv_types.specs.declared.table.Cell.TheVariants.{Word, Bool as BoolCell, NoParts, NoFields, Tuple, Record, Choice, Part, Field}
-use Rattle.nv_types.specs.Cells.{nothing, fact_at, over, cell_facts, AreBelow, IsTable}
-use Rattle.nv_types.specs.Store.{Store, Grows}
+use Rattle.nv_types.specs.inner.Cells.{nothing, fact_at, over, cell_facts, AreBelow, IsTable}
+use Rattle.nv_types.specs.inner.Store.{Store, Grows}
 
 pub get_left : {A : Type 0} (xs ys : List A) (i : ℕ) (x : A) → slice_get xs i ≡ Some x → slice_get (xs ++ ys) i ≡ Some x
 get_left xs ys i x h =

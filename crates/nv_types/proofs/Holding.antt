@@ -13,11 +13,11 @@ use Rattle.nv_types.specs.declared.cost.Cost.{Cost}
 use Rattle.nv_types.specs.declared.layouts.Shape.{Shape}
 use Rattle.nv_types.specs.declared.wanted.Wanted.{Wanted}
 use Rattle.nv_types.specs.declared.wanted.Wanted.TheVariants.{Anything, Value, Typed, Same, Packed, Stored}
-use Rattle.nv_types.specs.Costs.{still}
-use Rattle.nv_types.specs.Store.{Store, Grows, IsType, IsParts}
-use Rattle.nv_types.specs.Judging.{IsWanted, AreWanted}
-use Rattle.nv_types.specs.Layouts.{IsShape, IsDeclared}
-use Rattle.nv_types.specs.Standing.{Alike, IsFunction, Holds, Sees, Counts, KeepsDeclared, Keeps}
+use Rattle.nv_types.specs.inner.Costs.{still}
+use Rattle.nv_types.specs.inner.Store.{Store, Grows, IsType, IsParts}
+use Rattle.nv_types.specs.inner.Judging.{IsWanted, AreWanted}
+use Rattle.nv_types.specs.inner.Layouts.{IsShape, IsDeclared}
+use Rattle.nv_types.specs.inner.Standing.{Alike, IsFunction, Holds, Sees, Counts, KeepsDeclared, Keeps}
 use Rattle.nv_types.proofs.Alikes.{alike_map}
 use Rattle.nv_types.proofs.Growing.{Grows-refl, Grows-trans}
 use Rattle.nv_types.proofs.Staying.{type_stays, parts_stay, fields_stay, forms_stay}

@@ -2,7 +2,7 @@
 use Rattle.std.proofs.Common.{◌≡◌, ap, sym, subst, ℕ, ◌≤◌, List, [], ◌∷◌, drop, length, Some, slice_get}
 use Rattle.std.proofs.Math.ListN.{drop_of_length-le}
 use Rattle.nv_ast.specs.Types.{Ty, NamedTys, no_named_tys, named_ty_and, Form, Forms, no_forms, form_and, ◌+++◌}
-use Rattle.nv_types.specs.Store.{Store, IsStore, Grows, IsType, IsFields, IsForm, IsForms, field_of, AreCells, fields_then}
+use Rattle.nv_types.specs.inner.Store.{Store, IsStore, Grows, IsType, IsFields, IsForm, IsForms, field_of, AreCells, fields_then}
 use Rattle.nv_types.proofs.FieldLists.{fields_some, forms_some}
 use Rattle.nv_types.proofs.Staying.{type_stays, form_stays}
 

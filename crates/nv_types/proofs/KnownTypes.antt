@@ -5,9 +5,9 @@ use Rattle.nv_ast.specs.Types.{Ty, WordTy, BoolTy, TupleTy, RecordTy, Tys, no_ty
 use Rattle.nv_types.specs.declared.table.Facts.{Facts}
 use Rattle.nv_types.specs.declared.table.Cell.{Cell}
 use Rattle.nv_types.specs.declared.table.Cell.TheVariants.{Word, Bool as BoolCell, NoParts, NoFields, Tuple, Record, Part, Field}
-use Rattle.nv_types.specs.Cells.{nothing, fact_at, over, with_front, cell_facts, IsTable}
-use Rattle.nv_types.specs.Store.{IsType, IsParts, IsFields}
-use Rattle.nv_types.specs.Knowing.{IsKnown, AreKnown, KnowsFields}
+use Rattle.nv_types.specs.inner.Cells.{nothing, fact_at, over, with_front, cell_facts, IsTable}
+use Rattle.nv_types.specs.inner.Store.{IsType, IsParts, IsFields}
+use Rattle.nv_types.specs.inner.Knowing.{IsKnown, AreKnown, KnowsFields}
 
 fact_is : (names : List (List ℕ)) (cells : List Cell) (facts : List Facts) → IsTable names cells facts → (i : ℕ) (c : Cell) → slice_get cells i ≡ Some c → fact_at facts i ≡ cell_facts facts c
 fact_is names cells facts is i c h = get_or_from_slice_get facts i (cell_facts facts c) nothing (is.known i c h)

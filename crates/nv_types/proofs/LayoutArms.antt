@@ -10,21 +10,22 @@ use Rattle.nv_ast.specs.Types.{Forms, forms_of, joined_forms}
 use Rattle.nv_ast.specs.Faults.{at_span}
 use Rattle.nv_ast.specs.Scope.{Known}
 use Rattle.nv_ast.specs.LayoutFaults.{layout_faults, layouts_faults, field_faults, fields_faults, field_names, field_sizes, same_field, different_sizes, unfit}
+use Rattle.nv_ast.proofs.LayoutRows.{text_sizes}
 use Rattle.nv_types.specs.declared.error.TypeError.{TypeError}
 use Rattle.nv_types.specs.declared.error.TypeError.TheVariants.{NoMemory, Fault}
 use Rattle.nv_types.specs.declared.functions.Checker.{Checker}
 use Rattle.nv_types.specs.declared.layouts.Shape.{Shape}
 use Rattle.nv_types.specs.declared.layouts.Member.{Member}
-use Rattle.nv_types.specs.Faulty.{IsFirstOf, Judges}
-use Rattle.nv_types.specs.Named.{named}
-use Rattle.nv_types.specs.Store.{Store, IsForms, form_names}
-use Rattle.nv_types.specs.Layouts.{IsShape, IsDeclared, IsMember, AreShapes, AreMembers}
-use Rattle.nv_types.specs.Standing.{Holds, Keeps}
-use Rattle.nv_types.specs.Texts.{ShapesLayout, ShapesWhole, ShapesField, ShapesFields}
+use Rattle.nv_types.specs.inner.Faulty.{IsFirstOf, Judges}
+use Rattle.nv_types.specs.inner.Named.{named}
+use Rattle.nv_types.specs.inner.Store.{Store, IsForms, form_names}
+use Rattle.nv_types.specs.inner.Layouts.{IsShape, IsDeclared, IsMember, AreShapes, AreMembers}
+use Rattle.nv_types.specs.inner.Standing.{Holds, Keeps}
+use Rattle.nv_types.specs.inner.Texts.{ShapesLayout, ShapesWhole, ShapesField, ShapesFields}
 use Rattle.nv_types.proofs.Firsts.{first_kind, then_kinds}
 use Rattle.nv_types.proofs.Holding.{Keeps-refl, Keeps-trans, found_alike, absent_alike}
 use Rattle.nv_types.proofs.Shaping.{names_joined}
-use Rattle.nv_types.proofs.LayoutWalk.{text_names, text_sizes, at_none, where_none}
+use Rattle.nv_types.proofs.LayoutWalk.{text_names, at_none, where_none}
 
 pub on_ok : {T E : Type 0} (r : Result T E) (P : Type 0) → P → OnOk r P
 on_ok (Ok x) P h = h

@@ -16,33 +16,22 @@ use Rattle.nv_ast.specs.Tests.{where_true, within}
 use Rattle.nv_ast.specs.Types.{forms_of}
 use Rattle.nv_ast.specs.Faults.{at_span}
 use Rattle.nv_ast.specs.LayoutFaults.{layout_faults, layouts_faults, field_faults, fields_faults, field_names, field_sizes}
+use Rattle.nv_ast.proofs.Items.{take_item, split_item}
+use Rattle.nv_ast.proofs.LayoutRows.{FieldNamed, fields_faults-append, layouts_faults-append}
+use Rattle.nv_ast.proofs.Faultless.{no_kinds}
 use Rattle.nv_types.specs.declared.error.TypeError.{TypeError}
 use Rattle.nv_types.specs.declared.layouts.Shape.{Shape}
 use Rattle.nv_types.specs.declared.layouts.Member.{Member}
-use Rattle.nv_types.specs.Faulty.{IsFirstOf}
-use Rattle.nv_types.specs.Named.{named}
-use Rattle.nv_types.specs.Store.{Store, Grows, form_names}
-use Rattle.nv_types.specs.Layouts.{IsShape, IsMember, AreShapes, AreMembers}
-use Rattle.nv_types.proofs.Items.{take_item, split_item}
+use Rattle.nv_types.specs.inner.Faulty.{IsFirstOf}
+use Rattle.nv_types.specs.inner.Named.{named}
+use Rattle.nv_types.specs.inner.Store.{Store, Grows, form_names}
+use Rattle.nv_types.specs.inner.Layouts.{IsShape, IsMember, AreShapes, AreMembers}
 use Rattle.nv_types.proofs.Entries.{named-append}
 use Rattle.nv_types.proofs.Firsts.{first_kind}
 use Rattle.nv_types.proofs.Shaping.{members_stay, shapes_stay}
 
 -- ---- vectors in the text
-pub parts_text : (v : Vec (List ℕ × FieldText) Global) → layout_tree (LayoutText.Parts v) ≡ PartsLayout (list_fields v.items)
-parts_text v = ap PartsLayout (fields_items v)
-
-pub joined_text : (v : Vec LayoutText Global) → layout_tree (LayoutText.Joined v) ≡ JoinedLayout (list_layouts v.items)
-joined_text v = ap JoinedLayout (layouts_items v)
-
-pub overlay_text : (v : Vec (List ℕ × FieldText) Global) → field_tree (FieldText.Overlay v) ≡ OverlayField (list_fields v.items)
-overlay_text v = ap OverlayField (fields_items v)
-
 -- ---- kinds at a span
-pub no_kinds : (s : Span) (kinds : List ℕ) → at_span s kinds ≡ [] → kinds ≡ []
-no_kinds s [] e = refl
-no_kinds s (x ∷ xs) e = cc
-
 pub at_none : (s : Span) (kinds : List ℕ) → kinds ≡ [] → at_span s kinds ≡ []
 at_none s kinds e = ap (at_span s) e
 
@@ -57,13 +46,6 @@ first_within s all before here behind e split none h =
     subst (λ l. IsFirstOf (at_span s l) e) (sym eq) (first_kind s here behind e h)
 
 -- ---- fields in order
-abbrev pub FieldNamed : Type 0
-FieldNamed = List ℕ × FieldText
-
-fields_faults-append : (k : Layouts) (xs ys : List FieldNamed) → fields_faults k (list_fields (xs ++ ys)) ≡ fields_faults k (list_fields xs) ++ fields_faults k (list_fields ys)
-fields_faults-append k [] ys = refl
-fields_faults-append k (x ∷ xs) ys = ap (λ l. field_faults k (field_tree x.1) ++ l) (fields_faults-append k xs ys) ∙ sym (append_assoc (field_faults k (field_tree x.1)) (fields_faults k (list_fields xs)) (fields_faults k (list_fields ys)))
-
 pub fields_faults_more : (s : Span) (k : Layouts) (xs : List FieldNamed) (i : ℕ) (p : FieldNamed) → i < length xs → p ≡ get_or xs i p → fields_faults k (list_fields (take i xs)) ≡ [] → at_span s (field_faults k (field_tree p.1)) ≡ [] → fields_faults k (list_fields (take (i + 1) xs)) ≡ []
 fields_faults_more s k xs i p h e none here =
     ap (λ l. fields_faults k (list_fields l)) (take_item xs i p h e) ∙ fields_faults-append k (take i xs) (p ∷ []) ∙ ap (λ l. l ++ (field_faults k (field_tree p.1) ++ [])) none ∙ append-nil (field_faults k (field_tree p.1)) ∙ no_kinds s (field_faults k (field_tree p.1)) here
@@ -89,25 +71,7 @@ members_more a b k xs i p ms new y m h e g before after name here =
     subst (λ (l : List FieldNamed). AreMembers b (named new) (field_outlines k (list_fields l))) (sym (take_item xs i p h e))
     (subst (λ (l : List (List ℕ × Member)). AreMembers b l (field_outlines k (list_fields (take i xs ++ p ∷ [])))) (sym list) all)
 
-highest_field-append : (xs ys : List FieldNamed) → highest_field (list_fields (xs ++ ys)) ≡ max (highest_field (list_fields xs)) (highest_field (list_fields ys))
-highest_field-append [] ys = omega arith
-highest_field-append (x ∷ xs) ys = omega (arith, highest_field-append xs ys)
-
-pub highest_field_within : (xs : List FieldNamed) (i : ℕ) (p : FieldNamed) → i < length xs → p ≡ get_or xs i p → field_height (field_tree p.1) ≤ highest_field (list_fields xs)
-highest_field_within xs i p h e = omega (arith, ap (λ l. highest_field (list_fields l)) (split_item xs i p h e), highest_field-append (take i xs) (p ∷ drop (i + 1) xs))
-
 -- ---- layouts in order
-highest_layout-append : (xs ys : List LayoutText) → highest_layout (list_layouts (xs ++ ys)) ≡ max (highest_layout (list_layouts xs)) (highest_layout (list_layouts ys))
-highest_layout-append [] ys = omega arith
-highest_layout-append (x ∷ xs) ys = omega (arith, highest_layout-append xs ys)
-
-pub highest_layout_within : (xs : List LayoutText) (i : ℕ) (p : LayoutText) → i < length xs → p ≡ get_or xs i p → layout_height (layout_tree p) ≤ highest_layout (list_layouts xs)
-highest_layout_within xs i p h e = omega (arith, ap (λ l. highest_layout (list_layouts l)) (split_item xs i p h e), highest_layout-append (take i xs) (p ∷ drop (i + 1) xs))
-
-layouts_faults-append : (k : Layouts) (xs ys : List LayoutText) → layouts_faults k (list_layouts (xs ++ ys)) ≡ layouts_faults k (list_layouts xs) ++ layouts_faults k (list_layouts ys)
-layouts_faults-append k [] ys = refl
-layouts_faults-append k (x ∷ xs) ys = ap (λ l. layout_faults k (layout_tree x) ++ l) (layouts_faults-append k xs ys) ∙ sym (append_assoc (layout_faults k (layout_tree x)) (layouts_faults k (list_layouts xs)) (layouts_faults k (list_layouts ys)))
-
 pub layouts_faults_more : (s : Span) (k : Layouts) (xs : List LayoutText) (i : ℕ) (p : LayoutText) → i < length xs → p ≡ get_or xs i p → layouts_faults k (list_layouts (take i xs)) ≡ [] → at_span s (layout_faults k (layout_tree p)) ≡ [] → layouts_faults k (list_layouts (take (i + 1) xs)) ≡ []
 layouts_faults_more s k xs i p h e none here =
     ap (λ l. layouts_faults k (list_layouts l)) (take_item xs i p h e) ∙ layouts_faults-append k (take i xs) (p ∷ []) ∙ ap (λ l. l ++ (layout_faults k (layout_tree p) ++ [])) none ∙ append-nil (layout_faults k (layout_tree p)) ∙ no_kinds s (layout_faults k (layout_tree p)) here
@@ -134,10 +98,6 @@ shapes_more a b k xs i p ms new m h e g before after here =
 pub text_names : (k : Layouts) (fs : FieldTrees) → form_names (forms_of (field_outlines k fs)) ≡ field_names fs
 text_names k no_fields = refl
 text_names k (field_and x f fs) = ap (λ l. x ∷ l) (text_names k fs)
-
-pub text_sizes : (k : Layouts) (fs : FieldTrees) → sizes_of (field_outlines k fs) ≡ field_sizes k fs
-text_sizes k no_fields = refl
-text_sizes k (field_and x f fs) = ap (λ l. size (field_outline k f) ∷ l) (text_sizes k fs)
 
 -- ---- numbers in a range
 pub out_of_range : (least greatest n : ℕ) → (ltb n least || ltb greatest n) ≡ not (within least greatest n)

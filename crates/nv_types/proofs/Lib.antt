@@ -29,7 +29,6 @@ pub mod Groups
 pub mod Growing
 pub mod Holding
 pub mod Images
-pub mod Items
 pub mod Joining
 pub mod KnownTypes
 pub mod LayoutArms
@@ -48,7 +47,6 @@ pub mod Staying
 pub mod Sums
 pub mod TextWalk
 pub mod There
-pub mod Twice
 pub mod TypeCells
 pub mod WalkArms
 pub mod WalkCalls
@@ -67,3 +65,4 @@ pub mod WalkValues
 pub mod Walked
 pub mod Wanting
 pub mod WordLists
+pub mod OnlyRefusals

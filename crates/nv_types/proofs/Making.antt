@@ -1,14 +1,14 @@
 -- Types that are made of types which are there.
 use Rattle.std.proofs.Common.{◌≡◌, ◌∙◌, refl, ap, sym, subst, ℕ, List, [], ◌∷◌, Some, slice_get, Result, Ok, Err, length, drop, get_or, ◌≤◌, ◌<◌, ◌-◌, suc, arith}
 use Rattle.std.specs.Borrow.{Bor}
-use Rattle.nv_types.specs.Named.{named}
+use Rattle.nv_types.specs.inner.Named.{named}
 use Rattle.std.proofs.Math.ListN.{drop_of_length-le}
 use Rattle.std.proofs.Math.Seq.{drop-cons}
 use Rattle.std.specs.Result.{IfOk, OnOk}
 use Rattle.nv_base.specs.declared.error.NoMemory.{NoMemory}
 use Rattle.nv_ast.specs.Types.{Ty, TupleTy, RecordTy, Tys, no_tys, ty_and, NamedTys, no_named_tys, named_ty_and, Form, RecordForm, ChoiceForm, Forms, no_forms, form_and}
 use Rattle.nv_types.specs.declared.table.Cell.TheVariants.{Tuple, Record, Choice, Part, Field}
-use Rattle.nv_types.specs.Store.{Store, Grows, IsType, IsParts, IsFields, IsForm, IsForms, AreTypes, AreFields, AreForms}
+use Rattle.nv_types.specs.inner.Store.{Store, Grows, IsType, IsParts, IsFields, IsForm, IsForms, AreTypes, AreFields, AreForms}
 use Rattle.nv_types.proofs.Staying.{type_stays, parts_stay, fields_stay, form_stays, forms_stay}
 
 pub made_tuple : (a b : Store) (r : Result ℕ NoMemory) (j : ℕ) → IfOk r (λ i. slice_get b.cells i ≡ Some (Tuple j)) → OnOk r (Grows a b) → (ts : Tys) → IsParts a j ts → IfOk r (λ i. IsType b i (TupleTy ts))

@@ -9,12 +9,12 @@ use Rattle.nv_types.specs.declared.error.TypeError.{TypeError}
 use Rattle.nv_types.specs.declared.error.TypeError.TheVariants.{Fault}
 use Rattle.nv_types.specs.declared.functions.Checker.{Checker}
 use Rattle.nv_types.specs.declared.program.Sizes.{Sizes}
-use Rattle.nv_types.specs.Faulty.{IsFirstOf}
-use Rattle.nv_types.specs.Costs.{still}
+use Rattle.nv_types.specs.inner.Faulty.{IsFirstOf}
+use Rattle.nv_types.specs.inner.Costs.{still}
 use Rattle.nv_types.specs.declared.cost.Cost.{Cost}
-use Rattle.nv_types.specs.Standing.{IsFunction, Counts}
-use Rattle.nv_types.specs.Declarations.{Between, Started, ChecksDecl, ChecksDecls}
-use Rattle.nv_types.specs.Answers.{IsSized, FindsMain, Measures}
+use Rattle.nv_types.specs.inner.Standing.{IsFunction, Counts}
+use Rattle.nv_types.specs.inner.Declarations.{Between, Started, ChecksDecl, ChecksDecls}
+use Rattle.nv_types.specs.inner.Measuring.{IsSized, FindsMain, Measures}
 use Rattle.nv_types.proofs.Alikes.{alike_nothing}
 use Rattle.nv_types.proofs.Standings.{nothing_seen}
 use Rattle.nv_types.proofs.Firsts.{first_append}

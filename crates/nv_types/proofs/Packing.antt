@@ -2,14 +2,14 @@
 use Rattle.std.proofs.Common.{◌≡◌, ◌∙◌, refl, ap, sym, subst, ℕ, Bool, true, false, cond, ◌&&◌, ◌||◌, eqb, List, [], ◌∷◌, ◌++◌, None, Some, slice_get, Result}
 use Rattle.std.specs.Result.{IfOk}
 use Rattle.nv_ast.specs.Types.{Ty, RecordTy, NamedTys, no_named_tys, named_ty_and, Form, ChoiceForm, Forms, no_forms, form_and, can_pack, can_pack_all, can_pack_one}
-use Rattle.nv_types.specs.Store.{Store, IsStore, IsType, IsFields, IsForm, IsForms, field_of}
+use Rattle.nv_types.specs.inner.Store.{Store, IsStore, IsType, IsFields, IsForm, IsForms, field_of}
 use Rattle.nv_types.proofs.OneNumber.{fields_one}
 use Rattle.nv_types.proofs.FieldLists.{fields_none, fields_some, forms_none, forms_some}
 use Rattle.nv_types.proofs.FieldWalks.{number_name}
 use Rattle.std.specs.List.{list_any}
 use Rattle.std.proofs.lemmas.Bool.{eqb-true, eq-eqb, false≢true}
 use Rattle.std.proofs.lemmas.List.Elements.{All-head, All-tail, All-same, All-push}
-use Rattle.nv_types.specs.Knowing.{ArePacked}
+use Rattle.nv_types.specs.inner.Knowing.{ArePacked}
 
 -- the rest of the fields is packed by the rest of the forms exactly where all are by all
 abbrev pub PackSo : Store → ℕ → ℕ → ℕ → ℕ → Type 0

@@ -9,11 +9,11 @@ use Rattle.nv_ast.specs.Outline.{Layouts}
 use Rattle.nv_ast.specs.Types.{Ty, Tys, no_tys, ty_and, NamedTys, no_named_tys, named_ty_and, named_types_of}
 use Rattle.nv_ast.specs.Scope.{Vars, plain_tys, param_vars}
 use Rattle.nv_ast.specs.Faults.{type_names}
+use Rattle.nv_ast.proofs.Items.{take_item}
 use Rattle.nv_types.specs.declared.functions.Checker.{Checker}
-use Rattle.nv_types.specs.Store.{Store, IsStore, IsType, IsParts, AreTypes, AreFields, field_names, part_of}
-use Rattle.nv_types.specs.Named.{named, bound_types}
-use Rattle.nv_types.specs.Standing.{Alike, Sees}
-use Rattle.nv_types.proofs.Items.{take_item}
+use Rattle.nv_types.specs.inner.Store.{Store, IsStore, IsType, IsParts, AreTypes, AreFields, field_names, part_of}
+use Rattle.nv_types.specs.inner.Named.{named, bound_types}
+use Rattle.nv_types.specs.inner.Standing.{Alike, Sees}
 use Rattle.nv_types.proofs.Entries.{named-append}
 use Rattle.nv_types.proofs.Alikes.{names_of-append}
 use Rattle.nv_types.proofs.Walked.{part_none, part_some}

@@ -6,17 +6,18 @@ use Rattle.std.proofs.Math.ListN.{drop_of_length-le}
 use Rattle.nv_ast.specs.Outline.{OutlineTree, BitsOutline, GapOutline, PartsOutline, OverlayOutline, JoinedOutline, OutlineTrees, no_outlines, outline_and, NamedOutlines, no_named_outlines, named_outline_and, size, longest, outline_height, highest_named_outline, part_fields, alternative_fields, named_list, record_of, records_of}
 use Rattle.nv_ast.specs.Tests.{names_of}
 use Rattle.nv_ast.specs.Types.{RecordTy, Form, RecordForm, ChoiceForm, Forms, no_forms, form_and, ◌+++◌, forms_of, joined_forms, record_forms, unpacked, unpacked_all, NamedTys, named_ty_and}
+use Rattle.nv_ast.proofs.Items.{take_item}
+use Rattle.nv_types.proofs.Alikes.{names_of-append}
 use Rattle.nv_types.specs.declared.layouts.Shape.{Shape}
 use Rattle.nv_types.specs.declared.layouts.Member.{Member}
-use Rattle.nv_types.specs.Cells.{most}
-use Rattle.nv_types.specs.Costs.{still}
-use Rattle.nv_types.specs.Named.{named}
-use Rattle.nv_types.specs.Store.{Store, IsStore, Grows, IsType, IsFields, IsForm, IsForms, AreFields, AreForms, form_names, field_of, fields_then}
-use Rattle.nv_types.specs.Layouts.{IsShape, IsDeclared, IsMember, IsJoined, AreShapes, AreMembers}
+use Rattle.nv_types.specs.inner.Cells.{most}
+use Rattle.nv_types.specs.inner.Costs.{still}
+use Rattle.nv_types.specs.inner.Named.{named}
+use Rattle.nv_types.specs.inner.Store.{Store, IsStore, Grows, IsType, IsFields, IsForm, IsForms, AreFields, AreForms, form_names, field_of, fields_then}
+use Rattle.nv_types.specs.inner.Layouts.{IsShape, IsDeclared, IsMember, IsJoined, AreShapes, AreMembers}
 use Rattle.nv_types.proofs.Staying.{type_stays, fields_stay, form_stays, forms_stay}
 use Rattle.nv_types.proofs.Holding.{shape_stays}
 use Rattle.nv_types.proofs.FieldLists.{forms_none, forms_some}
-use Rattle.nv_types.proofs.Items.{take_item}
 use Rattle.nv_types.proofs.Sums.{Entry, joined_front, most_short}
 
 -- ---- a store that grows
@@ -93,10 +94,6 @@ pub names_then : (fs gs : Forms) → form_names (fs +++ gs) ≡ form_names fs ++
 names_then no_forms gs = refl
 names_then (form_and x f fs) gs = ap (λ l. x ∷ l) (names_then fs gs)
 
-names-append : {A : Type 0} (xs ys : List (List ℕ × A)) → names_of (xs ++ ys) ≡ names_of xs ++ names_of ys
-names-append [] ys = refl
-names-append ((x, a) ∷ xs) ys = ap (λ l. x ∷ l) (names-append xs ys)
-
 pub names_forms : (os : NamedOutlines) → form_names (forms_of os) ≡ names_of (named_list os)
 names_forms no_named_outlines = refl
 names_forms (named_outline_and x o os) = ap (λ l. x ∷ l) (names_forms os)
@@ -111,7 +108,7 @@ mutual
 
   pub names_joined : (os : OutlineTrees) → form_names (joined_forms os) ≡ names_of (records_of os)
   names_joined no_outlines = refl
-  names_joined (outline_and o os) = names_then (record_forms o) (joined_forms os) ∙ ap (λ l. l ++ form_names (joined_forms os)) (names_record o) ∙ ap (λ l. names_of (record_of o) ++ l) (names_joined os) ∙ sym (names-append (record_of o) (records_of os))
+  names_joined (outline_and o os) = names_then (record_forms o) (joined_forms os) ∙ ap (λ l. l ++ form_names (joined_forms os)) (names_record o) ∙ ap (λ l. names_of (record_of o) ++ l) (names_joined os) ∙ sym (names_of-append (record_of o) (records_of os))
 
 names_length : {A : Type 0} (xs : List (List ℕ × A)) → length (names_of xs) ≡ length xs
 names_length [] = refl

@@ -9,12 +9,12 @@ use Rattle.nv_ast.specs.Types.{record_forms, joined_forms}
 use Rattle.nv_types.specs.declared.error.TypeError.{TypeError}
 use Rattle.nv_types.specs.declared.error.TypeError.TheVariants.{NoMemory, Fault, TooLarge}
 use Rattle.nv_types.specs.declared.layouts.Shape.{Shape}
-use Rattle.nv_types.specs.Faulty.{IsFirstOf}
-use Rattle.nv_types.specs.Layouts.{AreShapes}
-use Rattle.nv_types.specs.Store.{Store, form_names, AreNamed, AreSeen}
+use Rattle.nv_types.specs.inner.Faulty.{IsFirstOf}
+use Rattle.nv_types.specs.inner.Layouts.{AreShapes}
+use Rattle.nv_types.specs.inner.Store.{Store, form_names, AreNamed, AreSeen}
 use Rattle.nv_types.proofs.FieldWalks.{forms_named, seen_none}
 use Rattle.nv_types.proofs.Shaping.{names_then}
-use Rattle.nv_types.proofs.Twice.{twice_before}
+use Rattle.nv_ast.proofs.Twice.{twice_before}
 
 abbrev pub SharedSo : Store → List Shape → List Shape → List ℕ → Type 0
 SharedSo s shapes left seen = (os : OutlineTrees) → AreShapes s shapes os

@@ -9,35 +9,27 @@ use Rattle.nv_ast.specs.Types.{Tys, NamedTys, type_of, named_types_of, words, to
 use Rattle.nv_ast.specs.Types.{no_named_tys, named_ty_and, has_bool}
 use Rattle.nv_ast.specs.Scope.{Signature, Known, callable, plain_tys, signature}
 use Rattle.nv_ast.specs.Faults.{main_name, at_span, named_types_faults, type_faults, type_names, variable_twice, wide_main, signature_faults}
+use Rattle.nv_ast.proofs.TypeWords.{plain_bool, plain_words}
 use Rattle.nv_types.specs.declared.error.TypeError.{TypeError}
 use Rattle.nv_types.specs.declared.error.TypeError.TheVariants.{NoMemory as WantOfMemory}
 use Rattle.nv_types.specs.declared.table.Facts.{Facts}
 use Rattle.nv_types.specs.declared.functions.Function.{Function}
 use Rattle.nv_types.specs.declared.functions.Checker.{Checker}
-use Rattle.nv_types.specs.Costs.{still}
-use Rattle.nv_types.specs.Faulty.{IsFirstOf, Judges}
-use Rattle.nv_types.specs.Named.{named, bound_types}
-use Rattle.nv_types.specs.Knowing.{IsKnown, AreKnown}
-use Rattle.nv_types.specs.Store.{Store, Grows, IsType, IsParts, AreTypes, AreFields}
-use Rattle.nv_types.specs.Standing.{Alike, IsFunction, Holds, KeepsDeclared, Keeps}
-use Rattle.nv_types.specs.Texts.{TypesText, TypesNamed}
-use Rattle.nv_types.specs.Declarations.{is_wide, SignsFunction}
+use Rattle.nv_types.specs.inner.Costs.{still}
+use Rattle.nv_types.specs.inner.Faulty.{IsFirstOf, Judges}
+use Rattle.nv_types.specs.inner.Named.{named, bound_types}
+use Rattle.nv_types.specs.inner.Knowing.{IsKnown, AreKnown}
+use Rattle.nv_types.specs.inner.Store.{Store, Grows, IsType, IsParts, AreTypes, AreFields}
+use Rattle.nv_types.specs.inner.Standing.{Alike, IsFunction, Holds, KeepsDeclared, Keeps}
+use Rattle.nv_types.specs.inner.Texts.{TypesText, TypesNamed}
+use Rattle.nv_types.specs.inner.Declarations.{is_wide, SignsFunction}
 use Rattle.nv_types.proofs.Staying.{type_stays, named_stay}
 use Rattle.nv_types.proofs.Alikes.{alike_append, among_look_up, names_of-append}
-use Rattle.nv_types.proofs.Holding.{holds_stays}
+use Rattle.nv_types.proofs.Holding.{holds_stays, Keeps-trans}
 use Rattle.nv_types.proofs.Params.{fields_names, fields_types, names_in_text}
 use Rattle.nv_types.proofs.Declaring.{text_params, text_result, text_twice, text_main, over_eight}
-use Rattle.nv_types.proofs.DeclWalk.{Keeps-trans}
 
 -- ---- main's width
-plain_bool : (ts : NamedTys) → some_bool (plain_tys ts) ≡ some_named_bool ts
-plain_bool no_named_tys = refl
-plain_bool (named_ty_and x t ts) = ap (λ b. has_bool t || b) (plain_bool ts)
-
-pub plain_words : (ts : NamedTys) → total_words (plain_tys ts) ≡ total_named_words ts
-plain_words no_named_tys = refl
-plain_words (named_ty_and x t ts) = ap (λ n. words t + n) (plain_words ts)
-
 pub wide_known : (g : Signature) (f r : Facts) → AreKnown f (plain_tys g.params) → IsKnown r g.result → (nat_lt 8 f.words || (f.has_bool || nat_lt 8 r.words)) ≡ is_wide g
 wide_known g f r params result =
     ap (λ n. nat_lt 8 n || (f.has_bool || nat_lt 8 r.words)) (params.of_words ∙ ap still (plain_words g.params))

@@ -6,7 +6,7 @@ use Rattle.std.specs.Map.{lookup}
 use Rattle.std.specs.Cmp.Lexicographic.{nat_list_eq_equiv, bytes_decides}
 use Rattle.nv_ast.specs.Tests.{look_up}
 use Rattle.nv_types.specs.declared.scope.Binding.{Binding}
-use Rattle.nv_types.specs.Stack.{bound_pair, bindings, Hides, IsScope}
+use Rattle.nv_types.specs.inner.Stack.{bound_pair, bindings, Hides, IsScope}
 
 turned : (x y : List ℕ) → bytes_eq x y ≡ bytes_eq y x
 turned x y = nat_list_eq_equiv.symm x y

@@ -8,10 +8,10 @@ use Rattle.nv_ast.specs.Types.{types_of}
 use Rattle.nv_ast.specs.Scope.{Known, known_after}
 use Rattle.nv_types.specs.declared.layouts.Shape.{Shape}
 use Rattle.nv_types.specs.declared.functions.Checker.{Checker}
-use Rattle.nv_types.specs.Store.{IsType, IsParts}
-use Rattle.nv_types.specs.Layouts.{IsDeclared}
-use Rattle.nv_types.specs.Standing.{Alike, Sees, Keeps}
-use Rattle.nv_types.specs.Declarations.{Between}
+use Rattle.nv_types.specs.inner.Store.{IsType, IsParts}
+use Rattle.nv_types.specs.inner.Layouts.{IsDeclared}
+use Rattle.nv_types.specs.inner.Standing.{Alike, Sees, Keeps}
+use Rattle.nv_types.specs.inner.Declarations.{Between}
 use Rattle.nv_types.proofs.Alikes.{alike_append, alike_nothing}
 use Rattle.nv_types.proofs.Holding.{holds_stays}
 

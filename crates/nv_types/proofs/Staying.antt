@@ -1,7 +1,7 @@
 -- Numbers stay those of their types as a store grows.
 use Rattle.std.proofs.Common.{ℕ, List, [], ◌∷◌, Option, None, Some}
 use Rattle.nv_ast.specs.Types.{Ty, WordTy, BoolTy, TupleTy, RecordTy, Tys, no_tys, ty_and, NamedTys, no_named_tys, named_ty_and, Form, WordForm, RecordForm, ChoiceForm, Forms, no_forms, form_and}
-use Rattle.nv_types.specs.Store.{Store, Grows, IsType, IsParts, IsFields, IsForm, IsForms, IsValue, AreTypes, AreFields, AreForms}
+use Rattle.nv_types.specs.inner.Store.{Store, Grows, IsType, IsParts, IsFields, IsForm, IsForms, IsValue, AreTypes, AreFields, AreForms}
 
 mutual
   pub type_stays : (a b : Store) → Grows a b → (i : ℕ) (t : Ty) → IsType a i t → IsType b i t

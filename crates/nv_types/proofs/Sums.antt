@@ -6,13 +6,14 @@ use Rattle.std.specs.List.{list_all}
 use Rattle.std.proofs.lemmas.Bool.Decides.{eqb_tells}
 use Rattle.nv_ast.specs.Outline.{OutlineTree, BitsOutline, GapOutline, PartsOutline, OverlayOutline, JoinedOutline, OutlineTrees, no_outlines, outline_and, NamedOutlines, no_named_outlines, named_outline_and, size, total_named_size, longest, highest_named_outline, bit_fields, part_fields, alternative_fields, joined_fields, sizes_of}
 use Rattle.nv_ast.specs.Tests.{all_same}
+use Rattle.nv_ast.proofs.Items.{take_item, split_item}
+use Rattle.nv_ast.proofs.FieldCounts.{parts_length, joined_length}
 use Rattle.nv_types.specs.declared.layouts.Member.{Member}
-use Rattle.nv_types.specs.Cells.{most}
-use Rattle.nv_types.specs.Costs.{still}
-use Rattle.nv_types.specs.Named.{named}
-use Rattle.nv_types.specs.Store.{Store}
-use Rattle.nv_types.specs.Layouts.{AreMembers}
-use Rattle.nv_types.proofs.Items.{take_item, split_item}
+use Rattle.nv_types.specs.inner.Cells.{most}
+use Rattle.nv_types.specs.inner.Costs.{still}
+use Rattle.nv_types.specs.inner.Named.{named}
+use Rattle.nv_types.specs.inner.Store.{Store}
+use Rattle.nv_types.specs.inner.Layouts.{AreMembers}
 
 -- a field with its name
 abbrev pub Entry : Type 0
@@ -51,28 +52,7 @@ most_more f xs i x old new h e before after =
     let more : most_of f (take (i + 1) xs) ≡ max (most_of f (take i xs)) (max (f x.1) 0) = ap (most_of f) (take_item xs i x h e) ∙ most-append f (take i xs) (x ∷ []) in
     omega (arith, more, before, after)
 
--- ---- how many bit fields there are doesn't depend on where they begin
-mutual
-  fields_length : (i j : ℕ) (o : OutlineTree) → length (bit_fields i o) ≡ length (bit_fields j o)
-  fields_length i j (BitsOutline n) = refl
-  fields_length i j (GapOutline n) = refl
-  fields_length i j (PartsOutline fs) = parts_length i j fs
-  fields_length i j (OverlayOutline fs) = alternatives_length i j fs
-  fields_length i j (JoinedOutline os) = joined_length i j os
-
-  parts_length : (i j : ℕ) (os : NamedOutlines) → length (part_fields i os) ≡ length (part_fields j os)
-  parts_length i j no_named_outlines = refl
-  parts_length i j (named_outline_and x o os) = omega (arith, length-append (bit_fields i o) (part_fields (i + size o) os), length-append (bit_fields j o) (part_fields (j + size o) os), fields_length i j o, parts_length (i + size o) (j + size o) os)
-
-  alternatives_length : (i j : ℕ) (os : NamedOutlines) → length (alternative_fields i os) ≡ length (alternative_fields j os)
-  alternatives_length i j no_named_outlines = refl
-  alternatives_length i j (named_outline_and x o os) = omega (arith, length-append (bit_fields i o) (alternative_fields i os), length-append (bit_fields j o) (alternative_fields j os), fields_length i j o, alternatives_length i j os)
-
-  joined_length : (i j : ℕ) (os : OutlineTrees) → length (joined_fields i os) ≡ length (joined_fields j os)
-  joined_length i j no_outlines = refl
-  joined_length i j (outline_and o os) = omega (arith, length-append (bit_fields i o) (joined_fields (i + size o) os), length-append (bit_fields j o) (joined_fields (j + size o) os), fields_length i j o, joined_length (i + size o) (j + size o) os)
-
--- those of the first outline and of the others
+-- ---- how many bit fields there are: those of the first outline and of the others
 pub joined_front : (o : OutlineTree) (os : OutlineTrees) → length (joined_fields 0 (outline_and o os)) ≡ length (bit_fields 0 o) + length (joined_fields 0 os)
 joined_front o os = omega (arith, length-append (bit_fields 0 o) (joined_fields (0 + size o) os), joined_length (0 + size o) 0 os)
 

@@ -15,23 +15,25 @@ use Rattle.nv_ast.specs.Tests.{where_true, within, has_twice, value_at, look_up}
 use Rattle.nv_ast.specs.Types.{Ty, WordTy, TupleTy, RecordTy, Tys, NamedTys, total_words, ty_height, highest_ty, word_parts, words_ty, packed_words, packed_ty, record_forms, unpacked, unpacked_all, type_of, types_of, named_types_of}
 use Rattle.nv_ast.specs.Faults.{at_span, type_faults, types_faults, named_types_faults, type_names, wrong_words, no_layout, too_large, twice_in_type}
 use Rattle.nv_ast.specs.Scope.{Known}
+use Rattle.nv_ast.proofs.Items.{take_item, split_item}
+use Rattle.nv_ast.proofs.TypeWords.{parts_words}
+use Rattle.nv_ast.proofs.Faultless.{no_kinds}
 use Rattle.nv_types.specs.declared.error.TypeError.{TypeError}
 use Rattle.nv_types.specs.declared.error.TypeError.TheVariants.{Fault}
 use Rattle.nv_types.specs.declared.functions.Checker.{Checker}
 use Rattle.nv_types.specs.declared.layouts.Shape.{Shape}
-use Rattle.nv_types.specs.Costs.{still}
-use Rattle.nv_types.specs.Faulty.{IsFirstOf, Judges}
-use Rattle.nv_types.specs.Named.{named}
-use Rattle.nv_types.specs.Store.{Store, Grows, IsType, IsParts, IsFields, AreTypes, AreFields, field_names}
-use Rattle.nv_types.specs.Layouts.{IsDeclared}
-use Rattle.nv_types.specs.Standing.{Holds, Keeps}
-use Rattle.nv_types.specs.Texts.{TypesText, TypesTexts, TypesNamed}
-use Rattle.nv_types.proofs.Items.{take_item, split_item}
+use Rattle.nv_types.specs.inner.Costs.{still}
+use Rattle.nv_types.specs.inner.Faulty.{IsFirstOf, Judges}
+use Rattle.nv_types.specs.inner.Named.{named}
+use Rattle.nv_types.specs.inner.Store.{Store, Grows, IsType, IsParts, IsFields, AreTypes, AreFields, field_names}
+use Rattle.nv_types.specs.inner.Layouts.{IsDeclared}
+use Rattle.nv_types.specs.inner.Standing.{Holds, Keeps}
+use Rattle.nv_types.specs.inner.Texts.{TypesText, TypesTexts, TypesNamed}
 use Rattle.nv_types.proofs.Entries.{named-append}
 use Rattle.nv_types.proofs.Staying.{types_stay, named_stay}
 use Rattle.nv_types.proofs.Firsts.{first_kind, then_kinds}
 use Rattle.nv_types.proofs.Holding.{Keeps-refl, Keeps-trans, found_alike, absent_alike}
-use Rattle.nv_types.proofs.LayoutWalk.{no_kinds, at_none, first_within}
+use Rattle.nv_types.proofs.LayoutWalk.{at_none, first_within}
 use Rattle.nv_types.proofs.LayoutArms.{on_ok}
 
 -- ---- vectors in the text
@@ -120,10 +122,6 @@ type_names_of k no_named_types = refl
 type_names_of k (named_type_and x t ts) = ap (λ l. x ∷ l) (type_names_of k ts)
 
 -- ---- the type of at most 1,024 words isn't too large
-parts_words : (n : ℕ) → total_words (word_parts n) ≡ n
-parts_words zero = refl
-parts_words (suc n) = omega (arith, parts_words n)
-
 parts_height : (n : ℕ) → highest_ty (word_parts n) ≤ 1
 parts_height zero = omega arith
 parts_height (suc n) = omega (arith, parts_height n)

@@ -3,7 +3,7 @@ use Rattle.std.proofs.Common.{◌≡◌, ◌∙◌, ap, sym, subst, ℕ, Some, s
 use Rattle.nv_ast.specs.Types.{Ty, WordTy, BoolTy, TupleTy, RecordTy, Tys, no_tys, ty_and, NamedTys, no_named_tys, named_ty_and, Form, WordForm, RecordForm, ChoiceForm, Forms, no_forms, form_and}
 use Rattle.nv_types.specs.declared.table.Cell.{Cell}
 use Rattle.nv_types.specs.declared.table.Cell.TheVariants.{Word, Bool as BoolCell, NoParts, NoFields, Tuple, Record, Choice, Part, Field}
-use Rattle.nv_types.specs.Store.{Store, IsStore, IsType, IsParts, IsFields, IsForm, IsForms}
+use Rattle.nv_types.specs.inner.Store.{Store, IsStore, IsType, IsParts, IsFields, IsForm, IsForms}
 
 -- a part as it is put into a cell
 abbrev pub IsSame : Store → ℕ → ℕ → Type 0

@@ -4,7 +4,7 @@ use Rattle.std.specs.Result.{IfOk}
 use Rattle.nv_ast.specs.Types.{Ty, WordTy, BoolTy, TupleTy, RecordTy, Tys, NamedTys, Form, WordForm, RecordForm, ChoiceForm, Forms, can_pack, can_pack_all}
 use Rattle.nv_types.specs.declared.table.Cell.{Cell}
 use Rattle.nv_types.specs.declared.table.Cell.TheVariants.{Word, Record, Choice}
-use Rattle.nv_types.specs.Store.{Store, IsStore, IsType, IsFields, IsForm, IsForms, record_in}
+use Rattle.nv_types.specs.inner.Store.{Store, IsStore, IsType, IsFields, IsForm, IsForms, record_in}
 use Rattle.nv_types.proofs.OneNumber.{same_number}
 
 some_number : (a b : ℕ) → Some a ≡ Some b → a ≡ b

@@ -19,12 +19,12 @@ use Rattle.nv_types.specs.declared.wanted.Wanted.TheVariants.{Value, Typed}
 use Rattle.nv_types.specs.declared.cost.Cost.{Cost}
 use Rattle.nv_types.specs.declared.functions.Checker.{Checker}
 use Rattle.nv_types.specs.declared.functions.Found.{Found}
-use Rattle.nv_types.specs.Faulty.{IsFirstOf, Judges}
-use Rattle.nv_types.specs.Store.{Store, IsType, IsValue}
-use Rattle.nv_types.specs.Costs.{still, IsCost, two_costs, node_cost}
-use Rattle.nv_types.specs.Judging.{IsWanted, judged_faults}
-use Rattle.nv_types.specs.Standing.{Holds, Sees, place, written_in}
-use Rattle.nv_types.specs.Walk.{Checks}
+use Rattle.nv_types.specs.inner.Faulty.{IsFirstOf, Judges}
+use Rattle.nv_types.specs.inner.Store.{Store, IsType, IsValue}
+use Rattle.nv_types.specs.inner.Costs.{still, IsCost, two_costs, node_cost}
+use Rattle.nv_types.specs.inner.Judging.{IsWanted, judged_faults}
+use Rattle.nv_types.specs.inner.Standing.{Holds, Sees, place, written_in}
+use Rattle.nv_types.specs.inner.Walk.{Checks}
 use Rattle.nv_types.proofs.Holding.{Keeps-refl}
 use Rattle.nv_types.proofs.WalkCosts.{leaf_costs, node_costs}
 use Rattle.nv_types.proofs.WalkNodes.{Parts, WantsPart, one_part, and_part, failed, part_failed, later_failed, Stands, parts_stand, node_checks}

@@ -12,6 +12,7 @@ use Rattle.nv_ast.specs.Typing.{type_at}
 use Rattle.nv_ast.specs.Tests.{look_up, where_true, is_among, names_of, value_at}
 use Rattle.nv_ast.specs.Faults.{Wanted as WantedTree, at_span, faults, list_faults, node_faults, low_kinds, middle_kinds, other_type, no_value, too_large_value, as_many, all_wanted, wanted_arguments, params_of, not_in_tail, wrong_number}
 use Rattle.nv_ast.specs.Sizes.{words_all, expanded_all, need_all, variables_all}
+use Rattle.nv_ast.proofs.Faultless.{no_kinds}
 use Rattle.nv_types.specs.declared.error.TypeError.{TypeError}
 use Rattle.nv_types.specs.declared.error.TypeError.TheVariants.{Fault}
 use Rattle.nv_types.specs.declared.wanted.Wanted.{Wanted}
@@ -19,18 +20,17 @@ use Rattle.nv_types.specs.declared.cost.Cost.{Cost}
 use Rattle.nv_types.specs.declared.functions.Checker.{Checker}
 use Rattle.nv_types.specs.declared.functions.Function.{Function}
 use Rattle.nv_types.specs.declared.functions.Found.{Found}
-use Rattle.nv_types.specs.Faulty.{IsFirstOf}
-use Rattle.nv_types.specs.Store.{Store, IsParts, IsValue, count_tys}
-use Rattle.nv_types.specs.Costs.{two_costs, cost_of_call}
-use Rattle.nv_types.specs.Judging.{AreWanted}
-use Rattle.nv_types.specs.Standing.{IsFunction, Holds, Sees, Keeps, place}
-use Rattle.nv_types.specs.Walk.{Checks, ChecksAll}
+use Rattle.nv_types.specs.inner.Faulty.{IsFirstOf}
+use Rattle.nv_types.specs.inner.Store.{Store, IsParts, IsValue, count_tys}
+use Rattle.nv_types.specs.inner.Costs.{two_costs, cost_of_call}
+use Rattle.nv_types.specs.inner.Judging.{AreWanted}
+use Rattle.nv_types.specs.inner.Standing.{IsFunction, Holds, Sees, Keeps, place}
+use Rattle.nv_types.specs.inner.Walk.{Checks, ChecksAll}
 use Rattle.nv_types.proofs.Firsts.{first_append, at_span-append}
 use Rattle.nv_types.proofs.Staying.{type_stays}
 use Rattle.nv_types.proofs.Alikes.{alike_at, both_none, both_found}
 use Rattle.nv_types.proofs.WalkCosts.{parts_and_call, size_called, need_called, no_words_called}
 use Rattle.nv_types.proofs.WalkNodes.{Parts, failed, parts_stand, node_checks}
-use Rattle.nv_types.proofs.WalkValues.{no_kinds}
 use Rattle.nv_types.proofs.WalkArms.{IsJudged, IsCounted}
 use Rattle.nv_types.proofs.WalkNamed.{low_first, middle_first, own_failed}
 use Rattle.nv_types.proofs.WalkLists.{all_parts}

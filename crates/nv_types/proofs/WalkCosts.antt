@@ -3,8 +3,8 @@ use Rattle.std.proofs.Common.{◌≡◌, ◌∙◌, refl, ap, ℕ, ◌+◌, ◌*
 use Rattle.nv_ast.specs.Tests.{look_up, value_at}
 use Rattle.nv_ast.specs.Sizes.{GroupNumbers}
 use Rattle.nv_types.specs.declared.cost.Cost.{Cost}
-use Rattle.nv_types.specs.Costs.{still, IsCost, two_costs, node_cost, cost_of_call}
-use Rattle.nv_types.specs.Standing.{Alike}
+use Rattle.nv_types.specs.inner.Costs.{still, IsCost, two_costs, node_cost, cost_of_call}
+use Rattle.nv_types.specs.inner.Standing.{Alike}
 
 pub no_cost : IsCost (record { words = 0; size = 0; need = 0 }) 0 0 0
 no_cost = record { of_words = refl; of_size = refl; of_need = refl }
@@ -30,8 +30,8 @@ parts_and_call parts called w s n size need h cw cs cn =
     record { of_words = omega arith; of_size = omega arith; of_need = omega arith }
 
 -- a part and then instructions that move its bit fields
-pub part_and_moving : (part : Cost) (fields w s n m : ℕ) → IsCost part w s n → fields ≡ still m → IsCost (two_costs part (record { words = 0; size = still (4 * fields); need = 0 })) w (4 * m + s) n
-part_and_moving part fields w s n m h f =
+pub part_and_fields : (part : Cost) (fields w s n m : ℕ) → IsCost part w s n → fields ≡ still m → IsCost (two_costs part (record { words = 0; size = still (4 * fields); need = 0 })) w (4 * m + s) n
+part_and_fields part fields w s n m h f =
     let hw = h.of_words in let hs = h.of_size in let hn = h.of_need in
     record { of_words = omega arith; of_size = omega arith; of_need = omega arith }
 

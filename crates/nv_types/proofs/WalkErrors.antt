@@ -9,8 +9,8 @@ use Rattle.nv_types.specs.declared.wanted.Wanted.{Wanted}
 use Rattle.nv_types.specs.declared.cost.Cost.{Cost}
 use Rattle.nv_types.specs.declared.functions.Checker.{Checker}
 use Rattle.nv_types.specs.declared.functions.Found.{Found}
-use Rattle.nv_types.specs.Faulty.{IsFirstOf, Judges}
-use Rattle.nv_types.specs.Walk.{Checks, ChecksAll}
+use Rattle.nv_types.specs.inner.Faulty.{IsFirstOf, Judges}
+use Rattle.nv_types.specs.inner.Walk.{Checks, ChecksAll}
 use Rattle.nv_types.proofs.WalkArms.{no_memory}
 
 pub answered : (c new : Checker) (tail : Bool) (wanted : Wanted) (e : Tree) (r : Result Found TypeError) (error : TypeError) → IsErrAnd r (λ y. y ≡ error) → Checks c new tail wanted e (Err error) → Checks c new tail wanted e r

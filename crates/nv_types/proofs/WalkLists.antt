@@ -14,12 +14,12 @@ use Rattle.nv_types.specs.declared.wanted.Wanted.TheVariants.{Value, Typed}
 use Rattle.nv_types.specs.declared.cost.Cost.{Cost}
 use Rattle.nv_types.specs.declared.functions.Checker.{Checker}
 use Rattle.nv_types.specs.declared.functions.Found.{Found}
-use Rattle.nv_types.specs.Faulty.{IsFirstOf}
-use Rattle.nv_types.specs.Store.{Store, IsStore, part_of}
-use Rattle.nv_types.specs.Costs.{still, IsCost, two_costs}
-use Rattle.nv_types.specs.Judging.{AreWanted}
-use Rattle.nv_types.specs.Standing.{Holds, Sees, Counts, Keeps, place, written_in}
-use Rattle.nv_types.specs.Walk.{Checks, ChecksAll, WantsNext}
+use Rattle.nv_types.specs.inner.Faulty.{IsFirstOf}
+use Rattle.nv_types.specs.inner.Store.{Store, IsStore, part_of}
+use Rattle.nv_types.specs.inner.Costs.{still, IsCost, two_costs}
+use Rattle.nv_types.specs.inner.Judging.{AreWanted}
+use Rattle.nv_types.specs.inner.Standing.{Holds, Sees, Counts, Keeps, place, written_in}
+use Rattle.nv_types.specs.inner.Walk.{Checks, ChecksAll, WantsNext}
 use Rattle.nv_types.proofs.Firsts.{first_append}
 use Rattle.nv_types.proofs.Walked.{part_none, part_some}
 use Rattle.nv_types.proofs.Holding.{Keeps-refl, Keeps-trans, holds_stays, sees_stay, counts_stay, all_wanted_stay}

@@ -5,9 +5,9 @@ use Rattle.nv_ast.specs.Types.{Ty, RecordTy, NamedTys}
 use Rattle.nv_ast.specs.Faults.{Wanted as WantedTree, field_twice}
 use Rattle.nv_types.specs.declared.error.TypeError.{TypeError}
 use Rattle.nv_types.specs.declared.wanted.Wanted.{Wanted}
-use Rattle.nv_types.specs.Faulty.{Judges, first}
-use Rattle.nv_types.specs.Store.{Store, Grows, IsType, IsValue, AreFields, field_names}
-use Rattle.nv_types.specs.Judging.{IsWanted, judged_faults}
+use Rattle.nv_types.specs.inner.Faulty.{Judges, first}
+use Rattle.nv_types.specs.inner.Store.{Store, Grows, IsType, IsValue, AreFields, field_names}
+use Rattle.nv_types.specs.inner.Judging.{IsWanted, judged_faults}
 use Rattle.nv_types.proofs.Holding.{wanted_stays}
 
 pub made_judged : {T : Type 0} (old new : Store) (s : Span) (wanted : Wanted) (is : List (List ℕ × ℕ)) (t : ℕ) (twice : Option ℕ) (r : Result T TypeError) → Grows old new

@@ -20,15 +20,15 @@ use Rattle.nv_types.specs.declared.cost.Cost.{Cost}
 use Rattle.nv_types.specs.declared.layouts.Shape.{Shape}
 use Rattle.nv_types.specs.declared.functions.Checker.{Checker}
 use Rattle.nv_types.specs.declared.functions.Found.{Found}
-use Rattle.nv_types.specs.Faulty.{IsFirstOf}
-use Rattle.nv_types.specs.Store.{Store, IsType, IsFields, IsValue}
-use Rattle.nv_types.specs.Layouts.{IsDeclared}
-use Rattle.nv_types.specs.Costs.{still, IsCost, two_costs, node_cost}
-use Rattle.nv_types.specs.Standing.{Holds, Sees, Keeps, place, written_in}
-use Rattle.nv_types.specs.Walk.{Checks}
+use Rattle.nv_types.specs.inner.Faulty.{IsFirstOf}
+use Rattle.nv_types.specs.inner.Store.{Store, IsType, IsFields, IsValue}
+use Rattle.nv_types.specs.inner.Layouts.{IsDeclared}
+use Rattle.nv_types.specs.inner.Costs.{still, IsCost, two_costs, node_cost}
+use Rattle.nv_types.specs.inner.Standing.{Holds, Sees, Keeps, place, written_in}
+use Rattle.nv_types.specs.inner.Walk.{Checks}
 use Rattle.nv_types.proofs.Holding.{Keeps-refl, Keeps-trans, holds_stays, sees_stay}
 use Rattle.nv_types.proofs.Alikes.{alike_at, both_none, both_found, Both}
-use Rattle.nv_types.proofs.WalkCosts.{no_cost, leaf_costs, node_costs, part_and_moving}
+use Rattle.nv_types.proofs.WalkCosts.{no_cost, leaf_costs, node_costs, part_and_fields}
 use Rattle.nv_types.proofs.WalkNodes.{Parts, WantsPart, one_part, part_within, failed, part_failed, later_failed, own_faults, node_checks}
 use Rattle.nv_types.proofs.WalkValues.{has_value}
 use Rattle.nv_types.proofs.WalkArms.{IsJudged, IsCounted, over_stands}
@@ -208,7 +208,7 @@ moved_costs : (part parts : Cost) (fields v w s n m : ℕ) (o : Option OutlineTr
 moved_costs part parts fields v w s n m o h f is same =
     subst (λ (a : Cost). IsCost (node_cost (still v) a) v ((1 + v) + (field_size o + s)) ((2 + v) + (w + n))) (sym same)
     (subst (λ (a : ℕ). IsCost (node_cost (still v) (two_costs part (record { words = 0; size = still (4 * fields); need = 0 }))) v ((1 + v) + (a + s)) ((2 + v) + (w + n))) (sym is)
-    (node_costs (two_costs part (record { words = 0; size = still (4 * fields); need = 0 })) v w (4 * m + s) n (part_and_moving part fields w s n m h f)))
+    (node_costs (two_costs part (record { words = 0; size = still (4 * fields); need = 0 })) v w (4 * m + s) n (part_and_fields part fields w s n m h f)))
 
 pub unpack_checks : (c d b new : Checker) (wanted : Wanted) (s : Span) (x : List ℕ) (e : Tree) (shape : Shape) (i n t : ℕ) (part : Found) (parts : Cost) (r : Result Found TypeError)
     → Keeps c d → written_in d ≡ written_in c → look_up x c.layouts ≡ Some shape → n ≡ (min shape.bits 1024 + 31) / 32 → IsType d.table i (words_ty n) → Checks d b false (Typed i) e (Ok part)

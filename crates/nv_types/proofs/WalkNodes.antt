@@ -13,12 +13,12 @@ use Rattle.nv_types.specs.declared.wanted.Wanted.{Wanted}
 use Rattle.nv_types.specs.declared.cost.Cost.{Cost}
 use Rattle.nv_types.specs.declared.functions.Checker.{Checker}
 use Rattle.nv_types.specs.declared.functions.Found.{Found}
-use Rattle.nv_types.specs.Faulty.{IsFirstOf, Judges}
-use Rattle.nv_types.specs.Store.{IsValue}
-use Rattle.nv_types.specs.Costs.{still, IsCost, two_costs, node_cost}
-use Rattle.nv_types.specs.Judging.{IsWanted, judged_faults}
-use Rattle.nv_types.specs.Standing.{Holds, Sees, Counts, Keeps, place, written_in}
-use Rattle.nv_types.specs.Walk.{Checks}
+use Rattle.nv_types.specs.inner.Faulty.{IsFirstOf, Judges}
+use Rattle.nv_types.specs.inner.Store.{IsValue}
+use Rattle.nv_types.specs.inner.Costs.{still, IsCost, two_costs, node_cost}
+use Rattle.nv_types.specs.inner.Judging.{IsWanted, judged_faults}
+use Rattle.nv_types.specs.inner.Standing.{Holds, Sees, Counts, Keeps, place, written_in}
+use Rattle.nv_types.specs.inner.Walk.{Checks}
 use Rattle.nv_types.proofs.Firsts.{first_append}
 use Rattle.nv_types.proofs.Holding.{Keeps-trans, holds_stays, sees_stay, counts_stay, wanted_stays}
 use Rattle.nv_types.proofs.WalkCosts.{two_parts, node_costs}

@@ -10,7 +10,7 @@ use Rattle.nv_ast.specs.ExprView.{kind_tree, tree_of}
 use Rattle.nv_ast.specs.Tree.{Tree}
 use Rattle.nv_ast.specs.Tests.{where_true}
 use Rattle.nv_ast.specs.Faults.{wrong_scratch}
-use Rattle.nv_types.specs.Cells.{most}
+use Rattle.nv_types.specs.inner.Cells.{most}
 
 le_true : (a b : ℕ) → a ≤ b → nat_le a b ≡ true
 le_true a b h = search (tests, rules)

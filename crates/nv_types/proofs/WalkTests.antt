@@ -5,8 +5,8 @@ use Rattle.nv_ast.specs.Types.{Ty}
 use Rattle.nv_ast.specs.Typing.{field_ty}
 use Rattle.nv_ast.specs.Tests.{where_true, has_twice}
 use Rattle.nv_ast.specs.Faults.{field_twice}
-use Rattle.nv_types.specs.Faulty.{first}
-use Rattle.nv_types.specs.Store.{Store, IsType, IsValue}
+use Rattle.nv_types.specs.inner.Faulty.{first}
+use Rattle.nv_types.specs.inner.Store.{Store, IsType, IsValue}
 
 pub field_some : (s : Store) (x : List ℕ) (i : ℕ) (r : Option ℕ) → ((u : Ty) → IsType s i u → IsValue s r (field_ty x (Some u))) → (u : Option Ty) → IsValue s (Some i) u → IsValue s r (field_ty x u)
 field_some s x i r h (Some u) is = h u is

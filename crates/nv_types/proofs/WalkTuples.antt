@@ -16,12 +16,12 @@ use Rattle.nv_types.specs.declared.wanted.Wanted.TheVariants.{Value}
 use Rattle.nv_types.specs.declared.cost.Cost.{Cost}
 use Rattle.nv_types.specs.declared.functions.Checker.{Checker}
 use Rattle.nv_types.specs.declared.functions.Found.{Found}
-use Rattle.nv_types.specs.Faulty.{IsFirstOf, Judges, first}
-use Rattle.nv_types.specs.Store.{Store, IsType, IsValue, AreTypes, AreFields, field_names}
-use Rattle.nv_types.specs.Costs.{still, IsCost, node_cost}
-use Rattle.nv_types.specs.Judging.{IsWanted, judged_faults}
-use Rattle.nv_types.specs.Standing.{Holds, Sees, Keeps, place, written_in}
-use Rattle.nv_types.specs.Walk.{Checks}
+use Rattle.nv_types.specs.inner.Faulty.{IsFirstOf, Judges, first}
+use Rattle.nv_types.specs.inner.Store.{Store, IsType, IsValue, AreTypes, AreFields, field_names}
+use Rattle.nv_types.specs.inner.Costs.{still, IsCost, node_cost}
+use Rattle.nv_types.specs.inner.Judging.{IsWanted, judged_faults}
+use Rattle.nv_types.specs.inner.Standing.{Holds, Sees, Keeps, place, written_in}
+use Rattle.nv_types.specs.inner.Walk.{Checks}
 use Rattle.nv_types.proofs.Firsts.{first_append}
 use Rattle.nv_types.proofs.Staying.{types_stay, named_stay}
 use Rattle.nv_types.proofs.Holding.{Keeps-refl, Keeps-trans, holds_stays, sees_stay, wanted_stays}

@@ -7,6 +7,7 @@ use Rattle.nv_ast.specs.Types.{Ty, BoolTy}
 use Rattle.nv_ast.specs.Typing.{type_at, operand_ty, vars_behind}
 use Rattle.nv_ast.specs.Tests.{look_up, where_true}
 use Rattle.nv_ast.specs.Faults.{Fault as FaultAt, Wanted as WantedTree, at_span, anything, of_type, same_as, faults, statements_faults, node_faults, low_kinds, middle_kinds, other_type, no_value, too_large_value, raised_kinds}
+use Rattle.nv_ast.proofs.Faultless.{no_kinds, no_rest, no_front}
 
 -- some faults and then a node's
 abbrev EndsIn : List FaultAt → List FaultAt → Type 0
@@ -41,27 +42,6 @@ ends_in_own p w (TryTree s a x ps h) =
 ends_in_own p w (FetchTree s m n a) = (_, refl)
 ends_in_own p w (BlockTree s sts e) = two (statements_faults (inside p) sts) (faults (with_vars (vars_behind p.known p.vars sts) p) anything e) (node_faults p w (BlockTree s sts e))
 
-pub none_behind : {A : Type 0} (a b : List A) → a ++ b ≡ [] → b ≡ []
-none_behind [] b e = e
-none_behind (x ∷ a) b e = absurd (some_none x (a ++ b) e)
-  where
-    some_none : {A : Type 0} (y : A) (ys : List A) → y ∷ ys ≡ [] → ⊥
-    some_none y ys q = cc
-
-pub none_before : {A : Type 0} (a b : List A) → a ++ b ≡ [] → a ≡ []
-none_before [] b e = refl
-none_before (x ∷ a) b e = absurd (some_none x (a ++ b) e)
-  where
-    some_none : {A : Type 0} (y : A) (ys : List A) → y ∷ ys ≡ [] → ⊥
-    some_none y ys q = cc
-
-pub no_kinds : (s : Span) (kinds : List ℕ) → at_span s kinds ≡ [] → kinds ≡ []
-no_kinds s [] e = refl
-no_kinds s (x ∷ xs) e = absurd (some_none (x, s) (at_span s xs) e)
-  where
-    some_none : {A : Type 0} (y : A) (ys : List A) → y ∷ ys ≡ [] → ⊥
-    some_none y ys q = cc
-
 valued_by : (w : WantedTree) (t : Option Ty) → w.value ≡ true → no_value w t ≡ [] → (u : Ty) × (t ≡ Some u)
 valued_by w (Some u) wants h = (u, refl)
 valued_by w None wants h = absurd (one_none 22 (sym (ap (λ (b : Bool). where_true {A = ℕ} b 22) wants) ∙ h))
@@ -73,9 +53,9 @@ pub has_value : (p : Place) (w : WantedTree) (e : Tree) → w.value ≡ true →
 has_value p w e wants clean =
     let t = type_at p.known p.vars e in
     let ends = ends_in_own p w e in
-    let own = none_behind ends.0 (node_faults p w e) (sym ends.1 ∙ clean) in
+    let own = no_rest ends.0 (node_faults p w e) (sym ends.1 ∙ clean) in
     let kinds = no_kinds (span_of e) (low_kinds p e ++ (other_type w t ++ (middle_kinds p e ++ (no_value w t ++ too_large_value t)))) own in
-    let behind_low = none_behind (low_kinds p e) (other_type w t ++ (middle_kinds p e ++ (no_value w t ++ too_large_value t))) kinds in
-    let behind_type = none_behind (other_type w t) (middle_kinds p e ++ (no_value w t ++ too_large_value t)) behind_low in
-    let behind_middle = none_behind (middle_kinds p e) (no_value w t ++ too_large_value t) behind_type in
-    valued_by w t wants (none_before (no_value w t) (too_large_value t) behind_middle)
+    let behind_low = no_rest (low_kinds p e) (other_type w t ++ (middle_kinds p e ++ (no_value w t ++ too_large_value t))) kinds in
+    let behind_type = no_rest (other_type w t) (middle_kinds p e ++ (no_value w t ++ too_large_value t)) behind_low in
+    let behind_middle = no_rest (middle_kinds p e) (no_value w t ++ too_large_value t) behind_type in
+    valued_by w t wants (no_front (no_value w t) (too_large_value t) behind_middle)

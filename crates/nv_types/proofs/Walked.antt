@@ -1,7 +1,7 @@
 -- Patterns one after another, and lists of types that are walked with them.
 use Rattle.std.proofs.Common.{◌≡◌, ◌∙◌, refl, ap, sym, subst, ℕ, ◌+◌, ◌<◌, List, [], ◌∷◌, ◌++◌, take, drop, length, get_or, Option, None, Some, slice_get, arith, append_assoc, append-nil, Vec, Global, Bool, true, false, eqb, is_none, is_some, not, rules, tests, ◌&&◌, suc, add-one, nat_lt, cond, min, ◌≤◌}
-use Rattle.nv_types.specs.Cells.{most}
-use Rattle.nv_types.specs.Costs.{still}
+use Rattle.nv_types.specs.inner.Cells.{most}
+use Rattle.nv_types.specs.inner.Costs.{still}
 use Rattle.std.proofs.Math.Seq.{drop-cons}
 use Rattle.nv_ast.specs.declared.tree.Pat
 use Rattle.nv_ast.specs.declared.tree.Pat.{Pat}
@@ -10,10 +10,11 @@ use Rattle.nv_ast.specs.PatternView.{pattern_tree, list_patterns}
 use Rattle.nv_ast.specs.Scope.{names_in, names_in_all, fits, fits_all}
 use Rattle.nv_ast.specs.Types.{Ty, Tys, no_tys, ty_and}
 use Rattle.nv_ast.proofs.Rows.{patterns_items}
+use Rattle.nv_ast.proofs.Items.{take_item}
+use Rattle.nv_types.proofs.BlockNeeds.{held-append}
 use Rattle.nv_types.specs.declared.blocks.Held.{Held}
-use Rattle.nv_types.specs.Blocks.{held_for}
-use Rattle.nv_types.specs.Store.{Store, IsStore, IsType, IsParts, part_of, count_tys}
-use Rattle.nv_types.proofs.Items.{take_item}
+use Rattle.nv_types.specs.inner.Blocks.{held_for}
+use Rattle.nv_types.specs.inner.Store.{Store, IsStore, IsType, IsParts, part_of, count_tys}
 
 pub tuple_pattern : (v : Vec Pat Global) → pattern_tree (Pat.Tuple v) ≡ TuplePattern (list_patterns v.items)
 tuple_pattern v = ap TuplePattern (patterns_items v)
@@ -25,14 +26,6 @@ names-append (x ∷ xs) ys = ap (λ l. names_in (pattern_tree x) ++ l) (names-ap
 pub names_more : (xs : List Pat) (i : ℕ) (p : Pat) → i < length xs → p ≡ get_or xs i p → names_in_all (list_patterns (take (i + 1) xs)) ≡ names_in_all (list_patterns (take i xs)) ++ names_in (pattern_tree p)
 names_more xs i p h e =
     ap (λ l. names_in_all (list_patterns l)) (take_item xs i p h e) ∙ names-append (take i xs) (p ∷ []) ∙ ap (λ l. names_in_all (list_patterns (take i xs)) ++ l) (append-nil (names_in (pattern_tree p)))
-
--- a turn adds b to what was added before
-pub added_step : {A : Type 0} (new middle base a b whole : List A) → new ≡ middle ++ b → middle ≡ base ++ a → whole ≡ a ++ b → new ≡ base ++ whole
-added_step new middle base a b whole e f g = e ∙ ap (λ l. l ++ b) f ∙ append_assoc base a b ∙ ap (λ l. base ++ l) (sym g)
-
-held-append : (xs ys : List Held) (at : ℕ) → held_for (xs ++ ys) at ≡ held_for xs at + held_for ys at
-held-append [] ys at = omega arith
-held-append (x ∷ xs) ys at = omega (arith, held-append xs ys at)
 
 pub held_more : (xs : List Held) (i : ℕ) (h : Held) (at : ℕ) → i < length xs → h ≡ get_or xs i h → held_for (take (i + 1) xs) at ≡ held_for (take i xs) at + held_for (h ∷ []) at
 held_more xs i h at lt e = ap (λ l. held_for l at) (take_item xs i h lt e) ∙ held-append (take i xs) (h ∷ []) at

@@ -5,8 +5,8 @@ use Rattle.nv_ast.specs.Types.{Ty, words_ty}
 use Rattle.nv_ast.specs.Faults.{Wanted as WantedTree, can_store}
 use Rattle.nv_types.specs.declared.wanted.Wanted.{Wanted}
 use Rattle.nv_types.specs.declared.wanted.Wanted.TheVariants.{Anything, Value, Typed, Same, Packed, Stored}
-use Rattle.nv_types.specs.Judging.{IsWanted}
-use Rattle.nv_types.specs.Store.{Store}
+use Rattle.nv_types.specs.inner.Judging.{IsWanted}
+use Rattle.nv_types.specs.inner.Store.{Store}
 use Rattle.nv_types.proofs.WordLists.{store_words}
 
 pub right_any : (s : Store) (w : WantedTree) → IsWanted s Anything w → (u : Ty) → true ≡ w.right u

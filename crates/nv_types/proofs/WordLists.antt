@@ -4,11 +4,11 @@ use Rattle.std.proofs.Math.Dec.{eqb-suc-suc, eqb-zero-suc, eqb-suc-zero}
 use Rattle.std.proofs.lemmas.Bool.{eqb-true, eq-eqb}
 use Rattle.nv_ast.specs.Types.{Ty, WordTy, BoolTy, TupleTy, RecordTy, Tys, no_tys, ty_and, same_type, same_types, total_words, word_parts, words_ty}
 use Rattle.nv_ast.specs.Faults.{words_alone, can_store}
+use Rattle.nv_ast.proofs.SameTypes.{same_itself, same_sound}
 use Rattle.nv_types.specs.declared.table.Facts.{Facts}
-use Rattle.nv_types.specs.Cells.{most}
-use Rattle.nv_types.specs.Costs.{still}
-use Rattle.nv_types.specs.Knowing.{AreKnown}
-use Rattle.nv_types.proofs.OneNumber.{same_itself, same_sound}
+use Rattle.nv_types.specs.inner.Cells.{most}
+use Rattle.nv_types.specs.inner.Costs.{still}
+use Rattle.nv_types.specs.inner.Knowing.{AreKnown}
 
 -- numbers that are together the same as another are tested alike
 pub eqb_together : (a b n m : ℕ) → (a ≡ n → b ≡ m) → (b ≡ m → a ≡ n) → eqb a n ≡ eqb b m

@@ -5,9 +5,9 @@ ghost use Rattle.nv_ast.specs.Tree.{BlockTree, LetStatement, StoreStatement};
 ghost use Rattle.nv_ast.specs.ExprView.{tree_of, list_statements, statement_tree};
 ghost use Rattle.nv_ast.specs.PatternView.{pattern_tree};
 ghost use Rattle.nv_ast.specs.Scope.{names_in};
-ghost use Rattle.nv_types.specs.Costs.{still};
-ghost use Rattle.nv_types.specs.Named.{named};
-ghost use Rattle.nv_types.specs.Blocks.{held_for, IsEnds, IsEnd};
+ghost use Rattle.nv_types.specs.inner.Costs.{still};
+ghost use Rattle.nv_types.specs.inner.Named.{named};
+ghost use Rattle.nv_types.specs.inner.Blocks.{held_for, IsEnds, IsEnd};
 
 use crate::cost::Cost;
 use crate::error::{TypeError, fault_where};
@@ -39,9 +39,9 @@ struct Held {
 }
 
 impl<'a> Checker<'a> {
-    ghost use Rattle.nv_types.specs.Walk.{Checks};
-    ghost use Rattle.nv_types.specs.Blocks.{ChecksStatement, block_needs};
-    ghost use Rattle.nv_types.specs.Standing.{written_in};
+    ghost use Rattle.nv_types.specs.inner.Walk.{Checks};
+    ghost use Rattle.nv_types.specs.inner.Blocks.{ChecksStatement, block_needs};
+    ghost use Rattle.nv_types.specs.inner.Standing.{written_in};
 
     #[cycle(walk)]
     pub fn block(

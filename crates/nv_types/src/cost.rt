@@ -1,7 +1,7 @@
 // What expressions cost.
 
 ghost use Rattle.std.specs.Prelude.{◌≡◌};
-ghost use Rattle.nv_types.specs.Costs.{two_costs, node_cost};
+ghost use Rattle.nv_types.specs.inner.Costs.{two_costs, node_cost};
 
 /// The words of a value, the expanded size of what computes it, and how many words that wants at once.
 /// Each number stands still at its type's greatest.

@@ -9,9 +9,9 @@ ghost use Rattle.nv_ast.specs.Types.{NamedTys};
 ghost use Rattle.nv_ast.specs.Scope.{Signature, plain_tys, param_vars};
 ghost use Rattle.nv_ast.specs.Faults.{at_span, main_name, name_faults, variable_twice, wide_main};
 ghost use Rattle.nv_ast.specs.Tests.{names_of};
-ghost use Rattle.nv_types.specs.Faulty.{Judges};
-ghost use Rattle.nv_types.specs.Named.{named, bound_types};
-ghost use Rattle.nv_types.specs.Store.{IsType, IsParts, field_names};
+ghost use Rattle.nv_types.specs.inner.Faulty.{Judges};
+ghost use Rattle.nv_types.specs.inner.Named.{named, bound_types};
+ghost use Rattle.nv_types.specs.inner.Store.{IsType, IsParts, field_names};
 
 use crate::cost::Cost;
 use crate::error::{TypeError, fault_where};
@@ -25,8 +25,8 @@ use nv_base::NoMemory;
 pub(crate) const MAIN: [u8; 4] = *b"main";
 
 impl<'a> Checker<'a> {
-    ghost use Rattle.nv_types.specs.Standing.{Sees, KeepsDeclared};
-    ghost use Rattle.nv_types.specs.Declarations.{ChecksDecl, ChecksDecls, SignsFunction, SignsAll, ChecksBody, ChecksBodies, AddsCosts, is_wide};
+    ghost use Rattle.nv_types.specs.inner.Standing.{Sees, KeepsDeclared};
+    ghost use Rattle.nv_types.specs.inner.Declarations.{ChecksDecl, ChecksDecls, SignsFunction, SignsAll, ChecksBody, ChecksBodies, AddsCosts, is_wide};
 
     /// Declarations in order, each of which is known to the later ones.
     pub fn declarations(&mut self, ds: &'a [Decl]) -> Result<(), TypeError>

@@ -17,7 +17,7 @@ pub(crate) struct Declared<'a, T> {
 
 impl<'a, T> Model for Declared<'a, T> {
     ghost use Rattle.std.specs.Prelude.{List, ℕ};
-    ghost use Rattle.nv_types.specs.Named.{named};
+    ghost use Rattle.nv_types.specs.inner.Named.{named};
 
     ghost Value = { List (List ℕ × T) };
 

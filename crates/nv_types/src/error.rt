@@ -3,7 +3,7 @@
 ghost use Rattle.std.specs.Prelude.{◌≡◌, [], ◌∷◌};
 ghost use Rattle.nv_ast.specs.Faults.{at_span};
 ghost use Rattle.nv_ast.specs.Tests.{where_true};
-ghost use Rattle.nv_types.specs.Faulty.{Judges};
+ghost use Rattle.nv_types.specs.inner.Faulty.{Judges};
 ghost use Rattle.nv_types.specs.declared.error.TypeError.TheVariants.{NoMemory as WantOfMemory};
 
 use nv_ast::Span;

@@ -8,15 +8,16 @@ ghost use Rattle.nv_ast.specs.Types.{Ty, Tys, NamedTys, RecordTy, total_named_wo
 ghost use Rattle.nv_ast.specs.Typing.{operand_ty, result_ty, field_ty};
 ghost use Rattle.nv_ast.specs.Faults.{Wanted as WantedTree, can_move as moves, wrong_scratch, field_twice};
 ghost use Rattle.nv_ast.specs.Tests.{where_true};
-ghost use Rattle.nv_types.specs.Faulty.{Judges, first};
-ghost use Rattle.nv_types.specs.Costs.{still, node_cost, cost_of_call};
-ghost use Rattle.nv_types.specs.Named.{named};
-ghost use Rattle.nv_types.specs.Store.{Store, IsType, IsParts, IsValue, AreFields, count_tys, field_names};
-ghost use Rattle.nv_types.specs.Judging.{IsWanted, judged_faults};
+ghost use Rattle.nv_types.specs.inner.Faulty.{Judges, first};
+ghost use Rattle.nv_types.specs.inner.Costs.{still, node_cost, cost_of_call};
+ghost use Rattle.nv_types.specs.inner.Named.{named};
+ghost use Rattle.nv_types.specs.inner.Store.{Store, IsType, IsParts, IsValue, AreFields, count_tys, field_names};
+ghost use Rattle.nv_types.specs.inner.Judging.{IsWanted, judged_faults};
 
 use crate::cost::Cost;
 use crate::error::{TypeError, fault_where};
 use crate::functions::{Checker, Found};
+use crate::limits::SCRATCH_WORDS;
 use crate::patterns::has_length;
 use crate::table::{BOOL, WORD};
 use crate::wanted::Wanted;
@@ -24,8 +25,8 @@ use nv_ast::{Expr, Kind, Name, Op, Pat, ShiftOp, Span};
 use nv_base::Mem;
 
 impl<'a> Checker<'a> {
-    ghost use Rattle.nv_types.specs.Standing.{Keeps, written_in};
-    ghost use Rattle.nv_types.specs.Walk.{Checks, ChecksAll, WantsNext};
+    ghost use Rattle.nv_types.specs.inner.Standing.{Keeps, written_in};
+    ghost use Rattle.nv_types.specs.inner.Walk.{Checks, ChecksAll, WantsNext};
 
     /// An expression, in tail position or not, of which something is wanted. First its parts from left to
     /// right, then the expression itself.
@@ -285,7 +286,7 @@ impl<'a> Checker<'a> {
             span,
             wanted,
             Some(t),
-            part.cost.beside(moving(shape.fields)),
+            part.cost.beside(field_cost(shape.fields)),
         )
     }
 
@@ -310,7 +311,7 @@ impl<'a> Checker<'a> {
             span,
             wanted,
             Some(t),
-            part.cost.beside(moving(shape.fields)),
+            part.cost.beside(field_cost(shape.fields)),
         )
     }
 
@@ -433,7 +434,7 @@ fn called_cost(behind: Option<Cost>) -> Cost
 }
 
 // What 4 instructions for each bit field cost.
-fn moving(fields: u64) -> Cost
+fn field_cost(fields: u64) -> Cost
     ensures { result ≡ record { words = 0; size = still (4 * fields); need = 0 } }
 {
     Cost {
@@ -478,7 +479,7 @@ pub(crate) fn is_in_reach(mem: Mem, address: &Expr, n: u64) -> bool
 {
     match mem {
         Mem::Scratch => match address.kind {
-            Kind::Number(at) => (at as u64).saturating_add(n) <= 512,
+            Kind::Number(at) => (at as u64).saturating_add(n) <= SCRATCH_WORDS,
             _ => false,
         },
         _ => true,

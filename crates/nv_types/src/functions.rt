@@ -4,10 +4,10 @@ ghost use Rattle.std.specs.Prelude.{◌≡◌, ◌++◌, [], None, IfOk, Option,
 ghost use Rattle.nv_ast.specs.Types.{Ty, words_of_value};
 ghost use Rattle.nv_ast.specs.Faults.{Wanted as WantedTree, at_span, other_type, no_value, too_large_value};
 ghost use Rattle.nv_ast.specs.Scope.{nothing_known};
-ghost use Rattle.nv_types.specs.Faulty.{Judges};
-ghost use Rattle.nv_types.specs.Costs.{still, node_cost};
-ghost use Rattle.nv_types.specs.Store.{IsValue};
-ghost use Rattle.nv_types.specs.Judging.{IsWanted, judged_faults};
+ghost use Rattle.nv_types.specs.inner.Faulty.{Judges};
+ghost use Rattle.nv_types.specs.inner.Costs.{still, node_cost};
+ghost use Rattle.nv_types.specs.inner.Store.{IsValue};
+ghost use Rattle.nv_types.specs.inner.Judging.{IsWanted, judged_faults};
 
 use crate::cost::Cost;
 use crate::declared::Declared;
@@ -49,7 +49,7 @@ pub(crate) struct Checker<'a> {
 }
 
 impl<'a> Checker<'a> {
-    ghost use Rattle.nv_types.specs.Standing.{Holds, Sees, Counts};
+    ghost use Rattle.nv_types.specs.inner.Standing.{Holds, Sees, Counts};
 
     /// At the start of a program.
     pub fn new(alloc: Global) -> Result<Checker<'a>, NoMemory>

@@ -8,14 +8,15 @@ ghost use Rattle.nv_ast.specs.LayoutView.{layout_tree, field_tree, list_fields, 
 ghost use Rattle.nv_ast.specs.Tree.{PartsLayout, JoinedLayout};
 ghost use Rattle.nv_ast.specs.Tests.{all_same, where_true, has_twice, within};
 ghost use Rattle.nv_ast.specs.Faults.{at_span};
-ghost use Rattle.nv_types.specs.Faulty.{Judges};
-ghost use Rattle.nv_types.specs.Costs.{still};
-ghost use Rattle.nv_types.specs.Named.{named};
-ghost use Rattle.nv_types.specs.Store.{Store, IsFields, IsForms, form_names};
-ghost use Rattle.nv_types.specs.Layouts.{IsShape, IsDeclared, IsMember, AreShapes, AreMembers, IsJoined};
+ghost use Rattle.nv_types.specs.inner.Faulty.{Judges};
+ghost use Rattle.nv_types.specs.inner.Costs.{still};
+ghost use Rattle.nv_types.specs.inner.Named.{named};
+ghost use Rattle.nv_types.specs.inner.Store.{Store, IsFields, IsForms, form_names};
+ghost use Rattle.nv_types.specs.inner.Layouts.{IsShape, IsDeclared, IsMember, AreShapes, AreMembers, IsJoined};
 
 use crate::error::{TypeError, fault_where};
 use crate::functions::Checker;
+use crate::limits::{HIGHEST, MOST_BITS};
 use crate::table::{NO_FIELDS, WORD};
 use indexmap::IndexSet;
 use nv_ast::{FieldText, LayoutText, Name, Span};
@@ -37,7 +38,7 @@ impl Shape {
     pub fn packed_words(self) -> u32
         ensures { result ≡ (min self.bits 1024 + 31) / 32 }
     {
-        (self.bits.min(1024) as u32).div_ceil(32)
+        (self.bits.min(MOST_BITS as u64) as u32).div_ceil(32)
     }
 }
 
@@ -62,7 +63,7 @@ pub(crate) fn is_outside(n: u32, greatest: u32) -> bool
 fn is_unfit(empty: bool, bits: u64, height: u64) -> bool
     ensures { result ≡ (empty || (nat_lt 1024 bits || nat_lt 100 height)) }
 {
-    empty || bits > 1024 || height > 100
+    empty || bits > MOST_BITS as u64 || height > HIGHEST
 }
 
 // Of one bit field.
@@ -92,8 +93,8 @@ fn gap(n: u32) -> Shape
 }
 
 impl<'a> Checker<'a> {
-    ghost use Rattle.nv_types.specs.Standing.{Keeps};
-    ghost use Rattle.nv_types.specs.Texts.{ShapesLayout, ShapesWhole, ShapesField, ShapesFields};
+    ghost use Rattle.nv_types.specs.inner.Standing.{Keeps};
+    ghost use Rattle.nv_types.specs.inner.Texts.{ShapesLayout, ShapesWhole, ShapesField, ShapesFields};
 
     /// A declared or inner layout, whose faults lie at a span.
     #[cycle(layout)]
@@ -125,7 +126,7 @@ impl<'a> Checker<'a> {
                 None => Err(TypeError::Fault(3, span)),
             },
             LayoutText::Gap(n) => {
-                fault_where(is_outside(*n, 1024), 4, span)?;
+                fault_where(is_outside(*n, MOST_BITS), 4, span)?;
                 Ok(gap(*n))
             }
             LayoutText::Parts(fs) => self.parts_layout(span, fs),

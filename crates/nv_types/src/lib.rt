@@ -9,13 +9,12 @@ mod error;
 mod expressions;
 mod functions;
 mod layouts;
+mod limits;
 mod names;
 mod patterns;
 mod program;
 mod scope;
 mod table;
-#[cfg(test)]
-mod tests;
 mod texts;
 mod wanted;
 

@@ -2,7 +2,7 @@
 
 ghost use Rattle.std.specs.Prelude.{◌≡◌, IfOk};
 ghost use Rattle.nv_ast.specs.Tests.{has_twice};
-ghost use Rattle.nv_types.specs.Named.{plain_names};
+ghost use Rattle.nv_types.specs.inner.Named.{plain_names};
 
 use indexmap::IndexSet;
 use nv_ast::Name;

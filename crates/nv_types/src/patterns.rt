@@ -4,8 +4,8 @@ ghost use Rattle.std.specs.Prelude.{◌≡◌, ◌++◌, ◌==◌, OnOk};
 ghost use Rattle.nv_ast.specs.PatternView.{pattern_tree, list_patterns};
 ghost use Rattle.nv_ast.specs.Types.{Ty, Tys};
 ghost use Rattle.nv_ast.specs.Scope.{names_in, names_in_all, fits as fits_type, fits_all as fit_types, bind as bound_at, bind_all as all_bound_at, Vars};
-ghost use Rattle.nv_types.specs.Named.{plain_names};
-ghost use Rattle.nv_types.specs.Store.{IsType, IsParts, count_tys};
+ghost use Rattle.nv_types.specs.inner.Named.{plain_names};
+ghost use Rattle.nv_types.specs.inner.Store.{IsType, IsParts, count_tys};
 
 use crate::error::{TypeError, fault_where};
 use crate::functions::Checker;
@@ -89,8 +89,8 @@ pub(crate) fn has_length(table: &Table, types: usize, length: usize) -> bool
 }
 
 impl<'a> Checker<'a> {
-    ghost use Rattle.nv_types.specs.Standing.{Sees};
-    ghost use Rattle.nv_types.specs.Patterns.{Adds, BindsLet, BindsHandler};
+    ghost use Rattle.nv_types.specs.inner.Standing.{Sees};
+    ghost use Rattle.nv_types.specs.inner.Patterns.{Adds, BindsLet, BindsHandler};
 
     /// The pattern of a let at the type of its value.
     pub fn let_pattern(

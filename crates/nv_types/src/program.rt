@@ -1,20 +1,22 @@
 // Programs.
 
-ghost use Rattle.std.specs.Prelude.{◌≡◌, IfOk, IfErr, OnOk};
+ghost use Rattle.std.specs.Prelude.{◌≡◌, ◌<◌, ◌≤◌, ◌+◌, ◌*◌, ◌⊎◌, ℕ, IfOk, IfErr, OnOk, MatchResult};
+ghost use Rattle.nv_ast.specs.declared.token.Span.{Span as Place};
 ghost use Rattle.nv_ast.specs.ProgramView.{program_of};
 ghost use Rattle.nv_ast.specs.TypedView.{typed_program};
-ghost use Rattle.nv_ast.specs.Faults.{main_name, program_faults};
-ghost use Rattle.nv_types.specs.Answers.{IsRefusal, IsAccepted, IsSized, FindsMain};
-ghost use Rattle.nv_types.specs.Faulty.{Judges};
+ghost use Rattle.nv_ast.specs.Faults.{IsTyped, IsFault, main_name, program_faults};
+ghost use Rattle.nv_ast.specs.Sizes.{expanded_size, room as room_of};
+ghost use Rattle.nv_ast.specs.Accepted.{IsAccepted};
+ghost use Rattle.nv_types.specs.Refusals.{IsRefusal};
+ghost use Rattle.nv_types.specs.inner.Measuring.{IsSized, FindsMain};
+ghost use Rattle.nv_types.specs.inner.Faulty.{Judges};
 
 use crate::declarations::MAIN;
 use crate::error::TypeError;
 use crate::functions::Checker;
+use crate::limits::LARGEST;
 use nv_ast::{Name, Program, Span, Typed};
 use std::alloc::Global;
-
-/// The greatest expanded size of a program that is accepted.
-const LARGEST: u32 = 4096;
 
 /// The program as a typed one, with its sizes.
 ///
@@ -23,7 +25,11 @@ const LARGEST: u32 = 4096;
 pub fn check(alloc: Global, p: Program) -> Result<Typed, TypeError>
     ensures typed { IfOk result (λ t. typed_program t ≡ program_of p) }
     ensures accepted { OnOk result (IsAccepted (program_of p)) }
+    ensures bounded { IfOk result (λ t. room_of (typed_program t) ≤ 5 * expanded_size (typed_program t) + 8) }
+    ensures only_accepted { IsAccepted (program_of p) → IfErr result (λ e. e ≡ TypeError.NoMemory) }
     ensures refused { IfErr result (IsRefusal (program_of p)) }
+    ensures only_fault { (kind : ℕ) (place : Place) → IsFault (program_of p) kind place → MatchResult result (λ _. ⊥) (λ e. (e ≡ TypeError.NoMemory) ⊎ (e ≡ TypeError.Fault kind place)) }
+    ensures only_too_large { IsTyped (program_of p) → 4096 < expanded_size (program_of p) → MatchResult result (λ _. ⊥) (λ e. (e ≡ TypeError.NoMemory) ⊎ (e ≡ TypeError.TooLarge (expanded_size (program_of p)))) }
 {
     let main = Name::new(alloc, &MAIN)?;
     let sizes = measure(alloc, &p, &main)?;
@@ -53,7 +59,7 @@ fn measure<'a>(alloc: Global, p: &'a Program, main: &'a Name) -> Result<Sizes, T
 }
 
 impl<'a> Checker<'a> {
-    ghost use Rattle.nv_types.specs.Answers.{Measures};
+    ghost use Rattle.nv_types.specs.inner.Measuring.{Measures};
 
     // From the start, the sizes of a program without a fault.
     fn sizes_of(&mut self, p: &'a Program, main: &'a Name) -> Result<Sizes, TypeError>

@@ -27,7 +27,7 @@ pub(crate) struct Scope<'a> {
 
 impl<'a> Model for Scope<'a> {
     ghost use Rattle.std.specs.Prelude.{List, ℕ};
-    ghost use Rattle.nv_types.specs.Stack.{bindings, IsScope};
+    ghost use Rattle.nv_types.specs.inner.Stack.{bindings, IsScope};
 
     ghost Value = { List (List ℕ × ℕ) };
 

@@ -5,11 +5,12 @@ ghost use Rattle.nv_ast.specs.Tests.{has_twice};
 ghost use Rattle.nv_ast.specs.Types.{Ty, TupleTy, RecordTy, Tys, ty_and, NamedTys, named_ty_and, Form, RecordForm, ChoiceForm, Forms, form_and, ◌+++◌, words_ty, word_parts, same_type, is_too_large, can_pack, can_pack_all, can_pack_one};
 ghost use Rattle.nv_ast.specs.Faults.{can_store};
 ghost use Rattle.nv_ast.specs.Typing.{field_ty};
-ghost use Rattle.nv_types.specs.Store.{Grows, IsType, IsParts, IsFields, IsForm, IsForms, IsValue, IsStore, tuple_of, record_in, part_of, field_of, AreTypes, AreFields, AreForms, AreCells, AreNamed, AreSeen, form_names, field_names, fields_then};
-ghost use Rattle.nv_types.specs.Knowing.{IsKnown, AreKnown, ArePacked};
-ghost use Rattle.nv_types.specs.Named.{named};
-ghost use Rattle.nv_types.specs.Cells.{AreBelow, over, with_front, fact_at as fact_in, cell_facts as facts_of_cell};
+ghost use Rattle.nv_types.specs.inner.Store.{Grows, IsType, IsParts, IsFields, IsForm, IsForms, IsValue, IsStore, tuple_of, record_in, part_of, field_of, AreTypes, AreFields, AreForms, AreCells, AreNamed, AreSeen, form_names, field_names, fields_then};
+ghost use Rattle.nv_types.specs.inner.Knowing.{IsKnown, AreKnown, ArePacked};
+ghost use Rattle.nv_types.specs.inner.Named.{named};
+ghost use Rattle.nv_types.specs.inner.Cells.{AreBelow, over, with_front, fact_at as fact_in, cell_facts as facts_of_cell};
 
+use crate::limits::{HIGHEST, MOST_WORDS};
 use indexmap::IndexSet;
 use nv_ast::Name;
 use nv_base::NoMemory;
@@ -87,9 +88,9 @@ pub(crate) struct Table<'a> {
 }
 
 impl<'a> Model for Table<'a> {
-    ghost use Rattle.nv_types.specs.Named.{plain_names};
-    ghost use Rattle.nv_types.specs.Store.{Store};
-    ghost use Rattle.nv_types.specs.Cells.{IsTable};
+    ghost use Rattle.nv_types.specs.inner.Named.{plain_names};
+    ghost use Rattle.nv_types.specs.inner.Store.{Store};
+    ghost use Rattle.nv_types.specs.inner.Cells.{IsTable};
 
     ghost Value = { Store };
 
@@ -309,7 +310,7 @@ impl<'a> Table<'a> {
         ensures { (u : Ty) → IsType self.now t u → result ≡ is_too_large u }
     {
         let facts = self.known(t);
-        facts.words > 1024 || facts.height > 100
+        facts.words > MOST_WORDS as u64 || facts.height > HIGHEST
     }
 
     /// The parts of a tuple's type.

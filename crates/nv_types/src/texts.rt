@@ -5,21 +5,22 @@ ghost use Rattle.nv_ast.specs.TypeView.{type_tree, list_types, list_named_types}
 ghost use Rattle.nv_ast.specs.Tree.{PackedType, UnpackedType};
 ghost use Rattle.nv_ast.specs.Types.{Ty, NamedTys, RecordTy};
 ghost use Rattle.nv_ast.specs.Faults.{at_span, variable_twice, twice_in_type, too_large};
-ghost use Rattle.nv_types.specs.Faulty.{Judges};
-ghost use Rattle.nv_types.specs.Named.{named, plain_names};
-ghost use Rattle.nv_types.specs.Store.{IsType, AreFields, field_names};
+ghost use Rattle.nv_types.specs.inner.Faulty.{Judges};
+ghost use Rattle.nv_types.specs.inner.Named.{named, plain_names};
+ghost use Rattle.nv_types.specs.inner.Store.{IsType, AreFields, field_names};
 
 use crate::error::{TypeError, fault_where};
 use crate::functions::Checker;
 use crate::layouts::is_outside;
+use crate::limits::MOST_WORDS;
 use crate::names::has_repeats;
 use crate::table::BOOL;
 use nv_ast::{Name, Span, TyText};
 
 impl<'a> Checker<'a> {
     ghost use Rattle.std.specs.Prelude.{◌++◌};
-    ghost use Rattle.nv_types.specs.Standing.{Keeps};
-    ghost use Rattle.nv_types.specs.Texts.{TypesText, TypesTexts, TypesNamed};
+    ghost use Rattle.nv_types.specs.inner.Standing.{Keeps};
+    ghost use Rattle.nv_types.specs.inner.Texts.{TypesText, TypesTexts, TypesNamed};
 
     /// The type of a type text, whose faults lie at a span.
     #[cycle(type_text)]
@@ -28,7 +29,7 @@ impl<'a> Checker<'a> {
     {
         match text {
             TyText::Word(n) => {
-                fault_where(is_outside(*n, 1024), 8, span)?;
+                fault_where(is_outside(*n, MOST_WORDS), 8, span)?;
                 Ok(self.table.words(*n)?)
             }
             TyText::Bool => Ok(BOOL),

@@ -3,8 +3,8 @@
 ghost use Rattle.std.specs.Prelude.{◌≡◌, IfOk, Option};
 ghost use Rattle.nv_ast.specs.Types.{Ty, words_ty};
 ghost use Rattle.nv_ast.specs.Faults.{Wanted as WantedTree, same_as as same_as_type};
-ghost use Rattle.nv_types.specs.Store.{Store, IsType, IsValue};
-ghost use Rattle.nv_types.specs.Judging.{IsWanted};
+ghost use Rattle.nv_types.specs.inner.Store.{Store, IsType, IsValue};
+ghost use Rattle.nv_types.specs.inner.Judging.{IsWanted};
 
 use crate::table::Table;
 use nv_base::NoMemory;

@@ -3,8 +3,8 @@ use Rattle.std.proofs.Common.{◌≡◌, ◌≢◌, ℕ, ◌+◌, ◌<◌, ◌�
 use Rattle.std.specs.Cmp.Lexicographic.{pointwise}
 use Rattle.uc_asm.specs.Text.{Item, label, plain, jump, count}
 use Rattle.uc_asm.specs.Labels.{Stands, IsAt, IsDeclared, IsInstruction}
-use Rattle.uc_asm.specs.First.{first_declared, or_else}
-use Rattle.uc_asm.specs.Seen.{seen, all_seen}
+use Rattle.uc_asm.specs.inner.First.{first_declared, or_else}
+use Rattle.uc_asm.specs.inner.Seen.{seen, all_seen}
 use Rattle.uc_asm.specs.declared.labels.Declared.{Declared}
 use Rattle.uc_asm.specs.declared.line.Item.{Item as ReadItem}
 use Rattle.uc_asm.proofs.LabelLemmas.{bytes-tell, or_else-assoc}

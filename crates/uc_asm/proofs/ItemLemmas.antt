@@ -6,7 +6,7 @@ use Rattle.uc_isa.specs.declared.instruction.Instr.{Instr}
 use Rattle.uc_isa.specs.declared.instruction.Instr.TheVariants.{Br}
 use Rattle.uc_asm.specs.Words.{operands, words, condition_name, InRange}
 use Rattle.uc_asm.specs.Text.{Item as TheItem, IsName, IsItem, item_line}
-use Rattle.uc_asm.specs.Seen.{seen, IsBranch}
+use Rattle.uc_asm.specs.inner.Seen.{seen, IsBranch}
 use Rattle.uc_asm.specs.declared.line.Item.{Item}
 use Rattle.uc_asm.specs.declared.line.Item.TheVariants.{Label, Plain, Jump}
 use Rattle.uc_asm.proofs.LineLemmas.{from_parts, only-branch, no-item}

@@ -4,9 +4,9 @@ use Rattle.uc_isa.specs.declared.instruction.Instr.{Instr}
 use Rattle.uc_isa.specs.declared.instruction.Instr.TheVariants.{Br}
 use Rattle.uc_asm.specs.Text.{Item, label, plain, jump, count}
 use Rattle.uc_asm.specs.Labels.{Stands, IsAt, Misnames, AreNamed, FirstMisnamed, AreResolved, IsInstruction}
-use Rattle.uc_asm.specs.Resolving.{Gives, IsLineOf}
+use Rattle.uc_asm.specs.inner.Resolving.{Gives, IsLineOf}
 use Rattle.uc_asm.specs.declared.resolve.Resolved.TheVariants.{Instruction, Nothing}
-use Rattle.uc_asm.specs.Seen.{seen, all_seen}
+use Rattle.uc_asm.specs.inner.Seen.{seen, all_seen}
 use Rattle.uc_asm.specs.declared.line.Item.{Item as ReadItem}
 use Rattle.uc_asm.proofs.StandLemmas.{stands-alike, stands-before, declared-here, count-append, count-instruction, stands-at, length-front, take-more-seen}
 

@@ -2,8 +2,8 @@
 use Rattle.std.proofs.Common.{◌≡◌, ℕ, zero, suc, ◌+◌, ◌<◌, ◌≤◌, ◌⊎◌, inl, inr, List, [], ◌∷◌, ◌++◌, length, get_or, take, drop, refl, sym, ap, ◌∙◌, arith, length-append, add-one, length-take}
 use Rattle.uc_asm.specs.Text.{Item as TheItem, label, plain, jump, count}
 use Rattle.uc_asm.specs.Labels.{Stands, IsDeclared, IsInstruction}
-use Rattle.uc_asm.specs.Resolving.{IsLineOf}
-use Rattle.uc_asm.specs.Seen.{seen, all_seen}
+use Rattle.uc_asm.specs.inner.Resolving.{IsLineOf}
+use Rattle.uc_asm.specs.inner.Seen.{seen, all_seen}
 use Rattle.uc_asm.specs.declared.line.Item.{Item}
 
 pub none-stands : (front back : List TheItem) (item : TheItem) → ¬ Stands [] front item back

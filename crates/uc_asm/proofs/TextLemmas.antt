@@ -10,8 +10,8 @@ use Rattle.uc_isa.specs.declared.instruction.Instr.{Instr}
 use Rattle.uc_isa.specs.declared.instruction.Instr.TheVariants.{Alu, Un, Immed, Br, Read, Write, Halt}
 use Rattle.uc_asm.specs.Words.{words, InRange, condition_name}
 use Rattle.uc_asm.specs.Text.{Item, label, plain, jump, IsName, IsItem, AreItems, IsWhole, IsSyntaxError, Reads, item_line, params_line, count}
-use Rattle.uc_asm.specs.Reading.{HasItems}
-use Rattle.uc_asm.specs.Seen.{seen, all_seen}
+use Rattle.uc_asm.specs.inner.Reading.{HasItems}
+use Rattle.uc_asm.specs.inner.Seen.{seen, all_seen}
 use Rattle.uc_asm.specs.declared.line.Item.{Item as ReadItem}
 use Rattle.uc_asm.proofs.LineLemmas.{name-lacks, no-space, instruction-parts, jump-parts}
 use Rattle.uc_asm.proofs.LineFeeds.{items-lack, params-lacks}

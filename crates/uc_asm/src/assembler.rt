@@ -3,8 +3,8 @@ ghost use Rattle.std.specs.Prelude.{◌≡◌, ◌<◌, ◌≤◌, ◌^◌, ℕ,
 ghost use Rattle.uc_isa.specs.Code.{CodeView};
 ghost use Rattle.uc_asm.specs.Answer.{Answers, IsTrueError};
 ghost use Rattle.uc_asm.specs.Labels.{IsCodeOf, IsLabelError, IsUnlawfulError};
-ghost use Rattle.uc_asm.specs.Reading.{HasItems};
-ghost use Rattle.uc_asm.specs.Seen.{all_seen};
+ghost use Rattle.uc_asm.specs.inner.Reading.{HasItems};
+ghost use Rattle.uc_asm.specs.inner.Seen.{all_seen};
 ghost use Rattle.uc_asm.specs.Text.{IsSyntaxError, Reads, count};
 
 use crate::AsmError;

@@ -1,8 +1,8 @@
 //! Where the labels of a text are declared.
 ghost use Rattle.std.specs.Prelude.{◌≡◌, ◌<◌, ◌^◌, ℕ, List, length, nat_eq, IfOk, OnOk, None, Some, if◌then◌else◌};
 ghost use Rattle.std.specs.Cmp.Lexicographic.{pointwise};
-ghost use Rattle.uc_asm.specs.First.{NotesFirst, noted, or_else};
-ghost use Rattle.uc_asm.specs.Seen.{all_seen};
+ghost use Rattle.uc_asm.specs.inner.First.{NotesFirst, noted, or_else};
+ghost use Rattle.uc_asm.specs.inner.Seen.{all_seen};
 
 use crate::line::Item;
 use indexmap::IndexMap;

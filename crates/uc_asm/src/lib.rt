@@ -9,8 +9,6 @@ mod line;
 mod listing;
 mod part;
 mod resolve;
-#[cfg(test)]
-mod tests;
 
 pub use assembler::assemble;
 pub use error::AsmError;

@@ -3,7 +3,7 @@ ghost use Rattle.std.specs.Prelude.{◌≡◌, ◌≢◌, ◌<◌, ◌≤◌, �
 ghost use Rattle.uc_asm.specs.Words.{condition_name, operands, words, InRange};
 ghost use Rattle.uc_asm.specs.Text.{IsItem, IsLetter, IsName, IsNameByte, item_line, params_line, Item as TheItem};
 ghost use Rattle.uc_asm.specs.Labels.{IsInstruction};
-ghost use Rattle.uc_asm.specs.Seen.{seen};
+ghost use Rattle.uc_asm.specs.inner.Seen.{seen};
 ghost use Rattle.nv_base.specs.declared.term.Bin.{Bin};
 ghost use Rattle.nv_base.specs.declared.term.Mem.{Mem};
 ghost use Rattle.uc_isa.specs.declared.instruction.Src.{Src};
@@ -199,7 +199,7 @@ fn branch<'a>(parts: Parts<'a>) -> Option<Item<'a>>
     }
 }
 
-ghost use Rattle.uc_asm.specs.Seen.{IsBranch};
+ghost use Rattle.uc_asm.specs.inner.Seen.{IsBranch};
 
 // The operands of a memory instruction.
 #[derive(Clone, Copy)]

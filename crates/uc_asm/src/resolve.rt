@@ -1,9 +1,9 @@
 //! The instructions of items, each label in its place.
 ghost use Rattle.std.specs.Prelude.{◌≡◌, ◌+◌, ◌<◌, ◌^◌, List, length, IfOk, IfErr};
-ghost use Rattle.uc_asm.specs.First.{NotesFirst};
+ghost use Rattle.uc_asm.specs.inner.First.{NotesFirst};
 ghost use Rattle.uc_asm.specs.Labels.{AreNamed, AreResolved, Stands};
-ghost use Rattle.uc_asm.specs.Resolving.{Gives, IsNameError, IsLineOf};
-ghost use Rattle.uc_asm.specs.Seen.{all_seen, seen};
+ghost use Rattle.uc_asm.specs.inner.Resolving.{Gives, IsNameError, IsLineOf};
+ghost use Rattle.uc_asm.specs.inner.Seen.{all_seen, seen};
 ghost use Rattle.uc_asm.specs.Text.{Item as TheItem, count};
 
 use crate::AsmError;

@@ -13,3 +13,4 @@ pub mod PieceSteps
 pub mod RegisterLemmas
 pub mod Through
 pub mod Worked
+pub mod Comparisons

@@ -6,6 +6,10 @@ use Rattle.uc_isa.specs.declared.instruction.Src.{Src}
 use Rattle.uc_isa.specs.declared.instruction.Src.TheVariants as src
 use Rattle.uc_isa.specs.declared.instruction.Dst.{Dst}
 use Rattle.uc_isa.specs.declared.instruction.Dst.TheVariants as dst
+use Rattle.nv_base.specs.declared.term.Cmp.{Cmp}
+use Rattle.nv_base.specs.declared.term.Cmp.TheVariants.{Eq, Ne, Lt, Ge}
+use Rattle.uc_isa.specs.declared.instruction.Cond.{Cond}
+use Rattle.uc_isa.specs.declared.instruction.Cond.TheVariants.{Z, NZ, C, NC}
 use Rattle.uc_isa.specs.declared.instruction.Gpr.{Gpr}
 use Rattle.uc_isa.specs.declared.instruction.Gpr.TheVariants as gpr
 use Rattle.uc_isa.specs.declared.engine.Engine.{Engine}
@@ -81,3 +85,10 @@ pub record Fills (m : Mem) (r : ℕ) (words : List ℕ) (e e' : Engine) : Type 0
   pub run : (i : ℕ) → i < length words → register (read_register m (r + i)) e' ≡ slice_index words i
   pub others : (x : Register) → ((i : ℕ) → i < length words → ¬ (x ≡ read_register m (r + i))) → register x e' ≡ register x e
   pub next : e'.place ≡ e.place + 1
+
+-- the condition, after a difference that sets the flags, of a branch that is taken where a comparison fails
+abbrev pub failing : Cmp → Cond
+failing Eq = NZ
+failing Ne = Z
+failing Lt = C
+failing Ge = NC

@@ -14,6 +14,3 @@ pub use engine::{Engine, Stepped, step};
 pub use instruction::{Cond, Dst, Gpr, Instr, Src, UnOp};
 pub use registers::{RegA, RegB, RegL, RegLD, RegS, RegSD};
 pub use rules::{broken, lint};
-
-#[cfg(test)]
-mod tests;

@@ -1,18 +1,19 @@
 //! Laws of runs through pieces of code, by which emitted code is shown to do what it should: each is the contract of
 //! a function that does nothing.
-ghost use Rattle.std.specs.Prelude.{◌≡◌, ◌+◌, ◌<◌, ◌≤◌, ◌⊎◌, ℕ, Bool, true, false, List, [], ◌∷◌, ◌++◌, Some, None, length, take, drop, slice_get, slice_index};
+ghost use Rattle.std.specs.Prelude.{◌≡◌, ◌+◌, ◌<◌, ◌≤◌, ◌⊎◌, ℕ, Bool, true, false, not, List, [], ◌∷◌, ◌++◌, Some, None, length, take, drop, slice_get, slice_index};
 ghost use Rattle.nv_base.specs.Meanings.{FullOutcome};
 ghost use Rattle.nv_base.specs.Memories.{HasSizes, Memories, fetched, stored};
-ghost use Rattle.nv_base.specs.Words.{bin_word, shifted_left};
+ghost use Rattle.nv_base.specs.Words.{IsWord, bin_word, compares, shifted_left};
 ghost use Rattle.nv_base.specs.declared.outcome.Outcome.{Outcome};
 ghost use Rattle.nv_base.specs.declared.outcome.Write.{Write};
 ghost use Rattle.nv_base.specs.declared.term.Bin.{Bin};
+ghost use Rattle.nv_base.specs.declared.term.Cmp.{Cmp};
 ghost use Rattle.nv_base.specs.declared.term.Mem.{Mem};
 ghost use Rattle.uc_isa.specs.Agrees.{KeepsToItsWords, scratch_access};
 ghost use Rattle.uc_isa.specs.Engine.{IsEngine, halted, start};
 ghost use Rattle.uc_isa.specs.Lawful.{IsLawful};
 ghost use Rattle.uc_isa.specs.Pieces.{EndsIn, IsCovered, KeepsAfter, KeepsAt, Leads, Moment, SeenAlike, WritesOwn, run_from};
-ghost use Rattle.uc_isa.specs.Registers.{Fills, Puts, address_register, register, source_register, write_register};
+ghost use Rattle.uc_isa.specs.Registers.{Fills, Puts, address_register, failing, register, source_register, write_register};
 ghost use Rattle.uc_isa.specs.Registers.Register.{InA, InB};
 ghost use Rattle.uc_isa.specs.Step.{address, bin_carry, holds, onward, operand, step, un_word, with_flags, with_read, with_result, write_registers};
 ghost use Rattle.uc_isa.specs.Straight.{going, went};
@@ -116,4 +117,9 @@ pub fn runs_of_registers_are_words()
     ensures halted { (ws : List ℕ) (e : Engine) → IsEngine e → length ws ≤ 16 → ((i : ℕ) → i < length ws → register (InA i) e ≡ slice_index ws i) → take (length ws) e.a ≡ ws }
     ensures arguments { (args : List ℕ) (base i : ℕ) → i < length args → register (InA i) (start args base) ≡ slice_index args i }
     ensures base { (args : List ℕ) (base : ℕ) → register (InB 15) (start args base) ≡ base }
+{}
+
+/// After the difference of two words a branch tells whether they compare so: it is taken where they don't.
+pub fn comparisons_are_flags()
+    ensures { (cmp : Cmp) (x y : ℕ) (e : Engine) → IsWord x → IsWord y → holds (failing cmp) (onward (with_flags (bin_word Bin.Sub x y) (bin_carry Bin.Sub x y) e)) ≡ not (compares cmp x y) }
 {}

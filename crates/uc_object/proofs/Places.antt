@@ -12,8 +12,8 @@ use Rattle.uc_isa.specs.declared.instruction.Instr.{Instr}
 use Rattle.uc_object.specs.declared.column.Column.{Column}
 use Rattle.uc_object.specs.declared.column.Column.TheVariants.{Between}
 use Rattle.uc_object.specs.Object.{IsRow, AreRows, IsObject, BeginsObject, IsBadPlace, header_of}
-use Rattle.uc_object.specs.Header.{HasHeader}
-use Rattle.uc_object.specs.Columns.{Allows, Fit, IsFault, IsRowFault, IsHeaderFault, header_columns, only, any}
+use Rattle.uc_object.specs.inner.Header.{HasHeader}
+use Rattle.uc_object.specs.inner.Columns.{Allows, Fit, IsFault, IsRowFault, IsHeaderFault, header_columns, only, any}
 use Rattle.uc_object.proofs.Faults.{AllowFillers, fillers, fault-filled, filled-length, fault-within, fault-refuses, fault-misfits, fault-front, fit-front, fit-more, fit-append, fit-length}
 use Rattle.uc_object.proofs.Fitting.{FitsRow, fit-row}
 use Rattle.uc_object.proofs.Single.{instruction_of}

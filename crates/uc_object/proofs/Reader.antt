@@ -16,7 +16,7 @@ use Rattle.uc_isa.specs.declared.instruction.UnOp.TheVariants.{Copy, Not, Shl, S
 use Rattle.uc_isa.specs.declared.instruction.Cond.{Cond}
 use Rattle.uc_isa.specs.declared.instruction.Cond.TheVariants.{Always, Z, NZ, C, NC}
 use Rattle.uc_object.specs.Object.{IsSource, IsTarget, IsAddress, number_of_binary, number_of_unary, number_of_condition, number_of_memory, shift_count}
-use Rattle.uc_object.specs.Columns.{Allows}
+use Rattle.uc_object.specs.inner.Columns.{Allows}
 use Rattle.uc_object.specs.declared.column.Column.TheVariants.{Source, Target}
 
 -- the operand of a byte

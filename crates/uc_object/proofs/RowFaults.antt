@@ -5,7 +5,7 @@ use Rattle.uc_isa.specs.declared.instruction.Instr.{Instr}
 use Rattle.uc_object.specs.declared.column.Column.{Column}
 use Rattle.uc_object.specs.declared.column.Column.TheVariants.{Between, Source, Target}
 use Rattle.uc_object.specs.Object.{IsRow}
-use Rattle.uc_object.specs.Columns.{Allows, Fit, IsFault, IsRowFault, row_columns, only, any}
+use Rattle.uc_object.specs.inner.Columns.{Allows, Fit, IsFault, IsRowFault, row_columns, only, any}
 use Rattle.uc_object.proofs.Faults.{AllowFillers, fillers, fault-filled, filled-length, fault-within, fault-refuses, fault-front, fit-front, fit-more, row_columns-length}
 use Rattle.uc_object.proofs.Fitting.{FitsRow, row-fits, fit-row}
 use Rattle.uc_object.proofs.Single.{instruction_of}

@@ -1,4 +1,3 @@
 pub mod Object
 pub mod Worked
-pub mod Columns
-pub mod Header
+pub mod inner

@@ -1,6 +1,6 @@
 // Which bytes may stand at each place of an object.
 ghost use Rattle.std.specs.Prelude.{◌≡◌, ◌↔◌, IsTrue, IfSome, IfNone};
-ghost use Rattle.uc_object.specs.Columns.{Allows, Fit, IsFault, row_columns as columns_of_row, header_columns as columns_of_header};
+ghost use Rattle.uc_object.specs.inner.Columns.{Allows, Fit, IsFault, row_columns as columns_of_row, header_columns as columns_of_header};
 
 use Column::{Between, Source, Target};
 

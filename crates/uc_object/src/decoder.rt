@@ -2,8 +2,8 @@
 ghost use Rattle.std.specs.Prelude.{◌≡◌, ◌<◌, ◌≤◌, ◌+◌, ◌^◌, ◌⊎◌, ℕ, length, take, drop, slice_index, IfOk, IfErr, Ok, Err};
 ghost use Rattle.uc_isa.specs.Code.{CodeView};
 ghost use Rattle.uc_object.specs.Object.{IsObject, IsBadPlace, IsRow};
-ghost use Rattle.uc_object.specs.Columns.{IsRowFault};
-ghost use Rattle.uc_object.specs.Header.{HasHeader};
+ghost use Rattle.uc_object.specs.inner.Columns.{IsRowFault};
+ghost use Rattle.uc_object.specs.inner.Header.{HasHeader};
 
 use crate::ObjectError;
 use crate::column::{first_fault, header_columns, row_columns};

@@ -1,7 +1,7 @@
 // The parts of an instruction, from bytes that may stand in their places.
 ghost use Rattle.std.specs.Prelude.{◌≡◌, ◌<◌, ◌≤◌, slice_index};
 ghost use Rattle.uc_object.specs.Object.{IsRow, IsSource, IsTarget, IsAddress, number_of_binary, number_of_unary, number_of_condition, number_of_memory, shift_count};
-ghost use Rattle.uc_object.specs.Columns.{Allows, Fit, row_columns};
+ghost use Rattle.uc_object.specs.inner.Columns.{Allows, Fit, row_columns};
 
 use crate::column::Column;
 use nv_base::{Bin, Mem};

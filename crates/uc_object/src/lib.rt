@@ -8,8 +8,6 @@ mod encoder;
 mod error;
 mod field;
 pub mod laws;
-#[cfg(test)]
-mod tests;
 
 pub use decoder::decode;
 pub use encoder::encode;

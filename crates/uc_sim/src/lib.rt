@@ -59,6 +59,3 @@ pub fn simulate(c: &Code, e: &mut Engine, p: &mut Packet, log: &mut WriteLog, n:
     }
     Outcome::Going
 }
-
-#[cfg(test)]
-mod tests;

@@ -11,4 +11,6 @@ loop-i-preserved c =
     names_more _ _ _ c.in-Some.x _ _ _ _ c.loop-i.invariant refl sum c.in_ok-push-in-Some.ensures.items c.in_ok-push-in-Some-2.ensures.items
 
 pub returns : goal.returns
-returns c = (refl, names_all _ _ _ c.loop-i.params c.loop-i.words c.loop-i.invariant (omega (arith, c.loop-i-test.false, c.loop-i.auto.i-end)))
+returns c =
+    let all = names_all c.args.first c.loop-i.i c.args.count c.loop-i.params c.loop-i.words c.loop-i.invariant (omega (arith, c.loop-i-test.false, c.loop-i.auto.i-end)) in
+    (refl, all.0, all.1)

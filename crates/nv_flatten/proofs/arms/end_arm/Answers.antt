@@ -2,7 +2,7 @@ use Rattle.std.proofs.Common.{◌∙◌, sym, ap}
 use Rattle.nv_ast.specs.ExprView.{tree_of}
 use Rattle.nv_ast.specs.Tree.{BinaryTree}
 use Rattle.nv_ast.specs.declared.tree.Expr.{out-Expr}
-use Rattle.nv_meaning.proofs.TreeKinds.{paren-is, binary-is, call-is, raise-is, if-is, try-is, block-is}
+use Rattle.nv_ast.proofs.TreeKinds.{paren-is, binary-is, call-is, raise-is, if-is, try-is, block-is}
 use Rattle.nv_flatten.proofs.Ways.{both-op, either-op}
 use Rattle.nv_flatten.proofs.arms.end_arm.Goals as goal
 

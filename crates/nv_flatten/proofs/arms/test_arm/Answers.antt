@@ -1,6 +1,6 @@
 use Rattle.std.proofs.Common.{sym}
 use Rattle.nv_ast.specs.declared.tree.Expr.{out-Expr}
-use Rattle.nv_meaning.proofs.TreeKinds.{paren-is, negate-is, binary-is}
+use Rattle.nv_ast.proofs.TreeKinds.{paren-is, negate-is, binary-is}
 use Rattle.nv_flatten.proofs.arms.test_arm.Goals as goal
 
 pub returns-in-Paren : goal.returns-in-Paren

@@ -1,6 +1,6 @@
 use Rattle.std.proofs.Common.{sym}
 use Rattle.nv_ast.specs.declared.tree.Expr.{out-Expr}
-use Rattle.nv_meaning.proofs.TreeKinds.{number-is, truth-is, variable-is, paren-is, tuple-is, record-is, dot-is, invert-is, negate-is, shift-is, binary-is, unpack-is, pack-is, fetch-is, block-is}
+use Rattle.nv_ast.proofs.TreeKinds.{number-is, truth-is, variable-is, paren-is, tuple-is, record-is, dot-is, invert-is, negate-is, shift-is, binary-is, unpack-is, pack-is, fetch-is, block-is}
 use Rattle.nv_flatten.proofs.arms.value_arm.Goals as goal
 
 pub returns-in-Number : goal.returns-in-Number

@@ -5,13 +5,14 @@ use Rattle.nv_ast.specs.Types.{words, total_named_words, unpacked, unpacked_all,
 use Rattle.nv_ast.proofs.Reading.{parts_is, joined_is, overlay_is}
 use Rattle.nv_meaning.specs.inner.TableView.{declared_in}
 use Rattle.nv_meaning.specs.inner.Tables.{layout_pairs}
-use Rattle.nv_meaning.proofs.Lists.{dropped, dropped-all}
+use Rattle.nv_meaning.proofs.Lists.{dropped-all}
 use Rattle.nv_meaning.proofs.Unpacking.{alias-low, highest_named_within, highest_within}
 use Rattle.nv_flatten.specs.inner.Fields.{◌++_symbols◌}
 use Rattle.nv_flatten.specs.inner.Symbols.{Record, fresh, named_fresh, numbers_from}
 use Rattle.nv_flatten.specs.inner.View.{list_named_symbols}
 use Rattle.nv_flatten.proofs.Listing.{record-view, numbers-turn, fields-turn, fields-done, fields-same, joined-turn, tys_then, unpacked-then, words-then, layout-form}
 use Rattle.nv_flatten.proofs.forms.+layouts.Goals as goal
+use Rattle.nv_ast.proofs.Items.{next_item}
 
 pub add_layout-add_parts-requires : goal.add_layout-add_parts-requires
 add_layout-add_parts-requires t c =
@@ -70,7 +71,7 @@ add_layout-returns-in-Joined-clause-made t c =
 
 pub add_joined-loop-l-preserved : goal.add_joined-loop-l-preserved
 add_joined-loop-l-preserved t c =
-    let e : (unpacked_all (joined_forms (outlines (take c.args.limit (declared_in c.args.t.now).layouts) (list_layouts (drop c.loop-l.l-index c.args.ls.now))))) ≡ tys_then (unpacked_all (record_forms (outline (take c.args.limit (declared_in c.args.t.now).layouts) (layout_tree c.l-item.result)))) (unpacked_all (joined_forms (outlines (take c.args.limit (declared_in c.args.t.now).layouts) (list_layouts (drop (c.loop-l.l-index + 1) c.args.ls.now))))) = ap (λ ls. unpacked_all (joined_forms (outlines (take c.args.limit (declared_in c.args.t.now).layouts) (list_layouts ls)))) (dropped c.args.ls.now c.loop-l.l-index c.l-item.result c.loop-l-test.true c.l-item.is) ∙ unpacked-then (record_forms (outline (take c.args.limit (declared_in c.args.t.now).layouts) (layout_tree c.l-item.result))) (joined_forms (outlines (take c.args.limit (declared_in c.args.t.now).layouts) (list_layouts (drop (c.loop-l.l-index + 1) c.args.ls.now)))) in
+    let e : (unpacked_all (joined_forms (outlines (take c.args.limit (declared_in c.args.t.now).layouts) (list_layouts (drop c.loop-l.l-index c.args.ls.now))))) ≡ tys_then (unpacked_all (record_forms (outline (take c.args.limit (declared_in c.args.t.now).layouts) (layout_tree c.l-item.result)))) (unpacked_all (joined_forms (outlines (take c.args.limit (declared_in c.args.t.now).layouts) (list_layouts (drop (c.loop-l.l-index + 1) c.args.ls.now))))) = ap (λ ls. unpacked_all (joined_forms (outlines (take c.args.limit (declared_in c.args.t.now).layouts) (list_layouts ls)))) (next_item c.args.ls.now c.loop-l.l-index c.l-item.result c.loop-l-test.true c.l-item.is) ∙ unpacked-then (record_forms (outline (take c.args.limit (declared_in c.args.t.now).layouts) (layout_tree c.l-item.result))) (joined_forms (outlines (take c.args.limit (declared_in c.args.t.now).layouts) (list_layouts (drop (c.loop-l.l-index + 1) c.args.ls.now)))) in
     let w : total_named_words (unpacked_all (joined_forms (outlines (take c.args.limit (declared_in c.args.t.now).layouts) (list_layouts (drop c.loop-l.l-index c.args.ls.now))))) ≡ total_named_words (unpacked_all (record_forms (outline (take c.args.limit (declared_in c.args.t.now).layouts) (layout_tree c.l-item.result)))) + total_named_words (unpacked_all (joined_forms (outlines (take c.args.limit (declared_in c.args.t.now).layouts) (list_layouts (drop (c.loop-l.l-index + 1) c.args.ls.now))))) = ap total_named_words e ∙ words-then (unpacked_all (record_forms (outline (take c.args.limit (declared_in c.args.t.now).layouts) (layout_tree c.l-item.result)))) (unpacked_all (joined_forms (outlines (take c.args.limit (declared_in c.args.t.now).layouts) (list_layouts (drop (c.loop-l.l-index + 1) c.args.ls.now))))) in
     record {
       fields = joined-turn c.loop-l.next c.add_layout.new.next (unpacked_all (record_forms (outline (take c.args.limit (declared_in c.args.t.now).layouts) (layout_tree c.l-item.result)))) (unpacked_all (joined_forms (outlines (take c.args.limit (declared_in c.args.t.now).layouts) (list_layouts (drop (c.loop-l.l-index + 1) c.args.ls.now))))) (unpacked_all (joined_forms (outlines (take c.args.limit (declared_in c.args.t.now).layouts) (list_layouts (drop c.loop-l.l-index c.args.ls.now))))) c.loop-l.fields.items c.add_layout.new.fields.items _ e c.in_ok-add_layout.ensures.fields c.in_ok-add_layout.ensures.next c.loop-l.invariant.fields;
@@ -85,9 +86,9 @@ add_joined-returns-clause-fields t c =
 
 pub add_parts-loop-f-preserved : goal.add_parts-loop-f-preserved
 add_parts-loop-f-preserved t c =
-    let w : total_named_words (unpacked_all (forms_of (field_outlines (take c.args.limit (declared_in c.args.t.now).layouts) (list_fields (drop c.loop-f.f-index c.args.fs.now))))) ≡ words (unpacked (form_of (field_outline (take c.args.limit (declared_in c.args.t.now).layouts) (field_tree c.f-item.result.1)))) + total_named_words (unpacked_all (forms_of (field_outlines (take c.args.limit (declared_in c.args.t.now).layouts) (list_fields (drop (c.loop-f.f-index + 1) c.args.fs.now))))) = ap (λ fs. total_named_words (unpacked_all (forms_of (field_outlines (take c.args.limit (declared_in c.args.t.now).layouts) (list_fields fs))))) (dropped c.args.fs.now c.loop-f.f-index c.f-item.result c.loop-f-test.true c.f-item.is) in
+    let w : total_named_words (unpacked_all (forms_of (field_outlines (take c.args.limit (declared_in c.args.t.now).layouts) (list_fields (drop c.loop-f.f-index c.args.fs.now))))) ≡ words (unpacked (form_of (field_outline (take c.args.limit (declared_in c.args.t.now).layouts) (field_tree c.f-item.result.1)))) + total_named_words (unpacked_all (forms_of (field_outlines (take c.args.limit (declared_in c.args.t.now).layouts) (list_fields (drop (c.loop-f.f-index + 1) c.args.fs.now))))) = ap (λ fs. total_named_words (unpacked_all (forms_of (field_outlines (take c.args.limit (declared_in c.args.t.now).layouts) (list_fields fs))))) (next_item c.args.fs.now c.loop-f.f-index c.f-item.result c.loop-f-test.true c.f-item.is) in
     record {
-      fields = fields-turn c.loop-f.next c.of_field.new.next c.f-item.result.0 (unpacked (form_of (field_outline (take c.args.limit (declared_in c.args.t.now).layouts) (field_tree c.f-item.result.1)))) (unpacked_all (forms_of (field_outlines (take c.args.limit (declared_in c.args.t.now).layouts) (list_fields (drop (c.loop-f.f-index + 1) c.args.fs.now))))) (unpacked_all (forms_of (field_outlines (take c.args.limit (declared_in c.args.t.now).layouts) (list_fields (drop c.loop-f.f-index c.args.fs.now))))) c.loop-f.fields.items c.push.new.self.items _ _ (ap (λ fs. unpacked_all (forms_of (field_outlines (take c.args.limit (declared_in c.args.t.now).layouts) (list_fields fs)))) (dropped c.args.fs.now c.loop-f.f-index c.f-item.result c.loop-f-test.true c.f-item.is)) refl c.in_ok-of_field.ensures.symbol c.in_ok-of_field.ensures.next c.in_ok-push.ensures.items c.loop-f.invariant.fields;
+      fields = fields-turn c.loop-f.next c.of_field.new.next c.f-item.result.0 (unpacked (form_of (field_outline (take c.args.limit (declared_in c.args.t.now).layouts) (field_tree c.f-item.result.1)))) (unpacked_all (forms_of (field_outlines (take c.args.limit (declared_in c.args.t.now).layouts) (list_fields (drop (c.loop-f.f-index + 1) c.args.fs.now))))) (unpacked_all (forms_of (field_outlines (take c.args.limit (declared_in c.args.t.now).layouts) (list_fields (drop c.loop-f.f-index c.args.fs.now))))) c.loop-f.fields.items c.push.new.self.items _ _ (ap (λ fs. unpacked_all (forms_of (field_outlines (take c.args.limit (declared_in c.args.t.now).layouts) (list_fields fs)))) (next_item c.args.fs.now c.loop-f.f-index c.f-item.result c.loop-f-test.true c.f-item.is)) refl c.in_ok-of_field.ensures.symbol c.in_ok-of_field.ensures.next c.in_ok-push.ensures.items c.loop-f.invariant.fields;
       next = omega (arith, c.in_ok-of_field.ensures.next, c.loop-f.invariant.next, w);
       made = numbers-turn c.loop-f.made.items c.of_field.new.made.items _ c.loop-f.next c.of_field.new.next (words (unpacked (form_of (field_outline (take c.args.limit (declared_in c.args.t.now).layouts) (field_tree c.f-item.result.1))))) (total_named_words (unpacked_all (forms_of (field_outlines (take c.args.limit (declared_in c.args.t.now).layouts) (list_fields (drop (c.loop-f.f-index + 1) c.args.fs.now)))))) (total_named_words (unpacked_all (forms_of (field_outlines (take c.args.limit (declared_in c.args.t.now).layouts) (list_fields (drop c.loop-f.f-index c.args.fs.now)))))) c.in_ok-of_field.ensures.made c.in_ok-of_field.ensures.next w c.loop-f.invariant.made;
       later = omega (arith, c.in_ok-of_field.ensures.later, c.loop-f.invariant.later);

@@ -3,11 +3,12 @@ use Rattle.nv_ast.specs.Types.{type_of, types_of, named_types_of, words, total_w
 use Rattle.nv_ast.specs.TypeView.{type_tree, list_types, list_named_types}
 use Rattle.nv_ast.proofs.Reading.{tuple_type_is, record_type_is}
 use Rattle.nv_meaning.specs.inner.TableView.{declared_in}
-use Rattle.nv_meaning.proofs.Lists.{dropped, dropped-all}
+use Rattle.nv_meaning.proofs.Lists.{dropped-all}
 use Rattle.nv_flatten.specs.inner.Symbols.{Tuple, Record, fresh, all_fresh, named_fresh, numbers_from}
 use Rattle.nv_flatten.specs.inner.View.{view}
 use Rattle.nv_flatten.proofs.Listing.{tuple-view, record-view, numbers-turn, symbols-turn, symbols-done, fields-turn, fields-done}
 use Rattle.nv_flatten.proofs.forms.+types.Goals as goal
+use Rattle.nv_ast.proofs.Items.{next_item}
 
 pub of_type-returns-in-Word-clause-symbol : goal.of_type-returns-in-Word-clause-symbol
 of_type-returns-in-Word-clause-symbol t c =
@@ -71,9 +72,9 @@ of_type-returns-in_ok-of_fields-in-Fields-clause-made t c =
 
 pub of_types-loop-ty-preserved : goal.of_types-loop-ty-preserved
 of_types-loop-ty-preserved t c =
-    let w : total_words (types_of (declared_in c.args.t.now).layouts (list_types (drop c.loop-ty.ty-index c.args.tys.now))) ≡ words (type_of (declared_in c.args.t.now).layouts (type_tree c.ty-item.result)) + total_words (types_of (declared_in c.args.t.now).layouts (list_types (drop (c.loop-ty.ty-index + 1) c.args.tys.now))) = ap (λ l. total_words (types_of (declared_in c.args.t.now).layouts (list_types l))) (dropped c.args.tys.now c.loop-ty.ty-index c.ty-item.result c.loop-ty-test.true c.ty-item.is) in
+    let w : total_words (types_of (declared_in c.args.t.now).layouts (list_types (drop c.loop-ty.ty-index c.args.tys.now))) ≡ words (type_of (declared_in c.args.t.now).layouts (type_tree c.ty-item.result)) + total_words (types_of (declared_in c.args.t.now).layouts (list_types (drop (c.loop-ty.ty-index + 1) c.args.tys.now))) = ap (λ l. total_words (types_of (declared_in c.args.t.now).layouts (list_types l))) (next_item c.args.tys.now c.loop-ty.ty-index c.ty-item.result c.loop-ty-test.true c.ty-item.is) in
     record {
-      symbols = symbols-turn c.loop-ty.next c.of_type.new.next (type_of (declared_in c.args.t.now).layouts (type_tree c.ty-item.result)) (types_of (declared_in c.args.t.now).layouts (list_types (drop (c.loop-ty.ty-index + 1) c.args.tys.now))) (types_of (declared_in c.args.t.now).layouts (list_types (drop c.loop-ty.ty-index c.args.tys.now))) c.loop-ty.symbols.items c.push.new.self.items c.in_ok-of_type.field-0 _ (ap (λ l. types_of (declared_in c.args.t.now).layouts (list_types l)) (dropped c.args.tys.now c.loop-ty.ty-index c.ty-item.result c.loop-ty-test.true c.ty-item.is)) c.in_ok-of_type.ensures.symbol c.in_ok-of_type.ensures.next c.in_ok-push.ensures.items c.loop-ty.invariant.symbols;
+      symbols = symbols-turn c.loop-ty.next c.of_type.new.next (type_of (declared_in c.args.t.now).layouts (type_tree c.ty-item.result)) (types_of (declared_in c.args.t.now).layouts (list_types (drop (c.loop-ty.ty-index + 1) c.args.tys.now))) (types_of (declared_in c.args.t.now).layouts (list_types (drop c.loop-ty.ty-index c.args.tys.now))) c.loop-ty.symbols.items c.push.new.self.items c.in_ok-of_type.field-0 _ (ap (λ l. types_of (declared_in c.args.t.now).layouts (list_types l)) (next_item c.args.tys.now c.loop-ty.ty-index c.ty-item.result c.loop-ty-test.true c.ty-item.is)) c.in_ok-of_type.ensures.symbol c.in_ok-of_type.ensures.next c.in_ok-push.ensures.items c.loop-ty.invariant.symbols;
       next = omega (arith, c.in_ok-of_type.ensures.next, c.loop-ty.invariant.next, w);
       made = numbers-turn c.loop-ty.made.items c.of_type.new.made.items _ c.loop-ty.next c.of_type.new.next (words (type_of (declared_in c.args.t.now).layouts (type_tree c.ty-item.result))) (total_words (types_of (declared_in c.args.t.now).layouts (list_types (drop (c.loop-ty.ty-index + 1) c.args.tys.now)))) (total_words (types_of (declared_in c.args.t.now).layouts (list_types (drop c.loop-ty.ty-index c.args.tys.now)))) c.in_ok-of_type.ensures.made c.in_ok-of_type.ensures.next w c.loop-ty.invariant.made;
       later = omega (arith, c.in_ok-of_type.ensures.later, c.loop-ty.invariant.later);
@@ -85,9 +86,9 @@ of_types-returns-clause-symbols t c =
 
 pub of_fields-loop-ty-preserved : goal.of_fields-loop-ty-preserved
 of_fields-loop-ty-preserved t c =
-    let w : total_named_words (named_types_of (declared_in c.args.t.now).layouts (list_named_types (drop c.loop-ty.ty-index c.args.tys.now))) ≡ words (type_of (declared_in c.args.t.now).layouts (type_tree c.ty-item.result.1)) + total_named_words (named_types_of (declared_in c.args.t.now).layouts (list_named_types (drop (c.loop-ty.ty-index + 1) c.args.tys.now))) = ap (λ l. total_named_words (named_types_of (declared_in c.args.t.now).layouts (list_named_types l))) (dropped c.args.tys.now c.loop-ty.ty-index c.ty-item.result c.loop-ty-test.true c.ty-item.is) in
+    let w : total_named_words (named_types_of (declared_in c.args.t.now).layouts (list_named_types (drop c.loop-ty.ty-index c.args.tys.now))) ≡ words (type_of (declared_in c.args.t.now).layouts (type_tree c.ty-item.result.1)) + total_named_words (named_types_of (declared_in c.args.t.now).layouts (list_named_types (drop (c.loop-ty.ty-index + 1) c.args.tys.now))) = ap (λ l. total_named_words (named_types_of (declared_in c.args.t.now).layouts (list_named_types l))) (next_item c.args.tys.now c.loop-ty.ty-index c.ty-item.result c.loop-ty-test.true c.ty-item.is) in
     record {
-      symbols = fields-turn c.loop-ty.next c.of_type.new.next c.ty-item.result.0 (type_of (declared_in c.args.t.now).layouts (type_tree c.ty-item.result.1)) (named_types_of (declared_in c.args.t.now).layouts (list_named_types (drop (c.loop-ty.ty-index + 1) c.args.tys.now))) (named_types_of (declared_in c.args.t.now).layouts (list_named_types (drop c.loop-ty.ty-index c.args.tys.now))) c.loop-ty.fields.items c.push.new.self.items _ _ (ap (λ l. named_types_of (declared_in c.args.t.now).layouts (list_named_types l)) (dropped c.args.tys.now c.loop-ty.ty-index c.ty-item.result c.loop-ty-test.true c.ty-item.is)) refl c.in_ok-of_type.ensures.symbol c.in_ok-of_type.ensures.next c.in_ok-push.ensures.items c.loop-ty.invariant.symbols;
+      symbols = fields-turn c.loop-ty.next c.of_type.new.next c.ty-item.result.0 (type_of (declared_in c.args.t.now).layouts (type_tree c.ty-item.result.1)) (named_types_of (declared_in c.args.t.now).layouts (list_named_types (drop (c.loop-ty.ty-index + 1) c.args.tys.now))) (named_types_of (declared_in c.args.t.now).layouts (list_named_types (drop c.loop-ty.ty-index c.args.tys.now))) c.loop-ty.fields.items c.push.new.self.items _ _ (ap (λ l. named_types_of (declared_in c.args.t.now).layouts (list_named_types l)) (next_item c.args.tys.now c.loop-ty.ty-index c.ty-item.result c.loop-ty-test.true c.ty-item.is)) refl c.in_ok-of_type.ensures.symbol c.in_ok-of_type.ensures.next c.in_ok-push.ensures.items c.loop-ty.invariant.symbols;
       next = omega (arith, c.in_ok-of_type.ensures.next, c.loop-ty.invariant.next, w);
       made = numbers-turn c.loop-ty.made.items c.of_type.new.made.items _ c.loop-ty.next c.of_type.new.next (words (type_of (declared_in c.args.t.now).layouts (type_tree c.ty-item.result.1))) (total_named_words (named_types_of (declared_in c.args.t.now).layouts (list_named_types (drop (c.loop-ty.ty-index + 1) c.args.tys.now)))) (total_named_words (named_types_of (declared_in c.args.t.now).layouts (list_named_types (drop c.loop-ty.ty-index c.args.tys.now)))) c.in_ok-of_type.ensures.made c.in_ok-of_type.ensures.next w c.loop-ty.invariant.made;
       later = omega (arith, c.in_ok-of_type.ensures.later, c.loop-ty.invariant.later);

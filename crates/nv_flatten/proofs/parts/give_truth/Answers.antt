@@ -1,4 +1,4 @@
-use Rattle.std.proofs.Common.{◌≡◌, ℕ, Bool, true, false, if◌then◌else◌, List, [], ◌∷◌, ◌++◌, refl, ap, ◌∙◌}
+use Rattle.std.proofs.Common.{◌≡◌, ℕ, Bool, true, false, if◌then◌else◌, List, [], ◌∷◌, ◌++◌, refl, ap, ◌∙◌, rules}
 use Rattle.std.specs.Prelude.{Vec}
 use Rattle.std.specs.declared.alloc.Global.{Global}
 use Rattle.nv_base.specs.declared.term.Atom.{Atom}
@@ -21,10 +21,10 @@ truth-word : (b : Bool) → word (if b then 1 else 0) ≡ (if b then 1 else 0)
 truth-word true = refl
 truth-word false = refl
 
-given-truth : (bs : Vec Atom Global) (front : List Atom) (b : Bool) → front ≡ [] → bs.items ≡ front ++ Lit (if b then 1 else 0) ∷ []
+given-truth : (bs : Vec Atom Global) (front : List Atom) (v : ℕ) (b : Bool) → front ≡ [] → bs.items ≡ front ++ Lit v ∷ [] → v ≡ (if b then 1 else 0)
     → (call : Calls) (env : Env) (now : Running) → does call (Give bs) env now ≡ Gives ((if b then 1 else 0) ∷ []) now
-given-truth bs front b e h call env now =
-    ap (λ l. Gives (atom_words env l) now) (h ∙ ap (λ l. l ++ Lit (if b then 1 else 0) ∷ []) e) ∙ ap (λ k. Gives (k ∷ []) now) (truth-word b)
+given-truth bs front v b e h is call env now =
+    ap (λ l. Gives (atom_words env l) now) (h ∙ ap (λ l. l ++ Lit v ∷ []) e) ∙ ap (λ k. Gives (word k ∷ []) now) is ∙ ap (λ k. Gives (k ∷ []) now) (truth-word b)
 
 pub returns-clause-gives : goal.returns-clause-gives
-returns-clause-gives c = given-truth c.push.new.self _ c.args.b c.new-words.ensures.items c.in_ok-push.ensures.items
+returns-clause-gives c = given-truth c.push.new.self _ _ c.args.b c.new-words.ensures.items c.in_ok-push.ensures.items (search rules)

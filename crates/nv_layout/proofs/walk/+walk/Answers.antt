@@ -8,7 +8,8 @@ use Rattle.nv_ast.specs.Outline.{outline, field_outline}
 use Rattle.nv_ast.specs.LayoutFaults.{layout_faults, field_faults, fields_faults, layouts_faults}
 use Rattle.nv_ast.proofs.LayoutRows.{parts_text, joined_text, overlay_text, highest_field_within, highest_layout_within}
 use Rattle.nv_layout.specs.OutlineView.{layouts_of}
-use Rattle.nv_layout.specs.Shaping.{IsFirstOf, Shapes}
+use Rattle.nv_layout.specs.Shaping.{IsFirstOf}
+use Rattle.nv_layout.specs.inner.Shapes.{Shapes}
 use Rattle.nv_layout.proofs.Lists.{trees_of}
 use Rattle.nv_layout.proofs.Walks.{first_append, fields_faults_more, fields_first, fields_shaped, shaped_fields, shaped_fields_more, layouts_faults_more, layouts_first, layouts_shaped, shaped_layouts, shaped_layouts_more, parts_shaped, joined_shaped, overlay_shaped}
 use Rattle.nv_layout.proofs.walk.+walk.Goals as goal

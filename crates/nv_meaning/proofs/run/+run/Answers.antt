@@ -17,15 +17,17 @@ use Rattle.nv_meaning.specs.declared.stop.Step.TheVariants.{Done, Again}
 use Rattle.nv_meaning.specs.declared.stop.Stop.TheVariants.{NoMemory, Raised, Fault, Going}
 use Rattle.nv_meaning.proofs.Bindings.{extends-more}
 use Rattle.nv_meaning.proofs.Moments.{ran-here}
-use Rattle.nv_meaning.proofs.Lists.{dropped, dropped-all}
+use Rattle.nv_meaning.proofs.Lists.{dropped-all}
 use Rattle.nv_meaning.proofs.Arms.{Front, FrontNamed, in-scope, in-scope_value, of-tree, of-step, of-stop, settled-again, front-none, front-more, front-all, front-stop, front-short, named-none, named-more, named-all, named-stop, named-short, led-none, led-more, led-all, led-stop, let-stop, let-short, let-done, store-stop, store-stop_value, store-done, tuple-stop, tuple-done, again-stop, again-done, raise-stop, raise-done, record-stop, record-done}
 use Rattle.nv_meaning.proofs.Choices.{looked-up, restored, binary-stop, binary-decided, binary-stop_right, binary-done, choose-stop, choose-yes, choose-no, try-done, try-short, try-fault, try-going, try-other, try-handled, short-before, in-matched, block-stop, block-tail, store-scope, operand-stop, operand-made, jump-none, jump-more, jump-end, jump-none_left, jump-no_function, jump-short, entered-as}
-use Rattle.nv_meaning.proofs.TreeKinds.{number-is, truth-is, variable-is, paren-is, dot-is, invert-is, negate-is, shift-is, unpack-is, pack-is, fetch-is, binary-is, if-is, try-is, tuple-is, record-is, call-is, raise-is, block-is, let-is, store-is, of-operand}
+use Rattle.nv_ast.proofs.TreeKinds.{number-is, truth-is, variable-is, paren-is, dot-is, invert-is, negate-is, shift-is, unpack-is, pack-is, fetch-is, binary-is, if-is, try-is, tuple-is, record-is, call-is, raise-is, block-is, let-is, store-is}
+use Rattle.nv_meaning.proofs.TreeKinds.{of-operand}
 use Rattle.nv_meaning.specs.inner.Weight.{weight, weight_all, weight_named, weight_statement, weight_statements, span}
 use Rattle.nv_meaning.proofs.Falls.{falls, falls_all, falls_call, body-below, item-weight, item-weight_named, item-weight_statement}
 use Rattle.nv_meaning.proofs.Kept.{fewer, extends-nothing, extends-same, extends-from, kept-given, kept-then}
 use Rattle.nv_base.specs.Words.{word}
 use Rattle.nv_meaning.proofs.run.+run.Goals as goal
+use Rattle.nv_ast.proofs.Items.{next_item}
 
 word-same : (n : ℕ) → n < 2 ^ 32 → word n ≡ n
 word-same n h = omega arith
@@ -330,7 +332,7 @@ each-returns-in_err-vs t c = record {
 
 pub each-returns-in_err-settled : goal.each-returns-in_err-settled
 each-returns-in_err-settled t c = record {
-  ran = (let p = err_from_is_err_and c.from_residual-in_err-settled.result c.from_residual-in_err-settled.ensures.1 in rw (p.1, p.2) (front-stop (declared_in c.args.t.now) (scope_of c.args.scope.now.items []) c.args.es.now (at c.args.left.now c.args.p.now c.args.log.now) (at c.loop-e.left c.loop-e.p c.loop-e.log) (at c.settled.new.left c.settled.new.p c.settled.new.log) c.loop-e.vs.items (drop c.loop-e.e-index c.args.es.now) (drop (c.loop-e.e-index + 1) c.args.es.now) c.e-item.result _ (dropped c.args.es.now c.loop-e.e-index c.e-item.result (omega arith) c.e-item.is) c.loop-e.invariant.ran (in-scope_value (declared_in c.args.t.now) (at c.loop-e.left c.loop-e.p c.loop-e.log) (at c.settled.new.left c.settled.new.p c.settled.new.log) (Err c.in_err-settled.field-0.0) (tree_of c.e-item.result) c.loop-e.scope.items c.args.scope.now.items c.loop-e.invariant.same c.in_err-settled.ensures.ran)));
+  ran = (let p = err_from_is_err_and c.from_residual-in_err-settled.result c.from_residual-in_err-settled.ensures.1 in rw (p.1, p.2) (front-stop (declared_in c.args.t.now) (scope_of c.args.scope.now.items []) c.args.es.now (at c.args.left.now c.args.p.now c.args.log.now) (at c.loop-e.left c.loop-e.p c.loop-e.log) (at c.settled.new.left c.settled.new.p c.settled.new.log) c.loop-e.vs.items (drop c.loop-e.e-index c.args.es.now) (drop (c.loop-e.e-index + 1) c.args.es.now) c.e-item.result _ (next_item c.args.es.now c.loop-e.e-index c.e-item.result (omega arith) c.e-item.is) c.loop-e.invariant.ran (in-scope_value (declared_in c.args.t.now) (at c.loop-e.left c.loop-e.p c.loop-e.log) (at c.settled.new.left c.settled.new.p c.settled.new.log) (Err c.in_err-settled.field-0.0) (tree_of c.e-item.result) c.loop-e.scope.items c.args.scope.now.items c.loop-e.invariant.same c.in_err-settled.ensures.ran)));
   left = fewer c.settled.new.left c.loop-e.left c.args.left.now c.in_err-settled.ensures.left c.loop-e.invariant.left;
   extends = extends-from c.args.scope.now.items c.loop-e.scope.items c.settled.new.scope.items c.loop-e.invariant.same c.in_err-settled.ensures.extends;
   same = (let p = err_from_is_err_and c.from_residual-in_err-settled.result c.from_residual-in_err-settled.ensures.1 in rw p.1 tt);
@@ -338,7 +340,7 @@ each-returns-in_err-settled t c = record {
 
 pub each-returns-in_err-push : goal.each-returns-in_err-push
 each-returns-in_err-push t c = record {
-  ran = (let p = err_from_is_err_and c.from_residual-in_err-push.result c.from_residual-in_err-push.ensures.1 in rw (p.1, p.2) (front-short (declared_in c.args.t.now) (scope_of c.args.scope.now.items []) c.args.es.now (at c.args.left.now c.args.p.now c.args.log.now) (at c.settled.new.left c.settled.new.p c.settled.new.log) (c.loop-e.vs.items ++ c.in_ok-settled.field-0 ∷ []) (drop (c.loop-e.e-index + 1) c.args.es.now) (front-more (declared_in c.args.t.now) (scope_of c.args.scope.now.items []) c.args.es.now (at c.args.left.now c.args.p.now c.args.log.now) (at c.loop-e.left c.loop-e.p c.loop-e.log) (at c.settled.new.left c.settled.new.p c.settled.new.log) c.loop-e.vs.items (drop c.loop-e.e-index c.args.es.now) (drop (c.loop-e.e-index + 1) c.args.es.now) c.e-item.result c.in_ok-settled.field-0 (dropped c.args.es.now c.loop-e.e-index c.e-item.result (omega arith) c.e-item.is) c.loop-e.invariant.ran (in-scope_value (declared_in c.args.t.now) (at c.loop-e.left c.loop-e.p c.loop-e.log) (at c.settled.new.left c.settled.new.p c.settled.new.log) (Ok c.in_ok-settled.field-0) (tree_of c.e-item.result) c.loop-e.scope.items c.args.scope.now.items c.loop-e.invariant.same c.in_ok-settled.ensures.ran))));
+  ran = (let p = err_from_is_err_and c.from_residual-in_err-push.result c.from_residual-in_err-push.ensures.1 in rw (p.1, p.2) (front-short (declared_in c.args.t.now) (scope_of c.args.scope.now.items []) c.args.es.now (at c.args.left.now c.args.p.now c.args.log.now) (at c.settled.new.left c.settled.new.p c.settled.new.log) (c.loop-e.vs.items ++ c.in_ok-settled.field-0 ∷ []) (drop (c.loop-e.e-index + 1) c.args.es.now) (front-more (declared_in c.args.t.now) (scope_of c.args.scope.now.items []) c.args.es.now (at c.args.left.now c.args.p.now c.args.log.now) (at c.loop-e.left c.loop-e.p c.loop-e.log) (at c.settled.new.left c.settled.new.p c.settled.new.log) c.loop-e.vs.items (drop c.loop-e.e-index c.args.es.now) (drop (c.loop-e.e-index + 1) c.args.es.now) c.e-item.result c.in_ok-settled.field-0 (next_item c.args.es.now c.loop-e.e-index c.e-item.result (omega arith) c.e-item.is) c.loop-e.invariant.ran (in-scope_value (declared_in c.args.t.now) (at c.loop-e.left c.loop-e.p c.loop-e.log) (at c.settled.new.left c.settled.new.p c.settled.new.log) (Ok c.in_ok-settled.field-0) (tree_of c.e-item.result) c.loop-e.scope.items c.args.scope.now.items c.loop-e.invariant.same c.in_ok-settled.ensures.ran))));
   left = fewer c.settled.new.left c.loop-e.left c.args.left.now c.in_ok-settled.ensures.left c.loop-e.invariant.left;
   extends = extends-same c.args.scope.now.items c.settled.new.scope.items (c.in_ok-settled.ensures.same ∙ c.loop-e.invariant.same);
   same = (let p = err_from_is_err_and c.from_residual-in_err-push.result c.from_residual-in_err-push.ensures.1 in rw p.1 tt);
@@ -350,7 +352,7 @@ each-loop-e-init t c =
 
 pub each-loop-e-preserved : goal.each-loop-e-preserved
 each-loop-e-preserved t c =
-    record { ran = subst (λ l. Front (declared_in c.args.t.now) (scope_of c.args.scope.now.items []) c.args.es.now (at c.args.left.now c.args.p.now c.args.log.now) (at c.settled.new.left c.settled.new.p c.settled.new.log) l (drop (c.loop-e.e-index + 1) c.args.es.now)) (sym c.in_ok-push.ensures.items) (front-more (declared_in c.args.t.now) (scope_of c.args.scope.now.items []) c.args.es.now (at c.args.left.now c.args.p.now c.args.log.now) (at c.loop-e.left c.loop-e.p c.loop-e.log) (at c.settled.new.left c.settled.new.p c.settled.new.log) c.loop-e.vs.items (drop c.loop-e.e-index c.args.es.now) (drop (c.loop-e.e-index + 1) c.args.es.now) c.e-item.result c.in_ok-settled.field-0 (dropped c.args.es.now c.loop-e.e-index c.e-item.result (omega arith) c.e-item.is) c.loop-e.invariant.ran (in-scope_value (declared_in c.args.t.now) (at c.loop-e.left c.loop-e.p c.loop-e.log) (at c.settled.new.left c.settled.new.p c.settled.new.log) (Ok c.in_ok-settled.field-0) (tree_of c.e-item.result) c.loop-e.scope.items c.args.scope.now.items c.loop-e.invariant.same c.in_ok-settled.ensures.ran)); same = c.in_ok-settled.ensures.same ∙ c.loop-e.invariant.same; left = (let a : c.settled.new.left ≤ c.loop-e.left = c.in_ok-settled.ensures.left in let b : c.loop-e.left ≤ c.args.left.now = c.loop-e.invariant.left in omega arith) }
+    record { ran = subst (λ l. Front (declared_in c.args.t.now) (scope_of c.args.scope.now.items []) c.args.es.now (at c.args.left.now c.args.p.now c.args.log.now) (at c.settled.new.left c.settled.new.p c.settled.new.log) l (drop (c.loop-e.e-index + 1) c.args.es.now)) (sym c.in_ok-push.ensures.items) (front-more (declared_in c.args.t.now) (scope_of c.args.scope.now.items []) c.args.es.now (at c.args.left.now c.args.p.now c.args.log.now) (at c.loop-e.left c.loop-e.p c.loop-e.log) (at c.settled.new.left c.settled.new.p c.settled.new.log) c.loop-e.vs.items (drop c.loop-e.e-index c.args.es.now) (drop (c.loop-e.e-index + 1) c.args.es.now) c.e-item.result c.in_ok-settled.field-0 (next_item c.args.es.now c.loop-e.e-index c.e-item.result (omega arith) c.e-item.is) c.loop-e.invariant.ran (in-scope_value (declared_in c.args.t.now) (at c.loop-e.left c.loop-e.p c.loop-e.log) (at c.settled.new.left c.settled.new.p c.settled.new.log) (Ok c.in_ok-settled.field-0) (tree_of c.e-item.result) c.loop-e.scope.items c.args.scope.now.items c.loop-e.invariant.same c.in_ok-settled.ensures.ran)); same = c.in_ok-settled.ensures.same ∙ c.loop-e.invariant.same; left = (let a : c.settled.new.left ≤ c.loop-e.left = c.in_ok-settled.ensures.left in let b : c.loop-e.left ≤ c.args.left.now = c.loop-e.invariant.left in omega arith) }
 
 pub each-returns : goal.each-returns
 each-returns t c = record {
@@ -374,7 +376,7 @@ each_named-returns-in_err-fields t c = record {
 
 pub each_named-returns-in_err-v : goal.each_named-returns-in_err-v
 each_named-returns-in_err-v t c = record {
-  ran = (let p = err_from_is_err_and c.from_residual-in_err-v.result c.from_residual-in_err-v.ensures.1 in rw (p.1, p.2) (named-stop (declared_in c.args.t.now) (scope_of c.args.scope.now.items []) c.args.es.now (at c.args.left.now c.args.p.now c.args.log.now) (at c.loop-e.left c.loop-e.p c.loop-e.log) (at c.settled.new.left c.settled.new.p c.settled.new.log) c.loop-e.fields.items (drop c.loop-e.e-index c.args.es.now) (drop (c.loop-e.e-index + 1) c.args.es.now) c.e-item.result _ (dropped c.args.es.now c.loop-e.e-index c.e-item.result (omega arith) c.e-item.is) c.loop-e.invariant.ran (in-scope_value (declared_in c.args.t.now) (at c.loop-e.left c.loop-e.p c.loop-e.log) (at c.settled.new.left c.settled.new.p c.settled.new.log) (Err c.in_err-v.field-0.0) (tree_of c.e-item.result.1) c.loop-e.scope.items c.args.scope.now.items c.loop-e.invariant.same c.in_err-v.ensures.ran)));
+  ran = (let p = err_from_is_err_and c.from_residual-in_err-v.result c.from_residual-in_err-v.ensures.1 in rw (p.1, p.2) (named-stop (declared_in c.args.t.now) (scope_of c.args.scope.now.items []) c.args.es.now (at c.args.left.now c.args.p.now c.args.log.now) (at c.loop-e.left c.loop-e.p c.loop-e.log) (at c.settled.new.left c.settled.new.p c.settled.new.log) c.loop-e.fields.items (drop c.loop-e.e-index c.args.es.now) (drop (c.loop-e.e-index + 1) c.args.es.now) c.e-item.result _ (next_item c.args.es.now c.loop-e.e-index c.e-item.result (omega arith) c.e-item.is) c.loop-e.invariant.ran (in-scope_value (declared_in c.args.t.now) (at c.loop-e.left c.loop-e.p c.loop-e.log) (at c.settled.new.left c.settled.new.p c.settled.new.log) (Err c.in_err-v.field-0.0) (tree_of c.e-item.result.1) c.loop-e.scope.items c.args.scope.now.items c.loop-e.invariant.same c.in_err-v.ensures.ran)));
   left = fewer c.settled.new.left c.loop-e.left c.args.left.now c.in_err-v.ensures.left c.loop-e.invariant.left;
   extends = extends-from c.args.scope.now.items c.loop-e.scope.items c.settled.new.scope.items c.loop-e.invariant.same c.in_err-v.ensures.extends;
   same = (let p = err_from_is_err_and c.from_residual-in_err-v.result c.from_residual-in_err-v.ensures.1 in rw p.1 tt);
@@ -382,7 +384,7 @@ each_named-returns-in_err-v t c = record {
 
 pub each_named-returns-in_err-push : goal.each_named-returns-in_err-push
 each_named-returns-in_err-push t c = record {
-  ran = (let p = err_from_is_err_and c.from_residual-in_err-push.result c.from_residual-in_err-push.ensures.1 in rw (p.1, p.2) (named-short (declared_in c.args.t.now) (scope_of c.args.scope.now.items []) c.args.es.now (at c.args.left.now c.args.p.now c.args.log.now) (at c.settled.new.left c.settled.new.p c.settled.new.log) (c.loop-e.fields.items ++ (record { ref_ptr = (0, 0); now = c.e-item.result.0 }, c.in_ok-v.v) ∷ []) (drop (c.loop-e.e-index + 1) c.args.es.now) (named-more (declared_in c.args.t.now) (scope_of c.args.scope.now.items []) c.args.es.now (at c.args.left.now c.args.p.now c.args.log.now) (at c.loop-e.left c.loop-e.p c.loop-e.log) (at c.settled.new.left c.settled.new.p c.settled.new.log) c.loop-e.fields.items (drop c.loop-e.e-index c.args.es.now) (drop (c.loop-e.e-index + 1) c.args.es.now) c.e-item.result (record { ref_ptr = (0, 0); now = c.e-item.result.0 }, c.in_ok-v.v) refl (dropped c.args.es.now c.loop-e.e-index c.e-item.result (omega arith) c.e-item.is) c.loop-e.invariant.ran (in-scope_value (declared_in c.args.t.now) (at c.loop-e.left c.loop-e.p c.loop-e.log) (at c.settled.new.left c.settled.new.p c.settled.new.log) (Ok c.in_ok-v.v) (tree_of c.e-item.result.1) c.loop-e.scope.items c.args.scope.now.items c.loop-e.invariant.same c.in_ok-v.ensures.ran))));
+  ran = (let p = err_from_is_err_and c.from_residual-in_err-push.result c.from_residual-in_err-push.ensures.1 in rw (p.1, p.2) (named-short (declared_in c.args.t.now) (scope_of c.args.scope.now.items []) c.args.es.now (at c.args.left.now c.args.p.now c.args.log.now) (at c.settled.new.left c.settled.new.p c.settled.new.log) (c.loop-e.fields.items ++ (record { ref_ptr = (0, 0); now = c.e-item.result.0 }, c.in_ok-v.v) ∷ []) (drop (c.loop-e.e-index + 1) c.args.es.now) (named-more (declared_in c.args.t.now) (scope_of c.args.scope.now.items []) c.args.es.now (at c.args.left.now c.args.p.now c.args.log.now) (at c.loop-e.left c.loop-e.p c.loop-e.log) (at c.settled.new.left c.settled.new.p c.settled.new.log) c.loop-e.fields.items (drop c.loop-e.e-index c.args.es.now) (drop (c.loop-e.e-index + 1) c.args.es.now) c.e-item.result (record { ref_ptr = (0, 0); now = c.e-item.result.0 }, c.in_ok-v.v) refl (next_item c.args.es.now c.loop-e.e-index c.e-item.result (omega arith) c.e-item.is) c.loop-e.invariant.ran (in-scope_value (declared_in c.args.t.now) (at c.loop-e.left c.loop-e.p c.loop-e.log) (at c.settled.new.left c.settled.new.p c.settled.new.log) (Ok c.in_ok-v.v) (tree_of c.e-item.result.1) c.loop-e.scope.items c.args.scope.now.items c.loop-e.invariant.same c.in_ok-v.ensures.ran))));
   left = fewer c.settled.new.left c.loop-e.left c.args.left.now c.in_ok-v.ensures.left c.loop-e.invariant.left;
   extends = extends-same c.args.scope.now.items c.settled.new.scope.items (c.in_ok-v.ensures.same ∙ c.loop-e.invariant.same);
   same = (let p = err_from_is_err_and c.from_residual-in_err-push.result c.from_residual-in_err-push.ensures.1 in rw p.1 tt);
@@ -394,7 +396,7 @@ each_named-loop-e-init t c =
 
 pub each_named-loop-e-preserved : goal.each_named-loop-e-preserved
 each_named-loop-e-preserved t c =
-    record { ran = subst (λ l. FrontNamed (declared_in c.args.t.now) (scope_of c.args.scope.now.items []) c.args.es.now (at c.args.left.now c.args.p.now c.args.log.now) (at c.settled.new.left c.settled.new.p c.settled.new.log) l (drop (c.loop-e.e-index + 1) c.args.es.now)) (sym c.in_ok-push.ensures.items) (named-more (declared_in c.args.t.now) (scope_of c.args.scope.now.items []) c.args.es.now (at c.args.left.now c.args.p.now c.args.log.now) (at c.loop-e.left c.loop-e.p c.loop-e.log) (at c.settled.new.left c.settled.new.p c.settled.new.log) c.loop-e.fields.items (drop c.loop-e.e-index c.args.es.now) (drop (c.loop-e.e-index + 1) c.args.es.now) c.e-item.result (_, c.in_ok-v.v) refl (dropped c.args.es.now c.loop-e.e-index c.e-item.result (omega arith) c.e-item.is) c.loop-e.invariant.ran (in-scope_value (declared_in c.args.t.now) (at c.loop-e.left c.loop-e.p c.loop-e.log) (at c.settled.new.left c.settled.new.p c.settled.new.log) (Ok c.in_ok-v.v) (tree_of c.e-item.result.1) c.loop-e.scope.items c.args.scope.now.items c.loop-e.invariant.same c.in_ok-v.ensures.ran)); same = c.in_ok-v.ensures.same ∙ c.loop-e.invariant.same; left = (let a : c.settled.new.left ≤ c.loop-e.left = c.in_ok-v.ensures.left in let b : c.loop-e.left ≤ c.args.left.now = c.loop-e.invariant.left in omega arith) }
+    record { ran = subst (λ l. FrontNamed (declared_in c.args.t.now) (scope_of c.args.scope.now.items []) c.args.es.now (at c.args.left.now c.args.p.now c.args.log.now) (at c.settled.new.left c.settled.new.p c.settled.new.log) l (drop (c.loop-e.e-index + 1) c.args.es.now)) (sym c.in_ok-push.ensures.items) (named-more (declared_in c.args.t.now) (scope_of c.args.scope.now.items []) c.args.es.now (at c.args.left.now c.args.p.now c.args.log.now) (at c.loop-e.left c.loop-e.p c.loop-e.log) (at c.settled.new.left c.settled.new.p c.settled.new.log) c.loop-e.fields.items (drop c.loop-e.e-index c.args.es.now) (drop (c.loop-e.e-index + 1) c.args.es.now) c.e-item.result (_, c.in_ok-v.v) refl (next_item c.args.es.now c.loop-e.e-index c.e-item.result (omega arith) c.e-item.is) c.loop-e.invariant.ran (in-scope_value (declared_in c.args.t.now) (at c.loop-e.left c.loop-e.p c.loop-e.log) (at c.settled.new.left c.settled.new.p c.settled.new.log) (Ok c.in_ok-v.v) (tree_of c.e-item.result.1) c.loop-e.scope.items c.args.scope.now.items c.loop-e.invariant.same c.in_ok-v.ensures.ran)); same = c.in_ok-v.ensures.same ∙ c.loop-e.invariant.same; left = (let a : c.settled.new.left ≤ c.loop-e.left = c.in_ok-v.ensures.left in let b : c.loop-e.left ≤ c.args.left.now = c.loop-e.invariant.left in omega arith) }
 
 pub each_named-returns : goal.each_named-returns
 each_named-returns t c = record {
@@ -410,7 +412,7 @@ each_named-settled-requires t c =
 
 pub statements-returns-in_err-statement : goal.statements-returns-in_err-statement
 statements-returns-in_err-statement t c = record {
-  ran = (let p = err_from_is_err_and c.from_residual.result c.from_residual.ensures.1 in rw (p.1, p.2) (led-stop (declared_in c.args.t.now) (scope_of c.args.scope.now.items []) c.args.sts.now (at c.args.left.now c.args.p.now c.args.log.now) (at c.loop-st.left c.loop-st.p c.loop-st.log) (at c.statement.new.left c.statement.new.p c.statement.new.log) (scope_of c.loop-st.scope.items []) (scope_of c.statement.new.scope.items []) (drop c.loop-st.st-index c.args.sts.now) (drop (c.loop-st.st-index + 1) c.args.sts.now) c.st-item.result _ (dropped c.args.sts.now c.loop-st.st-index c.st-item.result (omega arith) c.st-item.is) c.loop-st.invariant.ran c.in_err-statement.ensures.ran));
+  ran = (let p = err_from_is_err_and c.from_residual.result c.from_residual.ensures.1 in rw (p.1, p.2) (led-stop (declared_in c.args.t.now) (scope_of c.args.scope.now.items []) c.args.sts.now (at c.args.left.now c.args.p.now c.args.log.now) (at c.loop-st.left c.loop-st.p c.loop-st.log) (at c.statement.new.left c.statement.new.p c.statement.new.log) (scope_of c.loop-st.scope.items []) (scope_of c.statement.new.scope.items []) (drop c.loop-st.st-index c.args.sts.now) (drop (c.loop-st.st-index + 1) c.args.sts.now) c.st-item.result _ (next_item c.args.sts.now c.loop-st.st-index c.st-item.result (omega arith) c.st-item.is) c.loop-st.invariant.ran c.in_err-statement.ensures.ran));
   left = fewer c.statement.new.left c.loop-st.left c.args.left.now c.in_err-statement.ensures.left c.loop-st.invariant.left;
   extends = extends-more _ _ _ c.loop-st.invariant.extends c.in_err-statement.ensures.extends;
 }
@@ -421,7 +423,7 @@ statements-loop-st-init t c =
 
 pub statements-loop-st-preserved : goal.statements-loop-st-preserved
 statements-loop-st-preserved t c =
-    record { ran = led-more (declared_in c.args.t.now) (scope_of c.args.scope.now.items []) c.args.sts.now (at c.args.left.now c.args.p.now c.args.log.now) (at c.loop-st.left c.loop-st.p c.loop-st.log) (at c.statement.new.left c.statement.new.p c.statement.new.log) (scope_of c.loop-st.scope.items []) (scope_of c.statement.new.scope.items []) (drop c.loop-st.st-index c.args.sts.now) (drop (c.loop-st.st-index + 1) c.args.sts.now) c.st-item.result (dropped c.args.sts.now c.loop-st.st-index c.st-item.result (omega arith) c.st-item.is) c.loop-st.invariant.ran c.in_ok-statement.ensures.ran; extends = extends-more _ _ _ c.loop-st.invariant.extends c.in_ok-statement.ensures.extends; left = (let a : c.statement.new.left ≤ c.loop-st.left = c.in_ok-statement.ensures.left in let b : c.loop-st.left ≤ c.args.left.now = c.loop-st.invariant.left in omega arith) }
+    record { ran = led-more (declared_in c.args.t.now) (scope_of c.args.scope.now.items []) c.args.sts.now (at c.args.left.now c.args.p.now c.args.log.now) (at c.loop-st.left c.loop-st.p c.loop-st.log) (at c.statement.new.left c.statement.new.p c.statement.new.log) (scope_of c.loop-st.scope.items []) (scope_of c.statement.new.scope.items []) (drop c.loop-st.st-index c.args.sts.now) (drop (c.loop-st.st-index + 1) c.args.sts.now) c.st-item.result (next_item c.args.sts.now c.loop-st.st-index c.st-item.result (omega arith) c.st-item.is) c.loop-st.invariant.ran c.in_ok-statement.ensures.ran; extends = extends-more _ _ _ c.loop-st.invariant.extends c.in_ok-statement.ensures.extends; left = (let a : c.statement.new.left ≤ c.loop-st.left = c.in_ok-statement.ensures.left in let b : c.loop-st.left ≤ c.args.left.now = c.loop-st.invariant.left in omega arith) }
 
 pub statements-returns : goal.statements-returns
 statements-returns t c = record {

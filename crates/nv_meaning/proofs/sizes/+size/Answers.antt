@@ -5,7 +5,7 @@ use Rattle.nv_ast.specs.Height.{layout_height, highest_layout, field_height, hig
 use Rattle.nv_ast.specs.LayoutView.{layout_tree, field_tree, list_fields, list_layouts}
 use Rattle.nv_ast.specs.Outline.{PartsOutline, JoinedOutline, OverlayOutline, outline, outlines, field_outline, field_outlines, size, total_size, total_named_size, longest}
 use Rattle.nv_ast.proofs.Reading.{parts_is, joined_is, overlay_is}
-use Rattle.nv_layout.proofs.Walks.{highest_field_within, highest_layout_within}
+use Rattle.nv_ast.proofs.LayoutRows.{highest_field_within, highest_layout_within}
 use Rattle.nv_meaning.proofs.Unpacking.{total_named_more, longest_more, total_more}
 use Rattle.nv_meaning.proofs.sizes.+size.Goals as goal
 

@@ -1,5 +1,5 @@
 use Rattle.std.proofs.Common.{◌≤◌, ◌+◌, ℕ, List, length}
-use Rattle.nv_memtext.specs.Reading.{HasLines, HasLengths}
+use Rattle.nv_memtext.specs.inner.Reading.{HasLines, HasLengths}
 use Rattle.nv_memtext.proofs.read.read_stretches.Given as goal
 
 abbrev pub invariant-loop-line : goal.invariant-loop-line

@@ -3,8 +3,8 @@ use Rattle.std.proofs.lemmas.List.{take_all}
 use Rattle.nv_ast.specs.PatternView.{pattern_tree}
 use Rattle.nv_ast.specs.Scope.{names_in}
 use Rattle.std.specs.Borrow.{Bor}
-use Rattle.nv_types.specs.Named.{named, plain_names}
-use Rattle.nv_types.specs.Blocks.{IsEnd}
+use Rattle.nv_types.specs.inner.Named.{named, plain_names}
+use Rattle.nv_types.specs.inner.Blocks.{IsEnd}
 use Rattle.nv_types.proofs.Entries.{look_up-named}
 use Rattle.nv_types.proofs.BlockEnds.{end_none, end_some, end_absent, names_then}
 use Rattle.nv_types.proofs.blocks.last_place.Goals as goal

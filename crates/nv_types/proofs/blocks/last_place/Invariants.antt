@@ -1,6 +1,6 @@
 use Rattle.std.proofs.Common.{ℕ, List, take}
-use Rattle.nv_types.specs.Named.{named, plain_names}
-use Rattle.nv_types.specs.Blocks.{IsEnds, IsEnd}
+use Rattle.nv_types.specs.inner.Named.{named, plain_names}
+use Rattle.nv_types.specs.inner.Blocks.{IsEnds, IsEnd}
 use Rattle.nv_types.proofs.blocks.last_place.Given as goal
 
 abbrev pub invariant-loop-name : goal.invariant-loop-name

@@ -1,6 +1,6 @@
 use Rattle.std.proofs.Common.{◌≡◌, take}
-use Rattle.nv_types.specs.Costs.{still}
-use Rattle.nv_types.specs.Blocks.{held_for}
+use Rattle.nv_types.specs.inner.Costs.{still}
+use Rattle.nv_types.specs.inner.Blocks.{held_for}
 use Rattle.nv_types.proofs.blocks.pending.Given as goal
 
 abbrev pub invariant-loop-h : goal.invariant-loop-h

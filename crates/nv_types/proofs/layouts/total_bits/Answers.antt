@@ -1,6 +1,6 @@
 use Rattle.std.proofs.Common.{◌∙◌, ◌≤◌, ap, length, arith}
 use Rattle.std.proofs.lemmas.List.{take_all}
-use Rattle.nv_types.specs.Costs.{still}
+use Rattle.nv_types.specs.inner.Costs.{still}
 use Rattle.nv_types.proofs.Sums.{sum_of, sum_more, bits_total}
 use Rattle.nv_types.proofs.layouts.total_bits.Goals as goal
 

@@ -1,5 +1,5 @@
 use Rattle.std.proofs.Common.{◌≡◌, take}
-use Rattle.nv_types.specs.Costs.{still}
+use Rattle.nv_types.specs.inner.Costs.{still}
 use Rattle.nv_types.proofs.Sums.{sum_of}
 use Rattle.nv_types.proofs.layouts.total_fields.Given as goal
 

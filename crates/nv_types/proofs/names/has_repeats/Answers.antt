@@ -3,10 +3,10 @@ use Rattle.std.specs.Borrow.{Bor}
 use Rattle.std.specs.List.{list_any}
 use Rattle.std.proofs.lemmas.List.Folds.{list_any-append}
 use Rattle.nv_ast.specs.Tests.{is_among, has_twice}
-use Rattle.nv_types.specs.Named.{plain_names}
-use Rattle.nv_types.proofs.Items.{take_item, split_item}
+use Rattle.nv_ast.proofs.Items.{take_item, split_item}
+use Rattle.nv_types.specs.inner.Named.{plain_names}
 use Rattle.nv_types.proofs.Found.{plain-append}
-use Rattle.nv_types.proofs.Twice.{twice_more, twice_here}
+use Rattle.nv_ast.proofs.Twice.{twice_more, twice_here}
 use Rattle.nv_types.proofs.names.has_repeats.Goals as goal
 
 turned_back : (b r : Bool) → r ≡ not b → b ≡ not r

@@ -1,7 +1,7 @@
 use Rattle.std.proofs.Common.{◌≡◌, ℕ, List, false, take, bytes_eq}
 use Rattle.std.specs.List.{list_any}
 use Rattle.nv_ast.specs.Tests.{is_among, has_twice}
-use Rattle.nv_types.specs.Named.{plain_names}
+use Rattle.nv_types.specs.inner.Named.{plain_names}
 use Rattle.nv_types.proofs.names.has_repeats.Given as goal
 
 abbrev pub invariant-loop-name : goal.invariant-loop-name

@@ -2,9 +2,10 @@ use Rattle.std.proofs.Common.{◌<◌, ◌++◌, ◌∷◌, [], ◌∙◌, ap, s
 use Rattle.nv_ast.specs.declared.tree.Pat.{Pat}
 use Rattle.nv_ast.specs.PatternView.{pattern_tree}
 use Rattle.nv_ast.specs.Scope.{names_in}
-use Rattle.nv_types.specs.Named.{plain_names}
+use Rattle.nv_ast.proofs.Items.{added_step}
+use Rattle.nv_types.specs.inner.Named.{plain_names}
 use Rattle.nv_types.proofs.Found.{plain-append}
-use Rattle.nv_types.proofs.Walked.{added_step, names_more}
+use Rattle.nv_types.proofs.Walked.{names_more}
 use Rattle.nv_types.proofs.patterns.+names.Goals as goal
 
 pub add_all_names-loop-p-preserved : goal.add_all_names-loop-p-preserved

@@ -1,6 +1,6 @@
 use Rattle.std.proofs.Common.{◌≡◌, drop}
 use Rattle.uc_asm.specs.Text.{count}
-use Rattle.uc_asm.specs.Seen.{all_seen}
+use Rattle.uc_asm.specs.inner.Seen.{all_seen}
 use Rattle.uc_asm.proofs.assembler.has_instruction.Given as goal
 
 -- the items so far are labels

@@ -3,7 +3,7 @@ use Rattle.std.proofs.lemmas.Bool.{false≢true}
 use lib.ListN.{length-map}
 use Rattle.uc_asm.specs.Text.{IsSyntaxError, count}
 use Rattle.uc_asm.specs.declared.line.Item.{Item}
-use Rattle.uc_asm.specs.Seen.{seen, all_seen}
+use Rattle.uc_asm.specs.inner.Seen.{seen, all_seen}
 use Rattle.uc_asm.proofs.TextLemmas.{line-wrong, has-seen-more, seen-short}
 use Rattle.uc_asm.proofs.assembler.read_text.Goals as goal
 

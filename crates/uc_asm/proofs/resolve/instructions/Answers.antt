@@ -1,7 +1,7 @@
 use Rattle.std.proofs.Common.{◌+◌, suc, List, take, drop, sym, ap, subst, ◌∙◌, arith, Vec, Global}
 use Rattle.uc_isa.specs.declared.instruction.Instr.{Instr}
-use Rattle.uc_asm.specs.Resolving.{Gives}
-use Rattle.uc_asm.specs.Seen.{seen, all_seen}
+use Rattle.uc_asm.specs.inner.Resolving.{Gives}
+use Rattle.uc_asm.specs.inner.Seen.{seen, all_seen}
 use Rattle.uc_asm.specs.declared.resolve.Resolved.{Resolved}
 use Rattle.uc_asm.proofs.StandLemmas.{stands-at, length-front}
 use Rattle.uc_asm.proofs.MeaningLemmas.{ResolvedBelow, misnamed-here, below-nothing, below-more}

@@ -1,8 +1,8 @@
 use Rattle.std.proofs.Common.{◌≡◌, ◌≢◌, length, sym, ◌∙◌, subst, refl, arith}
 use Rattle.uc_isa.specs.declared.instruction.Instr.TheVariants.{Br}
 use Rattle.uc_asm.specs.Labels.{Stands, Misnames}
-use Rattle.uc_asm.specs.Resolving.{Gives}
-use Rattle.uc_asm.specs.Seen.{seen}
+use Rattle.uc_asm.specs.inner.Resolving.{Gives}
+use Rattle.uc_asm.specs.inner.Seen.{seen}
 use Rattle.uc_asm.specs.declared.line.Item.{Item}
 use Rattle.uc_asm.specs.declared.resolve.Resolved.TheVariants.{Instruction, Nothing}
 use Rattle.uc_asm.proofs.FirstLemmas.{label-nothing, label-again, label-found, target-at, target-not}

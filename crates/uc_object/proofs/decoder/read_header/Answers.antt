@@ -1,5 +1,5 @@
 use Rattle.std.proofs.Common.{◌≡◌, ℕ, List, rules, arith, subst, ◌<◌, length, get_or}
-use Rattle.uc_object.specs.Columns.{Fit, IsFault, IsHeaderFault, header_columns}
+use Rattle.uc_object.specs.inner.Columns.{Fit, IsFault, IsHeaderFault, header_columns}
 use Rattle.uc_object.specs.Object.{IsBadPlace}
 use Rattle.uc_object.specs.declared.column.Column.{Column}
 use Rattle.uc_object.proofs.Places.{header-bad}

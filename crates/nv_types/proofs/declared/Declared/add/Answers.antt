@@ -2,7 +2,7 @@ use Rattle.std.proofs.Common.{◌≡◌, ◌∙◌, ◌++◌, ◌∷◌, [], ap,
 use Rattle.std.specs.Map.{lookup}
 use Rattle.indexmap.proofs.CallerLemmas.{insert_entry-new}
 use Rattle.nv_ast.specs.Tests.{look_up}
-use Rattle.nv_types.specs.Named.{named}
+use Rattle.nv_types.specs.inner.Named.{named}
 use Rattle.nv_types.proofs.Entries.{look_up-named, named-append}
 use Rattle.nv_types.proofs.declared.Declared.add.Goals as goal
 

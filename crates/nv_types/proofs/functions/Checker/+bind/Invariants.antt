@@ -1,5 +1,5 @@
 use Rattle.std.proofs.Common.{drop}
-use Rattle.nv_types.specs.Patterns.{Adds}
+use Rattle.nv_types.specs.inner.Patterns.{Adds}
 use Rattle.nv_types.proofs.Bound.{BindSo}
 use Rattle.nv_types.proofs.functions.Checker.+bind.Given as goal
 

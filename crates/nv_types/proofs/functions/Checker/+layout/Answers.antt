@@ -8,13 +8,14 @@ use Rattle.nv_ast.specs.LayoutFaults.{fields_faults, layouts_faults}
 use Rattle.nv_ast.specs.Height.{layout_height, highest_layout, field_height, highest_field}
 use Rattle.nv_ast.specs.LayoutView.{layout_tree, field_tree, list_fields, list_layouts}
 use Rattle.nv_ast.specs.Outline.{no_named_outlines, no_outlines, outlines, field_outlines}
-use Rattle.nv_types.specs.Named.{named}
-use Rattle.nv_types.specs.Layouts.{AreShapes, AreMembers}
+use Rattle.nv_ast.proofs.LayoutRows.{FieldNamed, parts_text, joined_text, overlay_text, highest_field_within, highest_layout_within}
+use Rattle.nv_types.specs.inner.Named.{named}
+use Rattle.nv_types.specs.inner.Layouts.{AreShapes, AreMembers}
 use Rattle.nv_types.specs.declared.layouts.Shape.{Shape}
 use Rattle.nv_types.proofs.Firsts.{first_kind}
 use Rattle.nv_types.proofs.Holding.{Keeps-refl, Keeps-trans, holds_stays}
 use Rattle.nv_types.proofs.Sums.{Entry}
-use Rattle.nv_types.proofs.LayoutWalk.{FieldNamed, parts_text, joined_text, overlay_text, highest_field_within, highest_layout_within, fields_faults_more, fields_first, members_more, layouts_faults_more, layouts_first, shapes_more}
+use Rattle.nv_types.proofs.LayoutWalk.{fields_faults_more, fields_first, members_more, layouts_faults_more, layouts_first, shapes_more}
 use Rattle.nv_types.proofs.LayoutArms.{layout_at, field_at, layout_refused, field_refused, fields_refused, whole_refused, whole_done, named_found, named_absent, gap_wrong, gap_right, parts_refused, parts_judged, parts_done, joined_judged, joined_done, bits_wrong, bits_right, inner_refused, inner_done, overlay_refused, overlay_repeats, overlay_judged, overlay_done}
 use Rattle.nv_types.proofs.functions.Checker.+layout.Goals as goal
 

@@ -4,9 +4,9 @@ use Rattle.nv_ast.specs.LayoutFaults.{fields_faults, layouts_faults}
 use Rattle.nv_ast.specs.LayoutView.{layout_tree, field_tree, list_fields, list_layouts}
 use Rattle.nv_ast.specs.Outline.{outlines, field_outlines}
 use Rattle.nv_ast.specs.Scope.{Known}
-use Rattle.nv_types.specs.Named.{named}
-use Rattle.nv_types.specs.Layouts.{AreShapes, AreMembers}
-use Rattle.nv_types.specs.Standing.{Holds, Keeps}
+use Rattle.nv_types.specs.inner.Named.{named}
+use Rattle.nv_types.specs.inner.Layouts.{AreShapes, AreMembers}
+use Rattle.nv_types.specs.inner.Standing.{Holds, Keeps}
 use Rattle.nv_types.proofs.functions.Checker.+layout.Given as goal
 
 abbrev pub invariant-joined_layout-loop-l : goal.invariant-joined_layout-loop-l

@@ -8,9 +8,9 @@ use Rattle.nv_ast.specs.Height.{type_height, highest_type, highest_named_type}
 use Rattle.nv_ast.specs.TypeView.{type_tree, list_types, list_named_types}
 use Rattle.nv_ast.specs.Types.{no_tys, no_named_tys, types_of, named_types_of}
 use Rattle.std.specs.Borrow.{Bor}
-use Rattle.nv_types.specs.Named.{named}
-use Rattle.nv_types.specs.Store.{AreTypes, AreFields}
-use Rattle.nv_types.specs.Texts.{TypesText}
+use Rattle.nv_types.specs.inner.Named.{named}
+use Rattle.nv_types.specs.inner.Store.{AreTypes, AreFields}
+use Rattle.nv_types.specs.inner.Texts.{TypesText}
 use Rattle.nv_types.proofs.Holding.{Keeps-refl, Keeps-trans, Keeps-table, holds_stays}
 use Rattle.nv_types.proofs.TextWalk.{TypeNamed, tuple_text, record_text, types_faults_more, types_first, types_more, highest_type_within, named_faults_more, named_first, fields_more, highest_named_within, text_at, texts_refused, named_refused, word_wrong, word_right, bool_text, tuple_refused, tuple_done, fields_refused, fields_done}
 use Rattle.nv_types.proofs.functions.Checker.+type_text.Goals as goal

@@ -4,9 +4,9 @@ use Rattle.nv_ast.specs.Height.{type_height, highest_type, highest_named_type}
 use Rattle.nv_ast.specs.Scope.{Known}
 use Rattle.nv_ast.specs.Types.{types_of, named_types_of}
 use Rattle.nv_ast.specs.TypeView.{type_tree, list_types, list_named_types}
-use Rattle.nv_types.specs.Named.{named}
-use Rattle.nv_types.specs.Store.{AreTypes, AreFields}
-use Rattle.nv_types.specs.Standing.{Holds, Keeps}
+use Rattle.nv_types.specs.inner.Named.{named}
+use Rattle.nv_types.specs.inner.Store.{AreTypes, AreFields}
+use Rattle.nv_types.specs.inner.Standing.{Holds, Keeps}
 use Rattle.nv_types.proofs.functions.Checker.+type_text.Given as goal
 
 abbrev pub invariant-type_texts-loop-text : goal.invariant-type_texts-loop-text

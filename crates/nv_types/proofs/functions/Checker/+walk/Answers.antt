@@ -8,10 +8,10 @@ use Rattle.nv_ast.specs.Tree.{NumberTree, TruthTree, VarTree, ParenTree, TupleTr
 use Rattle.nv_ast.specs.Faults.{at_span, wrong_scratch}
 use Rattle.nv_types.specs.declared.cost.Cost.{Cost}
 use Rattle.nv_types.specs.declared.wanted.Wanted.TheVariants.{Value}
-use Rattle.nv_types.specs.Named.{named}
-use Rattle.nv_types.specs.Costs.{two_costs, node_cost}
-use Rattle.nv_types.specs.Faulty.{IsFirstOf}
-use Rattle.nv_types.specs.Store.{AreTypes}
+use Rattle.nv_types.specs.inner.Named.{named}
+use Rattle.nv_types.specs.inner.Costs.{two_costs, node_cost}
+use Rattle.nv_types.specs.inner.Faulty.{IsFirstOf}
+use Rattle.nv_types.specs.inner.Store.{AreTypes}
 use Rattle.nv_types.proofs.Entries.{named-append}
 use Rattle.nv_types.proofs.Growing.{Grows-trans}
 use Rattle.nv_types.proofs.Walked.{none_test}
@@ -24,16 +24,17 @@ use Rattle.nv_types.proofs.WalkTuples.{TypesSo, types_start, types_more, tuple_f
 use Rattle.nv_types.proofs.WalkCalls.{call_other, call_unknown, call_failed, call_outside, call_number, call_checks, raise_other, raise_unknown, raise_failed, raise_number, raise_checks}
 use Rattle.nv_ast.specs.Height.{height}
 use Rattle.nv_types.proofs.WalkHeights.{expr_within, named_within}
-use Rattle.nv_types.proofs.WalkKinds.{of_tree, arm, number-is, truth-is, variable-is, paren-is, dot-is, invert-is, negate-is, shift-is, unpack-is, pack-is, fetch-is, binary-is, if-is, try-is, tuple-is, record-is, call-is, raise-is, block-is}
+use Rattle.nv_types.proofs.WalkKinds.{of_tree, arm}
 use Rattle.nv_types.proofs.WalkErrors.{answered, all_answered, memory_wanted}
 use Rattle.nv_ast.specs.declared.tree.Stmt.{Stmt}
 use Rattle.nv_ast.specs.Height.{statement_height}
+use Rattle.nv_ast.proofs.Items.{split_item}
+use Rattle.nv_ast.proofs.TreeKinds.{number-is, truth-is, variable-is, paren-is, dot-is, invert-is, negate-is, shift-is, unpack-is, pack-is, fetch-is, binary-is, if-is, try-is, tuple-is, record-is, call-is, raise-is, block-is}
 use Rattle.nv_types.specs.declared.blocks.Step.{Step}
 use Rattle.nv_types.specs.declared.functions.Found.{Found}
-use Rattle.nv_types.specs.Cells.{most}
-use Rattle.nv_types.specs.Blocks.{ChecksStatement, block_needs}
-use Rattle.nv_types.specs.Standing.{written_in}
-use Rattle.nv_types.proofs.Items.{split_item}
+use Rattle.nv_types.specs.inner.Cells.{most}
+use Rattle.nv_types.specs.inner.Blocks.{ChecksStatement, block_needs}
+use Rattle.nv_types.specs.inner.Standing.{written_in}
 use Rattle.nv_types.specs.declared.error.TypeError.TheVariants.{NoMemory}
 use Rattle.nv_types.proofs.BlockNodes.{at_err, wants_memory}
 use Rattle.nv_types.proofs.BlockChoices.{choice_fails_at_condition, choice_fails_at_first, choice_fails_at_second, choice_checks}
@@ -320,7 +321,7 @@ pub unpack-returns : goal.unpack-returns
 unpack-returns t c =
     unpack_checks c.args.self.now (record c.args.self.now { table = c.words.new.self }) c.expr-2.new.self (record c.expr-2.new.self { table = c.record_of.new.self }) c.args.wanted c.args.span c.args.layout.now (tree_of c.args.inner.now) c.in-Some.shape c.in_ok-packed.packed c.packed_words.result c.in_ok-t.t c.in_ok-part.part c.beside.result c.plain.result
     (Keeps-table c.args.self.now c.words.new.self c.in_ok-packed.ensures.grows) refl (sym c.in-Some.ensures) c.packed_words.ensures c.in_ok-packed.ensures.made c.in_ok-part.ensures (Keeps-table c.expr-2.new.self c.record_of.new.self c.in_ok-t.ensures.grows) refl c.in_ok-t.ensures.made
-    (c.beside.ensures ∙ ap (λ (x : Cost). two_costs c.in_ok-part.part.cost x) c.moving.ensures) c.plain.ensures.judged c.plain.ensures.same c.plain.ensures.counted
+    (c.beside.ensures ∙ ap (λ (x : Cost). two_costs c.in_ok-part.part.cost x) c.field_cost.ensures) c.plain.ensures.judged c.plain.ensures.same c.plain.ensures.counted
 
 pub pack-returns-in_err-expr : goal.pack-returns-in_err-expr
 pack-returns-in_err-expr t c =
@@ -342,7 +343,7 @@ pub pack-returns : goal.pack-returns
 pack-returns t c =
     pack_checks c.args.self.now c.expr-2.new.self (record c.expr-2.new.self { table = c.words.new.self }) c.args.wanted c.args.span c.args.layout.now (tree_of c.args.inner.now) c.in-Some.shape c.packed_words.result c.in_ok-t.t c.in_ok-part.part c.beside.result c.plain.result
     (sym c.in-Some.ensures) c.packed_words.ensures c.in_ok-part.ensures (Keeps-table c.expr-2.new.self c.words.new.self c.in_ok-t.ensures.grows) refl c.in_ok-t.ensures.made
-    (c.beside.ensures ∙ ap (λ (x : Cost). two_costs c.in_ok-part.part.cost x) c.moving.ensures) c.plain.ensures.judged c.plain.ensures.same c.plain.ensures.counted
+    (c.beside.ensures ∙ ap (λ (x : Cost). two_costs c.in_ok-part.part.cost x) c.field_cost.ensures) c.plain.ensures.judged c.plain.ensures.same c.plain.ensures.counted
 
 pub raise-returns-in_err-arguments : goal.raise-returns-in_err-arguments
 raise-returns-in_err-arguments t c =

@@ -1,6 +1,6 @@
 use Rattle.std.proofs.Common.{None, drop, ◌+◌, ◌*◌, max, take}
 use Rattle.nv_ast.specs.ExprView.{list_trees, list_named_trees, tree_of, list_statements, statement_tree}
-use Rattle.nv_types.specs.Named.{named}
+use Rattle.nv_types.specs.inner.Named.{named}
 use Rattle.nv_types.proofs.WalkLists.{AllSo, unnamed}
 use Rattle.nv_types.proofs.WalkTuples.{TypesSo, FieldsSo}
 use Rattle.nv_ast.specs.Height.{height, highest, highest_named, statement_height, highest_statement}

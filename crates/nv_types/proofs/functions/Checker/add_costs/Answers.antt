@@ -1,6 +1,6 @@
 use Rattle.std.proofs.Common.{◌∙◌, ◌++◌, ◌≤◌, ◌+◌, ap, sym, subst, map, take, drop, length, arith, refl, append-nil}
 use Rattle.nv_ast.specs.ProgramView.{fun_tree}
-use Rattle.nv_types.specs.Declarations.{costing}
+use Rattle.nv_types.specs.inner.Declarations.{costing}
 use Rattle.nv_types.proofs.Images.{image_before, image_behind, image_all}
 use Rattle.nv_types.proofs.Groups.{Costed, costed_more}
 use Rattle.nv_types.proofs.functions.Checker.add_costs.Goals as goal

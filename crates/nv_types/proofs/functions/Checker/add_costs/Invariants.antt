@@ -1,7 +1,7 @@
 use Rattle.std.proofs.Common.{◌≡◌, map, take, drop}
 use Rattle.nv_ast.specs.Tests.{names_of}
 use Rattle.nv_ast.specs.ProgramView.{fun_tree}
-use Rattle.nv_types.specs.Declarations.{AreNew}
+use Rattle.nv_types.specs.inner.Declarations.{AreNew}
 use Rattle.nv_types.proofs.Groups.{Costed}
 use Rattle.nv_types.proofs.functions.Checker.add_costs.Given as goal
 

@@ -2,13 +2,13 @@ use Rattle.std.proofs.Common.{◌≡◌, ◌∙◌, ◌≤◌, ◌<◌, ◌+◌,
 use Rattle.nv_ast.specs.declared.tree.TyText.{TyText}
 use Rattle.std.proofs.Math.ListN.{drop_of_length-le}
 use Rattle.nv_ast.specs.Tests.{names_of}
-use Rattle.nv_types.proofs.Images.{next_item}
+use Rattle.nv_ast.proofs.Items.{next_item}
+use Rattle.nv_types.proofs.Holding.{declared_refl}
 use Rattle.nv_types.proofs.Params.{BindingSo, binding_start, binding_none, binding_end, binding_more, names_first}
-use Rattle.nv_types.proofs.DeclWalk.{KeepsDeclared-refl}
 use Rattle.nv_types.proofs.functions.Checker.bind_params.Goals as goal
 
 pub loop-p-init : goal.loop-p-init
-loop-p-init c = record { so = binding_start c.args.self.now (names_of c.args.f.now.params.items) c.args.types; keeps = KeepsDeclared-refl c.args.self.now }
+loop-p-init c = record { so = binding_start c.args.self.now (names_of c.args.f.now.params.items) c.args.types; keeps = declared_refl c.args.self.now }
 
 pub returns-in_default-clause-sees : goal.returns-in_default-clause-sees
 returns-in_default-clause-sees c =

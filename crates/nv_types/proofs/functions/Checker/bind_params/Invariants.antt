@@ -1,6 +1,6 @@
 use Rattle.std.proofs.Common.{drop}
 use Rattle.nv_ast.specs.Tests.{names_of}
-use Rattle.nv_types.specs.Standing.{KeepsDeclared}
+use Rattle.nv_types.specs.inner.Standing.{KeepsDeclared}
 use Rattle.nv_types.proofs.Params.{BindingSo}
 use Rattle.nv_types.proofs.functions.Checker.bind_params.Given as goal
 

@@ -1,8 +1,8 @@
 use Rattle.std.proofs.Common.{◌∙◌, ◌+◌, ap, sym, subst, max, List, take, drop, Vec, Global, []}
 use Rattle.nv_types.specs.declared.blocks.Held.{Held}
-use Rattle.nv_types.specs.Costs.{still}
-use Rattle.nv_types.specs.Named.{plain_names}
-use Rattle.nv_types.specs.Blocks.{held_for}
+use Rattle.nv_types.specs.inner.Costs.{still}
+use Rattle.nv_types.specs.inner.Named.{plain_names}
+use Rattle.nv_types.specs.inner.Blocks.{held_for}
 use Rattle.nv_types.proofs.BlockNeeds.{lets_of, HoldsLets, need_start, no_lets, need_step, need_end, let_held, no_let_held}
 use Rattle.nv_types.proofs.functions.Checker.block_need.Goals as goal
 use Rattle.nv_types.proofs.functions.Checker.block_need.Goals.{in-Some+in_ok-until+in_ok-push, in_default}

@@ -1,5 +1,5 @@
 use Rattle.std.proofs.Common.{drop, take}
-use Rattle.nv_types.specs.Named.{plain_names}
+use Rattle.nv_types.specs.inner.Named.{plain_names}
 use Rattle.nv_types.proofs.BlockNeeds.{lets_of, HoldsLets, NeedSo}
 use Rattle.nv_types.proofs.functions.Checker.block_need.Given as goal
 

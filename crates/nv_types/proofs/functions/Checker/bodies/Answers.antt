@@ -2,10 +2,11 @@ use Rattle.std.proofs.Common.{◌++◌, ◌∷◌, ◌≤◌, ◌+◌, [], sym, 
 use Rattle.std.proofs.lemmas.Result.{err_from_is_err_and}
 use Rattle.nv_ast.specs.Tree.{FunTree}
 use Rattle.nv_ast.specs.ProgramView.{fun_tree}
+use Rattle.nv_types.proofs.Holding.{Keeps-refl}
 use Rattle.nv_types.specs.declared.cost.Cost.{Cost}
 use Rattle.nv_types.proofs.Images.{image_before, image_behind, image_all, image_none}
 use Rattle.nv_types.proofs.Groups.{BodiedSo, CountedSo, cost_none}
-use Rattle.nv_types.proofs.DeclWalk.{Keeps-refl, bodies_err, bodies_so, bodies_counted, bodies_keeps, bodies_end}
+use Rattle.nv_types.proofs.DeclWalk.{bodies_err, bodies_so, bodies_counted, bodies_keeps, bodies_end}
 use Rattle.nv_types.proofs.functions.Checker.bodies.Goals as goal
 
 pub loop-f-init : goal.loop-f-init

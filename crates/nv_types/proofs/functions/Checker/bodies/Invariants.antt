@@ -1,6 +1,6 @@
 use Rattle.std.proofs.Common.{◌≡◌, [], map, take, drop}
 use Rattle.nv_ast.specs.ProgramView.{fun_tree}
-use Rattle.nv_types.specs.Standing.{Keeps}
+use Rattle.nv_types.specs.inner.Standing.{Keeps}
 use Rattle.nv_types.proofs.Groups.{BodiedSo, CountedSo}
 use Rattle.nv_types.proofs.functions.Checker.bodies.Given as goal
 

@@ -1,5 +1,5 @@
 use Rattle.std.proofs.Common.{◌∙◌, ap, sym, ◌+◌, min}
-use Rattle.nv_types.specs.Cells.{most}
+use Rattle.nv_types.specs.inner.Cells.{most}
 use Rattle.std.proofs.lemmas.Result.{err_from_is_err_and}
 use Rattle.nv_ast.specs.ProgramView.{fun_tree}
 use Rattle.nv_ast.specs.TypeView.{list_named_types}

@@ -3,7 +3,7 @@ use Rattle.std.proofs.lemmas.Result.{err_from_is_err_and}
 use Rattle.nv_ast.specs.TypeView.{list_types}
 use Rattle.nv_ast.specs.Tests.{where_true, look_up}
 use Rattle.nv_ast.specs.Faults.{at_span}
-use Rattle.nv_types.specs.Faulty.{IsFirstOf}
+use Rattle.nv_types.specs.inner.Faulty.{IsFirstOf}
 use Rattle.nv_types.proofs.DeclWalk.{exception_err, exception_types_err, exception_wide_err, exception_ok}
 use Rattle.nv_types.proofs.functions.Checker.exception_declaration.Goals as goal
 

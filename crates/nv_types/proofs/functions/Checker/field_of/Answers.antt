@@ -1,7 +1,7 @@
 use Rattle.std.proofs.Common.{ℕ, sym, subst, Option, None}
 use Rattle.nv_ast.specs.Types.{Ty}
 use Rattle.nv_ast.specs.Typing.{field_ty}
-use Rattle.nv_types.specs.Store.{IsValue}
+use Rattle.nv_types.specs.inner.Store.{IsValue}
 use Rattle.nv_types.proofs.WalkTests.{field_some, field_none}
 use Rattle.nv_types.proofs.functions.Checker.field_of.Goals as goal
 

@@ -3,7 +3,7 @@ use Rattle.std.proofs.lemmas.Result.{err_from_is_err_and}
 use Rattle.nv_ast.specs.Faults.{at_span}
 use Rattle.nv_ast.specs.Tests.{where_true}
 use Rattle.nv_ast.specs.Types.{record_forms}
-use Rattle.nv_types.specs.Faulty.{IsFirstOf}
+use Rattle.nv_types.specs.inner.Faulty.{IsFirstOf}
 use Rattle.nv_types.proofs.Shaping.{unfit_test, fits_so}
 use Rattle.nv_types.proofs.LayoutWalk.{where_none}
 use Rattle.nv_types.proofs.functions.Checker.fitting.Goals as goal

@@ -1,7 +1,7 @@
 use Rattle.std.proofs.Common.{◌≡◌, ◌∙◌, ap, sym, subst, bytes_eq}
 use Rattle.nv_ast.specs.Tests.{where_true}
 use Rattle.nv_ast.specs.Faults.{main_name, at_span}
-use Rattle.nv_types.specs.Faulty.{Judges}
+use Rattle.nv_types.specs.inner.Faulty.{Judges}
 use Rattle.nv_types.proofs.Signing.{main_fits, not_main, is_not, is_so}
 use Rattle.nv_types.proofs.functions.Checker.fitting_main.Goals as goal
 

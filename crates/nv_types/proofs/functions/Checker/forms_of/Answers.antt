@@ -2,8 +2,8 @@ use Rattle.std.proofs.Common.{◌≡◌, ◌∙◌, ◌≤◌, List, ℕ, ap, sy
 use Rattle.std.proofs.lemmas.List.{take_all}
 use Rattle.std.specs.Borrow.{Bor}
 use Rattle.nv_ast.specs.Types.{forms_of}
-use Rattle.nv_types.specs.Named.{named}
-use Rattle.nv_types.specs.Store.{AreForms}
+use Rattle.nv_types.specs.inner.Named.{named}
+use Rattle.nv_types.specs.inner.Store.{AreForms}
 use Rattle.nv_types.proofs.Holding.{table_keeps}
 use Rattle.nv_types.proofs.Shaping.{form_entries, form_entries_more, entries_forms}
 use Rattle.nv_types.proofs.functions.Checker.forms_of.Goals as goal

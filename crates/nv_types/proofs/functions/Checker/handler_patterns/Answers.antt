@@ -3,7 +3,7 @@ use Rattle.std.specs.Borrow.{Bor}
 use Rattle.nv_ast.specs.PatternView.{list_patterns}
 use Rattle.nv_ast.specs.Scope.{names_in_all}
 use Rattle.nv_ast.specs.Tests.{has_twice}
-use Rattle.nv_types.specs.Named.{plain_names}
+use Rattle.nv_types.specs.inner.Named.{plain_names}
 use Rattle.nv_types.specs.declared.error.TypeError.TheVariants.{NoMemory}
 use Rattle.nv_types.proofs.BlockPatterns.{handler_at_err, handler_wants_memory, handler_fails_at_names, handler_fails_at_exception, handler_fails_at_number, handler_fails_at_fit, handler_binds}
 use Rattle.nv_types.proofs.functions.Checker.handler_patterns.Goals as goal

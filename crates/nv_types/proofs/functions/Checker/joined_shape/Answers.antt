@@ -1,5 +1,5 @@
 use Rattle.std.proofs.Common.{◌≡◌, refl, sym, subst, drop, arith}
-use Rattle.nv_types.specs.Layouts.{AreShapes}
+use Rattle.nv_types.specs.inner.Layouts.{AreShapes}
 use Rattle.nv_types.proofs.Holding.{Keeps-refl, Keeps-trans}
 use Rattle.nv_types.proofs.Making.{drop_front}
 use Rattle.nv_types.proofs.Shaping.{shapes_start, shapes_step, joined_whole}

@@ -1,7 +1,7 @@
 use Rattle.std.proofs.Common.{◌≤◌, length, drop}
 use Rattle.nv_ast.specs.Outline.{OutlineTrees}
-use Rattle.nv_types.specs.Layouts.{AreShapes, IsJoined}
-use Rattle.nv_types.specs.Standing.{Keeps}
+use Rattle.nv_types.specs.inner.Layouts.{AreShapes, IsJoined}
+use Rattle.nv_types.specs.inner.Standing.{Keeps}
 use Rattle.nv_types.proofs.functions.Checker.joined_shape.Given as goal
 
 abbrev pub invariant-loop-left : goal.invariant-loop-left

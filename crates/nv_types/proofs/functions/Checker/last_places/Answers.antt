@@ -1,7 +1,7 @@
 use Rattle.std.proofs.Common.{◌≤◌, ◌<◌, ◌∙◌, ◌+◌, ap, sym, subst, arith, ℕ, List, length, take, drop, cond, Some, bytes_eq}
 use Rattle.std.specs.Borrow.{Bor}
-use Rattle.nv_types.specs.Named.{named, plain_names}
-use Rattle.nv_types.specs.Blocks.{IsEnds}
+use Rattle.nv_types.specs.inner.Named.{named, plain_names}
+use Rattle.nv_types.specs.inner.Blocks.{IsEnds}
 use Rattle.nv_types.proofs.Entries.{look_up-named}
 use Rattle.nv_types.proofs.BlockEnds.{ends_none, ends_more, ends_all, name_there, as_many_plain}
 use Rattle.nv_types.proofs.functions.Checker.last_places.Goals as goal

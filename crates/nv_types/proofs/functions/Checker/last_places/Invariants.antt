@@ -1,6 +1,6 @@
 use Rattle.std.proofs.Common.{drop, take}
-use Rattle.nv_types.specs.Named.{named, plain_names}
-use Rattle.nv_types.specs.Blocks.{IsEnds}
+use Rattle.nv_types.specs.inner.Named.{named, plain_names}
+use Rattle.nv_types.specs.inner.Blocks.{IsEnds}
 use Rattle.nv_types.proofs.functions.Checker.last_places.Given as goal
 
 abbrev pub invariant-loop-i : goal.invariant-loop-i

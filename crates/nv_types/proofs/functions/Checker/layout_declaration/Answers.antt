@@ -3,7 +3,7 @@ use Rattle.std.proofs.lemmas.Result.{err_from_is_err_and}
 use Rattle.nv_ast.specs.LayoutView.{layout_tree}
 use Rattle.nv_ast.specs.Tests.{where_true, look_up}
 use Rattle.nv_ast.specs.Faults.{at_span}
-use Rattle.nv_types.specs.Faulty.{IsFirstOf}
+use Rattle.nv_types.specs.inner.Faulty.{IsFirstOf}
 use Rattle.nv_types.proofs.DeclWalk.{layout_err, layout_shape_err, layout_ok}
 use Rattle.nv_types.proofs.functions.Checker.layout_declaration.Goals as goal
 

@@ -2,7 +2,7 @@ use Rattle.std.proofs.Common.{◌≡◌, ◌∙◌, refl, ap, ℕ, List, ◌++�
 use Rattle.std.specs.Borrow.{Bor}
 use Rattle.nv_ast.specs.PatternView.{pattern_tree}
 use Rattle.nv_ast.specs.Scope.{names_in}
-use Rattle.nv_types.specs.Named.{plain_names}
+use Rattle.nv_types.specs.inner.Named.{plain_names}
 use Rattle.nv_types.specs.declared.error.TypeError.TheVariants.{NoMemory}
 use Rattle.nv_types.proofs.BlockLets.{let_at_err, let_wants_memory, let_fails_at_names, let_fails_at_fit, let_binds_none, let_binds_some, let_moved}
 use Rattle.nv_types.proofs.functions.Checker.let_pattern.Goals as goal

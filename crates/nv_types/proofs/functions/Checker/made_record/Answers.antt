@@ -2,8 +2,8 @@ use Rattle.std.proofs.Common.{sym, subst, refl, ℕ, Option, Some, Ok, Err}
 use Rattle.std.proofs.lemmas.Result.{err_from_is_err_and}
 use Rattle.nv_ast.specs.Types.{RecordTy, NamedTys}
 use Rattle.nv_types.specs.declared.functions.Found.{Found}
-use Rattle.nv_types.specs.Named.{named}
-use Rattle.nv_types.specs.Store.{IsValue, AreFields, field_names}
+use Rattle.nv_types.specs.inner.Named.{named}
+use Rattle.nv_types.specs.inner.Store.{IsValue, AreFields, field_names}
 use Rattle.nv_types.proofs.Growing.{Grows-trans}
 use Rattle.nv_types.proofs.Staying.{fields_stay}
 use Rattle.nv_types.proofs.Holding.{Keeps-table}

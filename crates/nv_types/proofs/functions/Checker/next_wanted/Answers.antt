@@ -1,6 +1,6 @@
 use Rattle.std.proofs.Common.{ℕ, sym, subst, Option, Some, None}
 use Rattle.nv_types.specs.declared.wanted.Wanted.TheVariants.{Value, Typed}
-use Rattle.nv_types.specs.Walk.{WantsNext}
+use Rattle.nv_types.specs.inner.Walk.{WantsNext}
 use Rattle.nv_types.proofs.WalkLists.{next_value, next_none, next_some}
 use Rattle.nv_types.proofs.functions.Checker.next_wanted.Goals as goal
 

@@ -1,5 +1,5 @@
 use Rattle.nv_ast.specs.Types.{forms_of}
-use Rattle.nv_types.specs.Named.{named}
+use Rattle.nv_types.specs.inner.Named.{named}
 use Rattle.nv_types.proofs.Growing.{Grows-trans}
 use Rattle.nv_types.proofs.Holding.{Keeps-trans, Keeps-table}
 use Rattle.nv_types.proofs.Staying.{forms_stay}

@@ -1,6 +1,6 @@
 use Rattle.std.proofs.Common.{◌∙◌, ◌++◌, ◌∷◌, ◌≤◌, [], ap, sym, length, arith}
 use Rattle.std.proofs.lemmas.List.{take_all}
-use Rattle.nv_types.specs.Named.{named, bound_types}
+use Rattle.nv_types.specs.inner.Named.{named, bound_types}
 use Rattle.nv_types.proofs.Params.{types_more}
 use Rattle.nv_types.proofs.functions.Checker.param_types.Goals as goal
 

@@ -1,4 +1,4 @@
-use Rattle.nv_types.specs.Named.{named}
+use Rattle.nv_types.specs.inner.Named.{named}
 use Rattle.nv_types.proofs.Holding.{Keeps-trans}
 use Rattle.nv_types.proofs.Shaping.{members_stay, parts_shape}
 use Rattle.nv_types.proofs.functions.Checker.record_shape.Goals as goal

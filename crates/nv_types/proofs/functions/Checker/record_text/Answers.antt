@@ -1,7 +1,7 @@
 use Rattle.std.proofs.lemmas.Result.{err_from_is_err_and}
 use Rattle.nv_ast.specs.Types.{RecordTy}
 use Rattle.nv_ast.specs.Faults.{too_large}
-use Rattle.nv_types.specs.Store.{field_names}
+use Rattle.nv_types.specs.inner.Store.{field_names}
 use Rattle.nv_types.proofs.Growing.{Grows-trans}
 use Rattle.nv_types.proofs.Holding.{Keeps-table}
 use Rattle.nv_types.proofs.LayoutArms.{on_ok}

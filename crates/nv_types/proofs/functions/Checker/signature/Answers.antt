@@ -6,10 +6,10 @@ use Rattle.nv_ast.specs.TypeView.{list_named_types}
 use Rattle.nv_ast.specs.ProgramView.{fun_tree}
 use Rattle.nv_ast.specs.Tests.{names_of}
 use Rattle.nv_ast.specs.Faults.{at_span, variable_twice}
-use Rattle.nv_types.specs.Faulty.{IsFirstOf}
-use Rattle.nv_types.specs.Named.{named, bound_types}
-use Rattle.nv_types.specs.Store.{AreTypes}
-use Rattle.nv_types.specs.Texts.{TypesNamed}
+use Rattle.nv_types.specs.inner.Faulty.{IsFirstOf}
+use Rattle.nv_types.specs.inner.Named.{named, bound_types}
+use Rattle.nv_types.specs.inner.Store.{AreTypes}
+use Rattle.nv_types.specs.inner.Texts.{TypesNamed}
 use Rattle.nv_types.proofs.Signing.{Listed, texts_read, sign_params_err, sign_result_err, sign_twice_err, sign_main_err, sign_ok, sign_no_memory}
 use Rattle.nv_types.proofs.functions.Checker.signature.Goals as goal
 

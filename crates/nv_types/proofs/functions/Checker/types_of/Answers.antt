@@ -2,8 +2,8 @@ use Rattle.std.proofs.Common.{◌≡◌, ◌∙◌, ◌≤◌, List, ℕ, ap, sy
 use Rattle.std.proofs.lemmas.List.{take_all}
 use Rattle.std.specs.Borrow.{Bor}
 use Rattle.nv_ast.specs.Types.{forms_of, unpacked_all}
-use Rattle.nv_types.specs.Named.{named}
-use Rattle.nv_types.specs.Store.{AreFields}
+use Rattle.nv_types.specs.inner.Named.{named}
+use Rattle.nv_types.specs.inner.Store.{AreFields}
 use Rattle.nv_types.proofs.Holding.{table_keeps}
 use Rattle.nv_types.proofs.Shaping.{type_entries, type_entries_more, entries_types}
 use Rattle.nv_types.proofs.functions.Checker.types_of.Goals as goal

@@ -1,5 +1,5 @@
 use Rattle.std.proofs.Common.{◌∷◌, [], ◌∙◌, ap, sym, refl, false}
-use Rattle.nv_types.specs.Named.{plain_names}
+use Rattle.nv_types.specs.inner.Named.{plain_names}
 use Rattle.nv_types.proofs.Found.{plain-append}
 use Rattle.nv_types.proofs.Holding.{Keeps-written}
 use Rattle.nv_types.proofs.WalkNamed.{variable_checks, variable_unknown}

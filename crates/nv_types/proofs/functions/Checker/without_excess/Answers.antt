@@ -2,7 +2,7 @@ use Rattle.std.proofs.Common.{◌≡◌, [], Bool, subst}
 use Rattle.std.proofs.lemmas.Result.{err_from_is_err_and}
 use Rattle.nv_ast.specs.Faults.{at_span}
 use Rattle.nv_ast.specs.Tests.{where_true}
-use Rattle.nv_types.specs.Faulty.{IsFirstOf}
+use Rattle.nv_types.specs.inner.Faulty.{IsFirstOf}
 use Rattle.nv_types.proofs.functions.Checker.without_excess.Goals as goal
 
 pub returns-in_err-fault_where-clause-judged : goal.returns-in_err-fault_where-clause-judged

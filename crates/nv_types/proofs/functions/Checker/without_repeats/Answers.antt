@@ -1,7 +1,7 @@
 use Rattle.std.proofs.Common.{Bool, subst}
 use Rattle.nv_ast.specs.Faults.{at_span}
 use Rattle.nv_ast.specs.Tests.{where_true}
-use Rattle.nv_types.specs.Faulty.{Judges}
+use Rattle.nv_types.specs.inner.Faulty.{Judges}
 use Rattle.nv_types.proofs.functions.Checker.without_repeats.Goals as goal
 
 pub returns : goal.returns

@@ -4,7 +4,7 @@ use Rattle.nv_ast.specs.Faults.{at_span}
 use Rattle.nv_ast.specs.Tests.{where_true, has_twice}
 use Rattle.nv_ast.specs.Types.{joined_forms}
 use Rattle.nv_types.specs.declared.layouts.Shape.{Shape}
-use Rattle.nv_types.specs.Store.{form_names}
+use Rattle.nv_types.specs.inner.Store.{form_names}
 use Rattle.nv_types.proofs.Images.{next_at}
 use Rattle.nv_types.proofs.LayoutWalk.{where_none}
 use Rattle.nv_types.proofs.SharedNames.{shared_start, shared_more, shared_met, shared_fault, shared_end}

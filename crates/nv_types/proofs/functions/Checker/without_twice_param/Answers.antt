@@ -2,8 +2,8 @@ use Rattle.std.proofs.Common.{◌∙◌, ◌++◌, ◌∷◌, ◌≤◌, [], ap,
 use Rattle.std.proofs.lemmas.List.{take_all}
 use Rattle.nv_ast.specs.Tests.{names_of}
 use Rattle.nv_ast.specs.Faults.{at_span, variable_twice}
-use Rattle.nv_types.specs.Faulty.{Judges}
-use Rattle.nv_types.specs.Named.{named, plain_names}
+use Rattle.nv_types.specs.inner.Faulty.{Judges}
+use Rattle.nv_types.specs.inner.Named.{named, plain_names}
 use Rattle.nv_types.proofs.Found.{plain-append}
 use Rattle.nv_types.proofs.Params.{names_more}
 use Rattle.nv_types.proofs.functions.Checker.without_twice_param.Goals as goal

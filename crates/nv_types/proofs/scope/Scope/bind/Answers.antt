@@ -2,7 +2,7 @@ use Rattle.std.proofs.Common.{◌≡◌, ◌∙◌, ap, sym, subst, false, rules
 use Rattle.std.specs.Result.{OnOk, is_err}
 use Rattle.nv_ast.specs.Tests.{look_up}
 use Rattle.nv_types.specs.declared.scope.Binding.{Binding}
-use Rattle.nv_types.specs.Stack.{IsScope}
+use Rattle.nv_types.specs.inner.Stack.{IsScope}
 use Rattle.nv_types.proofs.Stacks.{IsScope-push}
 use Rattle.nv_types.proofs.scope.Scope.bind.Goals as goal
 

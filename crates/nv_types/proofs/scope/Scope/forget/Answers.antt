@@ -1,7 +1,7 @@
 use Rattle.std.proofs.Common.{◌≡◌, ◌∙◌, ap, sym, subst, cond, bytes_eq, None, List}
 use Rattle.std.specs.Map.{lookup}
 use Rattle.nv_types.specs.declared.scope.Binding.{Binding}
-use Rattle.nv_types.specs.Stack.{IsScope}
+use Rattle.nv_types.specs.inner.Stack.{IsScope}
 use Rattle.nv_types.proofs.Stacks.{IsScope-pop, newest_seen}
 use Rattle.nv_types.proofs.scope.Scope.forget.Goals as goal
 

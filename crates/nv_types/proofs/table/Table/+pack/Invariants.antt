@@ -1,5 +1,5 @@
 use Rattle.std.proofs.Common.{◌+◌, ◌*◌, ◌≤◌}
-use Rattle.nv_types.specs.Knowing.{ArePacked}
+use Rattle.nv_types.specs.inner.Knowing.{ArePacked}
 use Rattle.nv_types.proofs.Packing.{PackSo, OneSo}
 use Rattle.nv_types.proofs.table.Table.+pack.Given as goal
 

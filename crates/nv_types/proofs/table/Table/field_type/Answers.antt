@@ -1,6 +1,6 @@
 use Rattle.std.proofs.Common.{◌≡◌, ◌∙◌, ap, sym, subst, ℕ, Option, Some, slice_get}
 use Rattle.nv_ast.specs.Typing.{field_ty}
-use Rattle.nv_types.specs.Store.{Store, IsValue}
+use Rattle.nv_types.specs.inner.Store.{Store, IsValue}
 use Rattle.nv_types.proofs.FieldLists.{field_below}
 use Rattle.nv_types.proofs.FieldWalks.{field_start, field_here, field_other, field_end, no_record_field, no_such_field, found_name, missing_name, eqb_other}
 use Rattle.nv_types.proofs.table.Table.field_type.Goals as goal

@@ -1,7 +1,7 @@
 use Rattle.std.proofs.Common.{◌≤◌, length, drop}
 use Rattle.nv_ast.specs.Types.{NamedTys, Forms}
-use Rattle.nv_types.specs.Named.{named}
-use Rattle.nv_types.specs.Store.{Grows, IsFields, IsForms, AreFields, AreForms}
+use Rattle.nv_types.specs.inner.Named.{named}
+use Rattle.nv_types.specs.inner.Store.{Grows, IsFields, IsForms, AreFields, AreForms}
 use Rattle.nv_types.proofs.table.Table.fields_of.Given as goal
 
 abbrev pub invariant-loop-left : goal.invariant-loop-left

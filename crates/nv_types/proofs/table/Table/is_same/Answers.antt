@@ -1,6 +1,6 @@
 use Rattle.std.proofs.Common.{subst}
-use Rattle.nv_types.specs.Named.{plain_names}
-use Rattle.nv_types.specs.Store.{IsStore}
+use Rattle.nv_types.specs.inner.Named.{plain_names}
+use Rattle.nv_types.specs.inner.Store.{IsStore}
 use Rattle.nv_types.proofs.OneNumber.{same_number}
 use Rattle.nv_types.proofs.table.Table.is_same.Goals as goal
 

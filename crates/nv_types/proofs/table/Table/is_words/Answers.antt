@@ -1,7 +1,7 @@
 use Rattle.std.proofs.Common.{◌≡◌, ◌∙◌, ap, sym, refl, Some, slice_get, arith}
 use Rattle.nv_ast.specs.Types.{Ty, WordTy, same_type, words_ty}
 use Rattle.nv_types.specs.declared.table.Cell.TheVariants.{Tuple}
-use Rattle.nv_types.specs.Store.{tuple_of}
+use Rattle.nv_types.specs.inner.Store.{tuple_of}
 use Rattle.nv_types.proofs.Bound.{tuple_some}
 use Rattle.nv_types.proofs.WordLists.{words_one, same_turned, tuple_of_words, tuple_of_others}
 use Rattle.nv_types.proofs.table.Table.is_words.Goals as goal

@@ -1,5 +1,5 @@
 use Rattle.std.proofs.Common.{◌≤◌, length, drop}
-use Rattle.nv_types.specs.Store.{Grows}
+use Rattle.nv_types.specs.inner.Store.{Grows}
 use Rattle.nv_types.proofs.Joining.{JoinsFields, JoinsForms}
 use Rattle.nv_types.proofs.table.Table.joined.Given as goal
 

@@ -1,9 +1,9 @@
 use Rattle.std.proofs.Common.{◌≡◌, ◌∙◌, ap, sym, subst}
 use Rattle.nv_types.specs.declared.table.Facts.{Facts}
-use Rattle.nv_types.specs.Cells.{fact_at}
-use Rattle.nv_types.specs.Named.{plain_names}
-use Rattle.nv_types.specs.Store.{Store, IsType, IsParts}
-use Rattle.nv_types.specs.Knowing.{IsKnown, AreKnown}
+use Rattle.nv_types.specs.inner.Cells.{fact_at}
+use Rattle.nv_types.specs.inner.Named.{plain_names}
+use Rattle.nv_types.specs.inner.Store.{Store, IsType, IsParts}
+use Rattle.nv_types.specs.inner.Knowing.{IsKnown, AreKnown}
 use Rattle.nv_types.proofs.KnownTypes.{known_type, known_parts}
 use Rattle.nv_types.proofs.table.Table.known.Goals as goal
 

@@ -2,9 +2,9 @@ use Rattle.std.proofs.Common.{◌≡◌, ◌∙◌, ◌++◌, ◌∷◌, [], ap,
 use Rattle.std.specs.List.{list_any}
 use Rattle.std.specs.Borrow.{Bor}
 use Rattle.std.specs.Cmp.Lexicographic.{bytes_decides}
-use Rattle.nv_types.specs.Cells.{IsTable}
-use Rattle.nv_types.specs.Named.{plain_names}
-use Rattle.nv_types.specs.Store.{Store, Grows}
+use Rattle.nv_types.specs.inner.Cells.{IsTable}
+use Rattle.nv_types.specs.inner.Named.{plain_names}
+use Rattle.nv_types.specs.inner.Store.{Store, Grows}
 use Rattle.nv_types.proofs.Growing.{IsTable-name, Grows-names, Grows-refl}
 use Rattle.nv_types.proofs.Found.{name_at, plain-append, any_name, absent_name}
 use Rattle.nv_types.proofs.table.Table.name_number.Goals as goal

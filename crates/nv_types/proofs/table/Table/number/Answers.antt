@@ -3,9 +3,9 @@ use Rattle.std.specs.List.{list_any}
 use Rattle.nv_types.specs.declared.table.Cell.{Cell}
 use Rattle.nv_types.specs.declared.table.Facts.{Facts}
 use Rattle.nv_types.specs.contracts.table.CellPartialEq.TheImpl.{eq-value}
-use Rattle.nv_types.specs.Cells.{AreBelow, IsTable, cell_facts}
-use Rattle.nv_types.specs.Named.{plain_names}
-use Rattle.nv_types.specs.Store.{Store, Grows}
+use Rattle.nv_types.specs.inner.Cells.{AreBelow, IsTable, cell_facts}
+use Rattle.nv_types.specs.inner.Named.{plain_names}
+use Rattle.nv_types.specs.inner.Store.{Store, Grows}
 use Rattle.nv_types.proofs.Growing.{get_last, IsTable-push, Grows-cells}
 use Rattle.nv_types.proofs.Found.{was_ok, found_cell, absent_cell, inserted_cell}
 use Rattle.nv_types.proofs.table.Table.number.Goals as goal

@@ -1,6 +1,6 @@
 use Rattle.std.proofs.Common.{◌≤◌, length, drop}
 use Rattle.nv_ast.specs.Types.{Tys}
-use Rattle.nv_types.specs.Store.{Grows, IsParts, AreTypes}
+use Rattle.nv_types.specs.inner.Store.{Grows, IsParts, AreTypes}
 use Rattle.nv_types.proofs.table.Table.parts_of.Given as goal
 
 abbrev pub invariant-loop-left : goal.invariant-loop-left

@@ -1,5 +1,5 @@
 use Rattle.std.proofs.Common.{[], sym, subst}
-use Rattle.nv_types.specs.Store.{AreSeen, field_names, form_names}
+use Rattle.nv_types.specs.inner.Store.{AreSeen, field_names, form_names}
 use Rattle.nv_types.proofs.FieldWalks.{seen_none, fields_named, forms_named}
 use Rattle.nv_types.proofs.table.Table.repeats_a_name.Goals as goal
 

@@ -1,6 +1,6 @@
 use Rattle.std.proofs.Common.{refl, sym, subst, add-one}
 use Rattle.nv_ast.specs.Types.{WordTy, word_parts}
-use Rattle.nv_types.specs.Store.{IsParts}
+use Rattle.nv_types.specs.inner.Store.{IsParts}
 use Rattle.nv_types.proofs.Growing.{Grows-trans}
 use Rattle.nv_types.proofs.table.Table.word_list.Goals as goal
 

@@ -1,5 +1,5 @@
 use Rattle.nv_ast.specs.Types.{word_parts}
-use Rattle.nv_types.specs.Store.{Grows, IsParts}
+use Rattle.nv_types.specs.inner.Store.{Grows, IsParts}
 use Rattle.nv_types.proofs.table.Table.word_list.Given as goal
 
 abbrev pub invariant-loop-i : goal.invariant-loop-i

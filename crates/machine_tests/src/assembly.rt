@@ -1,0 +1,74 @@
+// Texts by hand, against codes, listings and faulty lines.
+use nv_base::Bin;
+use std::alloc::Global;
+use std::test::Fail;
+use uc_asm::laws::assemble_printed;
+use uc_asm::{AsmError, assemble, print};
+use uc_isa::{Dst, Instr, RegA, RegB, Src};
+
+const SUM: &[u8] = b"params 2\n\
+    alu A0 ADD A0 B0\n\
+    halt 0 1\n";
+
+#[test]
+fn a_text_gives_its_code(rt: HostRuntime) -> Result<(), Fail> {
+    let code = assemble(rt.alloc(), SUM)?;
+    assert_eq!(rt; code.params(), 2);
+    let list = Vec::from_array(
+        rt.alloc(),
+        [
+            Instr::Alu {
+                dst: Dst::A(RegA { number: 0 }),
+                op: Bin::Add,
+                x: Src::A(RegA { number: 0 }),
+                y: Src::B(RegB { number: 0 }),
+            },
+            Instr::Halt { k: 0, n: 1 },
+        ],
+    )?;
+    assert_eq!(rt; code.list(), list.as_slice());
+    Ok(())
+}
+
+#[test]
+fn a_listing_is_assembled_again(rt: HostRuntime) -> Result<(), Fail> {
+    let code = assemble(
+        rt.alloc(),
+        b"params 2\nsum:\nalu A0 ADD A0 B0\nhalt 0 1\nbr ALWAYS sum\n",
+    )?;
+    let text = print(rt.alloc(), &code)?;
+    let listing = b"params 2\nalu A0 ADD A0 B0\nhalt 0 1\nbr ALWAYS @0\n";
+    assert_eq!(rt; text.as_slice(), listing.as_slice());
+    let again = assemble_printed(rt.alloc(), &code)?;
+    assert_eq!(rt; again.list(), code.list());
+    Ok(())
+}
+
+// The error of a text.
+fn error_of(alloc: Global, text: &[u8]) -> Option<AsmError> {
+    if text.len() > 1000 {
+        return None;
+    }
+    match assemble(alloc, text) {
+        Err(error) => Some(error),
+        Ok(_) => None,
+    }
+}
+
+#[test]
+fn each_error_names_its_line(rt: HostRuntime) -> Result<(), Fail> {
+    let alloc = rt.alloc();
+    assert_eq!(rt;
+        error_of(alloc, b"params 1\nbr Z far\nhalt\n"),
+        Some(AsmError::Syntax(3))
+    );
+    assert_eq!(rt;
+        error_of(alloc, b"params 2\nbr Z far\nhalt 0 1\n"),
+        Some(AsmError::Label(2))
+    );
+    assert_eq!(rt;
+        error_of(alloc, b"params 1\nbr NC j\nhalt 255 4\nj:\n"),
+        Some(AsmError::Unlawful(2, 5))
+    );
+    Ok(())
+}

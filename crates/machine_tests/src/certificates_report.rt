@@ -1,0 +1,53 @@
+ghost use Rattle.std.specs.Prelude.{IfOk};
+ghost use Rattle.zo_cert.specs.Report.{IsValidReport};
+
+use std::alloc::Global;
+use zo_cert::laws::read_back;
+use zo_cert::{Report, Work, ZoError, check_report, print_report, read_report};
+
+const COVER: &[u8] =
+    b"novareport 1\nslots 0\nbudget 1\ncolumns 3\nrows 3\nc 1\nc 1\nc 1\nr 1 0:1 1:1\nr 1 1:1 2:1\nr 1 0:1 2:1\nverdict optimal 2\nx 0 1\ntree 1\nd 2 0:1 1:1 2:1\n";
+
+fn read(alloc: Global, text: &[u8]) -> Result<Report, ZoError>
+    ensures { IfOk result IsValidReport }
+{
+    if text.len() > 1_000_000 {
+        return Err(ZoError::NoMemory);
+    }
+    read_report(alloc, text)
+}
+
+/// Whether the report of this text is read back from its text, and printed as it.
+fn is_read_back(alloc: Global, text: &[u8]) -> Result<bool, ZoError> {
+    let first = read(alloc, text)?;
+    let second = read_back(alloc, &first)?;
+    let shown = print_report(alloc, &first)?;
+    Ok(shown.as_slice() == text && second.tree.nodes.len() == first.tree.nodes.len())
+}
+
+#[test]
+fn a_report_is_read_back_from_its_text(rt: HostRuntime) {
+    assert_eq!(rt; is_read_back(rt.alloc(), COVER), Ok(true));
+}
+
+/// Whether the report of this text is true.
+fn is_true(alloc: Global, text: &[u8]) -> Result<bool, ZoError> {
+    let r = read(alloc, text)?;
+    let mut work = Work::new(alloc, &r.z)?;
+    Ok(check_report(&r, &mut work))
+}
+
+#[test]
+fn a_cover_of_three_columns_costs_two(rt: HostRuntime) {
+    assert_eq!(rt; is_true(rt.alloc(), COVER), Ok(true));
+}
+
+#[test]
+fn the_line_of_a_wrong_cost_is_named(rt: HostRuntime) {
+    let text =
+        b"novareport 1\nslots 0\nbudget 1\ncolumns 1\nrows 0\nc 5\nverdict optimal 4\nx 0\nnonsense";
+    match read(rt.alloc(), text) {
+        Ok(_) => assert!(rt; false),
+        Err(error) => assert_eq!(rt; error, ZoError::Bad(7)),
+    }
+}

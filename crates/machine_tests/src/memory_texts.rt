@@ -1,0 +1,63 @@
+use nv_base::{Access, Mem, Outcome, Packet, Words, Write, WriteLog};
+use nv_memtext::{Job, MemError, print_outcome, read_memory};
+use std::alloc::Global;
+use std::test::Fail;
+
+fn refusal(alloc: Global, text: &[u8], params: u8) -> Result<(), MemError> {
+    if text.len() > 1_000_000 {
+        return Err(MemError::NoMemory);
+    }
+    let Job { packet, args } = read_memory(alloc, text, params)?;
+    let _ = packet;
+    let _ = args;
+    Ok(())
+}
+
+#[test]
+fn a_memory_text_fills_the_memories_in_order(rt: HostRuntime) -> Result<(), Fail> {
+    let text =
+        b"memory 4 3\nargs FFFFFFFF 0000000a\nsram 1 00000005 00000006\nsram 2 00000007\nsdram 2 00000008 00000009\nscratch 511 0000000b\n";
+    let Job { packet, args } = read_memory(rt.alloc(), text, 2)?;
+    assert!(rt; args.list() == [0xffff_ffff, 10].as_slice());
+    assert!(rt; packet.words(Mem::Sram) == [0, 5, 7, 0].as_slice());
+    assert!(rt; packet.words(Mem::Sdram) == [0, 0, 0, 0, 8, 9].as_slice());
+    let mut last = [0];
+    assert!(rt; packet.read(Mem::Scratch, 511, &mut last) == Access::Done);
+    assert_eq!(rt; last, [11]);
+    Ok(())
+}
+
+#[test]
+fn a_faulty_line_and_a_size_are_named(rt: HostRuntime) -> Result<(), Fail> {
+    let alloc = rt.alloc();
+    assert_eq!(rt;
+        refusal(alloc, b"memory 9 0\nargs\nsram 0 0000000g\n", 0),
+        Err(MemError::Bad(3))
+    );
+    assert_eq!(rt;
+        refusal(alloc, b"memory 1 65537\nargs\n", 0),
+        Err(MemError::TooLarge(65_537))
+    );
+    Ok(())
+}
+
+#[test]
+fn an_outcome_text_shows_what_is_not_zero(rt: HostRuntime) -> Result<(), Fail> {
+    let alloc = rt.alloc();
+    let text =
+        b"memory 9 5\nargs\nsram 8 0000000a\nsdram 4 00000001 00000002\nscratch 504 000000ff\n";
+    let Job { packet, args } = read_memory(alloc, text, 0)?;
+    let _ = args;
+    let mut log = WriteLog::new(alloc, 64).map_err(|_| "memory")?;
+    log.note(Write {
+        mem: Mem::Sram,
+        at: 8,
+        words: Words::of(&[10]),
+    });
+    let outcome = Outcome::Raised(3, Words::of(&[0xdead_beef]));
+    let shown = print_outcome(alloc, &outcome, &packet, &log).map_err(|_| "memory")?;
+    let want =
+        b"raised 3 deadbeef\nwrites 1\nwrite sram 8 0000000a\nmemory 9 5\nsram 8 0000000a\nsdram 4 00000001 00000002\nscratch 504 000000ff 00000000 00000000 00000000 00000000 00000000 00000000 00000000\n";
+    assert!(rt; shown.as_slice() == want.as_slice());
+    Ok(())
+}

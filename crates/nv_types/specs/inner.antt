@@ -1,0 +1,16 @@
+pub mod Named
+pub mod Stack
+pub mod Faulty
+pub mod Cells
+pub mod Store
+pub mod Costs
+pub mod Knowing
+pub mod Judging
+pub mod Standing
+pub mod Layouts
+pub mod Texts
+pub mod Patterns
+pub mod Walk
+pub mod Blocks
+pub mod Declarations
+pub mod Measuring

@@ -1,0 +1,16 @@
+//! Tests of the crates of the language: names, layouts, texts, types, the front end, flat code and what is made of it.
+//! They stand here, over the built libraries, since a crate that holds tests is proved twice.
+#![tactic(auto)]
+
+#[cfg(test)]
+mod flat_code;
+#[cfg(test)]
+mod front;
+#[cfg(test)]
+mod layouts;
+#[cfg(test)]
+mod names;
+#[cfg(test)]
+mod texts;
+#[cfg(test)]
+mod types;

@@ -1,0 +1,4 @@
+pub mod First
+pub mod Seen
+pub mod Resolving
+pub mod Reading

@@ -1,0 +1,168 @@
+"""The rows that stand in the repository's documents: the examples, and the sources, texts and command lines of README and docs/."""
+import os
+import re
+
+from rows import ANY, Call, Row
+
+
+def read(top, name):
+    with open(os.path.join(top, name), encoding="utf-8") as it:
+        return it.read()
+
+
+def cells(line):
+    """The cells of a table's line, without the marks of code."""
+    return [it.strip().strip("`").replace("\\|", "|") for it in re.split(r"(?<!\\)\|", line.strip().strip("|"))]
+
+
+def blocks(text):
+    """The blocks of code of a document, each with the number of its first line and its language."""
+    found, inside, first, kind = [], None, 0, ""
+    for number, line in enumerate(text.split("\n"), 1):
+        if line.startswith("```"):
+            if inside is None:
+                inside, first, kind = [], number + 1, line[3:].strip()
+            else:
+                found.append((first, kind, "".join(it + "\n" for it in inside)))
+                inside = None
+        elif inside is not None:
+            inside.append(line)
+    return found
+
+
+def executed(where, name, source, memory, calls, status, output):
+    row = Row(where, name)
+    row.files = {"s.nova": source.encode(), "s.mem": memory.encode()}
+    row.calls = [Call(["exec", "s.nova", "s.mem", f"steps={calls}"], status, output.encode())]
+    return row
+
+
+STATUSES = {"ended": 0, "raised": 14, "fault": 15, "going": 16}
+
+
+def status_of(outcome):
+    return STATUSES[outcome.split()[0]]
+
+
+def examples(top):
+    """Each example prints what stands beside it."""
+    found = []
+    folder = os.path.join(top, "examples")
+    for name in sorted(it[:-5] for it in os.listdir(folder) if it.endswith(".nova")):
+        texts = [read(top, f"examples/{name}.{end}") for end in ("nova", "mem", "out")]
+        found.append(executed("examples", name, texts[0], texts[1], 1000, status_of(texts[2]), texts[2]))
+    return found
+
+
+def compiled(where, source, status, output, made=False):
+    row = Row(where, source or "the empty text")
+    row.files = {"s.nova": source.encode()}
+    row.calls = [Call(["compile", "s.nova", "s.obj"], status, output, {"s.obj": ANY} if made else {})]
+    return row
+
+
+def language(top):
+    """docs/LANGUAGE.md: each source in a line of a table, with what stands behind it: an outcome by `exec`, a fault of types, a
+    fault of the text such as `Char(21)`, or a status with a colon, semicolon or comma."""
+    found = []
+    for number, line in enumerate(read(top, "docs/LANGUAGE.md").split("\n"), 1):
+        parts, where = cells(line), f"docs/LANGUAGE.md:{number}"
+        if not line.startswith("|") or len(parts) < 2:
+            continue
+        fault = re.fullmatch(r"(Char|Number|Name|Syntax|Deep)\(([0-9]+)\)", parts[1])
+        status = re.match(r"([0-9]+)[:;,](?: `([^`]*)`:)?", parts[1])
+        if len(parts) == 4 and parts[3].split(" ")[0] in STATUSES:
+            output = parts[3] + "\n..\n"
+            found.append(executed(where, parts[0], parts[2], "memory 4 2\nargs\n", 100, status_of(parts[3]), output))
+        elif len(parts) == 4 and re.fullmatch(r"type [0-9]+ at [0-9]+ [0-9]+", parts[3]):
+            source = "" if parts[2] == "the empty text" else parts[2]
+            found.append(compiled(where, source, 7, parts[3].encode() + b"\n"))
+        elif fault and parts[0].startswith("fun ") and ".." not in parts[0]:
+            found.append(compiled(where, parts[0], 6, f"syntax {fault[1].lower()} at {fault[2]}\n".encode()))
+        elif len(parts) == 2 and status and parts[0].startswith("fun "):
+            made = status[1] == "0"
+            found.append(compiled(where, parts[0], int(status[1]), status[2].encode() + b"\n" if status[2] else ANY, made))
+    return found
+
+
+def machine(top):
+    """docs/MACHINE.md: each assembly text is assembled, and its listing is itself; a memory text and an outcome text that
+    follow it are what the code runs on and prints."""
+    found, row = [], None
+    for first, _, text in blocks(read(top, "docs/MACHINE.md")):
+        if re.match(r"params [0-8]\n[^.]*$", text):
+            row = Row(f"docs/MACHINE.md:{first}", "an assembly text")
+            row.files = {"t": text.encode()}
+            length = sum(not it.endswith(":") for it in text.split("\n")[1:-1])
+            row.calls = [Call(["asm", "t", "o"], 0, f"assembled {length}\n".encode(), {"o": ANY}), Call(["lint", "o"], 0, f"lawful {length}\n".encode())]
+            if length == text.count("\n") - 1:
+                row.calls.append(Call(["dis", "o"], 0, text.encode()))
+            found.append(row)
+        elif re.match(r"(ended|raised|fault|going)\b[^.]*$", text) and row:
+            arguments = re.search(r"`(memory [0-9]+ [0-9]+)`, `(args[ 0-9a-f]*)` prints\n\n```\n" + re.escape(text), read(top, "docs/MACHINE.md"))
+            row.files["m"] = "{}\n{}\n".format(*(arguments.groups() if arguments else ("memory 0 0", "args"))).encode()
+            row.calls.append(Call(["run", "o", "m", "steps=1000"], status_of(text), text.encode()))
+    return found
+
+
+def certificates(top):
+    """docs/CERTIFICATES.md: each report is true, and its verdict is printed; the table of changes names the faulty lines."""
+    found, report = [], ""
+    document = read(top, "docs/CERTIFICATES.md")
+    for first, _, text in blocks(document):
+        if text.startswith("novareport 1\nslots "):
+            report = text
+            verdict = re.search(r"\nverdict (.*)\n", text)[1]
+            row = Row(f"docs/CERTIFICATES.md:{first}", f"a report, {verdict}")
+            row.files = {"r": text.encode()}
+            row.calls = [Call(["check", "r"], 0, f"{verdict}\n".encode())]
+            found.append(row)
+    for number, line in enumerate(document.split("\n"), 1):
+        answer = re.match(r"\| (.*) \| `Bad\(([0-9]+)\)`.*\|$", line)
+        for text in re.findall(r"`((?:slots|budget|novareport) [^`]*)`", answer[1]) if answer else []:
+            lines = report.split("\n")
+            at = int(answer[2])
+            row = Row(f"docs/CERTIFICATES.md:{number}", f"the report with {text}")
+            row.files = {"r": "\n".join(lines[: at - 1] + [text] + lines[at:]).encode()}
+            row.calls = [Call(["check", "r"], 17, f"report line {at}\n".encode())]
+            found.append(row)
+    return found
+
+
+def faults(top):
+    """docs/FAULTS.md: a block of code of kind `nova` behind which a line begins with a refusal in backticks is refused so."""
+    if not os.path.isfile(os.path.join(top, "docs/FAULTS.md")):
+        return []
+    found = []
+    lines = read(top, "docs/FAULTS.md").split("\n")
+    for first, kind, text in blocks("\n".join(lines)):
+        behind = [it for it in lines[first + text.count("\n") :] if it]
+        answer = re.match(r"`((?:syntax|type|too large) [^`]*)`", behind[0]) if behind else None
+        if kind == "nova" and answer:
+            row = Row(f"docs/FAULTS.md:{first}", answer[1])
+            row.files = {"s.nova": text.encode()}
+            status = {"syntax": 6, "type": 7, "too": 8}[answer[1].split()[0]]
+            row.calls = [Call(["compile", "s.nova", "s.obj"], status, answer[1].encode() + b"\n")]
+            found.append(row)
+    return found
+
+
+def command_lines(top):
+    """README: each line of a block of kind `sh` that calls the built program, with a shell's `> FILE` left out."""
+    found = []
+    for first, kind, text in blocks(read(top, "README.md")):
+        for line in text.split("\n") if kind == "sh" else []:
+            words = line.split("#")[0].split()
+            if not words or not words[0].endswith("out/novac"):
+                continue
+            row = Row(f"README.md:{first}", " ".join(words[1:]))
+            names = {it: os.path.basename(it) for it in words[2:] if "=" not in it}
+            row.files = {short: read(top, it).encode() for it, short in names.items() if os.path.isfile(os.path.join(top, it))}
+            made = {short: ANY for it, short in names.items() if short not in row.files}
+            row.calls = [Call([words[1], *(names.get(it, it) for it in words[2:])], 0, ANY, made)]
+            found.append(row)
+    return found
+
+
+def all_rows(top):
+    return [row for of in (examples, language, machine, certificates, faults, command_lines) for row in of(top)]

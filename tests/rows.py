@@ -1,0 +1,200 @@
+"""Rows: files, command lines, and what they have to print, give and save. tests/README.md says how they are written."""
+import os
+import re
+import shlex
+import subprocess
+
+SECONDS = 120
+ABSENT, ANY = object(), object()
+
+
+class BadRow(Exception):
+    """A row file that isn't of the form."""
+
+
+def unescaped(text):
+    """The bytes of a text in which \\n, \\r, \\t, \\\\ and \\xNN stand for bytes."""
+    known = {"n": b"\n", "r": b"\r", "t": b"\t", "\\": b"\\"}
+    parts = re.split(r"\\(x[0-9a-f]{2}|.)", text)
+    for at in range(1, len(parts), 2):
+        name = parts[at]
+        if name not in known and len(name) != 3:
+            raise BadRow(f"\\{name} stands for no byte")
+    return b"".join(
+        (known.get(it) or bytes([int(it[1:], 16)])) if at % 2 else it.encode() for at, it in enumerate(parts)
+    )
+
+
+def value(text, top):
+    """The bytes that one line gives a file."""
+    kind, _, rest = text.partition(" ")
+    if kind == "%hex":
+        return bytes.fromhex(rest)
+    if kind == "%repeat":
+        times, _, part = rest.partition(" ")
+        return unescaped(part) * int(times)
+    if text == "%empty":
+        return b""
+    if kind in ("%absent", "%any"):
+        return ABSENT if kind == "%absent" else ANY
+    if text.startswith("@"):
+        with open(os.path.join(top, text[1:]), "rb") as it:
+            return it.read()
+    return unescaped(text)
+
+
+def shown(data, limit=600):
+    """Bytes for a person."""
+    if data is ABSENT:
+        return "absent"
+    text = data[:limit].decode("utf-8", "backslashreplace")
+    text = text if text.endswith("\n") else text + " (no line's end)"
+    return ("\n| " + text.rstrip("\n").replace("\n", "\n| ") + ("\n| .." if len(data) > limit else "")).rstrip()
+
+
+def is_like(wanted, found):
+    """Whether an output is as wanted: a line that ends with ' ..' goes on freely, and after a line '..' anything follows."""
+    if b".." not in wanted:
+        return wanted == found
+    pattern = b""
+    for line in wanted.split(b"\n")[:-1]:
+        if line == b"..":
+            return re.match(pattern + b"(.|\n)*", found) is not None
+        pattern += (re.escape(line[:-3]) + b" [^\n]*\n") if line.endswith(b" ..") else re.escape(line) + b"\n"
+    return re.fullmatch(pattern, found) is not None
+
+
+class Call:
+    """One run of the program and what has to come of it."""
+
+    def __init__(self, words, status=None, output=b"", saved=None):
+        self.words, self.status, self.output, self.saved = words, status, output, saved or {}
+
+
+class Row:
+    """Files, and calls one after the other in a new folder that holds them."""
+
+    def __init__(self, where, name):
+        self.where, self.name, self.files, self.calls = where, name, {}, []
+
+    def differences(self, novac, folder):
+        wanted = {name: data for name, data in self.files.items() if data is not ABSENT}
+        for name, data in wanted.items():
+            with open(os.path.join(folder, name), "wb") as it:
+                it.write(data)
+        for call in self.calls:
+            found = self.of_call(call, novac, folder, wanted)
+            if found:
+                return [shlex.join(["novac", *call.words]), *found]
+        return []
+
+    def of_call(self, call, novac, folder, wanted):
+        ran = subprocess.run([novac, *call.words], cwd=folder, stdin=subprocess.DEVNULL, capture_output=True, timeout=SECONDS)
+        found = []
+        if ran.returncode != call.status:
+            found.append(f"status {ran.returncode}, wanted {call.status}")
+        if call.output is not ANY and not is_like(call.output, ran.stdout):
+            found.append(f"output:{shown(ran.stdout)}\nwanted:{shown(call.output)}")
+        if ran.stderr:
+            found.append(f"standard error:{shown(ran.stderr)}")
+        for name, data in call.saved.items():
+            if data is ANY:
+                data = contents(folder).get(name, ABSENT)
+                if data is ABSENT:
+                    found.append(f"{name} isn't there")
+            if data is ABSENT:
+                wanted.pop(name, None)
+            else:
+                wanted[name] = data
+        have = contents(folder)
+        for name in sorted({*wanted, *have}):
+            one, other = have.get(name, ABSENT), wanted.get(name, ABSENT)
+            if one != other:
+                found.append(f"file {name}:{shown(one)}\nwanted:{shown(other)}")
+        return found
+
+
+def contents(folder):
+    """The bytes of each file of a folder."""
+    found = {}
+    for name in os.listdir(folder):
+        with open(os.path.join(folder, name), "rb") as it:
+            found[name] = it.read()
+    return found
+
+
+class Reader:
+    """Reads one row file."""
+
+    def __init__(self, where, top):
+        self.where, self.top, self.at = where, top, 0
+        with open(os.path.join(top, where), encoding="utf-8", newline="\n") as it:
+            self.lines = it.read().split("\n")
+        self.head = Row(where, "")
+
+    def refuse(self, why):
+        raise BadRow(f"{self.where}, line {self.at}: {why}")
+
+    def take(self):
+        self.at += 1
+        return self.lines[self.at - 1]
+
+    def block(self):
+        """The lines that begin with '| ' from here on, each with its end; a last one with '\\ ' has none."""
+        data = b""
+        while self.at < len(self.lines) and re.match(r"\|( |$)|\\ ", self.lines[self.at]):
+            line = self.take()
+            data += unescaped(line[2:]) + (b"\n" if line[0] == "|" else b"")
+            if line[0] == "\\":
+                break
+        return data
+
+    def given(self, text):
+        """What behind a name and its colon gives the file's bytes."""
+        return value(text.strip(" ") if text[:2] in (" %", " @") else text[1:], self.top) if text else self.block()
+
+    def answer(self, row, status, rest):
+        if not row.calls and not self.head.calls:
+            self.refuse("a status without a call")
+        if not row.calls:
+            row.calls.append(Call(self.head.calls[0].words))
+        call = row.calls[-1]
+        call.status = int(status)
+        call.output = ANY if rest == ".." else ((unescaped(rest) + b"\n" if rest else b"") + self.block())
+
+    def line(self, row, line):
+        match = re.match(r"(saved )?('[^']*'|[^ ':]+):(.*)", line)
+        status = re.match(r"([0-9]+)(?: (.*))?$", line)
+        if line.startswith("$ "):
+            row.calls.append(Call(shlex.split(line[2:])))
+        elif line == "$":
+            row.calls.append(Call([]))
+        elif status:
+            self.answer(row, status[1], status[2] or "")
+        elif match:
+            files = row.calls[-1].saved if match[1] else row.files
+            files[match[2].strip("'")] = self.given(match[3])
+        else:
+            self.refuse("no line of a row")
+
+    def rows(self):
+        found = []
+        row = self.head
+        while self.at < len(self.lines):
+            line = self.take()
+            if line.startswith("== "):
+                row = Row(self.where, line[3:])
+                row.files = dict(self.head.files)
+                found.append(row)
+            elif line and not line.startswith("#"):
+                self.line(row, line)
+        for row in found:
+            if not row.calls or any(it.status is None for it in row.calls):
+                self.refuse(f"a call without its status: {row.name}")
+        return found
+
+
+def all_rows(top):
+    """The rows of tests/*.txt."""
+    names = sorted(it for it in os.listdir(os.path.join(top, "tests")) if it.endswith(".txt"))
+    return [row for name in names for row in Reader(f"tests/{name}", top).rows()]
