@@ -5,7 +5,5 @@ mod function;
 mod lowering;
 mod program;
 mod scan;
-#[cfg(test)]
-mod tests;
 
 pub use program::lower;

@@ -9,6 +9,8 @@ mod front;
 #[cfg(test)]
 mod layouts;
 #[cfg(test)]
+mod lowering;
+#[cfg(test)]
 mod names;
 #[cfg(test)]
 mod texts;

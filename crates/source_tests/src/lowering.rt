@@ -1,7 +1,7 @@
 // The handlers that a call names, and the least program.
-use crate::lower;
-use crate::lowering::lower_code;
 use cps_ir::Term;
+use cps_lower::lower;
+use cps_lower::lowering::lower_code;
 use flat_ir::{Flat, FlatFun, FlatProgram};
 use nv_base::{Args, Atom, Cmp, NoMemory, Vars};
 use std::alloc::Global;
