@@ -1,8 +1,7 @@
 -- The term of formed code is formed, and its exceptions have their words.
 use Rattle.std.proofs.Common.{◌≡◌, ℕ, ◌+◌, ◌≤◌, ◌<◌, ◌==◌, nat_eq, nat_le, nat_lt, Bool, true, false, ◌&&◌, ◌||◌, List, [], ◌∷◌, ◌++◌, length, Option, Some, None, slice_get, if◌then◌else◌, refl, sym, ap, subst, ◌∙◌, arith}
-use Rattle.std.specs.List.{list_all}
 use Rattle.std.specs.Prelude.{option_map}
-use Rattle.std.proofs.lemmas.Bool.{eq-eqb, eqb-true, and_from, and_parts, le-leb, lt-leb, leb-true, ltb-false, false≢true}
+use Rattle.std.proofs.lemmas.Bool.{eq-eqb, eqb-true, and_from, and_parts, le-leb, leb-true, ltb-false, false≢true}
 use Rattle.std.proofs.lemmas.Option.{slice_get-map}
 use Rattle.nv_base.specs.declared.term.Atom.{Atom}
 use Rattle.nv_base.specs.Access.{is_known, all_known, is_primitive, can_move, is_address}
@@ -10,9 +9,9 @@ use Rattle.flat_ir.specs.declared.flat.Flat.{Flat}
 use Rattle.flat_ir.specs.declared.flat.Flat.TheVariants.{Let', Fetch', Store', If', Bind', Call, Raise, Try', Give}
 use Rattle.flat_ir.specs.declared.flat.FlatFun.{FlatFun}
 use Rattle.flat_ir.specs.Formed as flat
-use Rattle.flat_ir.proofs.FormedParts.{let-parts, fetch-parts, store-parts, if-parts, bind-parts, CallParts, call-parts, try-parts, give-parts, raise-parts}
+use Rattle.flat_ir.proofs.FormedParts.{let-parts, fetch-parts, store-parts, if-parts, bind-parts, CallParts, call-parts, try-parts, give-parts}
 use Rattle.cps_ir.specs.Meaning.{handler_of}
-use Rattle.cps_ir.specs.Formed.{Scoped, arity, takes_as_many, takes, is_there, are_handlers, is_call, can_call, can_go, is_formed, are_formed, scoped, handled, handled_words, raised, labels_raised}
+use Rattle.cps_ir.specs.Formed.{Scoped, arity, takes_as_many, takes, is_there, are_handlers, can_call, can_go, is_formed, handled, handled_words, raised}
 use Rattle.cps_ir.specs.Term.{Handler, Term, Fun}
 use Rattle.cps_ir.specs.Term as cps
 use Rattle.cps_lower.specs.inner.Lowered.{labels, one_label, give_term, raise_term, call_term, is_earlier, hands_on, lowered, lowered_fun, lowered_all}
@@ -205,33 +204,40 @@ module _ (w : ℕ → ℕ) (flats : List FlatFun) (own r : ℕ) where
       → IsSound w (lowered_all flats) own r ss known (call_term earlier f bs.items k hs)
   call_sound earlier tail m n ss known f bs (Some l) hs e formed parts p =
       let g = parts.function in
-      let there : slice_get (lowered_all flats) f ≡ Some (lowered_fun flats g) = slice_get-map (lowered_fun flats) flats f ∙ ap (option_map (lowered_fun flats)) parts.there in
-      (and_from (all_known known bs.items) (can_call own (length bs.items) ss l (slice_get (lowered_all flats) f) && are_handlers ss hs) parts.operands
-      (and_from (can_call own (length bs.items) ss l (slice_get (lowered_all flats) f)) (are_handlers ss hs)
-      (called_at (lowered_all flats) own (length bs.items) r ss f l (lowered_fun flats g) there parts.params (takes_from ss l g.results m p.to.1 (sym parts.results)) (stands_earlier tail own g.group l hs p.ends parts.stands))
-      (are_there w ss n hs p.handlers)), handled_agrees w ss n hs p.handlers)
+      let there : slice_get (lowered_all flats) f ≡ Some (lowered_fun flats g) = slice_get-map (lowered_fun flats) flats f ∙ ap (option_map (lowered_fun flats)) parts.there in (
+        and_from (all_known known bs.items) (can_call own (length bs.items) ss l (slice_get (lowered_all flats) f) && are_handlers ss hs) parts.operands
+            (and_from (can_call own (length bs.items) ss l (slice_get (lowered_all flats) f)) (are_handlers ss hs)
+            (called_at (lowered_all flats) own (length bs.items) r ss f l (lowered_fun flats g) there parts.params (takes_from ss l g.results m p.to.1 (sym parts.results)) (stands_earlier tail own g.group l hs p.ends parts.stands))
+            (are_there w ss n hs p.handlers)),
+        handled_agrees w ss n hs p.handlers,
+      )
   call_sound true tail m n ss known f bs None hs e formed parts p =
       let g = parts.function in
-      let there : slice_get (lowered_all flats) f ≡ Some (lowered_fun flats g) = slice_get-map (lowered_fun flats) flats f ∙ ap (option_map (lowered_fun flats)) parts.there in
-      (and_from (all_known known bs.items) (can_call own (length bs.items) ss 0 (slice_get (lowered_all flats) f) && are_handlers ss hs) parts.operands
-      (and_from (can_call own (length bs.items) ss 0 (slice_get (lowered_all flats) f)) (are_handlers ss hs)
-      (called_at (lowered_all flats) own (length bs.items) r ss f 0 (lowered_fun flats g) there parts.params (takes_from ss 0 g.results r p.back.1 (sym p.to ∙ sym parts.results)) (ap (is_earlier own) (sym parts.there) ∙ e))
-      (are_there w ss n hs p.handlers)), handled_agrees w ss n hs p.handlers)
+      let there : slice_get (lowered_all flats) f ≡ Some (lowered_fun flats g) = slice_get-map (lowered_fun flats) flats f ∙ ap (option_map (lowered_fun flats)) parts.there in (
+        and_from (all_known known bs.items) (can_call own (length bs.items) ss 0 (slice_get (lowered_all flats) f) && are_handlers ss hs) parts.operands
+            (and_from (can_call own (length bs.items) ss 0 (slice_get (lowered_all flats) f)) (are_handlers ss hs)
+            (called_at (lowered_all flats) own (length bs.items) r ss f 0 (lowered_fun flats g) there parts.params (takes_from ss 0 g.results r p.back.1 (sym p.to ∙ sym parts.results)) (ap (is_earlier own) (sym parts.there) ∙ e))
+            (are_there w ss n hs p.handlers)),
+        handled_agrees w ss n hs p.handlers,
+      )
   call_sound false tail m n ss known f bs None hs e formed parts p =
       let g = parts.function in
       let there : slice_get (lowered_all flats) f ≡ Some (lowered_fun flats g) = slice_get-map (lowered_fun flats) flats f ∙ ap (option_map (lowered_fun flats)) parts.there in
       let free : hs ≡ [] = call_free flats own tail m known f bs None hs formed p.ends e in
-      subst (λ l. IsSound w (lowered_all flats) own r ss known (cps.Call f bs.items None l)) (sym free)
-      (and_from (all_known known bs.items) (can_go own (length bs.items) r (slice_get (lowered_all flats) f)) parts.operands
-      (gone_at (lowered_all flats) own (length bs.items) r f (lowered_fun flats g) there parts.params (parts.results ∙ p.to) (stands_own tail own g.group parts.stands (ap (is_earlier own) (sym parts.there) ∙ e))), tt)
+      subst (λ l. IsSound w (lowered_all flats) own r ss known (cps.Call f bs.items None l)) (sym free) (
+        and_from (all_known known bs.items) (can_go own (length bs.items) r (slice_get (lowered_all flats) f)) parts.operands
+            (gone_at (lowered_all flats) own (length bs.items) r f (lowered_fun flats g) there parts.params (parts.results ∙ p.to) (stands_own tail own g.group parts.stands (ap (is_earlier own) (sym parts.there) ∙ e))),
+        tt,
+      )
 
   -- ---- nodes
 
   fix_sound : (n : ℕ) (xs : List ℕ) (t u : Term) (ss : Scoped) (known : List ℕ) → IsSound w (lowered_all flats) own r ((n, length xs) ∷ ss) (xs ++ known) t → IsSound w (lowered_all flats) own r ((n, length xs) ∷ ss) known u → IsSound w (lowered_all flats) own r ss known (cps.Fix (one_label n xs t) u)
   fix_sound n xs t u ss known p q =
-      let inner = (n, length xs) ∷ ss in
-      (and_from (is_formed (lowered_all flats) own r inner (xs ++ known) t && true) (is_formed (lowered_all flats) own r inner known u) (and_from (is_formed (lowered_all flats) own r inner (xs ++ known) t) true p.0 refl) q.0,
-      agrees_append w (raised inner t ++ []) (raised inner u) (agrees_append w (raised inner t) [] p.1 tt) q.1)
+      let inner = (n, length xs) ∷ ss in (
+        and_from (is_formed (lowered_all flats) own r inner (xs ++ known) t && true) (is_formed (lowered_all flats) own r inner known u) (and_from (is_formed (lowered_all flats) own r inner (xs ++ known) t) true p.0 refl) q.0,
+        agrees_append w (raised inner t ++ []) (raised inner u) (agrees_append w (raised inner t) [] p.1 tt) q.1,
+      )
 
   pub lowered_sound : (t : Flat) (tail : Bool) (m : ℕ) (known : List ℕ) → flat.is_formed flats own tail m known t ≡ true → Agrees w (flat.raised t) → (n : ℕ) (k : Option ℕ) (hs : List Handler) (ss : Scoped) → Place w ss r m n k hs tail (hands_on flats own t) → IsSound w (lowered_all flats) own r ss known (lowered flats own t n k hs)
   lowered_sound (Let' x a q t) tail m known formed words n k hs ss p =
@@ -250,9 +256,11 @@ module _ (w : ℕ → ℕ) (flats : List FlatFun) (own r : ℕ) where
       let rest = lowered_sound t tail m known parts.rest words n k hs ss p in
       let last = is_formed (lowered_all flats) own r ss known (lowered flats own t n k hs) in
       let address = is_address o a (length bs.items) in
-      let move = can_move o (length bs.items) in
-      (and_from (is_known known a) (all_known known bs.items && (move && (address && last))) parts.operand
-      (and_from (all_known known bs.items) (move && (address && last)) parts.operands (and_from move (address && last) parts.moves (and_from address last parts.address rest.0))), rest.1)
+      let move = can_move o (length bs.items) in (
+        and_from (is_known known a) (all_known known bs.items && (move && (address && last))) parts.operand
+            (and_from (all_known known bs.items) (move && (address && last)) parts.operands (and_from move (address && last) parts.moves (and_from address last parts.address rest.0))),
+        rest.1,
+      )
   lowered_sound (If' o a b q t s u) tail m known formed words n k hs ss p =
       let parts = if-parts flats own tail m known o a b q t s u formed in
       let first = lowered_sound t tail m known parts.first (agrees_left w (flat.raised t) (flat.raised u) words) n k hs ss (place_left (hands_on flats own t) (hands_on flats own u) p) in

@@ -121,12 +121,7 @@ fn call(
 }
 
 // A call whose words are the function's: from an earlier group they come back to label 0.
-fn last_call(
-    earlier: bool,
-    f: u32,
-    words: Vec<Atom>,
-    handlers: Vec<(u16, u32)>,
-) -> Term
+fn last_call(earlier: bool, f: u32, words: Vec<Atom>, handlers: Vec<(u16, u32)>) -> Term
     ensures { term_view result ≡ inner.last_call earlier f words.items handlers.items }
 {
     if earlier {
