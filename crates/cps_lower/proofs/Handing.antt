@@ -1,13 +1,11 @@
 -- The body of a function behind the label that returns the words of its last calls.
-use Rattle.std.proofs.Common.{◌≡◌, ℕ, suc, ◌+◌, max, List, [], ◌∷◌, ◌++◌, map, refl, sym, ap, subst, ◌∙◌, Vec, Box, arith, rules}
+use Rattle.std.proofs.Common.{◌≡◌, ℕ, suc, ◌+◌, max, List, [], ◌∷◌, ◌++◌, refl, sym, ap, ◌∙◌, Vec, Box, arith, rules}
 use Rattle.std.specs.declared.alloc.Global.{Global}
 use Rattle.nv_base.specs.declared.term.Atom.{Atom}
 use Rattle.nv_base.specs.declared.term.Atom.TheVariants.{Var}
-use Rattle.flat_ir.specs.Formed.{defined}
-use Rattle.flat_ir.specs.declared.flat.FlatFun.{FlatFun}
 use Rattle.cps_ir.specs.declared.term.Term.{Term, Fix, Return, the_lemmas}
 use Rattle.cps_ir.specs.declared.term.Cont.{Cont}
-use Rattle.cps_ir.specs.View.{Seen, labels_of, term_view, label_view, labels_view}
+use Rattle.cps_ir.specs.View.{Seen, labels_of, term_view, labels_view}
 use Rattle.cps_ir.specs.Term as pure
 use Rattle.cps_ir.proofs.Views.{view-Fix, view-Cont}
 use Rattle.cps_lower.specs.inner.Lowered.{next_variable, variables, operands, returning}

@@ -1,5 +1,5 @@
 -- The program of terms has the outcomes of the flat program.
-use Rattle.std.proofs.Common.{◌≡◌, ℕ, zero, suc, ◌≤◌, Bool, true, false, List, [], ◌++◌, map, Option, Some, None, slice_get, refl, sym, ap, subst, ◌∙◌, arith}
+use Rattle.std.proofs.Common.{◌≡◌, ℕ, zero, suc, ◌≤◌, Bool, true, false, List, [], ◌++◌, Option, Some, None, slice_get, refl, sym, ap, subst, ◌∙◌, arith}
 use Rattle.std.proofs.lemmas.Option.{slice_get-map}
 use Rattle.std.specs.Prelude.{option_map}
 use Rattle.nv_base.specs.Memories.{Memories}
@@ -14,7 +14,7 @@ use Rattle.flat_ir.specs.Meaning as source
 use Rattle.flat_ir.specs.Reached as reached
 use Rattle.flat_ir.specs.Running.{Result, Gives, Raises, Stops, taken, closed}
 use Rattle.flat_ir.proofs.Counted.{body-formed}
-use Rattle.cps_ir.specs.Meaning.{Scope, Top, Bound, Frames, Bottom, ToFun, Next, does, blank, enter_fun, run, cps_meaning, params_of, params_in}
+use Rattle.cps_ir.specs.Meaning.{Top, Bound, Frames, Bottom, ToFun, Next, does, blank, enter_fun, run, cps_meaning, params_of, params_in}
 use Rattle.cps_ir.specs.Term.{Fun}
 use Rattle.cps_ir.proofs.Growth.{meaning-grows}
 use Rattle.cps_lower.specs.inner.Lowered.{hands_on, next_variable, variables, returning, lowered_body, lowered_fun, lowered_all}

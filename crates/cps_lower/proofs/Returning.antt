@@ -1,11 +1,10 @@
 -- The label that returns its words, and its variables.
-use Rattle.std.proofs.Common.{◌≡◌, ℕ, zero, suc, ◌+◌, ◌≤◌, ◌<◌, max, Bool, true, false, not, ◌&&◌, ◌||◌, nat_eq, List, [], ◌∷◌, ◌++◌, length, if◌then◌else◌, refl, sym, ap, ◌∙◌, ⊎_elim, arith}
-use Rattle.std.proofs.lemmas.Bool.{eq-eqb, eqb-true, ne_eqb, and_from, or_cases, or_left, or_right, false≢true, not_from_false, false_from_ne_true}
+use Rattle.std.proofs.Common.{◌≡◌, ℕ, zero, suc, ◌+◌, ◌≤◌, ◌<◌, max, true, false, not, nat_eq, List, [], ◌∷◌, length, if◌then◌else◌, refl, ap, ◌∙◌, ⊎_elim, arith}
+use Rattle.std.proofs.lemmas.Bool.{eq-eqb, eqb-true, and_from, or_cases, or_left, or_right, false≢true, not_from_false, false_from_ne_true}
 use Rattle.nv_base.specs.Access.{all_known}
 use Rattle.nv_base.specs.Sets.{is_in, all_different}
 use Rattle.nv_base.specs.Words.{Env, assigned, assigned_all, atom_words}
-use Rattle.nv_base.specs.World.{World}
-use Rattle.cps_ir.specs.Meaning.{Scope, Bound, Frames, returned, run}
+use Rattle.cps_ir.specs.Meaning.{Scope, Bound, returned, run}
 use Rattle.cps_ir.specs.Term.{Fun}
 use Rattle.cps_lower.specs.inner.Lowered.{variables, operands, returning, next_variable}
 use Rattle.cps_lower.proofs.Simulates.{IsBack}

@@ -1,6 +1,6 @@
 -- A term follows the flat code that it was made of.
-use Rattle.std.proofs.Common.{◌≡◌, ℕ, zero, suc, ◌+◌, ◌≤◌, ◌<◌, ◌==◌, nat_eq, nat_lt, Bool, true, false, ◌||◌, List, [], ◌∷◌, ◌++◌, length, map, Option, Some, None, slice_get, if◌then◌else◌, refl, sym, ap, subst, ◌∙◌, arith}
-use Rattle.std.proofs.lemmas.Bool.{eq-eqb, eqb-true, false≢true, false_from_ne_true}
+use Rattle.std.proofs.Common.{◌≡◌, ℕ, zero, suc, ◌+◌, ◌≤◌, ◌<◌, ◌==◌, nat_eq, Bool, true, false, ◌||◌, List, [], ◌∷◌, ◌++◌, length, Option, Some, None, slice_get, if◌then◌else◌, refl, sym, ap, subst, ◌∙◌, arith}
+use Rattle.std.proofs.lemmas.Bool.{eq-eqb, eqb-true, false≢true}
 use Rattle.nv_base.specs.declared.term.Atom.{Atom}
 use Rattle.nv_base.specs.declared.term.Mem.{Mem}
 use Rattle.nv_base.specs.declared.outcome.Outcome.TheVariants as outcome
@@ -18,9 +18,8 @@ use Rattle.flat_ir.specs.Meaning as source
 use Rattle.flat_ir.specs.Running.{Result, Gives, Raises, Stops, and_then, handled, after_fetch, after_store}
 use Rattle.flat_ir.proofs.Counted.{code-many}
 use Rattle.flat_ir.proofs.FormedParts.{let-parts, fetch-parts, store-parts, if-parts, bind-parts, call-parts, try-parts}
-use Rattle.cps_ir.specs.Meaning.{handler_of, label_in, Scope, Top, Bound, Frames, Bottom, Frame, Task, ToLabel, ToFun, Next, returned, or_label, thrown, does, at_body, enter_label, run}
+use Rattle.cps_ir.specs.Meaning.{handler_of, Scope, Top, Bound, Frames, Frame, ToLabel, ToFun, Next, returned, or_label, thrown, does, at_body, enter_label, run}
 use Rattle.cps_ir.specs.Term.{Handler, Term, Fun}
-use Rattle.cps_ir.specs.Term as cps
 use Rattle.cps_lower.specs.inner.Lowered.{labels, one_label, give_term, raise_term, call_term, is_earlier, hands_on, lowered}
 
 -- ---- where words and exceptions go

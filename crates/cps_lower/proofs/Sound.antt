@@ -1,8 +1,7 @@
 -- The term of formed code is formed, and its exceptions have their words.
 use Rattle.std.proofs.Common.{◌≡◌, ℕ, ◌+◌, ◌≤◌, ◌<◌, ◌==◌, nat_eq, nat_le, nat_lt, Bool, true, false, ◌&&◌, ◌||◌, List, [], ◌∷◌, ◌++◌, length, Option, Some, None, slice_get, if◌then◌else◌, refl, sym, ap, subst, ◌∙◌, arith}
-use Rattle.std.specs.List.{list_all}
 use Rattle.std.specs.Prelude.{option_map}
-use Rattle.std.proofs.lemmas.Bool.{eq-eqb, eqb-true, and_from, and_parts, le-leb, lt-leb, leb-true, ltb-false, false≢true}
+use Rattle.std.proofs.lemmas.Bool.{eq-eqb, eqb-true, and_from, and_parts, le-leb, leb-true, ltb-false, false≢true}
 use Rattle.std.proofs.lemmas.Option.{slice_get-map}
 use Rattle.nv_base.specs.declared.term.Atom.{Atom}
 use Rattle.nv_base.specs.Access.{is_known, all_known, is_primitive, can_move, is_address}
@@ -10,9 +9,9 @@ use Rattle.flat_ir.specs.declared.flat.Flat.{Flat}
 use Rattle.flat_ir.specs.declared.flat.Flat.TheVariants.{Let', Fetch', Store', If', Bind', Call, Raise, Try', Give}
 use Rattle.flat_ir.specs.declared.flat.FlatFun.{FlatFun}
 use Rattle.flat_ir.specs.Formed as flat
-use Rattle.flat_ir.proofs.FormedParts.{let-parts, fetch-parts, store-parts, if-parts, bind-parts, CallParts, call-parts, try-parts, give-parts, raise-parts}
+use Rattle.flat_ir.proofs.FormedParts.{let-parts, fetch-parts, store-parts, if-parts, bind-parts, CallParts, call-parts, try-parts, give-parts}
 use Rattle.cps_ir.specs.Meaning.{handler_of}
-use Rattle.cps_ir.specs.Formed.{Scoped, arity, takes_as_many, takes, is_there, are_handlers, is_call, can_call, can_go, is_formed, are_formed, scoped, handled, handled_words, raised, labels_raised}
+use Rattle.cps_ir.specs.Formed.{Scoped, arity, takes_as_many, takes, is_there, are_handlers, can_call, can_go, is_formed, handled, handled_words, raised}
 use Rattle.cps_ir.specs.Term.{Handler, Term, Fun}
 use Rattle.cps_ir.specs.Term as cps
 use Rattle.cps_lower.specs.inner.Lowered.{labels, one_label, give_term, raise_term, call_term, is_earlier, hands_on, lowered, lowered_fun, lowered_all}

@@ -2,7 +2,7 @@
 -- A `Bind` makes a label of its rest, round its first part; a `Try` makes one of its handler, round its body. The words of code go to a
 -- label, or are the function's. A call of an earlier group whose words are the function's comes back to one label of the function, which
 -- returns them.
-use Rattle.std.specs.Prelude.{ℕ, zero, suc, ◌+◌, max, nat_lt, Bool, true, false, ◌||◌, List, [], ◌∷◌, ◌++◌, map, Option, Some, None, slice_get, if◌then◌else◌}
+use Rattle.std.specs.Prelude.{ℕ, zero, suc, ◌+◌, max, nat_lt, Bool, true, false, ◌||◌, List, [], ◌∷◌, ◌++◌, map, Option, Some, None, slice_get}
 use Rattle.nv_base.specs.declared.term.Atom.{Atom}
 use Rattle.nv_base.specs.declared.term.Atom.TheVariants.{Var}
 use Rattle.flat_ir.specs.declared.flat.Flat.{Flat}

@@ -1,4 +1,4 @@
-use Rattle.std.proofs.Common.{[], ◌∷◌, ◌++◌, sym, ap, ◌∙◌}
+use Rattle.std.proofs.Common.{[], ◌∷◌, ◌++◌, ap, ◌∙◌}
 use Rattle.flat_ir.specs.Formed.{defined}
 use Rattle.cps_ir.specs.View.{term_view}
 use Rattle.cps_lower.specs.inner.Lowered.{next_variable, variables}
