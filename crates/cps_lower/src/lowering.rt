@@ -44,10 +44,7 @@ fn short_numbers(alloc: Global, xs: &[u32]) -> Result<Vars, NoMemory>
 }
 
 // Some handlers, and the others behind them.
-fn handlers_behind(
-    mut v: Vec<(u16, u32)>,
-    hs: &[(u16, u32)],
-) -> Result<Vec<(u16, u32)>, NoMemory>
+fn handlers_behind(mut v: Vec<(u16, u32)>, hs: &[(u16, u32)]) -> Result<Vec<(u16, u32)>, NoMemory>
     ensures { IfOk result (λ u. u.items ≡ v.items ++ hs.now) }
 {
     for h in hs {
@@ -123,13 +120,7 @@ fn call(
 fn label_of_call(earlier: bool, to: Option<u32>) -> Option<u32> {
     match to {
         Some(l) => Some(l),
-        None => {
-            if earlier {
-                Some(0)
-            } else {
-                None
-            }
-        }
+        None => { if earlier { Some(0) } else { None } }
     }
 }
 

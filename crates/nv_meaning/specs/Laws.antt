@@ -34,11 +34,11 @@ seeking = record {
   decls =
       ExceptionDecl (codes "found") (type_and (WordType 1) no_types) nowhere
       ∷ fun_of (codes "seek") (codes "i") (IfTree nowhere (BinaryTree nowhere Lt (variable (codes "i")) (number 2))
-        (BlockTree nowhere (statement_and (StoreStatement nowhere Sram (variable (codes "i")) (BinaryTree nowhere Add (variable (codes "i")) (number 7))) no_statements)
-        (CallTree nowhere (codes "seek") (one (BinaryTree nowhere Add (variable (codes "i")) (number 1)))))
-        (RaiseTree nowhere (codes "found") (one (variable (codes "i")))))
+      (BlockTree nowhere (statement_and (StoreStatement nowhere Sram (variable (codes "i")) (BinaryTree nowhere Add (variable (codes "i")) (number 7))) no_statements)
+      (CallTree nowhere (codes "seek") (one (BinaryTree nowhere Add (variable (codes "i")) (number 1)))))
+      (RaiseTree nowhere (codes "found") (one (variable (codes "i")))))
       ∷ fun_of (codes "main") (codes "n") (TryTree nowhere (CallTree nowhere (codes "seek") (one (variable (codes "n")))) (codes "found") (pattern_and (NamePattern (codes "k")) no_patterns)
-        (BinaryTree nowhere Add (variable (codes "k")) (number 40)))
+      (BinaryTree nowhere Add (variable (codes "k")) (number 40)))
       ∷ [];
   length = 0;
 }

@@ -44,7 +44,8 @@ fn a_cover_of_three_columns_costs_two(rt: HostRuntime) {
 
 #[test]
 fn the_line_of_a_wrong_cost_is_named(rt: HostRuntime) {
-    let text = b"novareport 1\nslots 0\nbudget 1\ncolumns 1\nrows 0\nc 5\nverdict optimal 4\nx 0\nnonsense";
+    let text =
+        b"novareport 1\nslots 0\nbudget 1\ncolumns 1\nrows 0\nc 5\nverdict optimal 4\nx 0\nnonsense";
     match read(rt.alloc(), text) {
         Ok(_) => assert!(rt; false),
         Err(error) => assert_eq!(rt; error, ZoError::Bad(7)),
