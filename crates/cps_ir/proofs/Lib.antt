@@ -1,3 +1,5 @@
 pub mod Steps
 pub mod Views
 pub mod Growth
+pub mod Widths
+pub mod Bulks

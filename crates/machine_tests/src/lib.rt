@@ -5,6 +5,10 @@
 #[cfg(test)]
 mod assembly;
 #[cfg(test)]
+mod certificates;
+#[cfg(test)]
+mod certificates_report;
+#[cfg(test)]
 mod engine;
 #[cfg(test)]
 mod lines;
@@ -14,5 +18,11 @@ mod memories;
 mod memory_texts;
 #[cfg(test)]
 mod objects;
+#[cfg(test)]
+mod programs;
+#[cfg(test)]
+mod programs_text;
+#[cfg(test)]
+mod search;
 #[cfg(test)]
 mod simulator;

@@ -83,7 +83,7 @@ ahead-all [] now = refl
 ahead-all (v ∷ vs) now = ap (before_rest (view v)) (ahead-all vs now)
 
 stop-before : (stop : Stop) (now : Running) (v : Value) (r : Results) → Stopped stop now (all_result r) → Stopped stop now (all_result (before_rest v r))
-stop-before NoMemory now v (GiveAll us last) h = record { rest = h.rest; writes = h.writes }
+stop-before NoMemory now v (GiveAll us last) h = record { rest = h.rest; writes = h.writes; packet = h.packet }
 stop-before NoMemory now v (Breaks how) h = h
 stop-before (Raised k vs) now v (GiveAll us last) h = cc
 stop-before (Raised k vs) now v (Breaks how) h = h
@@ -109,7 +109,7 @@ ahead_named-all [] now = refl
 ahead_named-all (f ∷ fs) now = ap (before_named f.0.now (view f.1)) (ahead_named-all fs now)
 
 stop-before_named : (stop : Stop) (now : Running) (x : List ℕ) (v : Value) (r : NamedResults) → Stopped stop now (named_result r) → Stopped stop now (named_result (before_named x v r))
-stop-before_named NoMemory now x v (GiveNamed us last) h = record { rest = h.rest; writes = h.writes }
+stop-before_named NoMemory now x v (GiveNamed us last) h = record { rest = h.rest; writes = h.writes; packet = h.packet }
 stop-before_named NoMemory now x v (BreaksNamed how) h = h
 stop-before_named (Raised k vs) now x v (GiveNamed us last) h = cc
 stop-before_named (Raised k vs) now x v (BreaksNamed how) h = h

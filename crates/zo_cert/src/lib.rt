@@ -19,8 +19,3 @@ pub use report::{Report, Verdict, check_report, is_valid_report};
 pub use report_reader::read_report;
 pub use report_text::print_report;
 pub use zo_model::{Assignment, NoMemory, Row, ZeroOne, ZoError};
-
-#[cfg(test)]
-mod report_tests;
-#[cfg(test)]
-mod tests;

@@ -11,6 +11,3 @@ pub use error::{NoMemory, ZoError};
 pub use program::{Assignment, Row, ZeroOne, cost, feasible, is_valid};
 pub use read_text::{Reader, counted_of, read_counted, read_program, read_program_lines};
 pub use text::{print_program, push_program};
-
-#[cfg(test)]
-mod text_tests;

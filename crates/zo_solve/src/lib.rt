@@ -13,6 +13,3 @@ pub use pick::{Pick, first_choice};
 pub use reported::report_of;
 pub use search::{Solved, solve};
 pub use zo_cert::Fixed;
-
-#[cfg(test)]
-mod tests;

@@ -1,7 +1,7 @@
-use crate::laws::read_back;
-use crate::{ZeroOne, ZoError, is_valid, print_program, read_program};
 use std::alloc::Global;
 use std::test::Fail;
+use zo_model::laws::read_back;
+use zo_model::{ZeroOne, ZoError, is_valid, print_program, read_program};
 
 const SIGNED: &[u8] = b"columns 2\nrows 2\nc 1048575\nc 0\nr -1073741824 0:-32768 1:1\nr 0\n";
 

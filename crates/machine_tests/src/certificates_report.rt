@@ -1,9 +1,9 @@
 ghost use Rattle.std.specs.Prelude.{IfOk};
 ghost use Rattle.zo_cert.specs.Report.{IsValidReport};
 
-use crate::laws::read_back;
-use crate::{Report, Work, ZoError, check_report, print_report, read_report};
 use std::alloc::Global;
+use zo_cert::laws::read_back;
+use zo_cert::{Report, Work, ZoError, check_report, print_report, read_report};
 
 const COVER: &[u8] =
     b"novareport 1\nslots 0\nbudget 1\ncolumns 3\nrows 3\nc 1\nc 1\nc 1\nr 1 0:1 1:1\nr 1 1:1 2:1\nr 1 0:1 2:1\nverdict optimal 2\nx 0 1\ntree 1\nd 2 0:1 1:1 2:1\n";

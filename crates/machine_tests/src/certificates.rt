@@ -1,6 +1,9 @@
-use super::*;
 use std::alloc::{AllocError, Global};
-use zo_model::is_valid;
+use zo_cert::{
+    Assignment, Cert, CertNode, Claim, Report, Verdict, Work, check, check_report, is_valid_report,
+    shaped,
+};
+use zo_model::{Row, ZeroOne, is_valid};
 
 type Terms<'a> = &'a [(u32, i32)];
 

@@ -1,7 +1,7 @@
-use super::*;
 use std::alloc::{AllocError, Global};
 use zo_cert::{Cert, CertNode, Verdict};
 use zo_model::{Assignment, Row, ZeroOne, cost, is_valid};
+use zo_solve::{Pick, Solved, first_choice, report_of, solve};
 
 type Terms<'a> = &'a [(u32, i32)];
 
