@@ -1,9 +1,12 @@
 -- The error of a call that failed, as the error of its caller.
-use Rattle.std.proofs.Common.{◌≡◌, Err, ap}
-use Rattle.std.specs.Prelude.{Result, IsErrOf}
+use Rattle.std.proofs.Common.{Result, Ok, Err, IfErr, sym, subst}
+use Rattle.novac.specs.inner.Replies.{IsShown}
+use Rattle.novac.specs.declared.refusal.Refusal.{Refusal}
+use Rattle.novac.specs.declared.reply.Reply.{Reply}
+use Rattle.novac.specs.declared.save.Made.{Made}
 
-pub err-as : {S T E : Type 0} (x y : E) → IsErrOf {T = S} {E = E} (Err x) y → IsErrOf {T = T} {E = E} (Err x) y
-err-as {S} {T} {E} x y h = let q : x ≡ y = cc in let as_error : E → Result T E = λ z. Err z in ap as_error q
-
-pub err-is : {T E : Type 0} (x y : E) → x ≡ y → IsErrOf {T = T} {E = E} (Err x) y
-err-is {T} {E} x y e = let as_error : E → Result T E = λ z. Err z in ap as_error e
+pub shown-refused : (a : Result Reply Refusal) (m : Result Made Refusal) (P : Refusal → Type 0) → IsShown a m → IfErr a P → IfErr m P
+shown-refused (Ok r) (Ok m) P s h = tt
+shown-refused (Ok r) (Err e) P s h = absurd s
+shown-refused (Err e) (Ok m) P s h = tt
+shown-refused (Err e) (Err f) P s h = subst P (sym s) h

@@ -1,13 +1,17 @@
 -- A report's text decides what `check` answers.
 use Rattle.std.proofs.Common.{◌≡◌, ℕ, ◌⊎◌, inl, inr, List, Ok, Err, refl, ap, sym, ◌∙◌, subst}
 use Rattle.zo_model.specs.declared.error.ZoError.TheVariants.{Bad}
-use Rattle.zo_model.specs.Program.{vector, costs_of}
+use Rattle.zo_model.specs.Program.{vector, costs_of, Feasible}
+use Rattle.zo_cert.specs.Certificate.{Holds}
 use Rattle.zo_cert.specs.Contents.{ReportContents, report_contents}
 use Rattle.zo_cert.specs.Report.{IsTrueReport}
+use Rattle.zo_cert.specs.declared.cert.Claim.TheVariants.{Least, Nothing}
 use Rattle.zo_cert.specs.declared.report.Report.{Report}
+use Rattle.zo_cert.specs.declared.report.Verdict.{Verdict}
+use Rattle.zo_cert.specs.declared.report.Verdict.TheVariants as verdict
 use Rattle.zo_cert.proofs.ReportAnswers.{given_answer, bad_answer}
 use Rattle.zo_cert.proofs.SameReports.{truth_same}
-use Rattle.novac.specs.Checking.{IsReportOf, IsChecked, CheckRefuses, verdict_text}
+use Rattle.novac.specs.Checking.{IsReportOf, IsChecked, CheckRefuses, Shown, report_cost, verdict_text}
 use Rattle.novac.specs.Lines.{IsUncaused}
 use Rattle.novac.specs.declared.refusal.Refusal.{Refusal}
 use Rattle.novac.specs.declared.refusal.Refusal.TheVariants.{BadReport, FalseReport}
@@ -43,3 +47,10 @@ checked-one b s s' t t' h k =
 pub pass-truth : (b : List ℕ) (r : Report) (e : Refusal) → IsReportOf b r → IsUncaused e ⊎ ((e ≡ FalseReport) × ¬ IsTrueReport r) → IsUncaused e ⊎ CheckRefuses b e
 pass-truth b r e h (inl u) = inl u
 pass-truth b r e h (inr f) = inr (subst (CheckRefuses b) (sym f.0) (r, h, f.1))
+
+-- a true report shows what its verdict says
+pub true-shown : (v : Verdict) (r : Report) → (v ≡ verdict.Optimal → Feasible r.z (vector r.x.on.items)) → (v ≡ verdict.Optimal → Holds r.z (Least (report_cost r))) → (v ≡ verdict.Infeasible → Holds r.z Nothing) → Shown v r
+true-shown verdict.Optimal r meets least nothing = (meets refl, least refl)
+true-shown verdict.Feasible r meets least nothing = tt
+true-shown verdict.Infeasible r meets least nothing = nothing refl
+true-shown verdict.Spent r meets least nothing = tt
