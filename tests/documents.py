@@ -2,7 +2,7 @@
 import os
 import re
 
-from rows import ANY, Call, Row
+from rows import ANY, Call, Reader, Row
 
 
 def read(top, name):
@@ -38,6 +38,7 @@ def executed(where, name, source, memory, calls, status, output):
 
 
 STATUSES = {"ended": 0, "raised": 14, "fault": 15, "going": 16}
+REFUSALS = {"syntax": 6, "type": 7, "too": 8, "unbuilt": 20}
 
 
 def status_of(outcome):
@@ -130,20 +131,22 @@ def certificates(top):
 
 
 def faults(top):
-    """docs/FAULTS.md: a block of code of kind `nova` behind which a line begins with a refusal in backticks is refused so."""
-    if not os.path.isfile(os.path.join(top, "docs/FAULTS.md")):
-        return []
+    """docs/FAULTS.md: the answer of a block of kind `nova` is what stands in backticks at the beginning of the next line: a
+    refusal by `compile`, or the first line of an outcome by `exec`. A block of kind `row` is a row."""
     found = []
-    lines = read(top, "docs/FAULTS.md").split("\n")
-    for first, kind, text in blocks("\n".join(lines)):
+    document = read(top, "docs/FAULTS.md")
+    lines = document.split("\n")
+    for first, kind, text in blocks(document):
+        where = f"docs/FAULTS.md:{first}"
         behind = [it for it in lines[first + text.count("\n") :] if it]
-        answer = re.match(r"`((?:syntax|type|too large) [^`]*)`", behind[0]) if behind else None
-        if kind == "nova" and answer:
-            row = Row(f"docs/FAULTS.md:{first}", answer[1])
-            row.files = {"s.nova": text.encode()}
-            status = {"syntax": 6, "type": 7, "too": 8}[answer[1].split()[0]]
-            row.calls = [Call(["compile", "s.nova", "s.obj"], status, answer[1].encode() + b"\n")]
-            found.append(row)
+        answer = re.match(r"`([^`]*)`", behind[0]) if behind else None
+        word = answer[1].split(" ")[0] if answer else ""
+        if kind == "row":
+            found += Reader(where, top, f"== {where}\n{text}").rows()
+        elif kind == "nova" and word in STATUSES:
+            found.append(executed(where, answer[1], text, "memory 4 2\nargs\n", 100, status_of(word), answer[1] + "\n..\n"))
+        elif kind == "nova":
+            found.append(compiled(where, text, REFUSALS[word], answer[1].encode() + b"\n"))
     return found
 
 
