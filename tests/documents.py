@@ -37,6 +37,7 @@ def executed(where, name, source, memory, calls, status, output):
     return row
 
 
+PLAIN = "memory 4 2\nargs\n"
 STATUSES = {"ended": 0, "raised": 14, "fault": 15, "going": 16}
 REFUSALS = {"syntax": 6, "type": 7, "too": 8, "unbuilt": 20}
 
@@ -65,7 +66,7 @@ def compiled(where, source, status, output, made=False):
 def language(top):
     """docs/LANGUAGE.md: each source in a line of a table, with what stands behind it: an outcome by `exec`, a fault of types, a
     fault of the text such as `Char(21)`, or a status with a colon, semicolon or comma."""
-    found = []
+    found = worked(top, "docs/LANGUAGE.md")
     for number, line in enumerate(read(top, "docs/LANGUAGE.md").split("\n"), 1):
         parts, where = cells(line), f"docs/LANGUAGE.md:{number}"
         if not line.startswith("|") or len(parts) < 2:
@@ -74,7 +75,7 @@ def language(top):
         status = re.match(r"([0-9]+)[:;,](?: `([^`]*)`:)?", parts[1])
         if len(parts) == 4 and parts[3].split(" ")[0] in STATUSES:
             output = parts[3] + "\n..\n"
-            found.append(executed(where, parts[0], parts[2], "memory 4 2\nargs\n", 100, status_of(parts[3]), output))
+            found.append(executed(where, parts[0], parts[2], PLAIN, 100, status_of(parts[3]), output))
         elif len(parts) == 4 and re.fullmatch(r"type [0-9]+ at [0-9]+ [0-9]+", parts[3]):
             source = "" if parts[2] == "the empty text" else parts[2]
             found.append(compiled(where, source, 7, parts[3].encode() + b"\n"))
@@ -130,24 +131,33 @@ def certificates(top):
     return found
 
 
-def faults(top):
-    """docs/FAULTS.md: the answer of a block of kind `nova` is what stands in backticks at the beginning of the next line: a
-    refusal by `compile`, or the first line of an outcome by `exec`. A block of kind `row` is a row."""
-    found = []
-    document = read(top, "docs/FAULTS.md")
+def worked(top, name):
+    """The blocks of a document: the answer of one of kind `nova` is what stands in backticks at the beginning of the next
+    line, a refusal by `compile` or the first line of an outcome by `exec`, which runs on the last block of kind `memory`,
+    or on PLAIN. A block of kind `outcome` is the whole outcome of the one before. A block of kind `row` is a row."""
+    found, memory = [], PLAIN
+    document = read(top, name)
     lines = document.split("\n")
     for first, kind, text in blocks(document):
-        where = f"docs/FAULTS.md:{first}"
+        where = f"{name}:{first}"
         behind = [it for it in lines[first + text.count("\n") :] if it]
         answer = re.match(r"`([^`]*)`", behind[0]) if behind else None
         word = answer[1].split(" ")[0] if answer else ""
-        if kind == "row":
+        if kind == "memory":
+            memory = text
+        elif kind == "outcome":
+            found[-1].calls[-1].output = text.encode()
+        elif kind == "row":
             found += Reader(where, top, f"== {where}\n{text}").rows()
         elif kind == "nova" and word in STATUSES:
-            found.append(executed(where, answer[1], text, "memory 4 2\nargs\n", 100, status_of(word), answer[1] + "\n..\n"))
+            found.append(executed(where, answer[1], text, memory, 100, status_of(word), answer[1] + "\n..\n"))
         elif kind == "nova":
             found.append(compiled(where, text, REFUSALS[word], answer[1].encode() + b"\n"))
     return found
+
+
+def faults(top):
+    return worked(top, "docs/FAULTS.md")
 
 
 def command_lines(top):
