@@ -88,21 +88,28 @@ def language(top):
 
 
 def machine(top):
-    """docs/MACHINE.md: each assembly text is assembled, and its listing is itself; a memory text and an outcome text that
+    """docs/MACHINE.md: each assembly text is assembled, and a listing is itself; a memory text and an outcome text that
     follow it are what the code runs on and prints."""
     found, row = [], None
-    for first, _, text in blocks(read(top, "docs/MACHINE.md")):
-        if re.match(r"params [0-8]\n[^.]*$", text):
-            row = Row(f"docs/MACHINE.md:{first}", "an assembly text")
-            row.files = {"t": text.encode()}
+    document = read(top, "docs/MACHINE.md")
+    for first, kind, text in blocks(document):
+        where = f"docs/MACHINE.md:{first}"
+        if kind == "row":
+            found += Reader(where, top, f"== {where}\n{text}").rows()
+        elif re.match(r"params [0-8]\n[^.]*$", text):
+            row = Row(where, "an assembly text")
+            row.files = {"t": text.encode(), "m": b"memory 0 0\nargs\n"}
             length = sum(not it.endswith(":") for it in text.split("\n")[1:-1])
             row.calls = [Call(["asm", "t", "o"], 0, f"assembled {length}\n".encode(), {"o": ANY}), Call(["lint", "o"], 0, f"lawful {length}\n".encode())]
             if length == text.count("\n") - 1:
                 row.calls.append(Call(["dis", "o"], 0, text.encode()))
             found.append(row)
+        elif re.match(r"memory [0-9][^.]*$", text) and row:
+            row.files["m"] = text.encode()
         elif re.match(r"(ended|raised|fault|going)\b[^.]*$", text) and row:
-            arguments = re.search(r"`(memory [0-9]+ [0-9]+)`, `(args[ 0-9a-f]*)` prints\n\n```\n" + re.escape(text), read(top, "docs/MACHINE.md"))
-            row.files["m"] = "{}\n{}\n".format(*(arguments.groups() if arguments else ("memory 0 0", "args"))).encode()
+            arguments = re.search(r"`(memory [0-9]+ [0-9]+)`, `(args[ 0-9a-f]*)` prints\n\n```\n" + re.escape(text), document)
+            if arguments:
+                row.files["m"] = "{}\n{}\n".format(*arguments.groups()).encode()
             row.calls.append(Call(["run", "o", "m", "steps=1000"], status_of(text), text.encode()))
     return found
 
