@@ -168,18 +168,24 @@ def faults(top):
 
 
 def command_lines(top):
-    """README: each line of a block of kind `sh` that calls the built program, with a shell's `> FILE` left out."""
+    """README: each line of a block of kind `sh` that calls the program, built or by `rt`; a block of kind `outcome` is the
+    whole output of the last one."""
     found = []
     for first, kind, text in blocks(read(top, "README.md")):
+        if kind == "outcome":
+            found[-1].calls[-1].output = text.encode()
         for line in text.split("\n") if kind == "sh" else []:
-            words = line.split("#")[0].split()
-            if not words or not words[0].endswith("out/novac"):
+            call = re.search(r"(?:out/novac|rt (?:run|try) --) ([^)]*)", line)
+            if not call:
                 continue
-            row = Row(f"README.md:{first}", " ".join(words[1:]))
-            names = {it: os.path.basename(it) for it in words[2:] if "=" not in it}
-            row.files = {short: read(top, it).encode() for it, short in names.items() if os.path.isfile(os.path.join(top, it))}
+            words = call[1].split()
+            row = Row(f"README.md:{first}", " ".join(words))
+            names = {it: os.path.basename(it) for it in words[1:] if "=" not in it}
+            # `rt` runs in the folder of the program's crate.
+            base = os.path.join(top, "crates", "novac") if " rt " in line else top
+            row.files = {short: read(base, it).encode() for it, short in names.items() if os.path.isfile(os.path.join(base, it))}
             made = {short: ANY for it, short in names.items() if short not in row.files}
-            row.calls = [Call([words[1], *(names.get(it, it) for it in words[2:])], 0, ANY, made)]
+            row.calls = [Call([words[0], *(names.get(it, it) for it in words[1:])], 0, ANY, made)]
             found.append(row)
     return found
 
