@@ -47,12 +47,24 @@ def status_of(outcome):
 
 
 def examples(top):
-    """Each example prints what stands beside it."""
+    """Each example prints what stands beside it: a source by `exec`, an assembly text when it is assembled and run, a report
+    by `check`."""
     found = []
-    folder = os.path.join(top, "examples")
-    for name in sorted(it[:-5] for it in os.listdir(folder) if it.endswith(".nova")):
-        texts = [read(top, f"examples/{name}.{end}") for end in ("nova", "mem", "out")]
-        found.append(executed("examples", name, texts[0], texts[1], 1000, status_of(texts[2]), texts[2]))
+    for file in sorted(os.listdir(os.path.join(top, "examples"))):
+        name, kind = os.path.splitext(file)
+        if kind not in (".nova", ".asm", ".report"):
+            continue
+        text, output = read(top, f"examples/{file}"), read(top, f"examples/{name}.out")
+        memory = "" if kind == ".report" else read(top, f"examples/{name}.mem")
+        if kind == ".nova":
+            found.append(executed("examples", file, text, memory, 1000, status_of(output), output))
+            continue
+        row = Row("examples", file)
+        row.files = {"t": text.encode(), "m": memory.encode()}
+        row.calls = [Call(["check", "t"], 0, output.encode())]
+        if kind == ".asm":
+            row.calls = [Call(["asm", "t", "o"], 0, ANY, {"o": ANY}), Call(["run", "o", "m", "steps=1000"], status_of(output), output.encode())]
+        found.append(row)
     return found
 
 
