@@ -2,7 +2,7 @@
 import os
 import re
 
-from rows import ANY, Call, Row
+from rows import ANY, Call, Reader, Row
 
 
 def read(top, name):
@@ -37,7 +37,9 @@ def executed(where, name, source, memory, calls, status, output):
     return row
 
 
+PLAIN = "memory 4 2\nargs\n"
 STATUSES = {"ended": 0, "raised": 14, "fault": 15, "going": 16}
+REFUSALS = {"syntax": 6, "type": 7, "too": 8, "unbuilt": 20}
 
 
 def status_of(outcome):
@@ -45,12 +47,24 @@ def status_of(outcome):
 
 
 def examples(top):
-    """Each example prints what stands beside it."""
+    """Each example prints what stands beside it: a source by `exec`, an assembly text when it is assembled and run, a report
+    by `check`."""
     found = []
-    folder = os.path.join(top, "examples")
-    for name in sorted(it[:-5] for it in os.listdir(folder) if it.endswith(".nova")):
-        texts = [read(top, f"examples/{name}.{end}") for end in ("nova", "mem", "out")]
-        found.append(executed("examples", name, texts[0], texts[1], 1000, status_of(texts[2]), texts[2]))
+    for file in sorted(os.listdir(os.path.join(top, "examples"))):
+        name, kind = os.path.splitext(file)
+        if kind not in (".nova", ".asm", ".report"):
+            continue
+        text, output = read(top, f"examples/{file}"), read(top, f"examples/{name}.out")
+        memory = "" if kind == ".report" else read(top, f"examples/{name}.mem")
+        if kind == ".nova":
+            found.append(executed("examples", file, text, memory, 1000, status_of(output), output))
+            continue
+        row = Row("examples", file)
+        row.files = {"t": text.encode(), "m": memory.encode()}
+        row.calls = [Call(["check", "t"], 0, output.encode())]
+        if kind == ".asm":
+            row.calls = [Call(["asm", "t", "o"], 0, ANY, {"o": ANY}), Call(["run", "o", "m", "steps=1000"], status_of(output), output.encode())]
+        found.append(row)
     return found
 
 
@@ -64,7 +78,7 @@ def compiled(where, source, status, output, made=False):
 def language(top):
     """docs/LANGUAGE.md: each source in a line of a table, with what stands behind it: an outcome by `exec`, a fault of types, a
     fault of the text such as `Char(21)`, or a status with a colon, semicolon or comma."""
-    found = []
+    found = worked(top, "docs/LANGUAGE.md")
     for number, line in enumerate(read(top, "docs/LANGUAGE.md").split("\n"), 1):
         parts, where = cells(line), f"docs/LANGUAGE.md:{number}"
         if not line.startswith("|") or len(parts) < 2:
@@ -73,7 +87,7 @@ def language(top):
         status = re.match(r"([0-9]+)[:;,](?: `([^`]*)`:)?", parts[1])
         if len(parts) == 4 and parts[3].split(" ")[0] in STATUSES:
             output = parts[3] + "\n..\n"
-            found.append(executed(where, parts[0], parts[2], "memory 4 2\nargs\n", 100, status_of(parts[3]), output))
+            found.append(executed(where, parts[0], parts[2], PLAIN, 100, status_of(parts[3]), output))
         elif len(parts) == 4 and re.fullmatch(r"type [0-9]+ at [0-9]+ [0-9]+", parts[3]):
             source = "" if parts[2] == "the empty text" else parts[2]
             found.append(compiled(where, source, 7, parts[3].encode() + b"\n"))
@@ -86,21 +100,28 @@ def language(top):
 
 
 def machine(top):
-    """docs/MACHINE.md: each assembly text is assembled, and its listing is itself; a memory text and an outcome text that
+    """docs/MACHINE.md: each assembly text is assembled, and a listing is itself; a memory text and an outcome text that
     follow it are what the code runs on and prints."""
     found, row = [], None
-    for first, _, text in blocks(read(top, "docs/MACHINE.md")):
-        if re.match(r"params [0-8]\n[^.]*$", text):
-            row = Row(f"docs/MACHINE.md:{first}", "an assembly text")
-            row.files = {"t": text.encode()}
+    document = read(top, "docs/MACHINE.md")
+    for first, kind, text in blocks(document):
+        where = f"docs/MACHINE.md:{first}"
+        if kind == "row":
+            found += Reader(where, top, f"== {where}\n{text}").rows()
+        elif re.match(r"params [0-8]\n[^.]*$", text):
+            row = Row(where, "an assembly text")
+            row.files = {"t": text.encode(), "m": b"memory 0 0\nargs\n"}
             length = sum(not it.endswith(":") for it in text.split("\n")[1:-1])
             row.calls = [Call(["asm", "t", "o"], 0, f"assembled {length}\n".encode(), {"o": ANY}), Call(["lint", "o"], 0, f"lawful {length}\n".encode())]
             if length == text.count("\n") - 1:
                 row.calls.append(Call(["dis", "o"], 0, text.encode()))
             found.append(row)
+        elif re.match(r"memory [0-9][^.]*$", text) and row:
+            row.files["m"] = text.encode()
         elif re.match(r"(ended|raised|fault|going)\b[^.]*$", text) and row:
-            arguments = re.search(r"`(memory [0-9]+ [0-9]+)`, `(args[ 0-9a-f]*)` prints\n\n```\n" + re.escape(text), read(top, "docs/MACHINE.md"))
-            row.files["m"] = "{}\n{}\n".format(*(arguments.groups() if arguments else ("memory 0 0", "args"))).encode()
+            arguments = re.search(r"`(memory [0-9]+ [0-9]+)`, `(args[ 0-9a-f]*)` prints\n\n```\n" + re.escape(text), document)
+            if arguments:
+                row.files["m"] = "{}\n{}\n".format(*arguments.groups()).encode()
             row.calls.append(Call(["run", "o", "m", "steps=1000"], status_of(text), text.encode()))
     return found
 
@@ -129,37 +150,54 @@ def certificates(top):
     return found
 
 
-def faults(top):
-    """docs/FAULTS.md: a block of code of kind `nova` behind which a line begins with a refusal in backticks is refused so."""
-    if not os.path.isfile(os.path.join(top, "docs/FAULTS.md")):
-        return []
-    found = []
-    lines = read(top, "docs/FAULTS.md").split("\n")
-    for first, kind, text in blocks("\n".join(lines)):
+def worked(top, name):
+    """The blocks of a document: the answer of one of kind `nova` is what stands in backticks at the beginning of the next
+    line, a refusal by `compile` or the first line of an outcome by `exec`, which runs on the last block of kind `memory`,
+    or on PLAIN. A block of kind `outcome` is the whole outcome of the one before. A block of kind `row` is a row."""
+    found, memory = [], PLAIN
+    document = read(top, name)
+    lines = document.split("\n")
+    for first, kind, text in blocks(document):
+        where = f"{name}:{first}"
         behind = [it for it in lines[first + text.count("\n") :] if it]
-        answer = re.match(r"`((?:syntax|type|too large) [^`]*)`", behind[0]) if behind else None
-        if kind == "nova" and answer:
-            row = Row(f"docs/FAULTS.md:{first}", answer[1])
-            row.files = {"s.nova": text.encode()}
-            status = {"syntax": 6, "type": 7, "too": 8}[answer[1].split()[0]]
-            row.calls = [Call(["compile", "s.nova", "s.obj"], status, answer[1].encode() + b"\n")]
-            found.append(row)
+        answer = re.match(r"`([^`]*)`", behind[0]) if behind else None
+        word = answer[1].split(" ")[0] if answer else ""
+        if kind == "memory":
+            memory = text
+        elif kind == "outcome":
+            found[-1].calls[-1].output = text.encode()
+        elif kind == "row":
+            found += Reader(where, top, f"== {where}\n{text}").rows()
+        elif kind == "nova" and word in STATUSES:
+            found.append(executed(where, answer[1], text, memory, 100, status_of(word), answer[1] + "\n..\n"))
+        elif kind == "nova":
+            found.append(compiled(where, text, REFUSALS[word], answer[1].encode() + b"\n"))
     return found
 
 
+def faults(top):
+    return worked(top, "docs/FAULTS.md")
+
+
 def command_lines(top):
-    """README: each line of a block of kind `sh` that calls the built program, with a shell's `> FILE` left out."""
+    """README: each line of a block of kind `sh` that calls the program, built or by `rt`; a block of kind `outcome` is the
+    whole output of the last one."""
     found = []
     for first, kind, text in blocks(read(top, "README.md")):
+        if kind == "outcome":
+            found[-1].calls[-1].output = text.encode()
         for line in text.split("\n") if kind == "sh" else []:
-            words = line.split("#")[0].split()
-            if not words or not words[0].endswith("out/novac"):
+            call = re.search(r"(?:out/novac|rt (?:run|try) --) ([^)]*)", line)
+            if not call:
                 continue
-            row = Row(f"README.md:{first}", " ".join(words[1:]))
-            names = {it: os.path.basename(it) for it in words[2:] if "=" not in it}
-            row.files = {short: read(top, it).encode() for it, short in names.items() if os.path.isfile(os.path.join(top, it))}
+            words = call[1].split()
+            row = Row(f"README.md:{first}", " ".join(words))
+            names = {it: os.path.basename(it) for it in words[1:] if "=" not in it}
+            # `rt` runs in the folder of the program's crate.
+            base = os.path.join(top, "crates", "novac") if " rt " in line else top
+            row.files = {short: read(base, it).encode() for it, short in names.items() if os.path.isfile(os.path.join(base, it))}
             made = {short: ANY for it, short in names.items() if short not in row.files}
-            row.calls = [Call([words[1], *(names.get(it, it) for it in words[2:])], 0, ANY, made)]
+            row.calls = [Call([words[0], *(names.get(it, it) for it in words[1:])], 0, ANY, made)]
             found.append(row)
     return found
 

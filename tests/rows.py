@@ -124,12 +124,11 @@ def contents(folder):
 
 
 class Reader:
-    """Reads one row file."""
+    """Reads the rows of one text."""
 
-    def __init__(self, where, top):
+    def __init__(self, where, top, text):
         self.where, self.top, self.at = where, top, 0
-        with open(os.path.join(top, where), encoding="utf-8", newline="\n") as it:
-            self.lines = it.read().split("\n")
+        self.lines = text.split("\n")
         self.head = Row(where, "")
 
     def refuse(self, why):
@@ -196,5 +195,8 @@ class Reader:
 
 def all_rows(top):
     """The rows of tests/*.txt."""
-    names = sorted(it for it in os.listdir(os.path.join(top, "tests")) if it.endswith(".txt"))
-    return [row for name in names for row in Reader(f"tests/{name}", top).rows()]
+    found = []
+    for name in sorted(it for it in os.listdir(os.path.join(top, "tests")) if it.endswith(".txt")):
+        with open(os.path.join(top, "tests", name), encoding="utf-8", newline="\n") as it:
+            found += Reader(f"tests/{name}", top, it.read()).rows()
+    return found

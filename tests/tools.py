@@ -1,0 +1,94 @@
+"""Rows on what stands beside the program: the files for editors, and examples/packet."""
+import json
+import os
+import re
+import subprocess
+import sys
+
+
+class ToolRow:
+    where = "tests/tools.py"
+
+    def __init__(self, name, body, top):
+        self.name, self.body, self.top = name, body, top
+
+    def differences(self, novac, at):
+        return self.body(self.top)
+
+
+def read(top, name):
+    with open(os.path.join(top, name), encoding="utf-8") as it:
+        return it.read()
+
+
+def words_of(top, path, line):
+    """The words `codes "WORD"` of the lines of a definition that this begins."""
+    return re.findall(r'codes "([^"]+)"', "\n".join(re.findall(rf"^(?:{line}).*(?:\n +.*)*", read(top, path), re.M)))
+
+
+def highlighting(top):
+    """Each keyword, sign, instruction and operation of the tables is coloured by both files."""
+    tables, assembly = "crates/nv_text/specs/Tables.antt", "crates/uc_asm/specs/Words.antt"
+    words = words_of(top, tables, "keywords =")
+    words += words_of(top, assembly, "kind_name|binary_name|unary_words|condition_name|memory_name")
+    signs = [it for it in words_of(top, tables, "signs =") if not re.fullmatch(r"[][(){},;.:]", it)]
+    found = [] if len(words) >= 42 and len(signs) == 21 else [f"the tables have {len(words)} words and {len(signs)} signs"]
+    vim = read(top, "editors/nova.vim")
+    listed = {word for line in re.findall(r"^syn keyword nova\w+ (.*)", vim, re.M) for word in line.split()}
+    sign = re.search(r'^syn match novaSign "\\V(.*?)" contains', vim, re.M)[1].split("\\|")
+    found += [f"nova.vim lacks {it}" for it in words if it not in listed] + [f"nova.vim lacks {it}" for it in signs if it not in sign]
+    grammar = json.loads(read(top, "editors/nova.tmLanguage.json"))
+    nova, inner = grammar["patterns"][1:], grammar["patterns"][0]["patterns"]
+    for word in words + signs:
+        if not any(re.fullmatch(it["match"], word) for it in nova + inner):
+            found.append(f"nova.tmLanguage.json lacks {word}")
+    return found
+
+
+def as_made(top):
+    ran = subprocess.run([sys.executable, os.path.join(top, "editors", "make"), "--check"], capture_output=True, text=True)
+    return [ran.stderr] if ran.returncode or ran.stderr else []
+
+
+def packet(top, words, text):
+    return subprocess.run([sys.executable, os.path.join(top, "examples", "packet"), *words], input=text, capture_output=True, text=True)
+
+
+def there_and_back(top):
+    """Each example with a packet: its bytes become a dump, and that the same lines of SDRAM."""
+    found = []
+    for name in sorted(it for it in os.listdir(os.path.join(top, "examples")) if it.endswith(".mem")):
+        memory = read(top, f"examples/{name}")
+        lines = "".join(f"{it}\n" for it in memory.split("\n") if it.startswith("sdram "))
+        if not lines:
+            continue
+        dump = packet(top, ["--back"], memory)
+        text = packet(top, [], dump.stdout)
+        if dump.stderr or text.stderr or "".join(f"{it}\n" for it in text.stdout.split("\n") if it.startswith("sdram ")) != lines:
+            found.append(f"{name}: {dump.stdout}{dump.stderr}{text.stdout}{text.stderr}")
+    return found
+
+
+HEADER = "memory 0 3\nargs 00000000\nsdram 0 45000014 12340000 4001d6a9 c0000201 c6336407\n"
+DUMPS = [
+    "4500 0014 1234 0000 4001 d6a9 c000 0201 c633 6407\n",
+    "\t0x0000:  4500 0014 1234 0000 4001 d6a9 c000 0201\n\t0x0010:  c633 6407\n",
+    "00000000: 4500 0014 1234 0000 4001 d6a9 c000 0201  E....4..@.......\n00000010: c633 6407                                .3d.\n",
+    "00000000  45 00 00 14 12 34 00 00  40 01 d6 a9 c0 00 02 01  |E....4..@.......|\n00000010  c6 33 64 07                                       |.3d.|\n00000014\n",
+]
+
+
+def dumps(top):
+    """The usual forms of a hex dump give one memory text."""
+    found = []
+    for text in DUMPS:
+        ran = packet(top, ["--args", "00000000"], text)
+        if ran.stderr or ran.stdout != HEADER.replace("c6336407\n", "c6336407 00000000\n"):
+            found.append(f"{text}{ran.stdout}{ran.stderr}")
+    return found
+
+
+def all_rows(top):
+    rows = [("each keyword is coloured by both editors' files", highlighting), ("the editors' files are as made", as_made)]
+    rows += [("a packet's hex dump and back", there_and_back), ("forms of hex dumps", dumps)]
+    return [ToolRow(name, body, top) for name, body in rows]
