@@ -1,9 +1,11 @@
 """Rows on what stands beside the program: the files for editors, and examples/packet."""
+import importlib.machinery
 import json
 import os
 import re
 import subprocess
 import sys
+import types
 
 
 class ToolRow:
@@ -45,27 +47,29 @@ def highlighting(top):
     return found
 
 
+def module(top, path):
+    """A script of the repository, without running it."""
+    loader = importlib.machinery.SourceFileLoader("script", os.path.join(top, path))
+    it = types.ModuleType("script")
+    it.__file__ = loader.path
+    exec(compile(loader.get_data(loader.path), loader.path, "exec"), it.__dict__)
+    return it
+
+
 def as_made(top):
-    ran = subprocess.run([sys.executable, os.path.join(top, "editors", "make"), "--check"], capture_output=True, text=True)
-    return [ran.stderr] if ran.returncode or ran.stderr else []
-
-
-def packet(top, words, text):
-    return subprocess.run([sys.executable, os.path.join(top, "examples", "packet"), *words], input=text, capture_output=True, text=True)
+    files = module(top, "editors/make").files()
+    return [f"{name} is to be written again by editors/make" for name, text in files.items() if read(top, f"editors/{name}") != text]
 
 
 def there_and_back(top):
     """Each example with a packet: its bytes become a dump, and that the same lines of SDRAM."""
-    found = []
+    found, packet = [], module(top, "examples/packet")
     for name in sorted(it for it in os.listdir(os.path.join(top, "examples")) if it.endswith(".mem")):
         memory = read(top, f"examples/{name}")
-        lines = "".join(f"{it}\n" for it in memory.split("\n") if it.startswith("sdram "))
-        if not lines:
-            continue
-        dump = packet(top, ["--back"], memory)
-        text = packet(top, [], dump.stdout)
-        if dump.stderr or text.stderr or "".join(f"{it}\n" for it in text.stdout.split("\n") if it.startswith("sdram ")) != lines:
-            found.append(f"{name}: {dump.stdout}{dump.stderr}{text.stdout}{text.stderr}")
+        lines = [it for it in memory.split("\n") if it.startswith("sdram ")]
+        text = packet.memory_text(packet.bytes_of(packet.dump_of(memory, 0, None)), 0, 0, "")
+        if lines and [it for it in text.split("\n") if it.startswith("sdram ")] != lines:
+            found.append(f"{name}: {text}")
     return found
 
 
@@ -79,13 +83,13 @@ DUMPS = [
 
 
 def dumps(top):
-    """The usual forms of a hex dump give one memory text."""
-    found = []
-    for text in DUMPS:
-        ran = packet(top, ["--args", "00000000"], text)
-        if ran.stderr or ran.stdout != HEADER.replace("c6336407\n", "c6336407 00000000\n"):
-            found.append(f"{text}{ran.stdout}{ran.stderr}")
-    return found
+    """The usual forms of a hex dump give one memory text; the script says so, too."""
+    packet = module(top, "examples/packet")
+    wanted = HEADER.replace("c6336407\n", "c6336407 00000000\n")
+    found = [text for text in DUMPS if packet.memory_text(packet.bytes_of(text), 0, 0, "00000000") != wanted]
+    words = [sys.executable, os.path.join(top, "examples", "packet"), "--args", "00000000"]
+    ran = subprocess.run(words, input=DUMPS[0], capture_output=True, text=True)
+    return found + ([] if ran.stdout == wanted and not ran.stderr else [ran.stdout + ran.stderr])
 
 
 def all_rows(top):
