@@ -191,6 +191,7 @@ def command_lines(top):
             if not call:
                 continue
             words = call[1].split()
+            words = [word.removeprefix("$PWD/") for word in words]
             row = Row(f"README.md:{first}", " ".join(words))
             names = {it: os.path.basename(it) for it in words[1:] if "=" not in it}
             # `rt` runs in the folder of the program's crate.
