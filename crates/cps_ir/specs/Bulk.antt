@@ -52,6 +52,14 @@ main_bulk funs None = nothing
 abbrev pub bulk : List Fun → ℕ → Bulk
 bulk funs main = main_bulk funs (slice_get funs main)
 
+-- of the code alone: the group of main, without a label from which main is begun
+abbrev pub main_code : List Fun → Option Fun → Bulk
+main_code funs (Some f) = group_bulk funs f.group
+main_code funs None = nothing
+
+abbrev pub code_bulk : List Fun → ℕ → Bulk
+code_bulk funs main = main_code funs (slice_get funs main)
+
 -- the functions of each group have together at most the bulk that is given for it, where every call counts that of the called group
 pub record AreBulks (funs : List Fun) (w : Bulks) : Type 0 where
   pub by : (group : ℕ) → IsAtMost (sum_bulk funs w group funs) (w group)

@@ -5,3 +5,4 @@ pub mod Meaning
 pub mod Formed
 pub mod Wide
 pub mod Bulk
+pub mod Callless
