@@ -6,7 +6,6 @@ use Rattle.nv_base.specs.declared.term.Mem.{Mem}
 use Rattle.nv_base.specs.declared.term.Primitive.{Primitive}
 use Rattle.cps_ir.specs.declared.term.Term.{Term, size-Term, the_lemmas}
 use Rattle.cps_ir.specs.declared.term.Term as node
-use Rattle.cps_ir.specs.Term.{Let, Read, Write, If, Fix, Labels}
 use Rattle.cps_ir.specs.View.{term_view}
 use Rattle.cps_ir.proofs.Views.{view-Let, view-Read, view-Write, view-If}
 use Rattle.std.specs.declared.alloc.Global.{Global}
@@ -17,7 +16,7 @@ use Rattle.flow_ir.specs.Spine.{put, put_all}
 use Rattle.flow_ir.specs.Tree as flow
 use Rattle.flow_ir.specs.View.{tree_view}
 use Rattle.flow_ir.proofs.Steps.{put_last}
-use Rattle.cps_close.specs.inner.Closed.{Table, tree_of, used, defines}
+use Rattle.cps_close.specs.inner.Closed.{Table, tree_of}
 
 -- ---- lists
 

@@ -1,13 +1,12 @@
 -- A flow has at most as much code as its function.
-use Rattle.std.proofs.Common.{◌≡◌, ℕ, ◌+◌, ◌≤◌, Bool, true, false, ◌&&◌, List, [], ◌∷◌, ◌++◌, Option, Some, None, refl, sym, ap, subst, ◌∙◌, if◌then◌else◌, zero, suc, ◌==◌, nat_lt, length, slice_get, arith}
+use Rattle.std.proofs.Common.{◌≡◌, ℕ, ◌+◌, Bool, true, false, List, [], ◌∷◌, ◌++◌, Some, refl, sym, ap, subst, if◌then◌else◌, zero, suc, ◌==◌, length, slice_get, arith}
 use Rattle.std.proofs.lemmas.Bool.{and_parts, false≢true, eq-eqb}
 use Rattle.std.proofs.lemmas.Option.{none-some, same_Some}
 use Rattle.nv_base.specs.Measures.{Bulk, Bulks, nothing, a_label, a_jump, a_node, both, IsAtMost}
-use Rattle.nv_base.proofs.Measures.{most-refl, most-trans, most-none, most-both}
+use Rattle.nv_base.proofs.Measures.{most-refl}
 use Rattle.cps_ir.specs.Term.{Term, Let, Read, Write, If, Fix, Call, Return, Throw, Jump, Halt, Labels, none, label, Fun}
 use Rattle.cps_ir.specs.View.{Seen}
 use Rattle.cps_ir.specs.Bulk as before
-use Rattle.flow_ir.specs.Tree as flow
 use Rattle.flow_ir.specs.Bulk as behind
 use Rattle.cps_ir.specs.Callless.{only_jumps, labels_only_jump}
 use Rattle.cps_close.specs.inner.Closed.{Table, labels_in, labels_of_all, tree_of, closed, closed_labels}

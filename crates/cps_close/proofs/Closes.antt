@@ -1,7 +1,7 @@
 -- The closed labels are well formed.
-use Rattle.std.proofs.Common.{◌≡◌, ℕ, zero, suc, ◌+◌, Bool, true, false, not, nat_eq, nat_le, ◌==◌, ◌&&◌, List, [], ◌∷◌, ◌++◌, Option, Some, None, refl, sym, ap, subst, ◌∙◌, if◌then◌else◌, length, length-append, slice_get, arith}
+use Rattle.std.proofs.Common.{◌≡◌, ℕ, zero, suc, ◌+◌, Bool, true, false, not, nat_eq, nat_le, ◌&&◌, List, [], ◌∷◌, ◌++◌, Option, Some, refl, sym, ap, subst, ◌∙◌, if◌then◌else◌, length, length-append, slice_get}
 use Rattle.std.specs.List.{list_all}
-use Rattle.std.proofs.lemmas.Bool.{and_parts, and_from, or_left, eq-eqb, eqb-true, not-true, not_from_false, false≢true, false_from_ne_true}
+use Rattle.std.proofs.lemmas.Bool.{and_parts, and_from, eq-eqb, eqb-true, not-true, not_from_false, false≢true, false_from_ne_true}
 use Rattle.nv_base.specs.declared.term.Atom.{Atom}
 use Rattle.nv_base.specs.declared.term.Atom.TheVariants.{Var, Lit}
 use Rattle.nv_base.specs.declared.term.Primitive.{Primitive}
@@ -19,11 +19,10 @@ use Rattle.flow_ir.specs.Tree as flow
 use Rattle.flow_ir.specs.Formed as flow_formed
 use Rattle.flow_ir.specs.Wide.{live}
 use Rattle.cps_ir.specs.Callless.{only_jumps}
-use Rattle.cps_close.specs.inner.Closed.{Table, labels_in, labels_of_all, wanted, number, operands, tree_of, with_wanted, closed, closed_labels, defines, bound, IsTable}
-use Rattle.cps_close.proofs.Ready.{Apart}
-use Rattle.cps_close.proofs.Members.{either, first-or-rest, in-left, in-right, in-first, out-both, in-or-out, stays, apart-turned, different-parts, different-join}
-use Rattle.cps_close.proofs.Places.{Setting, Place, Places, Among, let-place, read-place, write-place, first-place, second-place, rest-place, label-places, body-place, other-places, label-here}
-use Rattle.cps_close.proofs.Settles.{Settled, AllSettled, all-ready, jump-takes, live-known, live-used, defines-defined}
+use Rattle.cps_close.specs.inner.Closed.{Table, labels_in, labels_of_all, wanted, number, operands, tree_of, with_wanted, closed, closed_labels, defines, IsTable}
+use Rattle.cps_close.proofs.Members.{either, in-left, in-right, in-first, out-both, in-or-out, stays, apart-turned, different-parts, different-join}
+use Rattle.cps_close.proofs.Places.{Setting, Place, Places, let-place, read-place, write-place, first-place, second-place, rest-place, label-places, body-place, other-places, label-here}
+use Rattle.cps_close.proofs.Settles.{Settled, AllSettled, all-ready, jump-takes, live-known, defines-defined}
 use Rattle.cps_close.proofs.Tables.{closed-at, closed-from}
 use Rattle.cps_close.proofs.Reached.{setting, place-of, kept-reached, all-settled, labels-differ, wanted-of}
 

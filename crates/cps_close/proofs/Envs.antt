@@ -1,8 +1,7 @@
 -- Environments behind assignments.
-use Rattle.std.proofs.Common.{◌≡◌, ℕ, suc, Bool, true, false, nat_eq, ◌||◌, List, [], ◌∷◌, ◌++◌, refl, sym, ap, subst, ◌∙◌, ⊎_elim, if◌then◌else◌, length, arith}
+use Rattle.std.proofs.Common.{◌≡◌, ℕ, suc, Bool, true, false, nat_eq, ◌||◌, List, [], ◌∷◌, ◌++◌, refl, sym, ap, subst, ◌∙◌, if◌then◌else◌, length, arith}
 use Rattle.std.proofs.lemmas.Bool.{or_left, or_right, eq-eqb, false≢true}
 use Rattle.nv_base.specs.declared.term.Atom.{Atom}
-use Rattle.nv_base.specs.declared.term.Atom.TheVariants.{Var}
 use Rattle.nv_base.specs.Words.{Env, assigned, assigned_all, atom_word, atom_words}
 use Rattle.nv_base.specs.Sets.{is_in, AgreeOn}
 use Rattle.nv_base.proofs.Sets.{same-number}

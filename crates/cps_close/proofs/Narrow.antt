@@ -1,10 +1,10 @@
 -- A flow is at most as wide as its function. A jump's words are as many as its label's parameters, so where the label begins is as wide.
-use Rattle.std.proofs.Common.{◌≡◌, ℕ, zero, suc, ◌+◌, ◌≤◌, max, Bool, true, false, nat_eq, ◌==◌, ◌&&◌, List, [], ◌∷◌, ◌++◌, Option, Some, None, refl, sym, ap, subst, ◌∙◌, if◌then◌else◌, length, length-append, slice_get, arith}
-use Rattle.std.proofs.lemmas.Bool.{and_parts, eq-eqb, eqb-true, false≢true}
+use Rattle.std.proofs.Common.{◌≡◌, ℕ, zero, suc, ◌+◌, ◌≤◌, max, Bool, true, false, nat_eq, ◌==◌, List, [], ◌∷◌, ◌++◌, Option, Some, refl, sym, ap, subst, ◌∙◌, if◌then◌else◌, length, length-append, slice_get, arith}
+use Rattle.std.proofs.lemmas.Bool.{eq-eqb, eqb-true, false≢true}
 use Rattle.std.proofs.lemmas.Option.{none-some, same_Some}
 use Rattle.nv_base.specs.declared.term.Atom.{Atom}
-use Rattle.nv_base.specs.Words.{atom_vars, prim_vars}
-use Rattle.nv_base.specs.Sets.{is_in, without, different, all_vars, Within}
+use Rattle.nv_base.specs.Words.{prim_vars}
+use Rattle.nv_base.specs.Sets.{without, different, Within}
 use Rattle.nv_base.specs.Measures.{operands_wide, let_wide, entry_wide, Widths}
 use Rattle.nv_base.proofs.Sets.{same-number, different-below, different-all, within-behind_same, within-without_same, within-both}
 use Rattle.nv_base.proofs.Measures.{operands-more, let-more}
@@ -17,7 +17,7 @@ use Rattle.flow_ir.specs.Tree as flow
 use Rattle.flow_ir.specs.Wide.{live, tree_wide, label_wide}
 use Rattle.flow_ir.specs.Wide as behind
 use Rattle.cps_ir.specs.Callless.{only_jumps}
-use Rattle.cps_close.specs.inner.Closed.{Table, labels_in, labels_of_all, wanted, operands, tree_of, with_wanted, closed, closed_labels, IsTable}
+use Rattle.cps_close.specs.inner.Closed.{Table, labels_in, labels_of_all, wanted, operands, tree_of, with_wanted, closed, IsTable}
 use Rattle.cps_close.proofs.Members.{in-left, in-right}
 use Rattle.cps_close.proofs.Places.{Setting, Place, Places, let-place, read-place, write-place, first-place, second-place, rest-place, label-places, body-place, other-places, label-here}
 use Rattle.cps_close.proofs.Settles.{Settled, AllSettled, jump-takes, live-wanted}

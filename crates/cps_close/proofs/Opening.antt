@@ -1,14 +1,11 @@
 -- Parts that are pushed for labels and terms, and popped again.
-use Rattle.std.proofs.Common.{◌≡◌, ℕ, suc, ◌+◌, ◌<◌, List, [], ◌∷◌, ◌++◌, map, reverse, refl, sym, ap, ◌∙◌, append_assoc, append-nil, arith, Bor}
+use Rattle.std.proofs.Common.{◌≡◌, ◌+◌, ◌<◌, List, [], ◌∷◌, ◌++◌, map, reverse, refl, sym, ap, ◌∙◌, append_assoc, arith, Bor}
 use Rattle.std.proofs.lemmas.List.{map-append, reverse-append}
 use Rattle.cps_ir.specs.declared.term.Term.{Term}
 use Rattle.cps_ir.specs.declared.term.Cont.{Cont}
 use Rattle.cps_ir.specs.Term as pure
 use Rattle.cps_ir.specs.View.{Seen, labels_of, labels_view, term_view, label_view}
-use Rattle.cps_ir.proofs.Views.{view-Cont}
 use Rattle.cps_close.specs.declared.collect.Part as declared
-use Rattle.cps_close.specs.declared.collect.Part.TheVariants as declared_part
-use Rattle.cps_close.specs.inner.Closed.{labels_in}
 use Rattle.cps_close.specs.inner.Pending.{Part, InTerm, AtLabel, part_view, parts_of, seen_all, opened, labels_pending}
 use Rattle.cps_close.proofs.Work.{weight, work, work-append, parts-append, pending-append, opened-labels, opened-work}
 

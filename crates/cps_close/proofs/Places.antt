@@ -1,5 +1,5 @@
 -- Where terms and labels stand in a function, and what is known of them there.
-use Rattle.std.proofs.Common.{◌≡◌, ℕ, zero, suc, Bool, true, false, not, nat_eq, nat_le, ◌&&◌, List, [], ◌∷◌, ◌++◌, Option, Some, None, refl, sym, ap, subst, ◌∙◌, if◌then◌else◌, length, slice_get}
+use Rattle.std.proofs.Common.{◌≡◌, ℕ, zero, suc, Bool, true, false, not, nat_eq, ◌&&◌, List, [], ◌∷◌, ◌++◌, Option, Some, refl, sym, subst, if◌then◌else◌, length, slice_get}
 use Rattle.std.proofs.lemmas.Bool.{and_parts, or_parts, not-true, false≢true}
 use Rattle.std.proofs.lemmas.Option.{none-some}
 use Rattle.nv_base.specs.Sets.{is_in, without, all_different, Within}

@@ -1,21 +1,20 @@
 -- A table that is reached by steps and still at each label: its labels are settled, and want no more than their `Fix` does.
-use Rattle.std.proofs.Common.{◌≡◌, ℕ, zero, suc, ◌+◌, ◌<◌, ◌≤◌, ◌≢◌, Bool, true, false, not, nat_eq, nat_le, ◌&&◌, List, [], ◌∷◌, ◌++◌, Option, Some, None, refl, sym, ap, subst, ◌∙◌, ⊎_elim, if◌then◌else◌, length, length-append, slice_get, slice_set, inl, inr, arith}
+use Rattle.std.proofs.Common.{◌≡◌, ℕ, zero, suc, ◌+◌, ◌≤◌, ◌≢◌, Bool, true, false, nat_eq, nat_le, ◌&&◌, List, [], ◌∷◌, ◌++◌, Option, Some, None, refl, sym, ap, subst, ◌∙◌, ⊎_elim, if◌then◌else◌, length, length-append, slice_get, slice_set, arith}
 use Rattle.std.proofs.lemmas.Bool.{and_parts, or_left, or_from, cases_eq, false≢true, false_from_ne_true, le-leb}
 use Rattle.std.proofs.lemmas.Option.{none-some, same_Some}
 use Rattle.nv_base.specs.Sets.{is_in, all_different, Within}
 use Rattle.nv_base.proofs.Sets.{same-number}
 use Rattle.cps_ir.specs.Term.{Term, Let, Read, Write, If, Fix, Call, Return, Throw, Jump, Halt, Labels, none, label, Fun}
 use Rattle.cps_ir.specs.View.{Seen}
-use Rattle.cps_ir.specs.Formed.{Scoped, is_formed, is_function, defined, made}
+use Rattle.cps_ir.specs.Formed.{is_formed, is_function, defined, made}
 use Rattle.cps_ir.specs.Wide.{Wants, with_wants, labels_want, inside, nowhere}
 use Rattle.cps_ir.specs.Callless.{only_jumps}
-use Rattle.flow_ir.specs.Tree as flow
-use Rattle.cps_close.specs.inner.Closed.{Table, labels_in, labels_of_all, index_of, or_nothing, wanted_there, wanted, number, number_there, with_wanted, closed_labels, closed, used, bound, noted, noted_all, grown, step, step_there, none_wanted, start, after, IsReached, IsStill, IsTable}
+use Rattle.cps_close.specs.inner.Closed.{Table, labels_in, labels_of_all, index_of, or_nothing, wanted_there, wanted, number_there, with_wanted, closed, used, bound, noted, noted_all, grown, step, step_there, none_wanted, start, after, IsReached, IsTable}
 use Rattle.cps_close.proofs.Ready.{Apart}
-use Rattle.cps_close.proofs.Members.{either, first-or-rest, in-left, in-right, in-first, in-rest, out-both, out-join, in-not-out, in-or-out, different-parts, different-join}
-use Rattle.cps_close.proofs.Places.{Everywhere, AllPlaces, Least, Uses, Among, Sub, sub-left, sub-right, Setting, Place, Covers}
-use Rattle.cps_close.proofs.Settles.{uses-in, Settled, AllSettled}
-use Rattle.cps_close.proofs.Tables.{names, names-different, present, one-index, closed-at, set-other, set-past}
+use Rattle.cps_close.proofs.Members.{either, first-or-rest, in-rest, out-both, in-not-out, in-or-out, different-parts, different-join}
+use Rattle.cps_close.proofs.Places.{Everywhere, AllPlaces, Least, Uses, Among, Sub, sub-left, sub-right, Setting, Place}
+use Rattle.cps_close.proofs.Settles.{uses-in, AllSettled}
+use Rattle.cps_close.proofs.Tables.{names, names-different, present, closed-at, set-other, set-past}
 
 -- ---- variables that join a list
 

@@ -1,23 +1,22 @@
 -- What a settled label wants is what it uses, and then a term is ready.
-use Rattle.std.proofs.Common.{◌≡◌, ℕ, zero, suc, ◌≤◌, Bool, true, false, nat_eq, nat_le, ◌&&◌, List, [], ◌∷◌, ◌++◌, Option, Some, None, refl, sym, ap, subst, ◌∙◌, length, slice_get, append_assoc}
+use Rattle.std.proofs.Common.{◌≡◌, ℕ, true, false, nat_eq, nat_le, List, [], ◌∷◌, ◌++◌, Some, refl, sym, ap, subst, ◌∙◌, length, slice_get, append_assoc}
 use Rattle.std.proofs.lemmas.Bool.{and_parts, or_parts, or_from, or_left, false≢true}
 use Rattle.nv_base.specs.declared.term.Atom.{Atom}
 use Rattle.nv_base.specs.Words.{atom_vars, prim_vars}
 use Rattle.nv_base.specs.Sets.{is_in, without, all_different, all_vars, Within}
 use Rattle.nv_base.specs.Access.{all_known}
 use Rattle.nv_base.proofs.Sets.{within-both, within-behind_same, within-without_same}
-use Rattle.cps_ir.specs.Term.{Term, Let, Read, Write, If, Fix, Call, Return, Throw, Jump, Halt, Labels, none, label, Fun}
+use Rattle.cps_ir.specs.Term.{Term, Let, Read, Write, If, Fix, Call, Return, Throw, Jump, Halt, Labels, none, label}
 use Rattle.cps_ir.specs.View.{Seen}
-use Rattle.cps_ir.specs.Callless.{only_jumps, labels_only_jump}
 use Rattle.cps_ir.specs.Formed.{Scoped, scoped, takes, defined, labels_defined}
 use Rattle.cps_ir.specs.Wide.{Wants, with_wants, wants, labels_want, inside}
 use Rattle.flow_ir.specs.Tree as flow
 use Rattle.flow_ir.specs.Wide.{live}
 use Rattle.cps_close.specs.inner.Closed.{Table, wanted, number, operands, tree_of, with_wanted, used, defines, bound}
-use Rattle.cps_close.proofs.Ready.{Apart, LabelReady, Ready, AllReady}
+use Rattle.cps_close.proofs.Ready.{Apart, Ready, AllReady}
 use Rattle.cps_close.proofs.Members.{either, first-or-rest, in-left, in-right, in-first, in-rest, out-both, in-not-out, stays, stayed, in-or-out, apart-turned}
 use Rattle.cps_close.proofs.Wants.{wants-more, wants-known}
-use Rattle.cps_close.proofs.Places.{Everywhere, AllPlaces, Least, Uses, Among, Setting, Place, Places, let-place, read-place, write-place, first-place, second-place, rest-place, label-places, body-place, other-places, label-here}
+use Rattle.cps_close.proofs.Places.{Everywhere, AllPlaces, Uses, Setting, Place, Places, let-place, read-place, write-place, first-place, second-place, rest-place, label-places, body-place, other-places, label-here}
 
 -- ---- variables of terms and trees
 

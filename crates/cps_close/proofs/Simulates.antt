@@ -1,10 +1,7 @@
 -- A closed term does what the term does, at each number of jumps.
-use Rattle.std.proofs.Common.{◌≡◌, ℕ, zero, suc, Bool, true, false, nat_eq, ◌==◌, List, [], ◌∷◌, ◌++◌, Option, Some, None, refl, sym, ap, subst, ◌∙◌, ⊎_elim, if◌then◌else◌, length, slice_get, arith}
-use Rattle.std.proofs.lemmas.Bool.{or_cases, or_right, or_left, false≢true, eqb-true}
+use Rattle.std.proofs.Common.{◌≡◌, ℕ, zero, suc, Bool, true, false, nat_eq, List, [], ◌∷◌, ◌++◌, Option, Some, None, refl, sym, ap, subst, ◌∙◌, ⊎_elim, if◌then◌else◌, length, slice_get}
+use Rattle.std.proofs.lemmas.Bool.{or_cases, or_right, false≢true, eqb-true}
 use Rattle.std.proofs.lemmas.Option.{none-some, same_Some}
-use Rattle.nv_base.specs.declared.term.Mem.{Mem}
-use Rattle.nv_base.specs.declared.term.Cmp.{Cmp}
-use Rattle.nv_base.specs.declared.term.Atom.{Atom}
 use Rattle.nv_base.specs.Memories.{Memories}
 use Rattle.nv_base.specs.Meanings.{FullOutcome}
 use Rattle.nv_base.specs.Words.{Env, assigned, assigned_all, atom_word, atom_words, prim_word, atom_vars, prim_vars, compares}
@@ -12,7 +9,7 @@ use Rattle.nv_base.specs.World.{World, begun, over, ended, read_words, write_wor
 use Rattle.nv_base.specs.Sets.{is_in, all_vars, without, Within, AgreeOn}
 use Rattle.nv_base.proofs.Kept.{IsKept, kept-read, kept-write, kept-if}
 use Rattle.nv_base.proofs.Operands.{atom-same, atoms-same, prim-same}
-use Rattle.nv_base.proofs.Sets.{same-number, in-append, agree-left, agree-right, agree-within, agree-behind, agree-all, within-left}
+use Rattle.nv_base.proofs.Sets.{same-number, in-append, agree-left, agree-right, agree-behind, agree-all, within-left}
 use Rattle.cps_ir.specs.Term as cps
 use Rattle.cps_ir.specs.View.{Seen}
 use Rattle.cps_ir.specs.Formed.{Scoped, scoped, arity, takes, takes_as_many}
@@ -22,8 +19,8 @@ use Rattle.flow_ir.specs.Tree as flow
 use Rattle.flow_ir.specs.Wide.{live}
 use Rattle.flow_ir.specs.Meaning.{flow_meaning}
 use Rattle.flow_ir.specs.Meaning as flow_run
-use Rattle.cps_close.specs.inner.Closed.{Table, wanted, number, operands, tree_of, with_wanted}
-use Rattle.cps_close.proofs.Ready.{Apart, LabelReady, Ready, AllReady, Level, Along}
+use Rattle.cps_close.specs.inner.Closed.{Table, wanted, number, operands, tree_of}
+use Rattle.cps_close.proofs.Ready.{Apart, LabelReady, Ready, AllReady, Along}
 use Rattle.cps_close.proofs.Envs.{unassigned, unassigned-all, assigned-append, assigned-operands, words-append, length-words}
 
 -- ---- labels in scope

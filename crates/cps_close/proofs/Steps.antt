@@ -1,14 +1,13 @@
 -- What the loops of the code do, one step at a time.
-use Rattle.std.proofs.Common.{◌≡◌, ℕ, zero, suc, ◌+◌, ◌<◌, ◌≤◌, ◌≢◌, Bool, true, false, nat_eq, ◌==◌, ◌&&◌, List, [], ◌∷◌, ◌++◌, map, Option, Some, None, refl, sym, ap, subst, ◌∙◌, ⊎_elim, if◌then◌else◌, length, length-append, slice_get, slice_set, append_assoc, append-nil, arith}
-use Rattle.std.proofs.lemmas.Bool.{and_parts, cases_lt, eqb-true, false≢true}
+use Rattle.std.proofs.Common.{◌≡◌, ℕ, zero, suc, ◌+◌, ◌<◌, ◌≤◌, Bool, true, false, nat_eq, ◌==◌, ◌&&◌, List, [], ◌∷◌, ◌++◌, Option, Some, None, refl, sym, ap, subst, ◌∙◌, ⊎_elim, if◌then◌else◌, length, length-append, slice_get, slice_set, append_assoc, append-nil, arith}
+use Rattle.std.proofs.lemmas.Bool.{and_parts, cases_lt, eqb-true}
 use Rattle.std.proofs.lemmas.Option.{none-some, same_Some}
 use Rattle.nv_base.specs.declared.term.Atom.{Atom}
 use Rattle.nv_base.specs.Words.{atom_vars, prim_vars}
 use Rattle.nv_base.specs.Sets.{is_in, all_vars}
 use Rattle.cps_ir.specs.Term as cps
 use Rattle.cps_ir.specs.View.{Seen}
-use Rattle.flow_ir.specs.Tree as flow
-use Rattle.cps_close.specs.inner.Closed.{Table, labels_in, labels_of_all, index_of, or_here, or_nothing, wanted_there, wanted, operands, tree_of, with_wanted, closed_labels, used, bound, noted, noted_all, grown, with_list, step, step_there, none_wanted, start, after, IsReached, IsStill, IsTable}
+use Rattle.cps_close.specs.inner.Closed.{Table, index_of, or_here, or_nothing, wanted_there, wanted, operands, with_wanted, closed_labels, used, bound, noted_all, grown, with_list, step, step_there, none_wanted, after, IsReached, IsStill}
 use Rattle.cps_close.proofs.Reached.{noted-longer}
 
 -- ---- one more at the end

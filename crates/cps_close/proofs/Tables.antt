@@ -1,6 +1,6 @@
 -- Labels and their indices.
-use Rattle.std.proofs.Common.{◌≡◌, ℕ, zero, suc, ◌+◌, ◌<◌, ◌≢◌, Bool, true, false, not, nat_eq, ◌&&◌, ◌||◌, List, [], ◌∷◌, ◌++◌, map, Option, Some, None, refl, sym, ap, subst, ◌∙◌, length, slice_get, slice_set, arith}
-use Rattle.std.proofs.lemmas.Bool.{and_parts, and_from, or_parts, or_from, or_left, not-true, not_from_false, false≢true, false_from_ne_true, eq-eqb}
+use Rattle.std.proofs.Common.{◌≡◌, ℕ, zero, suc, ◌+◌, ◌<◌, ◌≢◌, Bool, true, false, not, nat_eq, ◌||◌, List, [], ◌∷◌, ◌++◌, Some, None, refl, sym, ap, subst, ◌∙◌, length, slice_get, slice_set, arith}
+use Rattle.std.proofs.lemmas.Bool.{and_parts, and_from, or_parts, or_from, not-true, not_from_false, false≢true, false_from_ne_true, eq-eqb}
 use Rattle.std.proofs.lemmas.Option.{none-some, same_Some}
 use Rattle.nv_base.specs.Sets.{is_in, all_different}
 use Rattle.nv_base.proofs.Sets.{other-number, same-number, in-append}
@@ -8,7 +8,7 @@ use Rattle.cps_ir.specs.Term.{Term, Let, Read, Write, If, Fix, Call, Return, Thr
 use Rattle.cps_ir.specs.View.{Seen}
 use Rattle.cps_ir.specs.Formed.{made, labels_made}
 use Rattle.flow_ir.specs.Tree as flow
-use Rattle.cps_close.specs.inner.Closed.{Table, labels_in, labels_of_all, index_of, or_here, or_nothing, wanted_there, wanted, number, with_wanted, closed_labels}
+use Rattle.cps_close.specs.inner.Closed.{Table, labels_in, labels_of_all, index_of, or_here, or_nothing, with_wanted, closed_labels}
 use Rattle.cps_close.proofs.Ready.{Apart}
 use Rattle.cps_close.proofs.Members.{in-first, in-rest, apart-turned, different-parts, different-join}
 

@@ -1,5 +1,5 @@
 -- One turn of a loop over labels.
-use Rattle.std.proofs.Common.{◌≡◌, ℕ, ◌+◌, ◌<◌, nat_eq, List, [], ◌∷◌, ◌++◌, map, Option, Some, take, get_or, length, if◌then◌else◌, refl, sym, ap, ◌∙◌, append_assoc, arith, Bor, Vec, Global}
+use Rattle.std.proofs.Common.{◌≡◌, ℕ, ◌+◌, ◌<◌, nat_eq, List, [], ◌∷◌, ◌++◌, map, Option, Some, take, get_or, length, if◌then◌else◌, sym, ap, ◌∙◌, append_assoc, arith, Bor, Vec, Global}
 use Rattle.std.proofs.lemmas.List.{take_more, map-append, length-map, length-take-le}
 use Rattle.nv_base.specs.declared.term.Atom.{Atom}
 use Rattle.nv_base.specs.Words.{atom_vars}
@@ -10,7 +10,7 @@ use Rattle.cps_ir.proofs.Views.{view-Cont}
 use Rattle.flow_ir.specs.declared.flow.Label.{Label as DeclaredLabel}
 use Rattle.flow_ir.specs.Tree.{Label}
 use Rattle.flow_ir.specs.View.{label_view as flow_label}
-use Rattle.cps_close.specs.inner.Closed.{Table, index_of, or_nothing, wanted_there, with_wanted, closed_labels, none_wanted}
+use Rattle.cps_close.specs.inner.Closed.{Table, index_of, wanted_there, with_wanted, closed_labels, none_wanted}
 use Rattle.cps_close.proofs.Steps.{vars-last, index-last, none-last, closed-last}
 
 pub taken : {X : Type 0} (xs : List X) (i : ℕ) (x : X) → i < length xs → x ≡ get_or xs i x → take (i + 1) xs ≡ take i xs ++ x ∷ []

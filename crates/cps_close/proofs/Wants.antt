@@ -1,16 +1,16 @@
 -- What labels want, as the measure of width counts it: that of a `Fix` is enough for all of its labels.
-use Rattle.std.proofs.Common.{◌≡◌, ℕ, Bool, true, false, nat_eq, nat_le, ◌&&◌, List, [], ◌∷◌, ◌++◌, Option, Some, None, refl, sym, ap, subst, ◌∙◌, if◌then◌else◌, length}
+use Rattle.std.proofs.Common.{◌≡◌, ℕ, Bool, true, false, nat_eq, nat_le, ◌&&◌, List, [], ◌∷◌, ◌++◌, Option, Some, if◌then◌else◌, length}
 use Rattle.std.proofs.lemmas.Bool.{and_parts, false≢true}
 use Rattle.nv_base.specs.Words.{atom_vars, prim_vars}
-use Rattle.nv_base.specs.Sets.{is_in, without, all_vars, Within}
+use Rattle.nv_base.specs.Sets.{without, all_vars, Within}
 use Rattle.nv_base.specs.Access.{is_known, all_known, is_primitive, can_move, is_address}
-use Rattle.nv_base.proofs.Sets.{same-number, within-both, within-without}
+use Rattle.nv_base.proofs.Sets.{within-both, within-without}
 use Rattle.nv_base.proofs.Operands.{atom-known, atoms-known, prim-known}
 use Rattle.cps_ir.specs.Term.{Term, Let, Read, Write, If, Fix, Call, Return, Throw, Jump, Halt, Labels, none, label, Fun}
 use Rattle.cps_ir.specs.Callless.{only_jumps, labels_only_jump}
 use Rattle.cps_ir.specs.Formed.{Scoped, scoped, arity, takes, takes_as_many, is_formed, are_formed}
 use Rattle.cps_ir.specs.Wide.{Wants, with_wants, wants, labels_want, inside}
-use Rattle.cps_close.proofs.Members.{either, in-left, in-right, front-more, gone-more, both-more}
+use Rattle.cps_close.proofs.Members.{in-left, in-right, front-more, gone-more, both-more}
 
 -- ---- where labels want more, terms want at most that much more
 

@@ -1,10 +1,9 @@
 -- What a program's main function and its flow have in common.
-use Rattle.std.proofs.Common.{◌≡◌, ℕ, zero, suc, ◌≤◌, Bool, true, nat_le, ◌==◌, ◌&&◌, List, [], ◌∷◌, map, Option, Some, None, All, refl, sym, ap, subst, ◌∙◌, if◌then◌else◌, length, slice_get, get_or, ◌<◌}
+use Rattle.std.proofs.Common.{◌≡◌, ℕ, zero, suc, ◌≤◌, Bool, true, nat_le, ◌==◌, ◌&&◌, List, [], ◌∷◌, map, Some, All, refl, sym, ap, subst, ◌∙◌, if◌then◌else◌, length, slice_get, get_or, ◌<◌}
 use Rattle.std.specs.List.{list_all}
 use Rattle.std.proofs.lemmas.Bool.{and_parts}
 use Rattle.std.proofs.lemmas.List.Elements.{All-head, All-tail}
 use Rattle.std.proofs.lemmas.Option.{none-some, same_Some, slice_get_read}
-use Rattle.nv_base.specs.Memories.{Memories}
 use Rattle.nv_base.specs.Meanings.{AreEqual}
 use Rattle.nv_base.specs.Measures.{IsAtMost}
 use Rattle.cps_ir.specs.Term.{Fun}
@@ -21,7 +20,7 @@ use Rattle.flow_ir.specs.Meaning.{flow_meaning, flow_params}
 use Rattle.flow_ir.specs.Wide as behind_wide
 use Rattle.flow_ir.specs.Bulk as behind_bulk
 use Rattle.cps_ir.specs.Callless.{only_jumps}
-use Rattle.cps_close.specs.inner.Closed.{Table, closed, labels_in, IsTable, IsClosed}
+use Rattle.cps_close.specs.inner.Closed.{closed, IsClosed}
 use Rattle.cps_close.proofs.Simulates.{meaning-same}
 use Rattle.cps_close.proofs.Settles.{ready-in}
 use Rattle.cps_close.proofs.Reached.{setting, place-of, kept-reached, all-settled}

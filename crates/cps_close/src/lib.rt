@@ -5,8 +5,6 @@
 mod collect;
 mod program;
 mod table;
-#[cfg(test)]
-mod tests;
 mod trees;
 mod uses;
 

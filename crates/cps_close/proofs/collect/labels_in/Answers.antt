@@ -1,6 +1,6 @@
-use Rattle.std.proofs.Common.{◌≡◌, ◌++◌, ◌∷◌, [], map, sym, ap, ◌∙◌}
+use Rattle.std.proofs.Common.{◌++◌, ◌∷◌, [], map, ap, ◌∙◌}
 use Rattle.cps_ir.specs.View.{term_view, label_view}
-use Rattle.cps_close.specs.inner.Pending.{InTerm, AtLabel, part_view}
+use Rattle.cps_close.specs.inner.Pending.{part_view}
 use Rattle.cps_close.proofs.Opening.{pushed, pending-term, less-term, less-label, found-label}
 use Rattle.cps_close.proofs.collect.labels_in.Goals as goal
 

@@ -17,8 +17,8 @@ pub loop-x-preserved : goal.loop-x-preserved
 loop-x-preserved c =
     let now : c.if-branch.v.items ≡ added c.in_ok-insert.field-0 c.loop-x.v.items (get_or c.args.used.now c.loop-x.x-index 0) =
     elim c.if-branch.branch [
-      then-branch+in_ok-push w ↦ ap (λ u. u.items) w.v-is ∙ w.in_ok-push.ensures.items ∙ sym (ap (λ b. added b c.loop-x.v.items (get_or c.args.used.now c.loop-x.x-index 0)) w.if-branch.true) |
-      else-branch w ↦ ap (λ u. u.items) w.v-is ∙ sym (ap (λ b. added b c.loop-x.v.items (get_or c.args.used.now c.loop-x.x-index 0)) w.if-branch.false)
+      | then-branch+in_ok-push w ↦ ap (λ u. u.items) w.v-is ∙ w.in_ok-push.ensures.items ∙ sym (ap (λ b. added b c.loop-x.v.items (get_or c.args.used.now c.loop-x.x-index 0)) w.if-branch.true)
+      | else-branch w ↦ ap (λ u. u.items) w.v-is ∙ sym (ap (λ b. added b c.loop-x.v.items (get_or c.args.used.now c.loop-x.x-index 0)) w.if-branch.false)
     ] in
     record {
       members = λ q. members-turn (set.contains nat_eq c.loop-x.seen) c.args.gone.now c.loop-x.v.items c.if-branch.v.items c.in_ok-insert.field-0 _ (get_or c.args.used.now c.loop-x.x-index 0) q c.loop-x.invariant.members c.in_ok-insert.ensures.added now (c.in_ok-insert.ensures.updates.0 q);
