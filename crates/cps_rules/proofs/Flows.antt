@@ -199,13 +199,15 @@ pub flow_simplified : (A : Answers) (ls ms : List Label) → AreDone A ls ms →
 flow_simplified A [] [] h = tt
 flow_simplified A [] (m ∷ ms) h = absurd h
 flow_simplified A (l ∷ ls) [] h = absurd h
-flow_simplified A (l ∷ ls) (m ∷ ms) h =
-    (record {
-      params = h.0.params;
-      accesses = same_accesses A h.0.names l.body m.body h.0.simplified;
-      names = h.0.names;
-      lets = lets_answered A h.0.names l.body l.body m.body h.0.simplified (λ x p d. d);
-    }, flow_simplified A ls ms h.1)
+flow_simplified A (l ∷ ls) (m ∷ ms) h = (
+  record {
+    params = h.0.params;
+    accesses = same_accesses A h.0.names l.body m.body h.0.simplified;
+    names = h.0.names;
+    lets = lets_answered A h.0.names l.body l.body m.body h.0.simplified (λ x p d. d);
+  },
+  flow_simplified A ls ms h.1,
+)
 
 labels_tidy : (A : Answers) (labels ls ms : List Label) → list_all (is_label labels) ls ≡ true → AreDone A ls ms → AreTidy ms
 labels_tidy A labels [] [] e h = All-nil (λ l. IsTidy l.body)

@@ -7,6 +7,8 @@ mod names;
 mod program;
 mod rewrite;
 mod spine;
+#[cfg(test)]
+mod tests;
 
 pub use program::simplify;
 pub use rewrite::{Both, Rewrite, Rule};
