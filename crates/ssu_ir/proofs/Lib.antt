@@ -1,0 +1,6 @@
+pub mod Trees
+pub mod Reading
+pub mod Arranged
+pub mod Walks
+pub mod Turns
+pub mod Growth

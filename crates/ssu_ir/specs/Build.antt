@@ -20,9 +20,12 @@ abbrev pub trees_of : List Rooted → List Tree
 trees_of [] = []
 trees_of (r ∷ rs) = r.1 ∷ trees_of rs
 
+abbrev pub rooted : Placed → Rooted
+rooted p = (root p, bare p)
+
 abbrev pub rooted_all : List Placed → List Rooted
 rooted_all [] = []
-rooted_all (p ∷ ps) = (root p, bare p) ∷ rooted_all ps
+rooted_all (p ∷ ps) = rooted p ∷ rooted_all ps
 
 -- the slots hold exactly the nodes of these trees, each once
 pub record Forest (slots : Slots) (roots : List Rooted) : Type 0 where

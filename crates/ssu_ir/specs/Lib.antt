@@ -7,3 +7,4 @@ pub mod Measures
 pub mod Single
 pub mod Build
 pub mod Examples
+pub mod Work

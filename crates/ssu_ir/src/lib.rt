@@ -6,6 +6,7 @@ mod build;
 pub mod laws;
 mod node;
 mod ssu;
+pub mod walk;
 
 pub use build::SsuBuild;
 pub use node::{NodeId, SsuLabel, SsuNode};
