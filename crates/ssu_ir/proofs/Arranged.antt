@@ -1,7 +1,11 @@
 -- The roots of a forest in another order: different roots may come first.
-use Rattle.std.proofs.Common.{◌≡◌, ◌≢◌, ◌⊎◌, ℕ, List, [], ◌∷◌, ◌++◌, refl, sym, ap, ◌∙◌, subst, inl, inr, arith, append_assoc}
+use Rattle.std.proofs.Common.{◌≡◌, ℕ, true, false, not, nat_eq, ◌&&◌, ◌||◌, ⊎_elim, List, [], ◌∷◌, ◌++◌, refl, sym, ap, ◌∙◌, subst, arith, append_assoc}
+use Rattle.std.specs.List.{list_all}
+use Rattle.std.proofs.lemmas.Bool.{and_parts, or_cases, or_parts, not-true}
+use Rattle.nv_base.specs.Sets.{is_in, all_different}
+use Rattle.nv_base.proofs.Sets.{same-number, other-number}
 use Rattle.ssu_ir.specs.Slots.{Placed, times_all, weight_all, Slots, held, filled, AllStand}
-use Rattle.ssu_ir.specs.Build.{Rooted, ids, rooted, rooted_all, Forest}
+use Rattle.ssu_ir.specs.Build.{Rooted, ids, rooted, rooted_all, Forest, AreDifferentRoots}
 use Rattle.ssu_ir.proofs.Trees.{split, times_all-append, weight_all-append, all_stand_front, all_stand_back}
 
 all_stand_both : (slots : Slots) (a b : List Placed) → AllStand slots a → AllStand slots b → AllStand slots (a ++ b)
@@ -48,22 +52,6 @@ one_out slots front a it b f =
 
 -- ---- different roots, by their numbers
 
-abbrev pub Has : List ℕ → ℕ → Type 0
-Has [] i = ⊥
-Has (j ∷ is) i = (j ≡ i) ⊎ Has is i
-
-abbrev pub AllHad : List ℕ → List ℕ → Type 0
-AllHad is [] = Unit {0}
-AllHad is (k ∷ ks) = Has is k × AllHad is ks
-
-abbrev pub Lacks : List ℕ → ℕ → Type 0
-Lacks [] i = Unit {0}
-Lacks (j ∷ is) i = (j ≢ i) × Lacks is i
-
-abbrev pub Distinct : List ℕ → Type 0
-Distinct [] = Unit {0}
-Distinct (i ∷ is) = Lacks is i × Distinct is
-
 record Found (rs : List Rooted) (k : ℕ) : Type 0 where
   before : List Rooted
   it : Rooted
@@ -71,22 +59,25 @@ record Found (rs : List Rooted) (k : ℕ) : Type 0 where
   whole : rs ≡ before ++ it ∷ after
   number : it.0 ≡ k
 
-found : (rs : List Rooted) (k : ℕ) → Has (ids rs) k → Found rs k
-found [] k h = absurd h
-found (r ∷ rs) k (inl e) = record { before = []; it = r; after = rs; whole = refl; number = e }
-found (r ∷ rs) k (inr h) =
-    let d = found rs k h in record { before = r ∷ d.before; it = d.it; after = d.after; whole = ap (λ l. r ∷ l) d.whole; number = d.number }
+found : (rs : List Rooted) (k : ℕ) → is_in k (ids rs) ≡ true → Found rs k
+found [] k h = absurd (cc)
+found (r ∷ rs) k h =
+    ⊎_elim
+    (λ (e : nat_eq k r.0 ≡ true). record { before = []; it = r; after = rs; whole = refl; number = sym (same-number k r.0 e) })
+    (λ (e : is_in k (ids rs) ≡ true). let d = found rs k e in record { before = r ∷ d.before; it = d.it; after = d.after; whole = ap (λ l. r ∷ l) d.whole; number = d.number })
+    (or_cases (nat_eq k r.0) (is_in k (ids rs)) h)
 
--- what was had and is another number is had by what is left
-left_had : (a b : List Rooted) (it : Rooted) (k : ℕ) → it.0 ≢ k → Has (ids (a ++ it ∷ b)) k → Has (ids (a ++ b)) k
-left_had [] b it k n (inl e) = absurd (n e)
-left_had [] b it k n (inr h) = h
-left_had (r ∷ a) b it k n (inl e) = inl e
-left_had (r ∷ a) b it k n (inr h) = inr (left_had a b it k n h)
+-- what was there and is another number is in what is left
+left_in : (a b : List Rooted) (it : Rooted) (k : ℕ) → nat_eq k it.0 ≡ false → is_in k (ids (a ++ it ∷ b)) ≡ is_in k (ids (a ++ b))
+left_in [] b it k n = ap (λ e. e || is_in k (ids b)) n
+left_in (r ∷ a) b it k n = ap (λ e. nat_eq k r.0 || e) (left_in a b it k n)
 
-all_left_had : (a b : List Rooted) (it : Rooted) (ks : List ℕ) → Lacks ks it.0 → AllHad (ids (a ++ it ∷ b)) ks → AllHad (ids (a ++ b)) ks
-all_left_had a b it [] l h = tt
-all_left_had a b it (k ∷ ks) l h = (left_had a b it k (λ e. l.0 (sym e)) h.0, all_left_had a b it ks l.1 h.1)
+all_left_in : (a b : List Rooted) (it : Rooted) (ks : List ℕ) → is_in it.0 ks ≡ false → list_all (λ k. is_in k (ids (a ++ it ∷ b))) ks ≡ list_all (λ k. is_in k (ids (a ++ b))) ks
+all_left_in a b it [] n = refl
+all_left_in a b it (k ∷ ks) n =
+    let p = or_parts (nat_eq it.0 k) (is_in it.0 ks) n in
+    ap (λ e. e && list_all (λ k. is_in k (ids (a ++ it ∷ b))) ks) (left_in a b it k (other-number it.0 k p.0))
+    ∙ ap (λ e. is_in k (ids (a ++ b)) && e) (all_left_in a b it ks p.1)
 
 pub record Arranged (slots : Slots) (front : List Rooted) (ks : List ℕ) : Type 0 where
   pub taken : List Rooted
@@ -95,15 +86,19 @@ pub record Arranged (slots : Slots) (front : List Rooted) (ks : List ℕ) : Type
   pub forest : Forest slots (taken ++ (front ++ rest))
 
 -- different roots may come first, in any order
-arranged_behind : (slots : Slots) (front rs : List Rooted) (ks : List ℕ) → Distinct ks → AllHad (ids rs) ks → Forest slots (front ++ rs) → Arranged slots front ks
+arranged_behind : (slots : Slots) (front rs : List Rooted) (ks : List ℕ) → all_different ks ≡ true → list_all (λ k. is_in k (ids rs)) ks ≡ true → Forest slots (front ++ rs) → Arranged slots front ks
 arranged_behind slots front rs [] d h f = record { taken = []; rest = rs; are = refl; forest = f }
 arranged_behind slots front rs (k ∷ ks) d h f =
-    let w = found rs k h.0 in
+    let different = and_parts (not (is_in k ks)) (all_different ks) d in
+    let there = and_parts (is_in k (ids rs)) (list_all (λ j. is_in j (ids rs)) ks) h in
+    let w = found rs k there.0 in
     let P : List Rooted → Type 0 = λ l. Forest slots (front ++ l) in
-    let H : List Rooted → Type 0 = λ l. AllHad (ids l) ks in
-    let L : ℕ → Type 0 = Lacks ks in
+    let H : List Rooted → Type 0 = λ l. list_all (λ j. is_in j (ids l)) ks ≡ true in
+    let L : ℕ → Type 0 = λ j. is_in j ks ≡ false in
+    let lacks : is_in w.it.0 ks ≡ false = subst L (sym w.number) (not-true (is_in k ks) different.0) in
     let moved : Forest slots ((w.it ∷ front) ++ (w.before ++ w.after)) = one_out slots front w.before w.it w.after (subst P w.whole f) in
-    let t = arranged_behind slots (w.it ∷ front) (w.before ++ w.after) ks d.1 (all_left_had w.before w.after w.it ks (subst L (sym w.number) d.0) (subst H w.whole h.1)) moved in
+    let left : list_all (λ j. is_in j (ids (w.before ++ w.after))) ks ≡ true = sym (all_left_in w.before w.after w.it ks lacks) ∙ subst H w.whole there.1 in
+    let t = arranged_behind slots (w.it ∷ front) (w.before ++ w.after) ks different.1 left moved in
     record {
       taken = w.it ∷ t.taken;
       rest = t.rest;
@@ -111,5 +106,5 @@ arranged_behind slots front rs (k ∷ ks) d h f =
       forest = brought slots t.taken (w.it ∷ []) (front ++ t.rest) t.forest;
     }
 
-pub arranged : (slots : Slots) (rs : List Rooted) (ks : List ℕ) → Distinct ks → AllHad (ids rs) ks → Forest slots rs → Arranged slots [] ks
-arranged slots rs ks d h f = arranged_behind slots [] rs ks d h f
+pub arranged : (slots : Slots) (rs : List Rooted) (ks : List ℕ) → AreDifferentRoots rs ks → Forest slots rs → Arranged slots [] ks
+arranged slots rs ks d f = arranged_behind slots [] rs ks d.different d.roots_all f

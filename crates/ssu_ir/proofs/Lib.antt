@@ -4,3 +4,5 @@ pub mod Arranged
 pub mod Walks
 pub mod Turns
 pub mod Growth
+pub mod PointLemmas
+pub mod Narrow
