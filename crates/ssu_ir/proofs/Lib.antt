@@ -6,3 +6,7 @@ pub mod Turns
 pub mod Growth
 pub mod PointLemmas
 pub mod Narrow
+pub mod Lists
+pub mod Scopes
+pub mod Addresses
+pub mod Rules

@@ -25,14 +25,14 @@ narrow_is v h =
     ⊎_elim
     (λ (a : (eqb (v % 1) 0 && ltb (v / 1) 65536) ≡ true). (v, shifted-1 v a, inl refl))
     (λ (r : ((eqb (v % 256) 0 && ltb (v / 256) 65536) || ((eqb (v % 65536) 0 && ltb (v / 65536) 65536) || false)) ≡ true).
-        ⊎_elim
-        (λ (a : (eqb (v % 256) 0 && ltb (v / 256) 65536) ≡ true). let s = shifted-8 v a in (v / 256, s.0, inr (inl s.1)))
-        (λ (q : ((eqb (v % 65536) 0 && ltb (v / 65536) 65536) || false) ≡ true).
-            ⊎_elim
-            (λ (a : (eqb (v % 65536) 0 && ltb (v / 65536) 65536) ≡ true). let s = shifted-16 v a in (v / 65536, s.0, inr (inr s.1)))
-            (λ (a : false ≡ true). absurd (cc))
-            (or_cases (eqb (v % 65536) 0 && ltb (v / 65536) 65536) false q))
-        (or_cases (eqb (v % 256) 0 && ltb (v / 256) 65536) ((eqb (v % 65536) 0 && ltb (v / 65536) 65536) || false) r))
+    ⊎_elim
+    (λ (a : (eqb (v % 256) 0 && ltb (v / 256) 65536) ≡ true). let s = shifted-8 v a in (v / 256, s.0, inr (inl s.1)))
+    (λ (q : ((eqb (v % 65536) 0 && ltb (v / 65536) 65536) || false) ≡ true).
+    ⊎_elim
+    (λ (a : (eqb (v % 65536) 0 && ltb (v / 65536) 65536) ≡ true). let s = shifted-16 v a in (v / 65536, s.0, inr (inr s.1)))
+    (λ (a : false ≡ true). absurd (cc))
+    (or_cases (eqb (v % 65536) 0 && ltb (v / 65536) 65536) false q))
+    (or_cases (eqb (v % 256) 0 && ltb (v / 256) 65536) ((eqb (v % 65536) 0 && ltb (v / 65536) 65536) || false) r))
     (or_cases (eqb (v % 1) 0 && ltb (v / 1) 65536) ((eqb (v % 256) 0 && ltb (v / 256) 65536) || ((eqb (v % 65536) 0 && ltb (v / 65536) 65536) || false)) h)
 
 at_1 : (v w : ℕ) → w < 65536 → v ≡ w → (eqb (v % 1) 0 && ltb (v / 1) 65536) ≡ true
@@ -52,9 +52,9 @@ is_narrow_from v n =
     ⊎_elim
     (λ (e : v ≡ n.0). or_left a (b || (d || false)) (at_1 v n.0 n.1 e))
     (λ (r : (v ≡ n.0 * 256) ⊎ (v ≡ n.0 * 65536)).
-        or_right a (b || (d || false))
-        (⊎_elim
-        (λ (e : v ≡ n.0 * 256). or_left b (d || false) (at_8 v n.0 n.1 e))
-        (λ (e : v ≡ n.0 * 65536). or_right b (d || false) (or_left d false (at_16 v n.0 n.1 e)))
-        r))
+    or_right a (b || (d || false))
+    (⊎_elim
+    (λ (e : v ≡ n.0 * 256). or_left b (d || false) (at_8 v n.0 n.1 e))
+    (λ (e : v ≡ n.0 * 65536). or_right b (d || false) (or_left d false (at_16 v n.0 n.1 e)))
+    r))
     n.2

@@ -8,3 +8,4 @@ pub mod Single
 pub mod Build
 pub mod Examples
 pub mod Work
+pub mod inner
