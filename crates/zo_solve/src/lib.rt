@@ -8,8 +8,10 @@ mod reach;
 pub mod reported;
 mod rounds;
 pub mod search;
+pub mod sums;
 
 pub use pick::{Pick, first_choice};
 pub use reported::report_of;
 pub use search::{Solved, solve};
+pub use sums::Sums;
 pub use zo_cert::Fixed;
