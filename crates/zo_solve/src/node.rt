@@ -54,8 +54,8 @@ impl Best {
         }
     }
 
-    /// Takes the vector where it is better.
-    pub fn replace(&mut self, z: &ZeroOne, x: Assignment)
+    /// Takes the vector where it is better. Whether it was taken.
+    pub fn replace(&mut self, z: &ZeroOne, x: Assignment) -> bool
         requires valid { IsValid z.now }
         requires vector { IsVector z.now x }
         requires best { IsBest z.now self.old }
@@ -63,10 +63,12 @@ impl Best {
         ensures start { self.new.start ≡ self.old.start }
     {
         let cost = cost(z, &x);
-        if !costs_as_much(&self.claim, cost) {
-            self.x = Some(x);
-            self.claim = Claim::Least(cost);
+        if costs_as_much(&self.claim, cost) {
+            return false;
         }
+        self.x = Some(x);
+        self.claim = Claim::Least(cost);
+        true
     }
 
     /// Takes the vector in which the columns fixed at 1 are 1, where it is better.
@@ -97,7 +99,7 @@ impl Best {
 }
 
 /// Whether a vector of this cost is no better.
-fn costs_as_much(claim: &Claim, spent: u64) -> bool
+pub fn costs_as_much(claim: &Claim, spent: u64) -> bool
     ensures { IsTrue result ↔ CostsAsMuch claim.now spent }
 {
     match claim {

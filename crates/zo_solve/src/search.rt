@@ -11,7 +11,7 @@ ghost use Rattle.zo_solve.specs.inner.Search.{IsAnswerOf, IsBest, IsFound};
 ghost use Rattle.zo_solve.specs.Solved.{CostsAtMost, EachIn, HadNoStart, IsCutOff, IsDecided, IsProved, OfVector, claim_of, tree_of};
 ghost use Rattle.zo_solve.specs.Vector.{IsVector, cost_at, start_cost};
 
-use crate::dive::begin;
+use crate::begin::begin;
 use crate::node::{Best, step};
 use crate::pick::Pick;
 use crate::rounds::Rounds;
@@ -23,7 +23,7 @@ use zo_cert::{Cert, CertNode, Fixed};
 use zo_model::{Assignment, NoMemory, ZeroOne};
 
 /// So many terms of rows are visited in the rounds of one search; after that nodes are closed without multipliers.
-const WORK_LIMIT: u64 = 500_000_000;
+const WORK_LIMIT: u64 = 600_000_000;
 
 /// What a search found, with its tree.
 #[derive(Debug, Drop)]
