@@ -1,26 +1,22 @@
 -- The spine of a term, step by step.
-use Rattle.std.proofs.Common.{◌≡◌, ℕ, zero, suc, ◌+◌, ◌*◌, ◌≤◌, ◌<◌, ◌==◌, max, Bool, true, false, List, [], ◌∷◌, ◌++◌, map, Option, Some, slice_get, get_or, drop, length, if◌then◌else◌, Result, Ok, Err, refl, sym, ap, ◌∙◌, arith}
+use Rattle.std.proofs.Common.{◌≡◌, ℕ, zero, suc, ◌+◌, ◌≤◌, ◌<◌, ◌==◌, max, Bool, true, false, List, [], ◌∷◌, ◌++◌, map, Option, Some, slice_get, get_or, drop, length, if◌then◌else◌, Result, Ok, Err, refl, sym, ap, ◌∙◌, arith}
 use Rattle.std.specs.Result.{IfOk}
-use Rattle.std.proofs.Math.Nat.{mul-le-mul_left}
 use Rattle.std.proofs.lemmas.Bool.{eqb-true}
 use Rattle.std.proofs.lemmas.Option.{none-some, same_Some, slice_get_read}
 use Rattle.nv_base.specs.declared.term.Atom.{Atom}
 use Rattle.nv_base.specs.declared.term.Cmp.{Cmp}
-use Rattle.nv_base.specs.declared.term.Mem.{Mem}
-use Rattle.nv_base.specs.declared.term.Primitive.{Primitive}
 use Rattle.cps_ir.specs.declared.term.Term.{Term}
 use Rattle.cps_ir.specs.declared.term.Cont.{Cont}
 use Rattle.cps_ir.specs.declared.spine.Step.{Step}
-use Rattle.cps_ir.specs.declared.spine.Step.TheVariants as step
 use Rattle.cps_ir.specs.Term.{Handler, Let, Read, Write, If, Fix, Call, Labels, none, label, Fun}
 use Rattle.cps_ir.specs.Term as pure
 use Rattle.cps_ir.specs.declared.program.CpsFun.{CpsFun}
 use Rattle.cps_ir.specs.View.{Seen, labels_of, term_view, label_view, labels_view, fun_view}
-use Rattle.cps_ir.specs.Spine.{put, put_all}
+use Rattle.cps_ir.specs.Spine.{put_all}
 use Rattle.cps_ir.proofs.Views.{view-Cont}
 use Rattle.std.proofs.lemmas.List.{drop_more, length-map}
 use Rattle.cps_inline.specs.declared.copying.Place as declared
-use Rattle.cps_inline.specs.inner.Inlined.{Adds, Counts, Entering, Place, moved, moved_atom, moved_atoms, moved_primitive, is_one, is_copied, span, term_span, term_count, labels_count, copy_count, copies_count, group_count, copied, copied_labels, copies, entered, entering, counts, weight, labels_weight, weights, behind, labels_span, call_count, entered_call, moved_handlers, place_behind, place_view, copies_at, copy_at}
+use Rattle.cps_inline.specs.inner.Inlined.{Adds, Counts, Entering, Place, moved, moved_atom, moved_atoms, is_one, is_copied, span, term_span, term_count, labels_count, copy_count, copies_count, group_count, copied, copied_labels, copies, entered, entering, counts, weight, labels_weight, weights, behind, labels_span, call_count, entered_call, moved_handlers, place_behind, place_view, copies_at, copy_at}
 use Rattle.cps_inline.proofs.Simulates.{group-less}
 
 -- the steps and the copy of cur, with m as the next number, are the copy of t with n
@@ -36,18 +32,6 @@ on_step {funs = funs} {enter = enter} {w = w} {p = p} {b = b} {ss = ss} node ss'
   count = sym count ∙ on.count;
   size = let le = on.size in omega arith;
 }
-
-pub on_let : {funs : List Fun} {enter : Entering} {w : Counts} {p : Place} {b : ℕ} {t cur : Term} {n m : ℕ} {ss : List Step} (x : ℕ) (a : Primitive) (rest : Term) (ss' : List Step) → On funs enter w p b t n ss cur m → term_view cur ≡ Let x a (term_view rest) → Adds ss ss' (Let (b + x) (moved_primitive b a)) → On funs enter w p b t n ss' rest m
-on_let {funs = funs} {enter = enter} {w = w} {p = p} {b = b} {m = m} x a rest ss' on view adds =
-    on_step (Let (b + x) (moved_primitive b a)) ss' rest m on adds (ap (λ v. copied funs enter w p b v m) view) (ap (λ v. m + term_count funs w v) view) (let light = ap weight view in omega arith)
-
-pub on_read : {funs : List Fun} {enter : Entering} {w : Counts} {p : Place} {b : ℕ} {t cur : Term} {n m : ℕ} {ss : List Step} (o : Mem) (xs : List ℕ) (a : Atom) (rest : Term) (ss' : List Step) → On funs enter w p b t n ss cur m → term_view cur ≡ Read o xs a (term_view rest) → Adds ss ss' (Read o (moved b xs) (moved_atom b a)) → On funs enter w p b t n ss' rest m
-on_read {funs = funs} {enter = enter} {w = w} {p = p} {b = b} {m = m} o xs a rest ss' on view adds =
-    on_step (Read o (moved b xs) (moved_atom b a)) ss' rest m on adds (ap (λ v. copied funs enter w p b v m) view) (ap (λ v. m + term_count funs w v) view) (let light = ap weight view in omega arith)
-
-pub on_write : {funs : List Fun} {enter : Entering} {w : Counts} {p : Place} {b : ℕ} {t cur : Term} {n m : ℕ} {ss : List Step} (o : Mem) (a : Atom) (bs : List Atom) (rest : Term) (ss' : List Step) → On funs enter w p b t n ss cur m → term_view cur ≡ Write o a bs (term_view rest) → Adds ss ss' (Write o (moved_atom b a) (moved_atoms b bs)) → On funs enter w p b t n ss' rest m
-on_write {funs = funs} {enter = enter} {w = w} {p = p} {b = b} {m = m} o a bs rest ss' on view adds =
-    on_step (Write o (moved_atom b a) (moved_atoms b bs)) ss' rest m on adds (ap (λ v. copied funs enter w p b v m) view) (ap (λ v. m + term_count funs w v) view) (let light = ap weight view in omega arith)
 
 pub on_if : {funs : List Fun} {enter : Entering} {w : Counts} {p : Place} {b : ℕ} {t cur : Term} {n m : ℕ} {ss : List Step} (c : Cmp) (a d : Atom) (part rest : Term) (m' : ℕ) (ss' : List Step) → On funs enter w p b t n ss cur m → term_view cur ≡ If c a d (term_view part) (term_view rest) → Adds ss ss' (If c (moved_atom b a) (moved_atom b d) (copied funs enter w p b (term_view part) m))
     → m' ≡ m + term_count funs w (term_view part) → On funs enter w p b t n ss' rest m'
@@ -75,22 +59,12 @@ on_several {funs = funs} {enter = enter} {w = w} {p = p} {b = b} {cur = cur} {m 
     on_step (Fix (copied_labels funs enter w p b ls m)) ss' rest m' on adds
     (ap (λ x. copied funs enter w p b x m) view ∙ several-copied funs enter w p b m (is_one ls) many ls (term_view rest) ∙ ap (λ k. Fix (copied_labels funs enter w p b ls m) (copied funs enter w p b (term_view rest) k)) (sym em)) (omega arith) (let light = ap weight view in omega arith)
 
--- the end of the spine
-pub on_end : {funs : List Fun} {enter : Entering} {w : Counts} {p : Place} {b : ℕ} {t cur : Term} {n m : ℕ} {ss : List Step} (u last : Term) → On funs enter w p b t n ss cur m → term_view u ≡ put_all ss (term_view last) → term_view last ≡ copied funs enter w p b (term_view cur) m → term_view u ≡ copied funs enter w p b (term_view t) n
-on_end {ss = ss} u last on joined is = joined ∙ ap (put_all ss) is ∙ on.term
-
 -- ---- spans
 
 -- behind all that is seen, and cur, is behind all of t
 pub record Spans (t : Term) (least : ℕ) (cur : Term) (next : ℕ) : Type 0 where
   pub span : max next (term_span (term_view cur)) ≡ max least (term_span (term_view t))
   pub size : weight (term_view cur) ≤ weight (term_view t)
-
-pub spans_step : {t cur : Term} {least next : ℕ} (rest : Term) (k next' : ℕ) → Spans t least cur next → term_span (term_view cur) ≡ max k (term_span (term_view rest)) → next' ≡ max next k → weight (term_view rest) ≤ weight (term_view cur) → Spans t least rest next'
-spans_step {t = t} {cur = cur} {least = least} {next = next} rest k next' s view e size = record {
-  span = let a = s.span in omega arith;
-  size = let a = s.size in omega arith;
-}
 
 -- ---- what is left of a list
 
@@ -267,6 +241,3 @@ label-at (d ∷ conts) (suc i) c e = let lt : weight (label_view c).body < label
 -- a label is lighter than all labels
 pub label-within : (conts : List Cont) (i : ℕ) (c : Cont) → i < length conts → c ≡ get_or conts i c → weight (label_view c).body < labels_weight (labels_view conts)
 label-within conts i c lt e = label-at conts i c (slice_get_read conts (length conts) i c refl lt e)
-
-pub earlier-falls : (g own k : ℕ) → g < own → g * k + k ≤ own * k
-earlier-falls g own k lt = let le : k * suc g ≤ k * own = mul-le-mul_left k lt in omega arith

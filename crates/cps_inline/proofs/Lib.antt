@@ -11,7 +11,7 @@ pub mod WholeProgram
 pub mod Wants
 pub mod Widths
 pub mod Wide
-pub mod Ends
+pub mod Seen
 pub mod Adding
 pub mod Along
 pub mod Inlining

@@ -272,9 +272,6 @@ lands-named v None e bs = refl
 spread-end : (b n m : ℕ) (xs : List ℕ) → m ≡ n → xs ≡ [] → Spread b [] n m xs
 spread-end b n m xs e is = record { up = omega arith; each = λ x h. absurd (false≢true (sym (ap (is_in x) is) ∙ h)); differ = λ d. ap all_different is }
 
-spread-to : (b : ℕ) (a : List ℕ) (n m m' : ℕ) (a' : List ℕ) → m ≡ m' → Spread b a n m a' → Spread b a n m' a'
-spread-to b a n m m' a' e h = subst (λ k. Spread b a n k a') e h
-
 -- which of the two parts of a Fix has the first numbers
 fix-order : (one : Bool) (n t l : ℕ) → ((if one then n else n + l) + t ≤ (if one then n + t else n)) ⊎ ((if one then n + t else n) + l ≤ (if one then n else n + l))
 fix-order true n t l = inl (omega arith)

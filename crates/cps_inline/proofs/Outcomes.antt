@@ -35,10 +35,6 @@ pub vars-differ : (funs : List Fun) (main i : ℕ) (g : Fun) → is_program funs
 vars-differ funs main i g program there =
     (and_parts (all_different (g.params ++ defined g.body)) (all_different (made g.body)) (and_parts (is_formed funs g.group g.results [] g.params g.body) (all_different (g.params ++ defined g.body) && all_different (made g.body)) (function-at funs main i g program there)).1).0
 
-pub labels-differ : (funs : List Fun) (main i : ℕ) (g : Fun) → is_program funs main ≡ true → slice_get funs i ≡ Some g → all_different (made g.body) ≡ true
-labels-differ funs main i g program there =
-    (and_parts (all_different (g.params ++ defined g.body)) (all_different (made g.body)) (and_parts (is_formed funs g.group g.results [] g.params g.body) (all_different (g.params ++ defined g.body) && all_different (made g.body)) (function-at funs main i g program there)).1).1
-
 -- ---- parameters have their words
 
 not-false : (b : Bool) → not b ≡ true → b ≡ false

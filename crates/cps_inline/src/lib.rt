@@ -7,5 +7,7 @@ mod moving;
 mod program;
 mod span;
 mod stepping;
+#[cfg(test)]
+mod tests;
 
 pub use program::inline;

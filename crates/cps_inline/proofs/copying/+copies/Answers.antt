@@ -1,13 +1,13 @@
-use Rattle.std.proofs.Common.{◌≡◌, ◌+◌, ◌<◌, map, drop, length, refl, sym, ap, ◌∙◌, arith}
+use Rattle.std.proofs.Common.{◌≡◌, ◌+◌, map, drop, length, refl, sym, ap, ◌∙◌, arith}
 use Rattle.std.proofs.lemmas.List.{drop_all}
 use Rattle.std.proofs.lemmas.Option.{slice_get_read}
 use Rattle.cps_ir.proofs.Views.{view-Cont}
 use Rattle.cps_ir.specs.Spine.{put_all}
 use Rattle.cps_ir.specs.Term as cps
-use Rattle.cps_ir.specs.View.{term_view, labels_view, fun_view}
+use Rattle.cps_ir.specs.View.{labels_view, fun_view}
 use Rattle.cps_inline.specs.inner.Inlined.{moved, moved_atom, counts, group_count}
-use Rattle.cps_inline.proofs.Ends.{seen-Let, seen-Read, seen-Write, seen-If, seen-Fix, seen-one, many-labels}
-use Rattle.cps_inline.proofs.Along.{label-within, function-within, item_next, in_next, in_end, copies_take, copies_pass, copies_end, on_let, on_read, on_write, on_if, on_one, on_several, call-counted, call-entered, body-at, ok-more}
+use Rattle.cps_inline.proofs.Seen.{seen-If, seen-Fix, seen-one, many-labels}
+use Rattle.cps_inline.proofs.Along.{label-within, function-within, item_next, in_next, in_end, copies_take, copies_pass, copies_end, on_if, on_one, on_several, call-counted, call-entered, body-at, ok-more}
 use Rattle.cps_inline.proofs.copying.+copies.Goals as goal
 use Rattle.cps_inline.proofs.copying.+copies.Goals.{copy_group-then-is_copied+in_ok-number+in_ok-copy_function+in_ok-push, copy_group-else-is_copied}
 
