@@ -21,7 +21,7 @@ both_parts p a b h = and_parts (list_all p a) (list_all p b) (sym (list_all-appe
 both_from : (p : ℕ → Bool) (a b : List ℕ) → list_all p a ≡ true → list_all p b ≡ true → list_all p (a ++ b) ≡ true
 both_from p a b f g = list_all-append p a b ∙ and_from (list_all p a) (list_all p b) f g
 
-none-new : (xs : List ℕ) → list_all (λ x. not (is_in x [])) xs ≡ true
+pub none-new : (xs : List ℕ) → list_all (λ x. not (is_in x [])) xs ≡ true
 none-new [] = refl
 none-new (x ∷ xs) = none-new xs
 
