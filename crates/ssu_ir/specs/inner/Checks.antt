@@ -1,6 +1,6 @@
 -- The rules of single use in the form in which they are tested: name by name, down the tree below where the name stands, so that nothing
 -- has to be kept on the way.
-use Rattle.std.specs.Prelude.{ℕ, zero, suc, ◌+◌, ◌==◌, nat_eq, Bool, true, false, not, ◌&&◌, ◌||◌, List, [], ◌∷◌, ◌++◌, Option, Some, None, slice_get, length, if◌then◌else◌}
+use Rattle.std.specs.Prelude.{ℕ, ◌+◌, ◌==◌, nat_eq, Bool, true, not, ◌&&◌, ◌||◌, List, [], ◌∷◌, ◌++◌, Option, Some, None, slice_get, length, if◌then◌else◌}
 use Rattle.std.specs.List.{list_all, list_any}
 use Rattle.nv_base.specs.Sets.{is_in, all_different}
 use Rattle.ssu_ir.specs.Tree.{Step, Lit, Una, Bin, Clone, Read, Write, Tree, Do, If, End, Label, Node, Does, Forks, Ends, step_values, step_clones, step_uses, last_uses, node_values}

@@ -1,6 +1,4 @@
-use Rattle.std.proofs.Common.{◌∙◌, refl, sym, ap, not, ◌||◌, ◌&&◌, ◌≡◌, [], arith, min}
-use Rattle.std.specs.List.{list_all}
-use Rattle.nv_base.specs.Sets.{is_in, all_different}
+use Rattle.std.proofs.Common.{◌∙◌, sym, ap, arith}
 use Rattle.ssu_ir.proofs.Unders.{present_tree, one_kid, two_kids}
 use Rattle.ssu_ir.proofs.Searches.{by_failing}
 use Rattle.ssu_ir.proofs.Keeps.{kept_here, kept_none, kept_one, kept_two, second_failing, third_failing, two_passing, three_passing}

@@ -1,6 +1,4 @@
-use Rattle.std.proofs.Common.{◌∙◌, refl, sym, ap, not, ◌&&◌, ◌≡◌, Some, None, leb, eqb, min}
-use Rattle.std.specs.List.{list_all}
-use Rattle.nv_base.specs.Sets.{is_in, all_different}
+use Rattle.std.proofs.Common.{◌∙◌, sym}
 use Rattle.ssu_ir.specs.View.{labels_view}
 use Rattle.ssu_ir.specs.inner.Checks.{label_kept}
 use Rattle.ssu_ir.proofs.Keeps.{have_item, kept_more, kept_all, not_kept}

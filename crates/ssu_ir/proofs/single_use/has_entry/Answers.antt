@@ -1,6 +1,4 @@
-use Rattle.std.proofs.Common.{◌∙◌, refl, sym, ap, not, ◌&&◌, ◌≡◌, Some, None, leb, eqb}
-use Rattle.std.specs.List.{list_all}
-use Rattle.nv_base.specs.Sets.{is_in, all_different}
+use Rattle.std.proofs.Common.{◌∙◌, sym, ap, Some, None, leb}
 use Rattle.ssu_ir.specs.Single.{is_entry}
 use Rattle.ssu_ir.proofs.Keeps.{view_at}
 use Rattle.ssu_ir.proofs.single_use.has_entry.Goals as goal

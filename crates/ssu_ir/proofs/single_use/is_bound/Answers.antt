@@ -1,6 +1,4 @@
-use Rattle.std.proofs.Common.{◌∙◌, refl, sym, ap, not, ◌||◌, ◌&&◌, ◌≡◌, [], arith, min, None}
-use Rattle.std.specs.List.{list_all}
-use Rattle.nv_base.specs.Sets.{is_in, all_different}
+use Rattle.std.proofs.Common.{◌∙◌, refl, sym, None}
 use Rattle.ssu_ir.specs.inner.Checks.{addressed}
 use Rattle.ssu_ir.specs.inner.Under.{tree_at}
 use Rattle.ssu_ir.proofs.Searches.{by_failing, by_passing}

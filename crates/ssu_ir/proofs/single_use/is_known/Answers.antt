@@ -1,6 +1,5 @@
-use Rattle.std.proofs.Common.{◌∙◌, refl, sym, ap, not, ◌||◌, ◌&&◌, ◌≡◌, [], arith, min}
-use Rattle.std.specs.List.{list_all}
-use Rattle.nv_base.specs.Sets.{is_in, all_different}
+use Rattle.std.proofs.Common.{◌∙◌, refl, sym, ap, not}
+use Rattle.nv_base.specs.Sets.{is_in}
 use Rattle.ssu_ir.specs.inner.Checks.{is_free}
 use Rattle.ssu_ir.specs.inner.Under.{tree_at}
 use Rattle.ssu_ir.proofs.Searches.{by_first, by_second}

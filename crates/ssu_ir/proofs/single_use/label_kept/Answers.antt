@@ -1,6 +1,5 @@
-use Rattle.std.proofs.Common.{◌∙◌, refl, sym, ap, not, ◌||◌, ◌&&◌, ◌≡◌, [], arith, min}
+use Rattle.std.proofs.Common.{◌∙◌, refl, sym, ap}
 use Rattle.std.specs.List.{list_all}
-use Rattle.nv_base.specs.Sets.{is_in, all_different}
 use Rattle.ssu_ir.specs.View.{labels_view}
 use Rattle.ssu_ir.specs.inner.Checks.{is_once, is_bound, is_kept}
 use Rattle.ssu_ir.specs.inner.Under.{tree_at}

@@ -1,6 +1,6 @@
-use Rattle.std.proofs.Common.{◌∙◌, refl, sym, ap, not, ◌||◌, ◌&&◌, ◌≡◌, [], arith, min}
+use Rattle.std.proofs.Common.{◌∙◌, refl, sym, ◌&&◌}
 use Rattle.std.specs.List.{list_all}
-use Rattle.nv_base.specs.Sets.{is_in, all_different}
+use Rattle.nv_base.specs.Sets.{all_different}
 use Rattle.ssu_ir.specs.Slots.{node_of}
 use Rattle.ssu_ir.specs.View.{labels_view}
 use Rattle.ssu_ir.specs.inner.Checks.{is_bound, is_node, node_names}

@@ -1,7 +1,6 @@
-use Rattle.std.proofs.Common.{◌∙◌, refl, sym, ap, not, ◌&&◌, ◌≡◌, Some, None, leb, eqb}
+use Rattle.std.proofs.Common.{◌∙◌, sym, ap}
 use Rattle.std.specs.List.{list_all}
 use Rattle.std.proofs.lemmas.List.Folds.{list_all-append}
-use Rattle.nv_base.specs.Sets.{is_in, all_different}
 use Rattle.ssu_ir.specs.inner.Checks.{is_bound}
 use Rattle.ssu_ir.specs.inner.Under.{tree_at}
 use Rattle.ssu_ir.proofs.Searches.{by_failing, by_passing}

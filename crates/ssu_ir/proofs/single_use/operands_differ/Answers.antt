@@ -1,6 +1,5 @@
-use Rattle.std.proofs.Common.{◌∙◌, refl, sym, ap, not, ◌&&◌, ◌≡◌, Some, None, leb, eqb}
-use Rattle.std.specs.List.{list_all}
-use Rattle.nv_base.specs.Sets.{is_in, all_different}
+use Rattle.std.proofs.Common.{◌∙◌, sym, ap}
+use Rattle.nv_base.specs.Sets.{all_different}
 use Rattle.ssu_ir.proofs.Searches.{by_failing}
 use Rattle.ssu_ir.proofs.Keeps.{different-append, second_failing, two_passing}
 use Rattle.ssu_ir.proofs.single_use.operands_differ.Goals as goal

@@ -1,6 +1,4 @@
-use Rattle.std.proofs.Common.{◌∙◌, refl, sym, ap, not, ◌||◌, ◌&&◌, ◌≡◌, [], arith, min}
-use Rattle.std.specs.List.{list_all}
-use Rattle.nv_base.specs.Sets.{is_in, all_different}
+use Rattle.std.proofs.Common.{◌∙◌, sym}
 use Rattle.ssu_ir.specs.View.{labels_view}
 use Rattle.ssu_ir.proofs.Rules.{single-tests}
 use Rattle.ssu_ir.proofs.Unders.{bodies_have}

@@ -1,6 +1,4 @@
-use Rattle.std.proofs.Common.{◌∙◌, refl, sym, ap, not, ◌&&◌, ◌≡◌, Some, None, leb, eqb}
-use Rattle.std.specs.List.{list_all}
-use Rattle.nv_base.specs.Sets.{is_in, all_different}
+use Rattle.std.proofs.Common.{◌∙◌, sym, ap, Some, None, eqb}
 use Rattle.ssu_ir.specs.Single.{takes_as_many}
 use Rattle.ssu_ir.proofs.Keeps.{view_at, some_from, none_from}
 use Rattle.ssu_ir.proofs.single_use.takes.Goals as goal

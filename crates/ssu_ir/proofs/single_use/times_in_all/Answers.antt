@@ -1,6 +1,4 @@
-use Rattle.std.proofs.Common.{◌∙◌, refl, sym, ap, not, ◌&&◌, ◌≡◌, Some, None, leb, eqb, min}
-use Rattle.std.specs.List.{list_all}
-use Rattle.nv_base.specs.Sets.{is_in, all_different}
+use Rattle.std.proofs.Common.{◌∙◌, ap, min}
 use Rattle.ssu_ir.proofs.Searches.{added}
 use Rattle.ssu_ir.proofs.Keeps.{have_item, times_more, times_all}
 use Rattle.ssu_ir.proofs.single_use.times_in_all.Goals as goal
