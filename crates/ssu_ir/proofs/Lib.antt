@@ -12,3 +12,4 @@ pub mod Addresses
 pub mod Rules
 pub mod Unders
 pub mod Searches
+pub mod Keeps

@@ -1,12 +1,12 @@
 -- The tree under a number, by the node that is there.
-use Rattle.std.proofs.Common.{◌≡◌, ℕ, ◌+◌, ◌<◌, ◌≤◌, List, [], ◌∷◌, ◌++◌, Option, Some, None, refl, sym, ap, ◌∙◌, subst, inl, inr, ◌⊎◌, arith, map}
+use Rattle.std.proofs.Common.{◌≡◌, ℕ, ◌<◌, ◌≤◌, List, [], ◌∷◌, Some, refl, sym, ap, ◌∙◌, subst, inl, inr, ◌⊎◌, arith, map}
 use Rattle.std.specs.Prelude.{IsSome}
 use Rattle.nv_base.specs.declared.term.Cmp.{Cmp}
 use Rattle.ssu_ir.specs.declared.node.SsuNode.{SsuNode}
 use Rattle.ssu_ir.specs.declared.node.SsuLabel.{SsuLabel}
 use Rattle.ssu_ir.specs.declared.ssu.Ssu.{Ssu}
 use Rattle.ssu_ir.specs.Tree.{Step, Last, Do, If, End, Does, Forks, Ends}
-use Rattle.ssu_ir.specs.Slots.{node_of, kids_of, Placed, root, roots_of, kids, bare, bare_all, weight, weight_all, Slots, slot, filled, Stands, AllStand, placed_at, placed_all, placed_in, Formed, bodies, DoAt, IfAt, EndAt}
+use Rattle.ssu_ir.specs.Slots.{node_of, kids_of, Placed, root, roots_of, bare, bare_all, weight, weight_all, Slots, slot, filled, Stands, AllStand, placed_at, placed_all, placed_in, Formed, bodies, DoAt, IfAt, EndAt}
 use Rattle.ssu_ir.specs.View.{with_bodies, labels_view}
 use Rattle.ssu_ir.specs.inner.Under.{tree_at, weight_at, HasTree, AllHave, label_of}
 use Rattle.ssu_ir.proofs.Trees.{again}

@@ -1,6 +1,6 @@
 -- Points of a form, and the values that are held at each. The points are, for each label in order, its entry and then its nodes in
 -- preorder, a first arm before the second; a point's number is its place in the list, from 0.
-use Rattle.std.specs.Prelude.{ℕ, zero, suc, ◌+◌, List, [], ◌∷◌, ◌++◌, map, filter, length, if◌then◌else◌}
+use Rattle.std.specs.Prelude.{ℕ, suc, ◌+◌, List, [], ◌∷◌, ◌++◌, map, filter, if◌then◌else◌}
 use Rattle.nv_base.specs.Sets.{is_in, without}
 use Rattle.ssu_ir.specs.Tree.{Step, Lit, Una, Bin, Clone, Read, Write, Tree, Do, If, End, Label, Node, Does, Forks, Ends, node_values, step_values, step_uses, last_uses}
 
