@@ -1,5 +1,5 @@
 -- The spine of a term, step by step: what was added so far, and what the rest adds.
-use Rattle.std.proofs.Common.{◌≡◌, ℕ, ◌≤◌, List, [], ◌∷◌, ◌++◌, sym, ap, ◌∙◌, append_assoc, arith, rules, Box}
+use Rattle.std.proofs.Common.{◌≡◌, ℕ, ◌≤◌, List, [], ◌∷◌, ◌++◌, sym, ap, ◌∙◌, arith, rules, Box}
 use Rattle.nv_base.specs.declared.term.Atom.{Atom}
 use Rattle.nv_base.specs.declared.term.Cmp.{Cmp}
 use Rattle.nv_base.specs.declared.term.Mem.{Mem}
@@ -25,12 +25,6 @@ pub record Adds (of : Term → List ℕ) (t cur : Term) (old now : List ℕ) : T
   pub all : now ++ of cur ≡ old ++ of t
   pub size : size-Term cur ≤ size-Term t
 
-pub adds-on : {of : Term → List ℕ} {t cur : Term} {old now : List ℕ} (rest : Term) (here next : List ℕ) → Adds of t cur old now → of cur ≡ here ++ of rest → next ≡ now ++ here → size-Term rest ≤ size-Term cur → Adds of t rest old next
-adds-on {of = of} {now = now} rest here next a is push size = record {
-  all = ap (λ l. l ++ of rest) push ∙ append_assoc now here (of rest) ∙ ap (λ l. now ++ l) (sym is) ∙ a.all;
-  size = let le = a.size in omega arith;
-}
-
 -- ---- trees
 
 pub record On (tab : Table) (t cur : Term) (ss : List Step) : Type 0 where
@@ -39,10 +33,6 @@ pub record On (tab : Table) (t cur : Term) (ss : List Step) : Type 0 where
 
 pub on-step : {tab : Table} {t cur : Term} {ss : List Step} (s : Step) (ss' : List Step) (rest : Term) → On tab t cur ss → ss' ≡ ss ++ s ∷ [] → tree_of tab (term_view cur) ≡ put s (tree_of tab (term_view rest)) → size-Term rest ≤ size-Term cur → On tab t rest ss'
 on-step {ss = ss} s ss' rest on push tree size = record { tree = sym (put_last ss' ss s _ _ push tree) ∙ on.tree; size = let le = on.size in omega arith }
-
--- at a `Fix` nothing is put
-pub on-fix : {tab : Table} {t cur : Term} {ss : List Step} (rest : Term) → On tab t cur ss → tree_of tab (term_view cur) ≡ tree_of tab (term_view rest) → size-Term rest ≤ size-Term cur → On tab t rest ss
-on-fix {ss = ss} rest on tree size = record { tree = ap (put_all ss) (sym tree) ∙ on.tree; size = let le = on.size in omega arith }
 
 behind-Let : (x : ℕ) (a : Primitive) (r : Box Term Global) → size-Term r.value ≤ size-Term (node.Let x a r)
 behind-Let x a r = search (rules, the_lemmas)

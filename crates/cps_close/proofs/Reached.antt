@@ -129,9 +129,6 @@ mutual
 abbrev pub setting : List Fun → Fun → Table → Setting
 setting funs f tab = record { funs = funs; own = f.group; results = f.results; tab = tab; cs = labels_in f.body }
 
-abbrev pub IsFunction : List Fun → Fun → Type 0
-IsFunction funs f = (is_function funs f ≡ true) × (only_jumps f.body ≡ true)
-
 pub place-of : (funs : List Fun) (f : Fun) (tab : Table) → is_function funs f ≡ true → only_jumps f.body ≡ true → Everywhere (Least tab) nowhere f.body → Place (setting funs f tab) [] nowhere f.params f.body
 place-of funs f tab e j least =
     let parts = and_parts (is_formed funs f.group f.results [] f.params f.body) (all_different (f.params ++ defined f.body) && all_different (made f.body)) e in

@@ -7,7 +7,7 @@ use Rattle.nv_base.specs.Words.{atom_vars, prim_vars}
 use Rattle.nv_base.specs.Sets.{is_in, all_vars}
 use Rattle.cps_ir.specs.Term as cps
 use Rattle.cps_ir.specs.View.{Seen}
-use Rattle.cps_close.specs.inner.Closed.{Table, index_of, or_here, or_nothing, wanted_there, wanted, operands, with_wanted, closed_labels, used, bound, noted_all, grown, with_list, step, step_there, none_wanted, after, IsReached, IsStill}
+use Rattle.cps_close.specs.inner.Closed.{Table, index_of, or_here, or_nothing, wanted_there, wanted, with_wanted, closed_labels, used, bound, noted_all, grown, with_list, step, step_there, none_wanted, after, IsReached, IsStill}
 use Rattle.cps_close.proofs.Reached.{noted-longer}
 
 -- ---- one more at the end
@@ -15,10 +15,6 @@ use Rattle.cps_close.proofs.Reached.{noted-longer}
 pub vars-last : (as' : List Atom) (a : Atom) → all_vars (as' ++ a ∷ []) ≡ all_vars as' ++ atom_vars a
 vars-last [] a = append-nil (atom_vars a)
 vars-last (b ∷ as') a = ap (λ v. atom_vars b ++ v) (vars-last as' a) ∙ sym (append_assoc (atom_vars b) (all_vars as') (atom_vars a))
-
-pub operands-last : (xs : List ℕ) (x : ℕ) → operands (xs ++ x ∷ []) ≡ operands xs ++ operands (x ∷ [])
-operands-last [] x = refl
-operands-last (y ∷ xs) x = ap (λ l. operands (y ∷ []) ++ l) (operands-last xs x)
 
 pub none-last : (cs : List Seen) (c : Seen) → none_wanted (cs ++ c ∷ []) ≡ none_wanted cs ++ [] ∷ []
 none-last [] c = refl
@@ -140,6 +136,3 @@ past (d ∷ cs) (suc i) c e = let h = past cs i c e in omega arith
 
 pub swept-all : (cs : List Seen) (tab : Table) (same : Bool) → Swept cs tab same (length cs) → same ≡ true → (i : ℕ) → IsStill cs tab i
 swept-all cs tab same s e i c at = s.still e i (past cs i c at) c at
-
-pub reached-start : (cs : List Seen) (tab : Table) → tab.lists ≡ none_wanted cs → ((l : ℕ) → tab.index l ≡ index_of 0 cs l) → IsReached cs tab
-reached-start cs tab e h = record { steps = []; lists = e; index = h }

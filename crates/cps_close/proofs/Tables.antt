@@ -1,5 +1,5 @@
 -- Labels and their indices.
-use Rattle.std.proofs.Common.{◌≡◌, ℕ, zero, suc, ◌+◌, ◌<◌, ◌≢◌, Bool, true, false, not, nat_eq, ◌||◌, List, [], ◌∷◌, ◌++◌, Some, None, refl, sym, ap, subst, ◌∙◌, length, slice_get, slice_set, arith}
+use Rattle.std.proofs.Common.{◌≡◌, ℕ, zero, suc, ◌+◌, ◌≢◌, Bool, true, false, not, nat_eq, ◌||◌, List, [], ◌∷◌, ◌++◌, Some, None, refl, sym, ap, subst, ◌∙◌, slice_get, slice_set, arith}
 use Rattle.std.proofs.lemmas.Bool.{and_parts, and_from, or_parts, or_from, not-true, not_from_false, false≢true, false_from_ne_true, eq-eqb}
 use Rattle.std.proofs.lemmas.Option.{none-some, same_Some}
 use Rattle.nv_base.specs.Sets.{is_in, all_different}
@@ -106,11 +106,6 @@ absent k (c ∷ cs) l e =
     let parts = or_parts (nat_eq l c.label) (is_in l (names cs)) e in
     ap (λ o. or_here o (nat_eq c.label l) k) (absent (suc k) cs l parts.1) ∙ ap (λ b. or_here None b k) (other-number l c.label parts.0)
 
-pub named-in : (cs : List Seen) (i : ℕ) (c : Seen) → slice_get cs i ≡ Some c → is_in c.label (names cs) ≡ true
-named-in [] i c e = absurd (none-some c e)
-named-in (d ∷ cs) zero c e = let same : d ≡ c = same_Some d c e in subst (λ (z : Seen). is_in z.label (d.label ∷ names cs) ≡ true) same (in-first d.label (names cs))
-named-in (d ∷ cs) (suc i) c e = in-rest c.label d.label (names cs) (named-in cs i c e)
-
 pub present : (k : ℕ) (cs : List Seen) (i : ℕ) (c : Seen) → all_different (names cs) ≡ true → slice_get cs i ≡ Some c → index_of k cs c.label ≡ Some (k + i)
 present k [] i c d e = absurd (none-some c e)
 present k (b ∷ cs) zero c d e =
@@ -121,14 +116,6 @@ present k (b ∷ cs) zero c d e =
 present k (b ∷ cs) (suc i) c d e =
     let parts = and_parts (not (is_in b.label (names cs))) (all_different (names cs)) d in
     ap (λ o. or_here o (nat_eq b.label c.label) k) (present (suc k) cs i c parts.1 e) ∙ ap (λ n. Some n) (let next : suc k + i ≡ k + suc i = omega arith in next)
-
--- two labels of one name are one
-pub one-index : (cs : List Seen) (i j : ℕ) (c d : Seen) → all_different (names cs) ≡ true → slice_get cs i ≡ Some c → slice_get cs j ≡ Some d → c.label ≡ d.label → i ≡ j
-one-index cs i j c d e p q same =
-    let first : index_of 0 cs c.label ≡ Some (0 + i) = present 0 cs i c e p in
-    let second : index_of 0 cs d.label ≡ Some (0 + j) = present 0 cs j d e q in
-    let both : Some (0 + i) ≡ Some (0 + j) = sym first ∙ ap (λ l. index_of 0 cs l) same ∙ second in
-    let n : 0 + i ≡ 0 + j = same_Some (0 + i) (0 + j) both in omega arith
 
 -- ---- closed labels
 
@@ -147,11 +134,6 @@ closed-from tab (d ∷ cs) [] (suc i) l e = closed-from tab cs [] i l e
 closed-from tab (d ∷ cs) (w ∷ ws) (suc i) l e = closed-from tab cs ws i l e
 
 -- ---- a list with one place set
-
-pub set-same : (ws : List (List ℕ)) (i : ℕ) (v : List ℕ) → i < length ws → slice_get (slice_set ws i v) i ≡ Some v
-set-same [] i v h = absurd (omega arith)
-set-same (w ∷ ws) zero v h = refl
-set-same (w ∷ ws) (suc i) v h = set-same ws i v (omega arith)
 
 pub set-other : (ws : List (List ℕ)) (i j : ℕ) (v : List ℕ) → i ≢ j → slice_get (slice_set ws i v) j ≡ slice_get ws j
 set-other [] i j v h = refl

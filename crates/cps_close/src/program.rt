@@ -22,8 +22,9 @@ use flow_ir::{Flow, Label};
 use nv_base::NoMemory;
 use std::alloc::Global;
 
-/// The flow of a program's main function, where no function calls, returns or throws. It does the same
-/// within each number of jumps, is at most as wide, and has at most as much code.
+/// The flow of a program's main function, where no function calls, returns or throws: label 0 is the
+/// function, and each label behind it has its own parameters and then the variables of round it that it
+/// uses or hands on. More labels than 32 bits can number count as want of memory.
 pub fn close(alloc: Global, c: Cps) -> Result<Flow, NoMemory>
     requires { All (λ f. only_jumps f.body ≡ true) (map fun_view c.funs.items) }
     ensures parameters { IfOk result (λ f. flow_params (map label_view f.labels.items) ≡ params_in (map fun_view c.funs.items) c.main) }

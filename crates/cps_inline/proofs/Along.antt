@@ -17,11 +17,10 @@ use Rattle.cps_ir.specs.Term as pure
 use Rattle.cps_ir.specs.declared.program.CpsFun.{CpsFun}
 use Rattle.cps_ir.specs.View.{Seen, labels_of, term_view, label_view, labels_view, fun_view}
 use Rattle.cps_ir.specs.Spine.{put, put_all}
-use Rattle.cps_ir.proofs.Steps.{put_last}
 use Rattle.cps_ir.proofs.Views.{view-Cont}
 use Rattle.std.proofs.lemmas.List.{drop_more, length-map}
 use Rattle.cps_inline.specs.declared.copying.Place as declared
-use Rattle.cps_inline.specs.inner.Inlined.{Counts, Entering, Place, moved, moved_atom, moved_atoms, moved_primitive, is_one, is_copied, span, term_span, term_count, labels_count, copy_count, copies_count, group_count, copied, copied_labels, copies, entered, entering, counts, weight, labels_weight, weights, behind, labels_span, call_count, entered_call, moved_handlers, place_behind, place_view, copies_at, copy_at}
+use Rattle.cps_inline.specs.inner.Inlined.{Adds, Counts, Entering, Place, moved, moved_atom, moved_atoms, moved_primitive, is_one, is_copied, span, term_span, term_count, labels_count, copy_count, copies_count, group_count, copied, copied_labels, copies, entered, entering, counts, weight, labels_weight, weights, behind, labels_span, call_count, entered_call, moved_handlers, place_behind, place_view, copies_at, copy_at}
 use Rattle.cps_inline.proofs.Simulates.{group-less}
 
 -- the steps and the copy of cur, with m as the next number, are the copy of t with n
@@ -30,60 +29,51 @@ pub record On (funs : List Fun) (enter : Entering) (w : Counts) (p : Place) (b :
   pub count : m + term_count funs w (term_view cur) ≡ n + term_count funs w (term_view t)
   pub size : weight (term_view cur) ≤ weight (term_view t)
 
-on_step : {funs : List Fun} {enter : Entering} {w : Counts} {p : Place} {b : ℕ} {t cur : Term} {n m : ℕ} {ss : List Step} (s : Step) (ss' : List Step) (rest : Term) (m' : ℕ) → On funs enter w p b t n ss cur m → ss' ≡ ss ++ s ∷ [] → copied funs enter w p b (term_view cur) m ≡ put s (copied funs enter w p b (term_view rest) m')
+on_step : {funs : List Fun} {enter : Entering} {w : Counts} {p : Place} {b : ℕ} {t cur : Term} {n m : ℕ} {ss : List Step} (node : pure.Term → pure.Term) (ss' : List Step) (rest : Term) (m' : ℕ) → On funs enter w p b t n ss cur m → Adds ss ss' node → copied funs enter w p b (term_view cur) m ≡ node (copied funs enter w p b (term_view rest) m')
     → m + term_count funs w (term_view cur) ≡ m' + term_count funs w (term_view rest) → weight (term_view rest) ≤ weight (term_view cur) → On funs enter w p b t n ss' rest m'
-on_step {ss = ss} s ss' rest m' on e term count size = record {
-  term = sym (put_last ss' ss s _ _ e term) ∙ on.term;
+on_step {funs = funs} {enter = enter} {w = w} {p = p} {b = b} {ss = ss} node ss' rest m' on adds term count size = record {
+  term = adds (copied funs enter w p b (term_view rest) m') ∙ ap (put_all ss) (sym term) ∙ on.term;
   count = sym count ∙ on.count;
   size = let le = on.size in omega arith;
 }
 
-pub on_let : {funs : List Fun} {enter : Entering} {w : Counts} {p : Place} {b : ℕ} {t cur : Term} {n m : ℕ} {ss : List Step} (x y : ℕ) (a a' : Primitive) (rest : Term) (ss' : List Step) → On funs enter w p b t n ss cur m → term_view cur ≡ Let x a (term_view rest)
-    → ss' ≡ ss ++ step.Let y a' ∷ [] → y ≡ b + x → a' ≡ moved_primitive b a → On funs enter w p b t n ss' rest m
-on_let {funs = funs} {enter = enter} {w = w} {p = p} {b = b} {m = m} x y a a' rest ss' on view push ey ea =
-    on_step (step.Let y a') ss' rest m on push
-    (ap (λ v. copied funs enter w p b v m) view ∙ ap (λ z. Let z (moved_primitive b a) (copied funs enter w p b (term_view rest) m)) (sym ey) ∙ ap (λ z. Let y z (copied funs enter w p b (term_view rest) m)) (sym ea))
-    (ap (λ v. m + term_count funs w v) view) (let light = ap weight view in omega arith)
+pub on_let : {funs : List Fun} {enter : Entering} {w : Counts} {p : Place} {b : ℕ} {t cur : Term} {n m : ℕ} {ss : List Step} (x : ℕ) (a : Primitive) (rest : Term) (ss' : List Step) → On funs enter w p b t n ss cur m → term_view cur ≡ Let x a (term_view rest) → Adds ss ss' (Let (b + x) (moved_primitive b a)) → On funs enter w p b t n ss' rest m
+on_let {funs = funs} {enter = enter} {w = w} {p = p} {b = b} {m = m} x a rest ss' on view adds =
+    on_step (Let (b + x) (moved_primitive b a)) ss' rest m on adds (ap (λ v. copied funs enter w p b v m) view) (ap (λ v. m + term_count funs w v) view) (let light = ap weight view in omega arith)
 
-pub on_read : {funs : List Fun} {enter : Entering} {w : Counts} {p : Place} {b : ℕ} {t cur : Term} {n m : ℕ} {ss : List Step} (o : Mem) (xs : List ℕ) (ys : _) (a a' : Atom) (rest : Term) (ss' : List Step) → On funs enter w p b t n ss cur m → term_view cur ≡ Read o xs a (term_view rest)
-    → ss' ≡ ss ++ step.Read o ys a' ∷ [] → ys.items ≡ moved b xs → a' ≡ moved_atom b a → On funs enter w p b t n ss' rest m
-on_read {funs = funs} {enter = enter} {w = w} {p = p} {b = b} {m = m} o xs ys a a' rest ss' on view push ey ea =
-    on_step (step.Read o ys a') ss' rest m on push
-    (ap (λ v. copied funs enter w p b v m) view ∙ ap (λ z. Read o z (moved_atom b a) (copied funs enter w p b (term_view rest) m)) (sym ey) ∙ ap (λ z. Read o ys.items z (copied funs enter w p b (term_view rest) m)) (sym ea))
-    (ap (λ v. m + term_count funs w v) view) (let light = ap weight view in omega arith)
+pub on_read : {funs : List Fun} {enter : Entering} {w : Counts} {p : Place} {b : ℕ} {t cur : Term} {n m : ℕ} {ss : List Step} (o : Mem) (xs : List ℕ) (a : Atom) (rest : Term) (ss' : List Step) → On funs enter w p b t n ss cur m → term_view cur ≡ Read o xs a (term_view rest) → Adds ss ss' (Read o (moved b xs) (moved_atom b a)) → On funs enter w p b t n ss' rest m
+on_read {funs = funs} {enter = enter} {w = w} {p = p} {b = b} {m = m} o xs a rest ss' on view adds =
+    on_step (Read o (moved b xs) (moved_atom b a)) ss' rest m on adds (ap (λ v. copied funs enter w p b v m) view) (ap (λ v. m + term_count funs w v) view) (let light = ap weight view in omega arith)
 
-pub on_write : {funs : List Fun} {enter : Entering} {w : Counts} {p : Place} {b : ℕ} {t cur : Term} {n m : ℕ} {ss : List Step} (o : Mem) (a a' : Atom) (bs : List Atom) (cs : _) (rest : Term) (ss' : List Step) → On funs enter w p b t n ss cur m → term_view cur ≡ Write o a bs (term_view rest)
-    → ss' ≡ ss ++ step.Write o a' cs ∷ [] → a' ≡ moved_atom b a → cs.items ≡ moved_atoms b bs → On funs enter w p b t n ss' rest m
-on_write {funs = funs} {enter = enter} {w = w} {p = p} {b = b} {m = m} o a a' bs cs rest ss' on view push ea ec =
-    on_step (step.Write o a' cs) ss' rest m on push
-    (ap (λ v. copied funs enter w p b v m) view ∙ ap (λ z. Write o z (moved_atoms b bs) (copied funs enter w p b (term_view rest) m)) (sym ea) ∙ ap (λ z. Write o a' z (copied funs enter w p b (term_view rest) m)) (sym ec))
-    (ap (λ v. m + term_count funs w v) view) (let light = ap weight view in omega arith)
+pub on_write : {funs : List Fun} {enter : Entering} {w : Counts} {p : Place} {b : ℕ} {t cur : Term} {n m : ℕ} {ss : List Step} (o : Mem) (a : Atom) (bs : List Atom) (rest : Term) (ss' : List Step) → On funs enter w p b t n ss cur m → term_view cur ≡ Write o a bs (term_view rest) → Adds ss ss' (Write o (moved_atom b a) (moved_atoms b bs)) → On funs enter w p b t n ss' rest m
+on_write {funs = funs} {enter = enter} {w = w} {p = p} {b = b} {m = m} o a bs rest ss' on view adds =
+    on_step (Write o (moved_atom b a) (moved_atoms b bs)) ss' rest m on adds (ap (λ v. copied funs enter w p b v m) view) (ap (λ v. m + term_count funs w v) view) (let light = ap weight view in omega arith)
 
-pub on_if : {funs : List Fun} {enter : Entering} {w : Counts} {p : Place} {b : ℕ} {t cur : Term} {n m : ℕ} {ss : List Step} (c : Cmp) (a a' d d' : Atom) (part rest u : Term) (m' : ℕ) (ss' : List Step) → On funs enter w p b t n ss cur m → term_view cur ≡ If c a d (term_view part) (term_view rest)
-    → ss' ≡ ss ++ step.If c a' d' u ∷ [] → m' ≡ m + term_count funs w (term_view part) → term_view u ≡ copied funs enter w p b (term_view part) m → a' ≡ moved_atom b a → d' ≡ moved_atom b d → On funs enter w p b t n ss' rest m'
-on_if {funs = funs} {enter = enter} {w = w} {p = p} {b = b} {cur = cur} {m = m} c a a' d d' part rest u m' ss' on view push em eu ea ed =
+pub on_if : {funs : List Fun} {enter : Entering} {w : Counts} {p : Place} {b : ℕ} {t cur : Term} {n m : ℕ} {ss : List Step} (c : Cmp) (a d : Atom) (part rest u : Term) (m' : ℕ) (ss' : List Step) → On funs enter w p b t n ss cur m → term_view cur ≡ If c a d (term_view part) (term_view rest) → Adds ss ss' (If c (moved_atom b a) (moved_atom b d) (term_view u))
+    → m' ≡ m + term_count funs w (term_view part) → term_view u ≡ copied funs enter w p b (term_view part) m → On funs enter w p b t n ss' rest m'
+on_if {funs = funs} {enter = enter} {w = w} {p = p} {b = b} {cur = cur} {m = m} c a d part rest u m' ss' on view adds em eu =
     let whole : copied funs enter w p b (term_view cur) m ≡ If c (moved_atom b a) (moved_atom b d) (copied funs enter w p b (term_view part) m) (copied funs enter w p b (term_view rest) (m + term_count funs w (term_view part))) = ap (λ v. copied funs enter w p b v m) view in
     let counted : term_count funs w (term_view cur) ≡ term_count funs w (term_view part) + term_count funs w (term_view rest) = ap (term_count funs w) view in
-    on_step (step.If c a' d' u) ss' rest m' on push (cc) (omega arith) (let light = ap weight view in omega arith)
+    on_step (If c (moved_atom b a) (moved_atom b d) (term_view u)) ss' rest m' on adds (cc) (omega arith) (let light = ap weight view in omega arith)
 
-pub on_one : {funs : List Fun} {enter : Entering} {w : Counts} {p : Place} {b : ℕ} {t cur : Term} {n m : ℕ} {ss : List Step} (l l' : ℕ) (xs : List ℕ) (ys : _) (part rest u : Term) (m' : ℕ) (ss' : List Step) → On funs enter w p b t n ss cur m → term_view cur ≡ Fix (label l xs (term_view rest) none) (term_view part)
-    → ss' ≡ ss ++ step.Label l' ys u ∷ [] → m' ≡ m + term_count funs w (term_view part) → term_view u ≡ copied funs enter w p b (term_view part) m → l' ≡ b + l → ys.items ≡ moved b xs → On funs enter w p b t n ss' rest m'
-on_one {funs = funs} {enter = enter} {w = w} {p = p} {b = b} {cur = cur} {m = m} l l' xs ys part rest u m' ss' on view push em eu el ey =
+pub on_one : {funs : List Fun} {enter : Entering} {w : Counts} {p : Place} {b : ℕ} {t cur : Term} {n m : ℕ} {ss : List Step} (l : ℕ) (xs : List ℕ) (part rest u : Term) (m' : ℕ) (ss' : List Step) → On funs enter w p b t n ss cur m → term_view cur ≡ Fix (label l xs (term_view rest) none) (term_view part) → Adds ss ss' (λ v. Fix (label (b + l) (moved b xs) v none) (term_view u))
+    → m' ≡ m + term_count funs w (term_view part) → term_view u ≡ copied funs enter w p b (term_view part) m → On funs enter w p b t n ss' rest m'
+on_one {funs = funs} {enter = enter} {w = w} {p = p} {b = b} {cur = cur} {m = m} l xs part rest u m' ss' on view adds em eu =
     let whole : copied funs enter w p b (term_view cur) m ≡ Fix (label (b + l) (moved b xs) (copied funs enter w p b (term_view rest) (m + term_count funs w (term_view part))) none) (copied funs enter w p b (term_view part) m) = ap (λ v. copied funs enter w p b v m) view in
     let counted : term_count funs w (term_view cur) ≡ term_count funs w (term_view part) + (term_count funs w (term_view rest) + 0) = ap (term_count funs w) view in
-    on_step (step.Label l' ys u) ss' rest m' on push (cc) (omega arith) (let light = ap weight view in omega arith)
+    on_step (λ v. Fix (label (b + l) (moved b xs) v none) (term_view u)) ss' rest m' on adds (cc) (omega arith) (let light = ap weight view in omega arith)
 
 several-copied : (funs : List Fun) (enter : Entering) (w : Counts) (p : Place) (b m : ℕ) (c : Bool) → c ≡ false → (ls : Labels) (t : pure.Term)
     → Fix (copied_labels funs enter w p b ls (if c then m + term_count funs w t else m)) (copied funs enter w p b t (if c then m else m + labels_count funs w ls)) ≡ Fix (copied_labels funs enter w p b ls m) (copied funs enter w p b t (m + labels_count funs w ls))
 several-copied funs enter w p b m false e ls t = refl
 several-copied funs enter w p b m true e ls t = cc
 
-pub on_several : {funs : List Fun} {enter : Entering} {w : Counts} {p : Place} {b : ℕ} {t cur : Term} {n m : ℕ} {ss : List Step} (ls : Labels) (v : _) (rest : Term) (m' : ℕ) (ss' : List Step) → On funs enter w p b t n ss cur m → term_view cur ≡ Fix ls (term_view rest) → is_one ls ≡ false
-    → ss' ≡ ss ++ step.Labels v ∷ [] → m' ≡ m + labels_count funs w ls → labels_view v.items ≡ copied_labels funs enter w p b ls m → On funs enter w p b t n ss' rest m'
-on_several {funs = funs} {enter = enter} {w = w} {p = p} {b = b} {cur = cur} {m = m} ls v rest m' ss' on view many push em el =
+pub on_several : {funs : List Fun} {enter : Entering} {w : Counts} {p : Place} {b : ℕ} {t cur : Term} {n m : ℕ} {ss : List Step} (ls vs : Labels) (rest : Term) (m' : ℕ) (ss' : List Step) → On funs enter w p b t n ss cur m → term_view cur ≡ Fix ls (term_view rest) → is_one ls ≡ false → Adds ss ss' (Fix vs)
+    → m' ≡ m + labels_count funs w ls → vs ≡ copied_labels funs enter w p b ls m → On funs enter w p b t n ss' rest m'
+on_several {funs = funs} {enter = enter} {w = w} {p = p} {b = b} {cur = cur} {m = m} ls vs rest m' ss' on view many adds em el =
     let whole : copied funs enter w p b (term_view cur) m ≡ Fix (copied_labels funs enter w p b ls m) (copied funs enter w p b (term_view rest) (m + labels_count funs w ls)) = ap (λ x. copied funs enter w p b x m) view ∙ several-copied funs enter w p b m (is_one ls) many ls (term_view rest) in
     let counted : term_count funs w (term_view cur) ≡ term_count funs w (term_view rest) + labels_count funs w ls = ap (term_count funs w) view in
-    on_step (step.Labels v) ss' rest m' on push (cc) (omega arith) (let light = ap weight view in omega arith)
+    on_step (Fix vs) ss' rest m' on adds (cc) (omega arith) (let light = ap weight view in omega arith)
 
 -- the end of the spine
 pub on_end : {funs : List Fun} {enter : Entering} {w : Counts} {p : Place} {b : ℕ} {t cur : Term} {n m : ℕ} {ss : List Step} (u last : Term) → On funs enter w p b t n ss cur m → term_view u ≡ put_all ss (term_view last) → term_view last ≡ copied funs enter w p b (term_view cur) m → term_view u ≡ copied funs enter w p b (term_view t) n

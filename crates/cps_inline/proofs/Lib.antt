@@ -12,5 +12,6 @@ pub mod Wants
 pub mod Widths
 pub mod Wide
 pub mod Ends
+pub mod Adding
 pub mod Along
 pub mod Inlining

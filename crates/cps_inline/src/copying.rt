@@ -6,12 +6,12 @@ ghost use Rattle.cps_ir.specs.Term as cps;
 ghost use Rattle.cps_ir.specs.View.{term_view, label_view, labels_view, fun_view};
 ghost use Rattle.cps_inline.specs.inner.Inlined as inner;
 
-use crate::moving::{
-    handlers_behind, moved, moved_atom, moved_atoms, moved_handlers, moved_numbers,
-    moved_primitive, short_atoms, short_numbers,
-};
+use crate::moving::{handlers_behind, moved, moved_atoms, moved_handlers, moved_numbers};
 use crate::span::span;
-use cps_ir::{Cont, CpsFun, Step, Term, join};
+use crate::stepping::{
+    joined, land, landed, push_if, push_label, push_labels, push_let, push_read, push_write,
+};
+use cps_ir::{Cont, CpsFun, Term};
 use nv_base::{Atom, NoMemory};
 use std::alloc::Global;
 
@@ -57,25 +57,8 @@ fn find_handler(e: u16, hs: &[(u16, u32)]) -> Option<u32>
     None
 }
 
-// Words to a label, or to the end of the run under a number.
-fn land(alloc: Global, to: Option<u32>, e: u16, base: u32, bs: &[Atom]) -> Result<Term, NoMemory>
-    ensures { IfOk result (λ u. term_view u ≡ inner.lands to e (inner.moved_atoms base bs.now)) }
-{
-    match to {
-        Some(l) => Ok(Term::Jump(l, moved_atoms(alloc, base, bs)?)),
-        None => Ok(Term::Halt(e, short_atoms(alloc, base, bs)?)),
-    }
-}
-
-// A jump to a label of a place.
-fn jump(alloc: Global, from: u32, l: u32, base: u32, bs: &[Atom]) -> Result<Term, NoMemory>
-    ensures { IfOk result (λ u. term_view u ≡ inner.lands (Some (from + l)) 0 (inner.moved_atoms base bs.now)) }
-{
-    let label = moved(from, l)?;
-    Ok(Term::Jump(label, moved_atoms(alloc, base, bs)?))
-}
-
 // Where the words and exceptions of a call go.
+#[inline(never)]
 fn place_of_call(
     alloc: Global,
     place: &Place,
@@ -134,59 +117,69 @@ fn copy_term(
     'spine: loop {
         match cur {
             Term::Let(x, a, rest) => {
-                steps.push(Step::Let(moved(base, *x)?, moved_primitive(base, *a)?))?;
+                push_let(base, *x, *a, &mut steps)?;
                 cur = rest;
             }
             Term::Read(m, xs, a, rest) => {
-                let vars = short_numbers(alloc, base, xs)?;
-                steps.push(Step::Read(*m, vars, moved_atom(base, *a)?))?;
+                push_read(alloc, base, *m, xs, *a, &mut steps)?;
                 cur = rest;
             }
             Term::Write(m, a, bs, rest) => {
-                let words = short_atoms(alloc, base, bs)?;
-                steps.push(Step::Write(*m, moved_atom(base, *a)?, words))?;
+                push_write(alloc, base, *m, *a, bs, &mut steps)?;
                 cur = rest;
             }
             Term::If(c, a, b, first, second) => {
-                let u = copy_term(alloc, funs, place, base, first, fresh)?;
-                let left = moved_atom(base, *a)?;
-                steps.push(Step::If(*c, left, moved_atom(base, *b)?, u))?;
+                let part = copy_part(alloc, funs, place, base, first, fresh)?;
+                push_if(base, *c, *a, *b, part, &mut steps)?;
                 cur = second;
             }
             Term::Fix(conts, rest) => match single(conts) {
                 Some(one) => {
-                    let around = copy_term(alloc, funs, place, base, rest, fresh)?;
-                    let params = moved_numbers(alloc, base, &one.params)?;
-                    steps.push(Step::Label(moved(base, one.label)?, params, around))?;
+                    let around = copy_part(alloc, funs, place, base, rest, fresh)?;
+                    push_label(alloc, base, one, around, &mut steps)?;
                     cur = &one.body;
                 }
                 None => {
                     let labels = copy_labels(alloc, funs, place, base, conts, fresh)?;
-                    steps.push(Step::Labels(labels))?;
+                    push_labels(labels, &mut steps)?;
                     cur = rest;
                 }
             },
             Term::Call(f, bs, to, hs) => {
                 let end = copy_call(alloc, funs, place, base, *f, bs, *to, hs, fresh)?;
-                return Ok(join(alloc, steps, end)?);
+                return joined(alloc, steps, end);
             }
-            Term::Return(bs) => {
-                let end = land(alloc, place.to, 0, base, bs)?;
-                return Ok(join(alloc, steps, end)?);
-            }
+            Term::Return(bs) => return landed(alloc, place.to, 0, base, bs, steps),
             Term::Throw(e, bs) => {
-                let end = land(alloc, find_handler(*e, &place.handlers), *e, base, bs)?;
-                return Ok(join(alloc, steps, end)?);
+                let to = find_handler(*e, &place.handlers);
+                return landed(alloc, to, *e, base, bs, steps);
             }
             Term::Jump(l, bs) => {
-                let end = jump(alloc, base, *l, base, bs)?;
-                return Ok(join(alloc, steps, end)?);
+                let to = Some(moved(base, *l)?);
+                return landed(alloc, to, 0, base, bs, steps);
             }
-            Term::Halt(e, bs) => {
-                let end = land(alloc, None, *e, base, bs)?;
-                return Ok(join(alloc, steps, end)?);
-            }
+            Term::Halt(e, bs) => return landed(alloc, None, *e, base, bs, steps),
         }
+    }
+}
+
+// The same for a part of a term, without a frame of that for a mere call.
+#[cycle(copies)]
+#[inline(never)]
+fn copy_part(
+    alloc: Global,
+    funs: &[CpsFun],
+    place: &Place,
+    base: u32,
+    t: &Term,
+    fresh: &mut u32,
+) -> Result<Term, NoMemory>
+    ensures count { IfOk result (λ u. fresh.new ≡ fresh.old + inner.count_at funs.now place.now (term_view t.now)) }
+    ensures term { IfOk result (λ u. term_view u ≡ inner.copy_at funs.now place.now base (term_view t.now) fresh.old) }
+{
+    match t {
+        Term::Call(f, bs, to, hs) => { copy_call(alloc, funs, place, base, *f, bs, *to, hs, fresh) }
+        _ => copy_term(alloc, funs, place, base, t, fresh),
     }
 }
 
@@ -237,6 +230,7 @@ fn copy_label(
 
 // A call: a jump within its group, or the copies of an earlier one and a jump to the callee's.
 #[cycle(copies)]
+#[inline(never)]
 fn copy_call(
     alloc: Global,
     funs: &[CpsFun],
@@ -253,7 +247,7 @@ fn copy_call(
 {
     let k = match to {
         Some(k) => k,
-        None => return jump(alloc, place.first, i, base, bs),
+        None => return land(alloc, Some(moved(place.first, i)?), 0, base, bs),
     };
     match funs.get(i as usize) {
         Some(f) => {

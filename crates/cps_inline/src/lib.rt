@@ -6,5 +6,6 @@ mod copying;
 mod moving;
 mod program;
 mod span;
+mod stepping;
 
 pub use program::inline;

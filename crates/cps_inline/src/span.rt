@@ -118,6 +118,7 @@ fn behind_label(least: u32, c: &Cont) -> Result<u32, NoMemory>
 }
 
 /// How many numbers the variables and labels of a function take, from 0 on.
+#[inline(never)]
 pub fn span(f: &CpsFun) -> Result<u32, NoMemory>
     ensures { IfOk result (λ n. n ≡ inner.span (fun_view f.now)) }
 {

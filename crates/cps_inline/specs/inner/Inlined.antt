@@ -1,14 +1,16 @@
 -- The program in one function: a call of an earlier group gets copies of that group's functions, each behind a label.
 -- A copy moves every number of its function up by the same base, so that no two copies share a variable or a label. The numbers of a
 -- copied group are the next ones: first a label for each function of the program, then those of the copies, in the order of the program.
-use Rattle.std.specs.Prelude.{ℕ, zero, suc, ◌+◌, max, ◌==◌, Bool, true, false, ◌&&◌, if◌then◌else◌, List, [], ◌∷◌, ◌++◌, map, Option, Some, None, slice_get, length}
+use Rattle.std.specs.Prelude.{◌≡◌, ℕ, zero, suc, ◌+◌, max, ◌==◌, Bool, true, false, ◌&&◌, if◌then◌else◌, List, [], ◌∷◌, ◌++◌, map, Option, Some, None, slice_get, length}
 use Rattle.nv_base.specs.declared.term.Atom.{Atom}
 use Rattle.nv_base.specs.declared.term.Atom.TheVariants.{Var, Lit}
 use Rattle.nv_base.specs.declared.term.Primitive.{Primitive}
 use Rattle.nv_base.specs.declared.term.Primitive.TheVariants.{Same, Una as UnaOf, Bin as BinOf}
 use Rattle.cps_ir.specs.declared.program.CpsFun.{CpsFun}
 use Rattle.cps_ir.specs.Meaning.{handler_of}
+use Rattle.cps_ir.specs.Spine.{put_all}
 use Rattle.cps_ir.specs.View.{fun_view}
+use Rattle.cps_ir.specs.declared.spine.Step.{Step}
 use Rattle.cps_inline.specs.declared.copying.Place as declared
 use Rattle.cps_ir.specs.Term.{Handler, Term, Let, Read, Write, If, Fix, Call, Return, Throw, Jump, Halt, Labels, none, label, Fun}
 
@@ -234,6 +236,10 @@ copies_at funs p f j gs n = copies (map fun_view funs) (entering (map fun_view f
 
 abbrev pub copy_count_at : List CpsFun → declared.Place → Fun → ℕ
 copy_count_at funs p g = copy_count (map fun_view funs) (counts (map fun_view funs) p.group) g
+
+-- steps, and one more: a node of what follows
+abbrev pub Adds : List Step → List Step → (Term → Term) → Type 0
+Adds some more node = (t : Term) → put_all more t ≡ put_all some (node t)
 
 -- ---- the measure of the recursion
 

@@ -56,44 +56,23 @@ copy_labels-loop-c-preserved t c =
 pub copy_labels-returns-clause-labels : goal.copy_labels-returns-clause-labels
 copy_labels-returns-clause-labels t c = in_end c.loop-c.invariant (drop_all c.loop-c.c-index c.args.conts.now c.loop-c-test.false)
 
-pub copy_term-spine-preserved-in-Let : goal.copy_term-spine-preserved-in-Let
-copy_term-spine-preserved-in-Let t c =
-    on_let c.in-Let.x c.in_ok-moved-in-Let.field-0 c.in-Let.a c.in_ok-moved_primitive-in-Let.field-0 c.deref-cur.result.now _ c.spine.invariant (seen-Let c.spine.cur.now c.in-Let.x c.in-Let.a c.in-Let.rest c.deref-cur.result.now c.in-Let.is c.deref-cur.ensures)
-    c.in_ok-push-in-Let.ensures.items c.in_ok-moved-in-Let.ensures c.in_ok-moved_primitive-in-Let.ensures
-
-pub copy_term-spine-preserved-in-Read : goal.copy_term-spine-preserved-in-Read
-copy_term-spine-preserved-in-Read t c =
-    on_read c.in-Read.m c.in-Read.xs.items c.in_ok-vars-in-Read.vars c.in-Read.a c.in_ok-moved_atom-in-Read.field-0 c.deref-cur-in-Read.result.now _ c.spine.invariant
-    (seen-Read c.spine.cur.now c.in-Read.m c.in-Read.xs c.in-Read.a c.in-Read.rest c.deref-cur-in-Read.result.now c.in-Read.is c.deref-cur-in-Read.ensures)
-    c.in_ok-push-in-Read.ensures.items (c.in_ok-vars-in-Read.ensures ∙ ap (moved c.args.base) c.deref.ensures) c.in_ok-moved_atom-in-Read.ensures
-
-pub copy_term-spine-preserved-in-Write : goal.copy_term-spine-preserved-in-Write
-copy_term-spine-preserved-in-Write t c =
-    on_write c.in-Write.m c.in-Write.a c.in_ok-moved_atom-in-Write.field-0 c.in-Write.bs.items c.in_ok-words-in-Write.words c.deref-cur-in-Write.result.now _ c.spine.invariant
-    (seen-Write c.spine.cur.now c.in-Write.m c.in-Write.a c.in-Write.bs c.in-Write.rest c.deref-cur-in-Write.result.now c.in-Write.is c.deref-cur-in-Write.ensures)
-    c.in_ok-push-in-Write.ensures.items c.in_ok-moved_atom-in-Write.ensures (c.in_ok-words-in-Write.ensures ∙ ap (moved_atoms c.args.base) c.deref-in-Write.ensures)
-
 pub copy_term-spine-preserved-in-If : goal.copy_term-spine-preserved-in-If
 copy_term-spine-preserved-in-If t c =
-    on_if c.in-If.c c.in-If.a c.in_ok-left-in-If.left c.in-If.b c.in_ok-moved_atom-in-If.field-0 c.deref-in-If.result.now c.deref-cur-in-If.result.now c.in_ok-u-in-If.u _ _ c.spine.invariant
+    on_if c.in-If.c c.in-If.a c.in-If.b c.deref-in-If.result.now c.deref-cur-in-If.result.now c.in_ok-part-in-If.part _ _ c.spine.invariant
     (seen-If c.spine.cur.now c.in-If.c c.in-If.a c.in-If.b c.in-If.first c.in-If.second c.deref-in-If.result.now c.deref-cur-in-If.result.now c.in-If.is c.deref-in-If.ensures c.deref-cur-in-If.ensures)
-    c.in_ok-push-in-If.ensures.items c.in_ok-u-in-If.ensures.count c.in_ok-u-in-If.ensures.term c.in_ok-left-in-If.ensures c.in_ok-moved_atom-in-If.ensures
-
-pub copy_term-spine-smaller-in-Some : goal.copy_term-spine-smaller-in-Some
-copy_term-spine-smaller-in-Some t c =
-    let view = seen-one c.spine.cur.now c.in-Fix.conts c.in-Fix.rest c.deref-in-Fix.result.now c.in-Some.one.now c.deref-in-Some.result.now c.in-Fix.is c.deref-in-Fix.ensures.value c.deref-in-Some.ensures c.in-Some.ensures in
-    let lighter : weight (term_view c.in-Some.one.now.body) < weight (term_view c.spine.cur.now) = omega (arith, ap weight view) in
-    lighter
+    c.in_ok-push_if-in-If.ensures c.in_ok-part-in-If.ensures.count c.in_ok-part-in-If.ensures.term
 
 pub copy_term-spine-preserved-in-Some : goal.copy_term-spine-preserved-in-Some
 copy_term-spine-preserved-in-Some t c =
-    on_one c.in-Some.one.now.label c.in_ok-moved-in-Some.field-0 c.in-Some.one.now.params.items c.in_ok-params-in-Some.params c.deref-in-Some.result.now c.in-Some.one.now.body c.in_ok-around-in-Some.around _ _ c.spine.invariant
+    on_one c.in-Some.one.now.label c.in-Some.one.now.params.items c.deref-in-Some.result.now c.in-Some.one.now.body c.in_ok-around-in-Some.around _ _ c.spine.invariant
     (seen-one c.spine.cur.now c.in-Fix.conts c.in-Fix.rest c.deref-in-Fix.result.now c.in-Some.one.now c.deref-in-Some.result.now c.in-Fix.is c.deref-in-Fix.ensures.value c.deref-in-Some.ensures c.in-Some.ensures)
-    c.in_ok-push-in-Some.ensures.items c.in_ok-around-in-Some.ensures.count c.in_ok-around-in-Some.ensures.term c.in_ok-moved-in-Some.ensures (c.in_ok-params-in-Some.ensures ∙ ap (moved c.args.base) c.deref-in-Some-2.ensures.value)
+    c.in_ok-push_label-in-Some.ensures c.in_ok-around-in-Some.ensures.count c.in_ok-around-in-Some.ensures.term
 
 pub copy_term-spine-preserved : goal.copy_term-spine-preserved
 copy_term-spine-preserved t c =
     let same : c.deref-in-None.result.now ≡ c.deref-in-Fix.result.now = c.deref-in-None.ensures.value ∙ sym c.deref-in-Fix.ensures.value in
-    on_several (labels_view c.deref-in-Fix.result.now) c.in_ok-labels-in-None.labels c.deref-cur-in-None.result.now _ _ c.spine.invariant
+    on_several (labels_view c.deref-in-Fix.result.now) (labels_view c.in_ok-labels-in-None.labels.items) c.deref-cur-in-None.result.now _ _ c.spine.invariant
     (seen-Fix c.spine.cur.now c.in-Fix.conts c.in-Fix.rest c.deref-in-Fix.result.now c.deref-cur-in-None.result.now c.in-Fix.is c.deref-in-Fix.ensures.value c.deref-cur-in-None.ensures)
-    (many-labels c.deref-in-Fix.result.now c.in-None.ensures) c.in_ok-push-in-None.ensures.items (c.in_ok-labels-in-None.ensures.count ∙ ap (λ l. c.spine.fresh + labels_count_at c.args.funs.now c.args.place.now (labels_view l)) same) (c.in_ok-labels-in-None.ensures.labels ∙ ap (λ l. labels_at c.args.funs.now c.args.place.now c.args.base (labels_view l) c.spine.fresh) same)
+    (many-labels c.deref-in-Fix.result.now c.in-None.ensures) c.in_ok-push_labels-in-None.ensures
+    (c.in_ok-labels-in-None.ensures.count ∙ ap (λ l. c.spine.fresh + labels_count_at c.args.funs.now c.args.place.now (labels_view l)) same)
+    (c.in_ok-labels-in-None.ensures.labels ∙ ap (λ l. labels_at c.args.funs.now c.args.place.now c.args.base (labels_view l) c.spine.fresh) same)

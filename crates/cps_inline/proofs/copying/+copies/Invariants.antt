@@ -21,6 +21,9 @@ decreases-copy_term-spine l = weight (term_view l.cur)
 abbrev pub decreases-copy_term : goal.decreases-copy_term
 decreases-copy_term l = l.place.now.group * (2 * weights (map fun_view l.funs.now) + 5) + (2 * weight (term_view l.t.now) + 1)
 
+abbrev pub decreases-copy_part : goal.decreases-copy_part
+decreases-copy_part l = l.place.now.group * (2 * weights (map fun_view l.funs.now) + 5) + (2 * weight (term_view l.t.now) + 2)
+
 abbrev pub decreases-copy_labels : goal.decreases-copy_labels
 decreases-copy_labels l = l.place.now.group * (2 * weights (map fun_view l.funs.now) + 5) + (2 * labels_weight (labels_view l.conts.now) + 2)
 

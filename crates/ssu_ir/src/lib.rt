@@ -1,0 +1,17 @@
+//! The single-use form: labels whose nodes lie in a slab under numbers, each value used at most
+//! once on each path, and cloned where it is used more often.
+#![tactic(auto)]
+
+mod build;
+pub mod laws;
+mod node;
+mod pieces;
+mod rules;
+mod search;
+mod ssu;
+pub mod walk;
+
+pub use build::SsuBuild;
+pub use node::{NodeId, SsuLabel, SsuNode};
+pub use rules::single;
+pub use ssu::Ssu;
