@@ -56,6 +56,19 @@ pub record Asks (A : Answers) : Type 0 where
   pub some : (p q : Primitive) → A p (Some q) → (value_rule p ≡ Some q) ⊎ ((operand_rule p ≡ Some q) ⊎ (nothing_rule p ≡ Some q))
   pub none : (p : Primitive) → A p None → (value_rule p ≡ None) × (operand_rule p ≡ None) × (nothing_rule p ≡ None)
 
+-- the three rules, asked one after the other
+pub three : (F G H : Answers) → ((p : Primitive) (a : Option Primitive) → F p a → a ≡ value_rule p) → ((p : Primitive) (a : Option Primitive) → G p a → a ≡ operand_rule p) → ((p : Primitive) (a : Option Primitive) → H p a → a ≡ nothing_rule p) → Asks (λ p a. (IsSomeOf a × F p a) ⊎ (F p None × ((IsSomeOf a × G p a) ⊎ (G p None × H p a))))
+three F G H f g h = record {
+  some =
+    λ p q s.
+    ⊎_elim (λ k. inl (sym (f p (Some q) k.1)))
+    (λ k. inr (⊎_elim (λ l. inl (sym (g p (Some q) l.1))) (λ l. inr (sym (h p (Some q) l.1))) k.1)) s;
+  none =
+    λ p s.
+    ⊎_elim (λ k. absurd (none-some k.0.0 k.0.1))
+    (λ k. ⊎_elim (λ l. absurd (none-some l.0.0 l.0.1)) (λ l. (sym (f p None k.0), sym (g p None l.0), sym (h p None l.1))) k.1) s;
+}
+
 at_rest : (A : Answers) → Asks A → (p q : Primitive) → IsAnswered A p q → is_same q ≡ false → is_answered q ≡ false
 at_rest A asks p q answered other =
     ⊎_elim
@@ -78,9 +91,9 @@ lets_at_rest P (If c a b t u) f h k = (lets_at_rest P t f h.0 k.0, lets_at_rest 
 lets_at_rest P (Jump l bs) f h k = tt
 lets_at_rest P (Halt e bs) f h k = tt
 
-pub labels_at_rest : (A : Answers) → Asks A → (ls ms : List Label) → AreSimplified A ls ms → AreTidy ms → All IsAtRest ms
-labels_at_rest A asks ls [] h k = All-nil IsAtRest
-labels_at_rest A asks [] (m ∷ ms) h k = absurd h
-labels_at_rest A asks (l ∷ ls) (m ∷ ms) h k =
+pub labels_at_rest : (A : Answers) (ls ms : List Label) → AreSimplified A ls ms → AreTidy ms → Asks A → All IsAtRest ms
+labels_at_rest A ls [] h k asks = All-nil IsAtRest
+labels_at_rest A [] (m ∷ ms) h k asks = absurd h
+labels_at_rest A (l ∷ ls) (m ∷ ms) h k asks =
     All-cons IsAtRest m ms (lets_at_rest _ m.body (λ x q rest held other. at_rest A asks _ q held.2 other) h.0.lets (All-head (λ n. IsTidy n.body) m ms k))
-    (labels_at_rest A asks ls ms h.1 (All-tail (λ n. IsTidy n.body) m ms k))
+    (labels_at_rest A ls ms h.1 (All-tail (λ n. IsTidy n.body) m ms k) asks)
