@@ -49,31 +49,31 @@ pub on_write : {funs : List Fun} {enter : Entering} {w : Counts} {p : Place} {b 
 on_write {funs = funs} {enter = enter} {w = w} {p = p} {b = b} {m = m} o a bs rest ss' on view adds =
     on_step (Write o (moved_atom b a) (moved_atoms b bs)) ss' rest m on adds (ap (λ v. copied funs enter w p b v m) view) (ap (λ v. m + term_count funs w v) view) (let light = ap weight view in omega arith)
 
-pub on_if : {funs : List Fun} {enter : Entering} {w : Counts} {p : Place} {b : ℕ} {t cur : Term} {n m : ℕ} {ss : List Step} (c : Cmp) (a d : Atom) (part rest u : Term) (m' : ℕ) (ss' : List Step) → On funs enter w p b t n ss cur m → term_view cur ≡ If c a d (term_view part) (term_view rest) → Adds ss ss' (If c (moved_atom b a) (moved_atom b d) (term_view u))
-    → m' ≡ m + term_count funs w (term_view part) → term_view u ≡ copied funs enter w p b (term_view part) m → On funs enter w p b t n ss' rest m'
-on_if {funs = funs} {enter = enter} {w = w} {p = p} {b = b} {cur = cur} {m = m} c a d part rest u m' ss' on view adds em eu =
-    let whole : copied funs enter w p b (term_view cur) m ≡ If c (moved_atom b a) (moved_atom b d) (copied funs enter w p b (term_view part) m) (copied funs enter w p b (term_view rest) (m + term_count funs w (term_view part))) = ap (λ v. copied funs enter w p b v m) view in
+pub on_if : {funs : List Fun} {enter : Entering} {w : Counts} {p : Place} {b : ℕ} {t cur : Term} {n m : ℕ} {ss : List Step} (c : Cmp) (a d : Atom) (part rest : Term) (m' : ℕ) (ss' : List Step) → On funs enter w p b t n ss cur m → term_view cur ≡ If c a d (term_view part) (term_view rest) → Adds ss ss' (If c (moved_atom b a) (moved_atom b d) (copied funs enter w p b (term_view part) m))
+    → m' ≡ m + term_count funs w (term_view part) → On funs enter w p b t n ss' rest m'
+on_if {funs = funs} {enter = enter} {w = w} {p = p} {b = b} {cur = cur} {m = m} c a d part rest m' ss' on view adds em =
     let counted : term_count funs w (term_view cur) ≡ term_count funs w (term_view part) + term_count funs w (term_view rest) = ap (term_count funs w) view in
-    on_step (If c (moved_atom b a) (moved_atom b d) (term_view u)) ss' rest m' on adds (cc) (omega arith) (let light = ap weight view in omega arith)
+    on_step (If c (moved_atom b a) (moved_atom b d) (copied funs enter w p b (term_view part) m)) ss' rest m' on adds
+    (ap (λ v. copied funs enter w p b v m) view ∙ ap (λ k. If c (moved_atom b a) (moved_atom b d) (copied funs enter w p b (term_view part) m) (copied funs enter w p b (term_view rest) k)) (sym em)) (omega arith) (let light = ap weight view in omega arith)
 
-pub on_one : {funs : List Fun} {enter : Entering} {w : Counts} {p : Place} {b : ℕ} {t cur : Term} {n m : ℕ} {ss : List Step} (l : ℕ) (xs : List ℕ) (part rest u : Term) (m' : ℕ) (ss' : List Step) → On funs enter w p b t n ss cur m → term_view cur ≡ Fix (label l xs (term_view rest) none) (term_view part) → Adds ss ss' (λ v. Fix (label (b + l) (moved b xs) v none) (term_view u))
-    → m' ≡ m + term_count funs w (term_view part) → term_view u ≡ copied funs enter w p b (term_view part) m → On funs enter w p b t n ss' rest m'
-on_one {funs = funs} {enter = enter} {w = w} {p = p} {b = b} {cur = cur} {m = m} l xs part rest u m' ss' on view adds em eu =
-    let whole : copied funs enter w p b (term_view cur) m ≡ Fix (label (b + l) (moved b xs) (copied funs enter w p b (term_view rest) (m + term_count funs w (term_view part))) none) (copied funs enter w p b (term_view part) m) = ap (λ v. copied funs enter w p b v m) view in
+pub on_one : {funs : List Fun} {enter : Entering} {w : Counts} {p : Place} {b : ℕ} {t cur : Term} {n m : ℕ} {ss : List Step} (l : ℕ) (xs : List ℕ) (part rest : Term) (m' : ℕ) (ss' : List Step) → On funs enter w p b t n ss cur m → term_view cur ≡ Fix (label l xs (term_view rest) none) (term_view part) → Adds ss ss' (λ v. Fix (label (b + l) (moved b xs) v none) (copied funs enter w p b (term_view part) m))
+    → m' ≡ m + term_count funs w (term_view part) → On funs enter w p b t n ss' rest m'
+on_one {funs = funs} {enter = enter} {w = w} {p = p} {b = b} {cur = cur} {m = m} l xs part rest m' ss' on view adds em =
     let counted : term_count funs w (term_view cur) ≡ term_count funs w (term_view part) + (term_count funs w (term_view rest) + 0) = ap (term_count funs w) view in
-    on_step (λ v. Fix (label (b + l) (moved b xs) v none) (term_view u)) ss' rest m' on adds (cc) (omega arith) (let light = ap weight view in omega arith)
+    on_step (λ v. Fix (label (b + l) (moved b xs) v none) (copied funs enter w p b (term_view part) m)) ss' rest m' on adds
+    (ap (λ v. copied funs enter w p b v m) view ∙ ap (λ k. Fix (label (b + l) (moved b xs) (copied funs enter w p b (term_view rest) k) none) (copied funs enter w p b (term_view part) m)) (sym em)) (omega arith) (let light = ap weight view in omega arith)
 
 several-copied : (funs : List Fun) (enter : Entering) (w : Counts) (p : Place) (b m : ℕ) (c : Bool) → c ≡ false → (ls : Labels) (t : pure.Term)
     → Fix (copied_labels funs enter w p b ls (if c then m + term_count funs w t else m)) (copied funs enter w p b t (if c then m else m + labels_count funs w ls)) ≡ Fix (copied_labels funs enter w p b ls m) (copied funs enter w p b t (m + labels_count funs w ls))
 several-copied funs enter w p b m false e ls t = refl
 several-copied funs enter w p b m true e ls t = cc
 
-pub on_several : {funs : List Fun} {enter : Entering} {w : Counts} {p : Place} {b : ℕ} {t cur : Term} {n m : ℕ} {ss : List Step} (ls vs : Labels) (rest : Term) (m' : ℕ) (ss' : List Step) → On funs enter w p b t n ss cur m → term_view cur ≡ Fix ls (term_view rest) → is_one ls ≡ false → Adds ss ss' (Fix vs)
-    → m' ≡ m + labels_count funs w ls → vs ≡ copied_labels funs enter w p b ls m → On funs enter w p b t n ss' rest m'
-on_several {funs = funs} {enter = enter} {w = w} {p = p} {b = b} {cur = cur} {m = m} ls vs rest m' ss' on view many adds em el =
-    let whole : copied funs enter w p b (term_view cur) m ≡ Fix (copied_labels funs enter w p b ls m) (copied funs enter w p b (term_view rest) (m + labels_count funs w ls)) = ap (λ x. copied funs enter w p b x m) view ∙ several-copied funs enter w p b m (is_one ls) many ls (term_view rest) in
+pub on_several : {funs : List Fun} {enter : Entering} {w : Counts} {p : Place} {b : ℕ} {t cur : Term} {n m : ℕ} {ss : List Step} (ls : Labels) (rest : Term) (m' : ℕ) (ss' : List Step) → On funs enter w p b t n ss cur m → term_view cur ≡ Fix ls (term_view rest) → is_one ls ≡ false → Adds ss ss' (Fix (copied_labels funs enter w p b ls m))
+    → m' ≡ m + labels_count funs w ls → On funs enter w p b t n ss' rest m'
+on_several {funs = funs} {enter = enter} {w = w} {p = p} {b = b} {cur = cur} {m = m} ls rest m' ss' on view many adds em =
     let counted : term_count funs w (term_view cur) ≡ term_count funs w (term_view rest) + labels_count funs w ls = ap (term_count funs w) view in
-    on_step (Fix vs) ss' rest m' on adds (cc) (omega arith) (let light = ap weight view in omega arith)
+    on_step (Fix (copied_labels funs enter w p b ls m)) ss' rest m' on adds
+    (ap (λ x. copied funs enter w p b x m) view ∙ several-copied funs enter w p b m (is_one ls) many ls (term_view rest) ∙ ap (λ k. Fix (copied_labels funs enter w p b ls m) (copied funs enter w p b (term_view rest) k)) (sym em)) (omega arith) (let light = ap weight view in omega arith)
 
 -- the end of the spine
 pub on_end : {funs : List Fun} {enter : Entering} {w : Counts} {p : Place} {b : ℕ} {t cur : Term} {n m : ℕ} {ss : List Step} (u last : Term) → On funs enter w p b t n ss cur m → term_view u ≡ put_all ss (term_view last) → term_view last ≡ copied funs enter w p b (term_view cur) m → term_view u ≡ copied funs enter w p b (term_view t) n

@@ -2,6 +2,7 @@
 
 ghost use Rattle.std.specs.Prelude.{◌≡◌, ◌≢◌, ◌+◌, ◌∷◌, [], MatchOption, IfOk, map, length};
 ghost use Rattle.cps_ir.specs.Meaning.{handler_of};
+ghost use Rattle.cps_ir.specs.Spine.{put_all};
 ghost use Rattle.cps_ir.specs.Term as cps;
 ghost use Rattle.cps_ir.specs.View.{term_view, label_view, labels_view, fun_view};
 ghost use Rattle.cps_inline.specs.inner.Inlined as inner;
@@ -11,8 +12,8 @@ use crate::span::span;
 use crate::stepping::{
     joined, land, landed, push_if, push_label, push_labels, push_let, push_read, push_write,
 };
-use cps_ir::{Cont, CpsFun, Term};
-use nv_base::{Atom, NoMemory};
+use cps_ir::{Cont, CpsFun, Step, Term};
+use nv_base::{Atom, Cmp, NoMemory};
 use std::alloc::Global;
 
 /// A copied group: its number, the label of the program's first function in it, where its words go (else
@@ -129,25 +130,30 @@ fn copy_term(
                 cur = rest;
             }
             Term::If(c, a, b, first, second) => {
-                let part = copy_part(alloc, funs, place, base, first, fresh)?;
-                push_if(base, *c, *a, *b, part, &mut steps)?;
+                copy_first(
+                    alloc,
+                    funs,
+                    place,
+                    base,
+                    (*c, *a, *b),
+                    first,
+                    &mut steps,
+                    fresh,
+                )?;
                 cur = second;
             }
             Term::Fix(conts, rest) => match single(conts) {
                 Some(one) => {
-                    let around = copy_part(alloc, funs, place, base, rest, fresh)?;
-                    push_label(alloc, base, one, around, &mut steps)?;
+                    copy_around(alloc, funs, place, base, one, rest, &mut steps, fresh)?;
                     cur = &one.body;
                 }
                 None => {
-                    let labels = copy_labels(alloc, funs, place, base, conts, fresh)?;
-                    push_labels(labels, &mut steps)?;
+                    copy_several(alloc, funs, place, base, conts, &mut steps, fresh)?;
                     cur = rest;
                 }
             },
             Term::Call(f, bs, to, hs) => {
-                let end = copy_call(alloc, funs, place, base, *f, bs, *to, hs, fresh)?;
-                return joined(alloc, steps, end);
+                return copy_last(alloc, funs, place, base, *f, bs, *to, hs, steps, fresh);
             }
             Term::Return(bs) => return landed(alloc, place.to, 0, base, bs, steps),
             Term::Throw(e, bs) => {
@@ -163,9 +169,8 @@ fn copy_term(
     }
 }
 
-// The same for a part of a term, without a frame of that for a mere call.
+// The same for a part of a term, without the frame of that where it is a mere call.
 #[cycle(copies)]
-#[inline(never)]
 fn copy_part(
     alloc: Global,
     funs: &[CpsFun],
@@ -181,6 +186,87 @@ fn copy_part(
         Term::Call(f, bs, to, hs) => { copy_call(alloc, funs, place, base, *f, bs, *to, hs, fresh) }
         _ => copy_term(alloc, funs, place, base, t, fresh),
     }
+}
+
+// An `If`, whose second part comes behind.
+#[cycle(copies)]
+#[inline(never)]
+fn copy_first(
+    alloc: Global,
+    funs: &[CpsFun],
+    place: &Place,
+    base: u32,
+    test: (Cmp, Atom, Atom),
+    first: &Term,
+    steps: &mut Vec<Step>,
+    fresh: &mut u32,
+) -> Result<(), NoMemory>
+    ensures count { IfOk result (λ u. fresh.new ≡ fresh.old + inner.count_at funs.now place.now (term_view first.now)) }
+    ensures step { IfOk result (λ u. inner.Adds steps.old.items steps.new.items (cps.If test.0 (inner.moved_atom base test.1) (inner.moved_atom base test.2) (inner.copy_at funs.now place.now base (term_view first.now) fresh.old))) }
+{
+    let part = copy_part(alloc, funs, place, base, first, fresh)?;
+    push_if(base, test.0, test.1, test.2, part, steps)
+}
+
+// A single label, whose body comes behind.
+#[cycle(copies)]
+#[inline(never)]
+fn copy_around(
+    alloc: Global,
+    funs: &[CpsFun],
+    place: &Place,
+    base: u32,
+    one: &Cont,
+    rest: &Term,
+    steps: &mut Vec<Step>,
+    fresh: &mut u32,
+) -> Result<(), NoMemory>
+    ensures count { IfOk result (λ u. fresh.new ≡ fresh.old + inner.count_at funs.now place.now (term_view rest.now)) }
+    ensures step { IfOk result (λ u. inner.Adds steps.old.items steps.new.items (λ t. cps.Fix (cps.label (base + one.now.label) (inner.moved base one.now.params.items) t cps.none) (inner.copy_at funs.now place.now base (term_view rest.now) fresh.old))) }
+{
+    let around = copy_part(alloc, funs, place, base, rest, fresh)?;
+    push_label(alloc, base, one, around, steps)
+}
+
+// Several labels, before the term round them.
+#[cycle(copies)]
+#[inline(never)]
+fn copy_several(
+    alloc: Global,
+    funs: &[CpsFun],
+    place: &Place,
+    base: u32,
+    conts: &[Cont],
+    steps: &mut Vec<Step>,
+    fresh: &mut u32,
+) -> Result<(), NoMemory>
+    ensures count { IfOk result (λ u. fresh.new ≡ fresh.old + inner.labels_count_at funs.now place.now (labels_view conts.now)) }
+    ensures step { IfOk result (λ u. inner.Adds steps.old.items steps.new.items (cps.Fix (inner.labels_at funs.now place.now base (labels_view conts.now) fresh.old))) }
+{
+    let labels = copy_labels(alloc, funs, place, base, conts, fresh)?;
+    push_labels(labels, steps)
+}
+
+// A call behind the steps.
+#[cycle(copies)]
+#[inline(never)]
+fn copy_last(
+    alloc: Global,
+    funs: &[CpsFun],
+    place: &Place,
+    base: u32,
+    i: u32,
+    bs: &[Atom],
+    to: Option<u32>,
+    hs: &[(u16, u32)],
+    steps: Vec<Step>,
+    fresh: &mut u32,
+) -> Result<Term, NoMemory>
+    ensures count { IfOk result (λ u. fresh.new ≡ fresh.old + inner.count_at funs.now place.now (cps.Call i bs.now to hs.now)) }
+    ensures term { IfOk result (λ u. term_view u ≡ put_all steps.items (inner.copy_at funs.now place.now base (cps.Call i bs.now to hs.now) fresh.old)) }
+{
+    let end = copy_call(alloc, funs, place, base, i, bs, to, hs, fresh)?;
+    joined(alloc, steps, end)
 }
 
 // The copies of labels.

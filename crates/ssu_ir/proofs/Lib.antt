@@ -10,3 +10,5 @@ pub mod Lists
 pub mod Scopes
 pub mod Addresses
 pub mod Rules
+pub mod Unders
+pub mod Searches

@@ -42,11 +42,11 @@ pub is_slot_is : (test : ℕ → Bool) (o : Option SsuNode) (n : SsuNode) (ks : 
 is_slot_is test o n ks e k = ap (is_slot test) e ∙ ap (each_number test) k
 
 -- what is read under the root of a tree
-record Again (f : ℕ) (slots : Slots) (p : Placed) : Type 0 where
-  same : placed_at f slots (root p) ≡ p
-  there : is_there f slots (root p) ≡ true
+pub record Again (f : ℕ) (slots : Slots) (p : Placed) : Type 0 where
+  pub same : placed_at f slots (root p) ≡ p
+  pub there : is_there f slots (root p) ≡ true
 
-again : (slots : Slots) (f : ℕ) (p : Placed) → Stands slots p → weight p ≤ f → Again f slots p
+pub again : (slots : Slots) (f : ℕ) (p : Placed) → Stands slots p → weight p ≤ f → Again f slots p
 again slots zero (DoAt i s p) h w = absurd (omega arith)
 again slots zero (IfAt i c x y p q) h w = absurd (omega arith)
 again slots zero (EndAt i l) h w = absurd (omega arith)

@@ -132,8 +132,9 @@ fn quotient(a: i64, b: i64) -> i64 {
 }
 
 impl Column {
-    /// One step, towards 0 or 1 by what the column is worth beyond its cost.
-    fn step(&mut self, place: Option<bool>, cost: i64, weight: i64) {
+    /// One step, towards 0 or 1 by what the column is worth beyond its cost. Whether it moved.
+    fn step(&mut self, place: Option<bool>, cost: i64, weight: i64) -> bool {
+        let was = self.value;
         match place {
             Some(one) => {
                 let value = if one { ONE } else { 0 };
@@ -149,18 +150,21 @@ impl Column {
             }
         }
         self.pull = 0;
+        self.value != was
     }
 }
 
 impl Dual {
-    /// One step, by what the row lacks.
-    fn step(&mut self, lack: i64, weight: i64) {
+    /// One step, by what the row lacks. Whether it moved.
+    fn step(&mut self, lack: i64, weight: i64) -> bool {
         if self.size == 0 {
-            return;
+            return false;
         }
+        let was = self.now;
         let step = quotient(lack.wrapping_mul(weight), self.size.wrapping_mul(16));
         self.now = self.now.wrapping_add(step).max(0).min(DUAL_LIMIT);
         self.total = self.total.wrapping_add(self.now);
+        self.now != was
     }
 
     /// The multiplier now, or its mean over so many rounds, times `d`, rounded.
@@ -212,6 +216,56 @@ impl Rounds {
         })
     }
 
+    /// Begins again at 0. The rounds may visit so many terms of rows.
+    pub fn restart(&mut self, work: u64) {
+        self.work = work;
+        self.reset();
+    }
+
+    /// Begins again at 0.
+    pub fn reset(&mut self) {
+        for column in self.columns.iter_mut() {
+            column.value = 0;
+            column.ahead = 0;
+            column.pull = 0;
+        }
+        for dual in self.duals.iter_mut() {
+            dual.now = 0;
+            dual.total = 0;
+        }
+        let terms = self.nonzeros;
+        self.spend(terms);
+    }
+
+    /// So many terms of rows were visited elsewhere.
+    pub fn spend(&mut self, terms: u64) {
+        self.work = self.work.saturating_sub(terms);
+    }
+
+    /// How many terms may still be visited.
+    pub fn left(&self) -> u64 {
+        self.work
+    }
+
+    /// Whether no more terms may be visited.
+    pub fn is_spent(&self) -> bool {
+        self.work == 0
+    }
+
+    /// Whether the row is there and can fail.
+    pub fn is_live(&self, row: u32) -> bool {
+        match self.duals.get(row as usize) {
+            Some(dual) => dual.size != 0,
+            None => false,
+        }
+    }
+
+    /// By how much a column is neither 0 nor 1, in units of 1 / 65536.
+    pub fn doubt(&self, column: u32) -> i64 {
+        let value = self.value(column);
+        value.min(ONE.wrapping_sub(value))
+    }
+
     /// What the rounds say of a column, in units of 1 / 65536.
     pub fn value(&self, column: u32) -> i64 {
         match self.columns.get(column as usize) {
@@ -220,18 +274,49 @@ impl Rounds {
         }
     }
 
-    /// So many rounds more, by the costs, with these columns fixed.
+    /// So many rounds more, by the costs, with these columns fixed; fewer where nothing moves any more.
     pub fn run(&mut self, z: &ZeroOne, fixed: &[Option<bool>], rounds: u32) {
         for _ in 0..rounds {
-            if self.work == 0 {
+            if self.work == 0 || !self.round(z, &Claim::Least(0), fixed) {
                 return;
             }
-            self.round(z, &Claim::Least(0), fixed);
         }
     }
 
-    /// One move of all columns and all multipliers.
-    fn round(&mut self, z: &ZeroOne, claim: &Claim, fixed: &[Option<bool>]) {
+    /// Adds the multiplied rows to what the multipliers say, over `FINE`. The sum of the multiplied leasts.
+    fn pull_rounded(&mut self, z: &ZeroOne) -> i128 {
+        let mut sum: i128 = 0;
+        for (row, dual) in z.rows.iter().zip(&self.duals) {
+            let m = dual.rounded(i64::from(FINE), 1, false);
+            pull(&mut self.columns, &row.terms, m);
+            sum = sum.wrapping_add(i128::from(m).wrapping_mul(i128::from(row.least)));
+        }
+        sum
+    }
+
+    /// What the columns cost less than what the multipliers say of them, over `FINE`.
+    fn shortfall(&mut self, z: &ZeroOne) -> i128 {
+        let mut sum: i128 = 0;
+        for (column, cost) in self.columns.iter_mut().zip(&z.costs) {
+            let cost = quotient(i64::from(*cost), self.divisor).wrapping_mul(i64::from(FINE));
+            sum = sum.wrapping_add(i128::from(cost.wrapping_sub(column.pull).min(0)));
+            column.pull = 0;
+        }
+        sum
+    }
+
+    /// What every vector costs at least, as far as the multipliers tell with no column fixed.
+    pub fn bound(&mut self, z: &ZeroOne) -> u64 {
+        let fine = i128::from(FINE);
+        let bound = self.pull_rounded(z).wrapping_add(self.shortfall(z));
+        let units = bound.wrapping_add(fine - 1).checked_div(fine).unwrap_or(0);
+        let divisor = u64::try_from(self.divisor).unwrap_or(1);
+        u64::try_from(units).unwrap_or(0).saturating_mul(divisor)
+    }
+
+    /// One move of all columns and all multipliers. Whether any moved.
+    fn round(&mut self, z: &ZeroOne, claim: &Claim, fixed: &[Option<bool>]) -> bool {
+        let mut is_moved = false;
         for (row, dual) in z.rows.iter().zip(&self.duals) {
             if dual.now != 0 {
                 pull(&mut self.columns, &row.terms, dual.now);
@@ -244,17 +329,19 @@ impl Rounds {
                 Claim::Nothing => 0,
             };
             let cost = quotient(cost, self.divisor).wrapping_mul(ONE);
-            column.step(place, cost, self.weight);
+            is_moved |= column.step(place, cost, self.weight);
         }
         for (row, dual) in z.rows.iter().zip(&mut self.duals) {
             if dual.size != 0 {
                 let sum = sum_ahead(&self.columns, &row.terms);
                 let lack = i64::from(row.least).wrapping_mul(ONE).wrapping_sub(sum);
-                dual.step(lack, self.weight);
+                is_moved |= dual.step(lack, self.weight);
             }
         }
         self.rounds = self.rounds.wrapping_add(1);
-        self.work = self.work.saturating_sub(self.nonzeros.saturating_mul(2));
+        let terms = self.nonzeros.saturating_mul(2);
+        self.spend(terms);
+        is_moved
     }
 
     /// The multipliers over `d`, each at least 1.
@@ -290,11 +377,70 @@ impl Rounds {
                 let list = self.multipliers(alloc, i64::from(d), self.divisor, mean)?;
                 Ok(CertNode::Bound(d, list))
             }
-            Claim::Nothing => Ok(CertNode::Clash(self.multipliers(alloc, 1024, 1, mean)?)),
+            Claim::Nothing => {
+                let list = self.multipliers(alloc, i64::from(FINE), 1, mean)?;
+                Ok(CertNode::Clash(list))
+            }
         }
     }
 
-    /// A leaf that closes the claim, by the multipliers now or their mean, over the least of some denominators that does.
+    /// The leaf of the multipliers over `d`, where it closes the claim.
+    fn tried(
+        &mut self,
+        alloc: Global,
+        z: &ZeroOne,
+        claim: &Claim,
+        path: &Path,
+        weights: &mut [i128],
+        d: u32,
+        mean: bool,
+    ) -> Result<Option<CertNode>, AllocError>
+        requires valid { IsValid z.now }
+        requires path { path.now.costs ≡ z.now.costs.items }
+        requires more { path.now.fixings ≢ [] }
+        requires clear { IsClear (columns z.now) weights.old }
+        ensures clear { IsClear (columns z.now) weights.new }
+        ensures closes { IfOk result (λ leaf. IfSome leaf (λ n. Closes z.now claim.now (current path.now.fixings) n)) }
+        ensures within { IfOk result (λ leaf. IfSome leaf IsNode) }
+    {
+        let node = self.candidate(alloc, claim, d, mean)?;
+        let terms = self.nonzeros.saturating_mul(4);
+        self.spend(terms);
+        if is_node(&node) {
+            if closes(z, claim, path, weights, &node) {
+                return Ok(Some(node));
+            }
+        }
+        Ok(None)
+    }
+
+    /// A leaf that closes the claim over the least of some denominators for which there is one.
+    fn coarser(
+        &mut self,
+        alloc: Global,
+        z: &ZeroOne,
+        claim: &Claim,
+        path: &Path,
+        weights: &mut [i128],
+    ) -> Result<Option<CertNode>, AllocError>
+        requires valid { IsValid z.now }
+        requires path { path.now.costs ≡ z.now.costs.items }
+        requires more { path.now.fixings ≢ [] }
+        requires clear { IsClear (columns z.now) weights.old }
+        ensures clear { IsClear (columns z.now) weights.new }
+        ensures closes { IfOk result (λ leaf. IfSome leaf (λ n. Closes z.now claim.now (current path.now.fixings) n)) }
+        ensures within { IfOk result (λ leaf. IfSome leaf IsNode) }
+    {
+        for (d, mean) in COARSE {
+            if let Some(node) = self.tried(alloc, z, claim, path, weights, d, mean)? {
+                return Ok(Some(node));
+            }
+        }
+        Ok(None)
+    }
+
+    /// A leaf that closes the claim, by the multipliers now or their mean. Where a fine denominator gives one, the coarse ones
+    /// are tried too, since their leaves are shorter.
     fn closing(
         &mut self,
         alloc: Global,
@@ -311,13 +457,15 @@ impl Rounds {
         ensures closes { IfOk result (λ leaf. IfSome leaf (λ n. Closes z.now claim.now (current path.now.fixings) n)) }
         ensures within { IfOk result (λ leaf. IfSome leaf IsNode) }
     {
-        for (d, mean) in TRIES {
-            let node = self.candidate(alloc, claim, d, mean)?;
-            self.work = self.work.saturating_sub(self.nonzeros.saturating_mul(4));
-            if is_node(&node) {
-                if closes(z, claim, path, weights, &node) {
+        for mean in [false, true] {
+            if let Some(node) = self.tried(alloc, z, claim, path, weights, FINE, mean)? {
+                if let Claim::Nothing = claim {
                     return Ok(Some(node));
                 }
+                return match self.coarser(alloc, z, claim, path, weights)? {
+                    Some(shorter) => Ok(Some(shorter)),
+                    None => Ok(Some(node)),
+                };
             }
         }
         Ok(None)
@@ -365,16 +513,17 @@ impl Rounds {
     }
 }
 
-/// The denominators that are tried, with the multipliers now and with their mean.
-const TRIES: [(u32, bool); 8] = [
+/// The denominator that is tried first.
+const FINE: u32 = 1_024;
+
+/// The denominators that are tried where it closes a leaf, with the multipliers now and with their mean.
+const COARSE: [(u32, bool); 6] = [
     (1, false),
     (1, true),
     (2, false),
     (2, true),
     (4, false),
     (4, true),
-    (1024, false),
-    (1024, true),
 ];
 
 /// The mean of the positive costs, in units of their divisor, as whole sixteens and at least one.

@@ -2,8 +2,10 @@ use Rattle.std.proofs.Common.{◌≡◌, ◌+◌, ◌<◌, map, drop, length, re
 use Rattle.std.proofs.lemmas.List.{drop_all}
 use Rattle.std.proofs.lemmas.Option.{slice_get_read}
 use Rattle.cps_ir.proofs.Views.{view-Cont}
+use Rattle.cps_ir.specs.Spine.{put_all}
+use Rattle.cps_ir.specs.Term as cps
 use Rattle.cps_ir.specs.View.{term_view, labels_view, fun_view}
-use Rattle.cps_inline.specs.inner.Inlined.{moved, moved_atoms, weight, counts, group_count, labels_count_at, labels_at}
+use Rattle.cps_inline.specs.inner.Inlined.{moved, moved_atom, counts, group_count}
 use Rattle.cps_inline.proofs.Ends.{seen-Let, seen-Read, seen-Write, seen-If, seen-Fix, seen-one, many-labels}
 use Rattle.cps_inline.proofs.Along.{label-within, function-within, item_next, in_next, in_end, copies_take, copies_pass, copies_end, on_let, on_read, on_write, on_if, on_one, on_several, call-counted, call-entered, body-at, ok-more}
 use Rattle.cps_inline.proofs.copying.+copies.Goals as goal
@@ -56,23 +58,33 @@ copy_labels-loop-c-preserved t c =
 pub copy_labels-returns-clause-labels : goal.copy_labels-returns-clause-labels
 copy_labels-returns-clause-labels t c = in_end c.loop-c.invariant (drop_all c.loop-c.c-index c.args.conts.now c.loop-c-test.false)
 
+pub copy_first-returns-clause-step : goal.copy_first-returns-clause-step
+copy_first-returns-clause-step t c = ok-more _ _ c.push_if.result (λ u adds t'. adds t' ∙ ap (λ v. put_all c.args.steps.now.items (cps.If c.args.test.0 (moved_atom c.args.base c.args.test.1) (moved_atom c.args.base c.args.test.2) v t')) c.in_ok-part.ensures.term) c.push_if.ensures
+
+pub copy_around-returns-clause-step : goal.copy_around-returns-clause-step
+copy_around-returns-clause-step t c = ok-more _ _ c.push_label.result (λ u adds t'. adds t' ∙ ap (λ v. put_all c.args.steps.now.items (cps.Fix (cps.label (c.args.base + c.args.one.now.label) (moved c.args.base c.args.one.now.params.items) t' cps.none) v)) c.in_ok-around.ensures.term) c.push_label.ensures
+
+pub copy_several-returns-clause-step : goal.copy_several-returns-clause-step
+copy_several-returns-clause-step t c = ok-more _ _ c.push_labels.result (λ u adds t'. adds t' ∙ ap (λ v. put_all c.args.steps.now.items (cps.Fix v t')) c.in_ok-labels.ensures.labels) c.push_labels.ensures
+
+pub copy_last-returns-clause-term : goal.copy_last-returns-clause-term
+copy_last-returns-clause-term t c = ok-more _ _ c.joined.result (λ u e. e ∙ ap (put_all c.args.steps.items) c.in_ok-end.ensures.term) c.joined.ensures
+
 pub copy_term-spine-preserved-in-If : goal.copy_term-spine-preserved-in-If
 copy_term-spine-preserved-in-If t c =
-    on_if c.in-If.c c.in-If.a c.in-If.b c.deref-in-If.result.now c.deref-cur-in-If.result.now c.in_ok-part-in-If.part _ _ c.spine.invariant
+    on_if c.in-If.c c.in-If.a c.in-If.b c.deref-in-If.result.now c.deref-cur-in-If.result.now _ _ c.spine.invariant
     (seen-If c.spine.cur.now c.in-If.c c.in-If.a c.in-If.b c.in-If.first c.in-If.second c.deref-in-If.result.now c.deref-cur-in-If.result.now c.in-If.is c.deref-in-If.ensures c.deref-cur-in-If.ensures)
-    c.in_ok-push_if-in-If.ensures c.in_ok-part-in-If.ensures.count c.in_ok-part-in-If.ensures.term
+    c.in_ok-copy_first-in-If.ensures.step c.in_ok-copy_first-in-If.ensures.count
 
 pub copy_term-spine-preserved-in-Some : goal.copy_term-spine-preserved-in-Some
 copy_term-spine-preserved-in-Some t c =
-    on_one c.in-Some.one.now.label c.in-Some.one.now.params.items c.deref-in-Some.result.now c.in-Some.one.now.body c.in_ok-around-in-Some.around _ _ c.spine.invariant
+    on_one c.in-Some.one.now.label c.in-Some.one.now.params.items c.deref-in-Some.result.now c.in-Some.one.now.body _ _ c.spine.invariant
     (seen-one c.spine.cur.now c.in-Fix.conts c.in-Fix.rest c.deref-in-Fix.result.now c.in-Some.one.now c.deref-in-Some.result.now c.in-Fix.is c.deref-in-Fix.ensures.value c.deref-in-Some.ensures c.in-Some.ensures)
-    c.in_ok-push_label-in-Some.ensures c.in_ok-around-in-Some.ensures.count c.in_ok-around-in-Some.ensures.term
+    c.in_ok-copy_around-in-Some.ensures.step c.in_ok-copy_around-in-Some.ensures.count
 
 pub copy_term-spine-preserved : goal.copy_term-spine-preserved
 copy_term-spine-preserved t c =
     let same : c.deref-in-None.result.now ≡ c.deref-in-Fix.result.now = c.deref-in-None.ensures.value ∙ sym c.deref-in-Fix.ensures.value in
-    on_several (labels_view c.deref-in-Fix.result.now) (labels_view c.in_ok-labels-in-None.labels.items) c.deref-cur-in-None.result.now _ _ c.spine.invariant
-    (seen-Fix c.spine.cur.now c.in-Fix.conts c.in-Fix.rest c.deref-in-Fix.result.now c.deref-cur-in-None.result.now c.in-Fix.is c.deref-in-Fix.ensures.value c.deref-cur-in-None.ensures)
-    (many-labels c.deref-in-Fix.result.now c.in-None.ensures) c.in_ok-push_labels-in-None.ensures
-    (c.in_ok-labels-in-None.ensures.count ∙ ap (λ l. c.spine.fresh + labels_count_at c.args.funs.now c.args.place.now (labels_view l)) same)
-    (c.in_ok-labels-in-None.ensures.labels ∙ ap (λ l. labels_at c.args.funs.now c.args.place.now c.args.base (labels_view l) c.spine.fresh) same)
+    on_several (labels_view c.deref-in-None.result.now) c.deref-cur-in-None.result.now _ _ c.spine.invariant
+    (seen-Fix c.spine.cur.now c.in-Fix.conts c.in-Fix.rest c.deref-in-None.result.now c.deref-cur-in-None.result.now c.in-Fix.is c.deref-in-None.ensures.value c.deref-cur-in-None.ensures)
+    (many-labels c.deref-in-None.result.now (λ e. c.in-None.ensures (ap length (sym same) ∙ e))) c.in_ok-copy_several-in-None.ensures.step c.in_ok-copy_several-in-None.ensures.count

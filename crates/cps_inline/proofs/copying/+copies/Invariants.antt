@@ -18,26 +18,38 @@ abbrev pub decreases-copy_term-spine : goal.decreases-copy_term-spine
 decreases-copy_term-spine l = weight (term_view l.cur)
 
 -- a group's number first, then the weight of what is copied
+abbrev pub decreases-copy_call : goal.decreases-copy_call
+decreases-copy_call l = l.place.now.group * (3 * weights (map fun_view l.funs.now) + 6)
+
+abbrev pub decreases-copy_last : goal.decreases-copy_last
+decreases-copy_last l = l.place.now.group * (3 * weights (map fun_view l.funs.now) + 6) + 1
+
 abbrev pub decreases-copy_term : goal.decreases-copy_term
-decreases-copy_term l = l.place.now.group * (2 * weights (map fun_view l.funs.now) + 5) + (2 * weight (term_view l.t.now) + 1)
+decreases-copy_term l = l.place.now.group * (3 * weights (map fun_view l.funs.now) + 6) + (3 * weight (term_view l.t.now) + 2)
 
 abbrev pub decreases-copy_part : goal.decreases-copy_part
-decreases-copy_part l = l.place.now.group * (2 * weights (map fun_view l.funs.now) + 5) + (2 * weight (term_view l.t.now) + 2)
+decreases-copy_part l = l.place.now.group * (3 * weights (map fun_view l.funs.now) + 6) + (3 * weight (term_view l.t.now) + 3)
+
+abbrev pub decreases-copy_first : goal.decreases-copy_first
+decreases-copy_first l = l.place.now.group * (3 * weights (map fun_view l.funs.now) + 6) + (3 * weight (term_view l.first.now) + 4)
+
+abbrev pub decreases-copy_around : goal.decreases-copy_around
+decreases-copy_around l = l.place.now.group * (3 * weights (map fun_view l.funs.now) + 6) + (3 * weight (term_view l.rest.now) + 4)
 
 abbrev pub decreases-copy_labels : goal.decreases-copy_labels
-decreases-copy_labels l = l.place.now.group * (2 * weights (map fun_view l.funs.now) + 5) + (2 * labels_weight (labels_view l.conts.now) + 2)
+decreases-copy_labels l = l.place.now.group * (3 * weights (map fun_view l.funs.now) + 6) + (3 * labels_weight (labels_view l.conts.now) + 1)
+
+abbrev pub decreases-copy_several : goal.decreases-copy_several
+decreases-copy_several l = l.place.now.group * (3 * weights (map fun_view l.funs.now) + 6) + (3 * labels_weight (labels_view l.conts.now) + 2)
 
 abbrev pub decreases-copy_label : goal.decreases-copy_label
-decreases-copy_label l = l.place.now.group * (2 * weights (map fun_view l.funs.now) + 5) + (2 * weight (label_view l.c.now).body + 2)
-
-abbrev pub decreases-copy_call : goal.decreases-copy_call
-decreases-copy_call l = l.place.now.group * (2 * weights (map fun_view l.funs.now) + 5)
-
-abbrev pub decreases-enter : goal.decreases-enter
-decreases-enter l = l.place.now.group * (2 * weights (map fun_view l.funs.now) + 5) + (2 * weights (map fun_view l.funs.now) + 4)
-
-abbrev pub decreases-copy_group : goal.decreases-copy_group
-decreases-copy_group l = l.place.now.group * (2 * weights (map fun_view l.funs.now) + 5) + (2 * weights (map fun_view l.funs.now) + 3)
+decreases-copy_label l = l.place.now.group * (3 * weights (map fun_view l.funs.now) + 6) + (3 * weight (label_view l.c.now).body + 3)
 
 abbrev pub decreases-copy_function : goal.decreases-copy_function
-decreases-copy_function l = l.place.now.group * (2 * weights (map fun_view l.funs.now) + 5) + (2 * weight (term_view l.g.now.body) + 2)
+decreases-copy_function l = l.place.now.group * (3 * weights (map fun_view l.funs.now) + 6) + (3 * weight (term_view l.g.now.body) + 3)
+
+abbrev pub decreases-copy_group : goal.decreases-copy_group
+decreases-copy_group l = l.place.now.group * (3 * weights (map fun_view l.funs.now) + 6) + (3 * weights (map fun_view l.funs.now) + 4)
+
+abbrev pub decreases-enter : goal.decreases-enter
+decreases-enter l = l.place.now.group * (3 * weights (map fun_view l.funs.now) + 6) + (3 * weights (map fun_view l.funs.now) + 5)
