@@ -1,5 +1,5 @@
 -- The spine of a tree, node by node.
-use Rattle.std.proofs.Common.{◌≡◌, ℕ, ◌≤◌, List, [], ◌∷◌, ◌++◌, ◌⊎◌, inl, inr, ⊎_elim, refl, sym, ap, subst, ◌∙◌, arith, Result, Ok, Err, IfOk}
+use Rattle.std.proofs.Common.{◌≡◌, ℕ, ◌≤◌, List, [], ◌∷◌, ◌++◌, ⊎_elim, sym, ap, subst, ◌∙◌, arith, Result, Ok, Err, IfOk}
 use Rattle.std.specs.declared.vec.Vec.{Vec}
 use Rattle.std.specs.declared.alloc.Global.{Global}
 use Rattle.nv_base.specs.Sets.{all_vars}
@@ -19,7 +19,7 @@ use Rattle.cps_rules.specs.Rules.{Answers, IsAnswered}
 use Rattle.cps_rules.specs.Substitution.{Names, renamed, all_renamed, prim_renamed}
 use Rattle.cps_rules.specs.inner.Marks.{Set, Adds}
 use Rattle.cps_rules.specs.inner.Way.{look, IsFolded, AreNamed, IsScoped, IsDone, uses, kept_all}
-use Rattle.cps_rules.proofs.Down.{On, Goes, on_start, on_push, on_same, goes_let, goes_read, goes_write, goes_if, done_last, last_jump, last_halt}
+use Rattle.cps_rules.proofs.Down.{On, on_start, on_push, on_same, goes_let, goes_read, goes_write, goes_if, done_last, last_jump, last_halt}
 use Rattle.cps_rules.proofs.Members.{in-left}
 use Rattle.cps_rules.proofs.Renaming.{AllSound}
 use Rattle.flow_ir.specs.Formed.{defined}

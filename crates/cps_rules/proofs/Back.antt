@@ -1,18 +1,18 @@
 -- The way back, step by step.
 use Rattle.std.proofs.Common.{◌≡◌, ℕ, Bool, true, false, ◌||◌, List, [], ◌∷◌, ◌++◌, refl, sym, ap, subst, ◌∙◌, if◌then◌else◌, append-nil}
-use Rattle.std.proofs.lemmas.Bool.{or_left, or_right, false≢true}
+use Rattle.std.proofs.lemmas.Bool.{or_right}
 use Rattle.nv_base.specs.declared.term.Atom.{Atom}
 use Rattle.nv_base.specs.declared.term.Primitive.{Primitive}
 use Rattle.nv_base.specs.Words.{atom_vars, prim_vars}
 use Rattle.nv_base.specs.Sets.{is_in, all_vars, Within}
 use Rattle.nv_base.proofs.Sets.{in-append, within-right}
-use Rattle.flow_ir.specs.Tree.{Tree, Let, Read, Write, If}
+use Rattle.flow_ir.specs.Tree.{Tree, Let}
 use Rattle.flow_ir.specs.View.{tree_view}
 use Rattle.flow_ir.specs.declared.spine.Step.{Step}
 use Rattle.flow_ir.specs.declared.spine.Step.TheVariants as step
 use Rattle.cps_rules.specs.inner.Marks.{Set, Adds}
 use Rattle.cps_rules.specs.inner.Way.{uses, kept_step, used_in, kept_all, step_uses, first_uses, Covers, AreFirsts}
-use Rattle.cps_rules.proofs.Members.{in-left, in-right}
+use Rattle.cps_rules.proofs.Members.{in-right}
 use Rattle.cps_rules.proofs.Marking.{adds_both, adds_as}
 
 -- a step before a tree, where what the tree uses and the set are used

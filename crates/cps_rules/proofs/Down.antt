@@ -3,14 +3,14 @@ use Rattle.std.proofs.Common.{◌≡◌, ℕ, Bool, true, false, nat_eq, ◌||�
 use Rattle.std.proofs.lemmas.Bool.{or_left, or_right, or_parts, or_cases, or_from, false≢true, eq-eqb, false_from_ne_true}
 use Rattle.smallvec.specs.SmallVec.{SmallVec}
 use Rattle.nv_base.specs.declared.term.Atom.{Atom}
-use Rattle.nv_base.specs.declared.term.Atom.TheVariants.{Var, Lit}
+use Rattle.nv_base.specs.declared.term.Atom.TheVariants.{Var}
 use Rattle.nv_base.specs.declared.term.Cmp.{Cmp}
 use Rattle.nv_base.specs.declared.term.Mem.{Mem}
 use Rattle.nv_base.specs.declared.term.Primitive.{Primitive}
 use Rattle.nv_base.specs.declared.term.Primitive.TheVariants.{Same}
-use Rattle.nv_base.specs.Words.{atom_vars, prim_vars, HasPrimCount}
+use Rattle.nv_base.specs.Words.{atom_vars, prim_vars}
 use Rattle.nv_base.specs.Sets.{is_in, all_vars, without, Within}
-use Rattle.nv_base.proofs.Sets.{same-number, within-both, within-left, within-right}
+use Rattle.nv_base.proofs.Sets.{within-both, within-right}
 use Rattle.flow_ir.specs.Tree.{Tree, Let, Read, Write, If, Jump, Halt}
 use Rattle.flow_ir.specs.Formed.{defined}
 use Rattle.flow_ir.specs.View.{tree_view}
@@ -22,12 +22,12 @@ use Rattle.cps_rules.specs.Rules.{Answers, IsAnswered}
 use Rattle.cps_rules.specs.Simplified.{is_same}
 use Rattle.cps_rules.specs.Substitution.{Names, renamed, all_renamed, prim_renamed}
 use Rattle.cps_rules.specs.inner.Marks.{Set, Adds}
-use Rattle.cps_rules.specs.inner.Way.{IsNamed, AreNamed, IsFolded, uses, Simplified, same, kept, dropped, read, write, choice, jump, halt, kept_step, used_in, kept_all, first_uses, Covers, AreFirsts, Fits, Apart, IsScoped, AreUsed, IsDone}
+use Rattle.cps_rules.specs.inner.Way.{IsNamed, AreNamed, uses, Simplified, same, kept, dropped, read, write, choice, jump, halt, used_in, kept_all, first_uses, Covers, AreFirsts, Fits, IsScoped, AreUsed, IsDone}
 use Rattle.cps_rules.proofs.Back.{kept_one, kept_last, firsts_push, firsts_more, step_more, all_more}
 use Rattle.cps_rules.proofs.Means.{AreOwn, own_more, own_var, own_list}
-use Rattle.cps_rules.proofs.Members.{either, first-or-rest, in-left, in-right, in-first, in-rest, in-not-out, out-both, stayed}
-use Rattle.cps_rules.proofs.Renaming.{image, image_from, image_of, image_within, image_known, prim_image, AreAlike, atom_alike, all_alike, prim_alike, AllSound, answered_uses}
-use Rattle.cps_rules.proofs.Scopes.{not_same, fits_apart, fits_uses, uses_live, live_uses}
+use Rattle.cps_rules.proofs.Members.{either, in-left, in-right, in-first, in-rest, in-not-out, out-both, stayed}
+use Rattle.cps_rules.proofs.Renaming.{image_known, prim_image, atom_alike, all_alike, prim_alike, AllSound, answered_uses}
+use Rattle.cps_rules.proofs.Scopes.{not_same, fits_apart, fits_uses, uses_live}
 use Rattle.cps_rules.proofs.Way.{alike, fewer_defined, live_image}
 
 -- ρ says of all that a tree doesn't define what τ says

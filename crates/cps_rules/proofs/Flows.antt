@@ -1,36 +1,36 @@
 -- Simplified labels make a flow that is as the first one.
-use Rattle.std.proofs.Common.{◌≡◌, ℕ, zero, suc, ◌+◌, ◌<◌, ◌≤◌, ◌==◌, nat_le, max, Bool, true, false, ◌&&◌, if◌then◌else◌, List, [], ◌∷◌, ◌++◌, map, Option, Some, None, refl, sym, ap, subst, ◌∙◌, length, All, get_or, take, arith}
+use Rattle.std.proofs.Common.{◌≡◌, ℕ, zero, suc, ◌+◌, ◌<◌, ◌≤◌, ◌==◌, nat_le, true, false, ◌&&◌, if◌then◌else◌, List, [], ◌∷◌, ◌++◌, map, Some, refl, sym, ap, subst, ◌∙◌, length, All, get_or, take, arith}
 use Rattle.std.specs.Prelude.{slice_get, ⊤}
 use Rattle.std.specs.List.{list_all}
 use Rattle.std.proofs.lemmas.Bool.{and_parts, and_from, false≢true}
 use Rattle.std.proofs.lemmas.List.{map_more}
 use Rattle.std.proofs.lemmas.List.Elements.{All-nil, All-cons}
 use Rattle.nv_base.specs.declared.term.Atom.TheVariants.{Var}
-use Rattle.nv_base.specs.Memories.{Memories, HasSizes}
-use Rattle.nv_base.specs.Meanings.{AreArguments, AreEqual}
+use Rattle.nv_base.specs.Memories.{HasSizes}
+use Rattle.nv_base.specs.Meanings.{AreEqual}
 use Rattle.nv_base.specs.Measures.{IsAtMost, a_label, nothing, both, entry_wide}
 use Rattle.nv_base.specs.Sets.{is_in, all_different, Within}
-use Rattle.nv_base.specs.Words.{IsWord, Env, atom_word, atom_vars, assigned_all}
-use Rattle.nv_base.specs.World.{World, begun, over}
+use Rattle.nv_base.specs.Words.{IsWord, atom_word, atom_vars, assigned_all}
+use Rattle.nv_base.specs.World.{World, begun}
 use Rattle.nv_base.proofs.Environments.{assigned-all-env, blank-env}
 use Rattle.nv_base.proofs.Measures.{most-refl, most-both, most-behind}
 use Rattle.nv_base.proofs.Sets.{same-number}
 use Rattle.flow_ir.specs.Bulk.{bulk, tree_bulk}
 use Rattle.flow_ir.specs.Formed.{defined, is_formed, is_label, is_entry, is_flow, takes_as_many}
-use Rattle.flow_ir.specs.Meaning.{Next, does, blank, enter, run, flow_meaning, params_of, flow_params}
-use Rattle.flow_ir.specs.Tree.{Tree, Label}
+use Rattle.flow_ir.specs.Meaning.{Next, does, blank, enter, run, flow_meaning, flow_params}
+use Rattle.flow_ir.specs.Tree.{Label}
 use Rattle.flow_ir.specs.View.{label_view}
-use Rattle.flow_ir.specs.Wide.{live, tree_wide, label_wide, wide}
+use Rattle.flow_ir.specs.Wide.{live, wide}
 use Rattle.flow_ir.specs.declared.flow.Label.{Label as FlowLabel}
 use Rattle.cps_rules.specs.Rules.{Answers}
-use Rattle.cps_rules.specs.Simplified.{IsSimplified, AreSimplified, IsTidy, AreTidy}
+use Rattle.cps_rules.specs.Simplified.{AreSimplified, IsTidy, AreTidy}
 use Rattle.cps_rules.specs.Substitution.{Names}
 use Rattle.cps_rules.specs.inner.Marks.{Set}
-use Rattle.cps_rules.specs.inner.Way.{AreNamed, Fits, Apart, IsScoped, IsDone, IsScopedLabel, IsLabelDone, AreDone}
+use Rattle.cps_rules.specs.inner.Way.{AreNamed, IsScoped, IsDone, IsScopedLabel, IsLabelDone, AreDone}
 use Rattle.cps_rules.proofs.Down.{fits_live}
 use Rattle.cps_rules.proofs.Means.{AreOwn, means}
-use Rattle.cps_rules.proofs.Members.{first-or-rest, in-not-out, different-parts, different-join}
-use Rattle.cps_rules.proofs.Renaming.{image, image_within, image_own, Agrees, AllSound}
+use Rattle.cps_rules.proofs.Members.{first-or-rest, different-parts, different-join}
+use Rattle.cps_rules.proofs.Renaming.{image_within, image_own, AllSound}
 use Rattle.cps_rules.proofs.Scopes.{label_fits, fits_apart}
 use Rattle.cps_rules.proofs.Way.{live_image, fewer_defined, still_different, not_in}
 use Rattle.cps_rules.proofs.WayFormed.{still_formed, same_accesses, lets_answered, tidy_used}

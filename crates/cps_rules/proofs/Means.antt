@@ -1,30 +1,28 @@
 -- A simplified tree does the same.
-use Rattle.std.proofs.Common.{◌≡◌, ℕ, ◌+◌, Bool, true, false, nat_eq, ◌||◌, List, [], ◌∷◌, ◌++◌, Option, Some, None, refl, sym, ap, subst, ◌∙◌, length, All, if◌then◌else◌}
+use Rattle.std.proofs.Common.{◌≡◌, ℕ, Bool, true, false, nat_eq, ◌||◌, List, [], ◌∷◌, ◌++◌, Option, Some, None, refl, sym, ap, subst, ◌∙◌, length, All, if◌then◌else◌}
 use Rattle.std.proofs.lemmas.Bool.{false≢true, eq-eqb, or_parts, false_from_ne_true}
 use Rattle.nv_base.specs.declared.term.Atom.{Atom}
-use Rattle.nv_base.specs.declared.term.Atom.TheVariants.{Var, Lit}
-use Rattle.nv_base.specs.declared.term.Cmp.{Cmp}
+use Rattle.nv_base.specs.declared.term.Atom.TheVariants.{Var}
 use Rattle.nv_base.specs.declared.term.Mem.{Mem}
-use Rattle.nv_base.specs.declared.term.Primitive.{Primitive}
 use Rattle.nv_base.specs.declared.term.Primitive.TheVariants.{Same}
 use Rattle.nv_base.specs.declared.outcome.Outcome.TheVariants as outcome
 use Rattle.nv_base.specs.Memories.{Memories, HasSizes, fetched, stored}
 use Rattle.nv_base.specs.Meanings.{FullOutcome}
-use Rattle.nv_base.specs.Words.{IsWord, Env, IsEnv, assigned, assigned_all, atom_word, atom_words, prim_word, atom_vars, prim_vars, HasPrimCount, compares}
+use Rattle.nv_base.specs.Words.{IsWord, Env, IsEnv, assigned, assigned_all, atom_word, atom_words, prim_word, atom_vars, prim_vars, compares}
 use Rattle.nv_base.specs.World.{World, over, ended, after_read, read_words, wrote, after_write, write_words}
 use Rattle.nv_base.specs.Sets.{is_in, all_vars, without, Within, AgreeOn}
-use Rattle.nv_base.proofs.Sets.{same-number, agree-all, agree-left, agree-right, agree-within, agree-behind}
+use Rattle.nv_base.proofs.Sets.{same-number, agree-all, agree-left, agree-right, agree-behind}
 use Rattle.nv_base.proofs.Operands.{atom-same, atoms-same, prim-same}
 use Rattle.nv_base.proofs.Environments.{assigned-env, assigned-all-env, atoms-fit, prim-fits}
 use Rattle.nv_base.proofs.MemoryLemmas.{stored-sizes, fetched-words}
 use Rattle.flow_ir.specs.Tree.{Tree, Let, Read, Write, If, Jump, Halt}
 use Rattle.flow_ir.specs.Meaning.{Next, does}
 use Rattle.flow_ir.specs.Wide.{live}
-use Rattle.cps_rules.specs.Rules.{Answers, IsAnswered}
+use Rattle.cps_rules.specs.Rules.{Answers}
 use Rattle.cps_rules.specs.Substitution.{Names, renamed, all_renamed, prim_renamed}
 use Rattle.cps_rules.specs.inner.Way.{uses, Fits, Apart, Simplified, same, kept, dropped, read, write, choice, jump, halt}
-use Rattle.cps_rules.proofs.Members.{either, first-or-rest, in-left, in-right, in-first, in-not-out}
-use Rattle.cps_rules.proofs.Renaming.{image, image_known, prim_image, Agrees, atom_agrees, atoms_agree, prim_agrees, AllSound, answered_word, answered_uses, answered_count, count_renamed}
+use Rattle.cps_rules.proofs.Members.{either, first-or-rest, in-left, in-right, in-not-out}
+use Rattle.cps_rules.proofs.Renaming.{image_known, prim_image, Agrees, atom_agrees, atoms_agree, prim_agrees, AllSound, answered_word, answered_uses, answered_count, count_renamed}
 use Rattle.cps_rules.proofs.Scopes.{not_same, live_uses}
 
 -- ---- accesses with the same that follows

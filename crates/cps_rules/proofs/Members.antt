@@ -1,7 +1,7 @@
 -- What is in lists of variables, part by part.
-use Rattle.std.proofs.Common.{◌≡◌, ℕ, Bool, true, false, not, nat_eq, ◌&&◌, ◌||◌, List, [], ◌∷◌, ◌++◌, refl, sym, ap, subst, ◌∙◌, ⊎_elim}
+use Rattle.std.proofs.Common.{◌≡◌, ℕ, Bool, true, false, not, nat_eq, List, [], ◌∷◌, ◌++◌, refl, sym, subst, ◌∙◌, ⊎_elim}
 use Rattle.std.proofs.lemmas.Bool.{and_parts, and_from, or_cases, or_parts, or_left, or_right, or_from, not-true, not_from_false, false≢true, false_from_ne_true, eq-eqb}
-use Rattle.nv_base.specs.Sets.{is_in, all_different, without, Within}
+use Rattle.nv_base.specs.Sets.{is_in, all_different, without}
 use Rattle.nv_base.proofs.Sets.{same-number, in-append, in-without}
 use Rattle.cps_rules.specs.inner.Way.{Apart}
 

@@ -1,6 +1,6 @@
 -- Variables and words of operands with others in their place.
-use Rattle.std.proofs.Common.{◌≡◌, ℕ, suc, ◌+◌, ◌≤◌, Bool, true, false, nat_eq, List, [], ◌∷◌, ◌++◌, ◌⊎◌, inl, inr, Option, Some, None, refl, sym, ap, subst, ◌∙◌, length, if◌then◌else◌, ◌&&◌, arith}
-use Rattle.std.proofs.lemmas.Bool.{and_parts, and_from, false≢true}
+use Rattle.std.proofs.Common.{◌≡◌, ℕ, suc, ◌+◌, ◌≤◌, Bool, true, false, List, [], ◌∷◌, ◌++◌, inl, inr, Some, refl, sym, ap, subst, ◌∙◌, length, if◌then◌else◌, arith}
+use Rattle.std.proofs.lemmas.Bool.{and_from, false≢true}
 use Rattle.nv_base.specs.declared.term.Atom.{Atom}
 use Rattle.nv_base.specs.declared.term.Atom.TheVariants.{Var, Lit}
 use Rattle.nv_base.specs.declared.term.Mem.{Mem}
@@ -8,13 +8,13 @@ use Rattle.nv_base.specs.declared.term.Mem.TheVariants.{Sram, Sdram, Scratch}
 use Rattle.nv_base.specs.declared.term.Primitive.{Primitive}
 use Rattle.nv_base.specs.declared.term.Primitive.TheVariants.{Same, Una as UnaOf, Bin as BinOf}
 use Rattle.nv_base.specs.Words.{Env, IsEnv, atom_word, atom_words, una_word, bin_word, prim_word, atom_vars, prim_vars, HasPrimCount}
-use Rattle.nv_base.specs.Sets.{is_in, all_vars, different, without, Within}
+use Rattle.nv_base.specs.Sets.{is_in, all_vars, different, Within}
 use Rattle.nv_base.specs.Access.{is_known, all_known, is_primitive, has_count, is_address}
 use Rattle.nv_base.proofs.Sets.{same-number, different-below, different-append, within-left, within-right, within-both}
 use Rattle.nv_base.proofs.Operands.{count_is_had}
 use Rattle.cps_rules.specs.Rules.{IsSound, Answers, IsAnswered}
 use Rattle.cps_rules.specs.Substitution.{Names, renamed, all_renamed, prim_renamed}
-use Rattle.cps_rules.proofs.Members.{either, first-or-rest, in-left, in-right, in-first, in-rest, in-or-out, in-not-out}
+use Rattle.cps_rules.proofs.Members.{either, first-or-rest, in-left, in-right, in-first, in-rest}
 
 -- ---- the variables of what stands for these
 

@@ -1,11 +1,11 @@
 -- What trees use and define, where each variable stands once.
-use Rattle.std.proofs.Common.{◌≡◌, ℕ, Bool, true, false, not, nat_eq, ◌&&◌, List, [], ◌∷◌, ◌++◌, refl, sym, ap, subst, ◌∙◌, length}
+use Rattle.std.proofs.Common.{◌≡◌, ℕ, true, false, not, nat_eq, ◌&&◌, List, [], ◌∷◌, ◌++◌, refl, sym, ap, subst, ◌∙◌, length}
 use Rattle.std.proofs.lemmas.Bool.{and_parts, or_parts, or_from, or_left, not-true, false≢true, false_from_ne_true}
 use Rattle.nv_base.specs.declared.term.Atom.{Atom}
 use Rattle.nv_base.specs.Words.{atom_vars, prim_vars}
 use Rattle.nv_base.specs.Sets.{is_in, all_different, all_vars, without, Within}
 use Rattle.nv_base.specs.Access.{is_known, all_known, is_primitive, can_move, is_address}
-use Rattle.nv_base.proofs.Sets.{same-number, within-both, within-left, within-right}
+use Rattle.nv_base.proofs.Sets.{same-number, within-both, within-left}
 use Rattle.nv_base.proofs.Operands.{atom-known, atoms-known, prim-known, count_of_known}
 use Rattle.flow_ir.specs.Tree.{Tree, Let, Read, Write, If, Jump, Halt, Label}
 use Rattle.flow_ir.specs.Formed.{defined, is_formed, is_label}

@@ -1,24 +1,20 @@
 -- What a simplified tree uses and defines, and where it is formed.
-use Rattle.std.proofs.Common.{◌≡◌, ℕ, ◌+◌, Bool, true, false, not, nat_eq, ◌&&◌, List, [], ◌∷◌, ◌++◌, refl, sym, ap, subst, ◌∙◌, length}
-use Rattle.std.specs.Prelude.{nat_le, slice_get}
+use Rattle.std.proofs.Common.{◌≡◌, ℕ, Bool, true, false, not, nat_eq, List, [], ◌∷◌, ◌++◌, refl, sym, subst, ◌∙◌}
 use Rattle.std.proofs.lemmas.Bool.{and_parts, and_from, or_left, or_from, not-true, not_from_false, false≢true, false_from_ne_true}
-use Rattle.nv_base.specs.declared.term.Atom.{Atom}
-use Rattle.nv_base.specs.declared.term.Atom.TheVariants.{Var, Lit}
+use Rattle.nv_base.specs.declared.term.Atom.TheVariants.{Var}
 use Rattle.nv_base.specs.declared.term.Primitive.{Primitive}
 use Rattle.nv_base.specs.declared.term.Primitive.TheVariants.{Same}
 use Rattle.nv_base.specs.Words.{atom_vars, prim_vars}
 use Rattle.nv_base.specs.Sets.{is_in, all_different, all_vars, without, Within}
-use Rattle.nv_base.specs.Access.{is_known, all_known, is_primitive, can_move, is_address}
-use Rattle.nv_base.proofs.Sets.{same-number, within-both, within-left, within-right}
-use Rattle.nv_base.proofs.Operands.{count_of_known}
-use Rattle.flow_ir.specs.Tree.{Tree, Let, Read, Write, If, Jump, Halt, Label}
-use Rattle.flow_ir.specs.Formed.{defined, is_formed, takes_as_many}
+use Rattle.nv_base.proofs.Sets.{same-number, within-both, within-left}
+use Rattle.flow_ir.specs.Tree.{Tree, Read, Write, If, Jump, Halt}
+use Rattle.flow_ir.specs.Formed.{defined}
 use Rattle.flow_ir.specs.Wide.{live}
 use Rattle.cps_rules.specs.Rules.{Answers, IsAnswered}
 use Rattle.cps_rules.specs.Substitution.{Names, renamed, all_renamed, prim_renamed}
-use Rattle.cps_rules.specs.inner.Way.{uses, Simplified, same, kept, dropped, read, write, choice, jump, halt, Apart}
+use Rattle.cps_rules.specs.inner.Way.{uses, Simplified, same, kept, dropped, read, write, choice, jump, halt}
 use Rattle.cps_rules.proofs.Members.{either, first-or-rest, in-left, in-right, in-first, in-rest, in-not-out, stays, stayed, different-parts, different-join}
-use Rattle.cps_rules.proofs.Renaming.{image, From, image_from, image_of, image_within, image_both, atom_image, all_image, prim_image, AreAlike, atom_alike, all_alike, prim_alike, all_length, AllSound, answered_uses, answered_count, count_renamed, atom_known, atoms_known, prim_known, address_renamed}
+use Rattle.cps_rules.proofs.Renaming.{image, image_from, image_of, image_within, image_both, atom_image, all_image, prim_image, AreAlike, atom_alike, all_alike, prim_alike, AllSound, answered_uses}
 use Rattle.cps_rules.proofs.Scopes.{live_uses}
 
 -- ---- names that say the same

@@ -1,10 +1,8 @@
 -- A simplified tree is formed, and what stands in it.
-use Rattle.std.proofs.Common.{◌≡◌, ℕ, ◌+◌, ◌==◌, Bool, true, false, not, nat_eq, ◌&&◌, List, [], ◌∷◌, ◌++◌, inl, inr, refl, sym, ap, subst, ◌∙◌, length}
+use Rattle.std.proofs.Common.{◌≡◌, ℕ, true, not, ◌&&◌, List, [], ◌∷◌, ◌++◌, inl, inr, refl, ap, ◌∙◌, length}
 use Rattle.std.specs.Prelude.{nat_le, slice_get}
-use Rattle.std.proofs.lemmas.Bool.{and_parts, and_from, not-true, false≢true}
-use Rattle.nv_base.specs.declared.term.Atom.{Atom}
+use Rattle.std.proofs.lemmas.Bool.{and_parts, and_from, not-true}
 use Rattle.nv_base.specs.declared.term.Primitive.{Primitive}
-use Rattle.nv_base.specs.declared.term.Primitive.TheVariants.{Same}
 use Rattle.nv_base.specs.Words.{atom_vars, prim_vars}
 use Rattle.nv_base.specs.Sets.{is_in, all_different, all_vars, without, Within}
 use Rattle.nv_base.specs.Access.{is_known, all_known, is_primitive, can_move, is_address}
@@ -13,11 +11,11 @@ use Rattle.flow_ir.specs.Tree.{Tree, Let, Read, Write, If, Jump, Halt, Label}
 use Rattle.flow_ir.specs.Formed.{defined, is_formed, takes_as_many}
 use Rattle.flow_ir.specs.Wide.{live}
 use Rattle.cps_rules.specs.Rules.{Answers, IsAnswered}
-use Rattle.cps_rules.specs.Simplified.{reads, writes, accesses, EachLet, Defines, IsTidy, is_same}
+use Rattle.cps_rules.specs.Simplified.{reads, writes, accesses, EachLet, Defines, IsTidy}
 use Rattle.cps_rules.specs.Substitution.{Names, renamed, all_renamed, prim_renamed}
-use Rattle.cps_rules.specs.inner.Way.{uses, AreUsed, Simplified, same, kept, dropped, read, write, choice, jump, halt}
-use Rattle.cps_rules.proofs.Members.{either, first-or-rest, in-left, in-right, in-first, in-rest, in-or-out, in-not-out, stays, different-parts}
-use Rattle.cps_rules.proofs.Renaming.{all_length, AllSound, answered_uses, answered_count, count_renamed, atom_known, atoms_known, prim_known, address_renamed}
+use Rattle.cps_rules.specs.inner.Way.{AreUsed, Simplified, same, kept, dropped, read, write, choice, jump, halt}
+use Rattle.cps_rules.proofs.Members.{either, in-left, in-right, in-or-out, in-not-out, stays, different-parts}
+use Rattle.cps_rules.proofs.Renaming.{all_length, AllSound, answered_count, count_renamed, atom_known, atoms_known, prim_known, address_renamed}
 use Rattle.cps_rules.proofs.Scopes.{uses_live}
 
 -- ---- formed

@@ -1,21 +1,21 @@
 -- A simplified tree is neither wider nor larger.
-use Rattle.std.proofs.Common.{◌≡◌, ℕ, ◌+◌, ◌≤◌, max, true, false, List, [], ◌∷◌, ◌++◌, sym, ap, subst, length, arith}
+use Rattle.std.proofs.Common.{◌≡◌, ℕ, ◌+◌, ◌≤◌, true, List, [], ◌∷◌, ◌++◌, sym, subst, length, arith}
 use Rattle.std.proofs.lemmas.Bool.{false≢true, false_from_ne_true}
 use Rattle.nv_base.specs.declared.term.Atom.{Atom}
 use Rattle.nv_base.specs.declared.term.Atom.TheVariants.{Var, Lit}
 use Rattle.nv_base.specs.Words.{atom_vars, prim_vars}
 use Rattle.nv_base.specs.Sets.{is_in, all_vars, different, without, Within}
 use Rattle.nv_base.specs.Measures.{operands_wide, let_wide, Bulk, a_node, a_jump, both, IsAtMost}
-use Rattle.nv_base.proofs.Sets.{different-below, within-both}
+use Rattle.nv_base.proofs.Sets.{different-below}
 use Rattle.nv_base.proofs.Measures.{most-refl, most-both, most-behind}
-use Rattle.flow_ir.specs.Tree.{Tree, Let, Read, Write, If, Jump, Halt}
+use Rattle.flow_ir.specs.Tree.{Tree, Let}
 use Rattle.flow_ir.specs.Wide.{live, tree_wide}
 use Rattle.flow_ir.specs.Bulk.{tree_bulk}
 use Rattle.cps_rules.specs.Rules.{Answers}
-use Rattle.cps_rules.specs.Substitution.{Names, renamed, all_renamed, prim_renamed}
+use Rattle.cps_rules.specs.Substitution.{Names, renamed, all_renamed}
 use Rattle.cps_rules.specs.inner.Way.{Simplified, same, kept, dropped, read, write, choice, jump, halt}
 use Rattle.cps_rules.proofs.Members.{either, in-left, in-right, in-first, in-not-out, stays, stayed}
-use Rattle.cps_rules.proofs.Renaming.{image, From, image_from, image_of, image_both, image_different, all_length, AllSound}
+use Rattle.cps_rules.proofs.Renaming.{image, image_from, image_of, image_both, image_different, all_length, AllSound}
 use Rattle.cps_rules.proofs.Way.{live_image, behind_read}
 
 -- ---- widths

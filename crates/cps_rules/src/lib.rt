@@ -7,8 +7,6 @@ mod names;
 mod program;
 mod rewrite;
 mod spine;
-#[cfg(test)]
-mod tests;
 
 pub use program::simplify;
 pub use rewrite::{Both, Rewrite, Rule};

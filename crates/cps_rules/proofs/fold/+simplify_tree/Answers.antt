@@ -1,6 +1,6 @@
 use Rattle.std.proofs.Common.{◌∙◌}
-use Rattle.cps_rules.proofs.Along.{along_start, along_let, along_read, along_write, along_if, part_scoped, jump_done, halt_done, if_ok_both, renamed_at, all_at, named_at, adds_at}
-use Rattle.cps_rules.proofs.Down.{last_firsts, last_covers}
+use Rattle.cps_rules.proofs.Along.{along_let, along_read, along_write, along_if, jump_done, halt_done, if_ok_both, renamed_at, all_at, named_at, adds_at}
+use Rattle.cps_rules.proofs.Down.{last_firsts}
 use Rattle.cps_rules.proofs.fold.+simplify_tree.Goals as goal
 
 pub spine-preserved-in-Let : goal.spine-preserved-in-Let

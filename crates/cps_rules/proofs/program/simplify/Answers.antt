@@ -1,6 +1,5 @@
-use Rattle.std.proofs.Common.{subst, ap, sym, map}
+use Rattle.std.proofs.Common.{map}
 use Rattle.flow_ir.specs.View.{label_view}
-use Rattle.cps_rules.specs.inner.Way.{AreDone}
 use Rattle.cps_rules.proofs.Flows.{done_at, flow_formed, flow_means, flow_wide, flow_bulk, flow_simplified, flow_tidy, same_params}
 use Rattle.cps_rules.proofs.program.simplify.Goals as goal
 

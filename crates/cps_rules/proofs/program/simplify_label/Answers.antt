@@ -1,5 +1,4 @@
-use Rattle.std.proofs.Common.{◌∙◌, subst}
-use Rattle.cps_rules.specs.inner.Way.{look}
+use Rattle.std.proofs.Common.{◌∙◌}
 use Rattle.cps_rules.proofs.Along.{named_at}
 use Rattle.cps_rules.proofs.Flows.{label_scoped, label_done}
 use Rattle.flow_ir.specs.View.{label_view}

@@ -1,4 +1,4 @@
-use Rattle.std.proofs.Common.{◌≡◌, [], sym, ap, ◌∙◌}
+use Rattle.std.proofs.Common.{sym, ◌∙◌}
 use Rattle.std.proofs.lemmas.List.{nil_from_length}
 use Rattle.cps_rules.proofs.Back.{coming_start, coming_step, coming_tree}
 use Rattle.cps_rules.proofs.spine.joined.Goals as goal

@@ -1,9 +1,5 @@
 use Rattle.std.proofs.Common.{arith}
 use Rattle.cps_rules.proofs.Marking.{adds_next}
-use Rattle.cps_rules.proofs.WayFormed.{still_formed}
-use Rattle.cps_rules.proofs.WayMeasures.{not_wider}
-use Rattle.cps_rules.proofs.Means.{means}
-use Rattle.cps_rules.proofs.Down.{done_last}
 use Rattle.cps_rules.proofs.marks.Marks.add_all.Goals as goal
 
 pub loop-a-preserved : goal.loop-a-preserved

@@ -1,4 +1,4 @@
-use Rattle.std.proofs.Common.{◌≡◌, ◌≤◌, ℕ, ◌+◌, ◌-◌, vec_len, All}
+use Rattle.std.proofs.Common.{◌≡◌, ℕ, ◌+◌, ◌-◌, vec_len}
 use Rattle.std.specs.Prelude.{slice_index_or}
 use Rattle.cps_rules.proofs.marks.Marks.add_var.Given as goal
 

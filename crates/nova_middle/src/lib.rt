@@ -1,0 +1,8 @@
+//! The middle of the compiler: from flat programs to flows.
+#![tactic(auto)]
+
+mod program;
+mod rules;
+
+pub use program::to_flow;
+pub use rules::simplified;
