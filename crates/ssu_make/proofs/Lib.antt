@@ -1,0 +1,5 @@
+pub mod Assigned
+pub mod Literals
+pub mod Clones
+pub mod Fitting
+pub mod Equal

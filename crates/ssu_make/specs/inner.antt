@@ -1,0 +1,3 @@
+pub mod Ssu
+pub mod Uses
+pub mod Made
