@@ -8,7 +8,8 @@ use Rattle.nv_base.specs.Words.{Env, assigned, assigned_all}
 use Rattle.nv_base.specs.World.{World}
 use Rattle.nv_base.specs.Sets.{is_in}
 use Rattle.nv_base.proofs.Sets.{same-number, in-later}
-use Rattle.ssu_make.specs.inner.Ssu.{NodeTree, Next, does, assigned_each}
+use Rattle.ssu_ir.specs.Tree as ssu
+use Rattle.ssu_ir.specs.Meaning.{Next, does, assigned_each}
 use Rattle.ssu_make.specs.inner.Uses.{Counts, outside}
 use Rattle.ssu_make.specs.inner.Made.{value, clone_step, clones}
 use Rattle.ssu_make.proofs.Assigned.{same-test, other-test, assigned-same, assigned-other, each-outside, each-inside}
@@ -110,12 +111,12 @@ pub clones_env : Counts → Counts → List ℕ → Env → Env
 clones_env base r [] e = e
 clones_env base r (x ∷ xs) e = clones_env base r xs (clone_env (nat_lt 1 (r x)) (base x) (r x) e)
 
-clone-does : (b : Bool) (next : Next) (first n : ℕ) (t : NodeTree) (e : Env) (w : World) → does next (clone_step b first n t) e w ≡ does next t (clone_env b first n e) w
+clone-does : (b : Bool) (next : Next) (first n : ℕ) (t : ssu.Tree) (e : Env) (w : World) → does next (clone_step b first n t) e w ≡ does next t (clone_env b first n e) w
 unfolding clone_env
 clone-does true next first n t e w = refl
 clone-does false next first n t e w = refl
 
-pub clones-do : (next : Next) (base r : Counts) (xs : List ℕ) (t : NodeTree) (e : Env) (w : World) → does next (clones base r xs t) e w ≡ does next t (clones_env base r xs e) w
+pub clones-do : (next : Next) (base r : Counts) (xs : List ℕ) (t : ssu.Tree) (e : Env) (w : World) → does next (clones base r xs t) e w ≡ does next t (clones_env base r xs e) w
 unfolding clones_env
 clones-do next base r [] t e w = refl
 clones-do next base r (x ∷ xs) t e w = clone-does (nat_lt 1 (r x)) next (base x) (r x) (clones base r xs t) e w ∙ clones-do next base r xs t (clone_env (nat_lt 1 (r x)) (base x) (r x) e) w

@@ -20,8 +20,8 @@ use Rattle.flow_ir.specs.Meaning as flow
 use Rattle.flow_ir.specs.Formed.{defined, is_formed, is_label}
 use Rattle.ssu_make.specs.inner.Uses.{Counts, occurs, operands, outside, uses, all_uses}
 use Rattle.ssu_make.specs.inner.Made.{value, names, literals, clones, prim_step, spent, most, made, made_label, Laid, variables, IsMade, AllMade}
-use Rattle.ssu_make.specs.inner.Ssu.{NodeTree, step, Next, does, words_of, enter, run, blank, ssu_meaning}
-use Rattle.ssu_make.specs.inner.Ssu as ssu
+use Rattle.ssu_ir.specs.Tree as ssu
+use Rattle.ssu_ir.specs.Meaning.{Next, does, enter, run, blank, ssu_meaning}
 use Rattle.ssu_make.proofs.Literals.{Agrees, literals_env, literals-do, names-words, agrees-behind}
 use Rattle.ssu_make.proofs.Clones.{Place, clones_env, clones-do, values-agree}
 use Rattle.ssu_make.proofs.Fitting.{Fits, fits-let, fits-read, fits-write, fits-first, fits-second, place-of, outside-least}
@@ -46,8 +46,8 @@ length-map f (x ∷ xs) = ap suc (length-map f xs)
 
 -- ---- a primitive by names whose words are those of its operands
 
-prim-does : (next : Next) (base r : Counts) (n x : ℕ) (p : Primitive) (t : NodeTree) (env e : Env) (w : World) → words_of e (names base r n (operands p)) ≡ atom_words env (operands p)
-    → does next (step (prim_step x p (names base r n (operands p))) t) e w ≡ does next t (assigned e x (prim_word env p)) w
+prim-does : (next : Next) (base r : Counts) (n x : ℕ) (p : Primitive) (t : ssu.Tree) (env e : Env) (w : World) → map e (names base r n (operands p)) ≡ atom_words env (operands p)
+    → does next (ssu.Do (prim_step x p (names base r n (operands p))) t) e w ≡ does next t (assigned e x (prim_word env p)) w
 prim-does next base r n x (Same a) t env e w h =
     let first : e (slice_index (names base r n (operands (Same a))) 0) ≡ atom_word env a = ap (λ ws. slice_index ws 0) h in
     let second : e (slice_index (names base r n (operands (Same a))) 1) ≡ 0 = ap (λ ws. slice_index ws 1) h in
@@ -114,10 +114,10 @@ module _ (next : Next) (next' : flow.Next) (h : (l : ℕ) (ws : List ℕ) (w : W
       let ys = names base r N (a ∷ bs) in
       let words-are = names-words base r d N (a ∷ bs) env e far g in
       let word-is : E (slice_index ys 0) ≡ atom_word env a = ap (λ ws. slice_index ws 0) words-are in
-      let rest-is : words_of E (drop 1 ys) ≡ atom_words env bs = ap (λ ws. drop 1 ws) words-are in
+      let rest-is : map E (drop 1 ys) ≡ atom_words env bs = ap (λ ws. drop 1 ws) words-are in
       let behind = agrees-behind base r d N (a ∷ bs) env e far g in
       literals-do next N (a ∷ bs) _ e w
-      ∙ ap (λ z. write_words m z (words_of E (drop 1 ys)) w (λ v. does next (made base n t) E v)) word-is
+      ∙ ap (λ z. write_words m z (map E (drop 1 ys)) w (λ v. does next (made base n t) E v)) word-is
       ∙ ap (λ ws. write_words m (atom_word env a) ws w (λ v. does next (made base n t) E v)) rest-is
       ∙ write-alike (stored m (atom_word env a) (atom_words env bs) w.packet) _ _ _ (λ p. trees-alike t known n env E (wrote m (atom_word env a) (atom_words env bs) p w) ft le behind)
   trees-alike (If q a b t u) known n env e w f le g =

@@ -1,14 +1,16 @@
 -- What literals before a node do.
-use Rattle.std.proofs.Common.{◌≡◌, ℕ, zero, suc, ◌+◌, ◌*◌, ◌/◌, ◌%◌, ◌^◌, ◌<◌, ◌≤◌, Bool, true, false, nat_eq, List, [], ◌∷◌, refl, sym, ap, subst, ◌∙◌, ◌⊎◌, inl, inr, ⊎_elim, if◌then◌else◌, bit_or, arith}
+use Rattle.std.proofs.Common.{◌≡◌, ℕ, zero, suc, ◌+◌, ◌*◌, ◌/◌, ◌%◌, ◌^◌, ◌<◌, ◌≤◌, Bool, true, false, nat_eq, List, [], ◌∷◌, map, refl, sym, ap, subst, ◌∙◌, ◌⊎◌, inl, inr, ⊎_elim, if◌then◌else◌, bit_or, arith}
 use Rattle.std.proofs.lemmas.Nat.{or_shifted}
 use Rattle.nv_base.specs.declared.term.Atom.{Atom}
 use Rattle.nv_base.specs.declared.term.Atom.TheVariants.{Var, Lit}
 use Rattle.nv_base.specs.Words.{Env, IsWord, word, assigned, atom_word, atom_words}
 use Rattle.nv_base.specs.World.{World}
 use Rattle.nv_base.proofs.WordLemmas.{word-fits}
-use Rattle.ssu_make.specs.inner.Ssu.{NodeTree, Next, does, words_of}
+use Rattle.ssu_ir.specs.Tree as ssu
+use Rattle.ssu_ir.specs.Meaning.{Next, does}
+use Rattle.ssu_ir.specs.Single.{is_narrow}
 use Rattle.ssu_make.specs.inner.Uses.{Counts, here, occurs}
-use Rattle.ssu_make.specs.inner.Made.{is_narrow, high, low, literal, names_taken, last_taken, taken, all_taken, name, names, atom_literal, literals}
+use Rattle.ssu_make.specs.inner.Made.{high, low, literal, names_taken, last_taken, taken, all_taken, name, names, atom_literal, literals}
 use Rattle.std.proofs.lemmas.Bool.{eq-eqb}
 use Rattle.ssu_make.proofs.Assigned.{assigned-same, assigned-other}
 
@@ -28,15 +30,15 @@ abbrev pub literals_env : ℕ → List Atom → Env → Env
 literals_env n [] e = e
 literals_env n (a ∷ as') e = literals_env n as' (atom_env (n + all_taken as') a e)
 
-literal-does : (b : Bool) (next : Next) (n v : ℕ) (t : NodeTree) (e : Env) (w : World) → does next (literal b n v t) e w ≡ does next t (literal_env b n v e) w
+literal-does : (b : Bool) (next : Next) (n v : ℕ) (t : ssu.Tree) (e : Env) (w : World) → does next (literal b n v t) e w ≡ does next t (literal_env b n v e) w
 literal-does true next n v t e w = refl
 literal-does false next n v t e w = refl
 
-atom-does : (next : Next) (n : ℕ) (a : Atom) (t : NodeTree) (e : Env) (w : World) → does next (atom_literal n a t) e w ≡ does next t (atom_env n a e) w
+atom-does : (next : Next) (n : ℕ) (a : Atom) (t : ssu.Tree) (e : Env) (w : World) → does next (atom_literal n a t) e w ≡ does next t (atom_env n a e) w
 atom-does next n (Var x) t e w = refl
 atom-does next n (Lit v) t e w = literal-does (is_narrow (word v)) next n (word v) t e w
 
-pub literals-do : (next : Next) (n : ℕ) (as' : List Atom) (t : NodeTree) (e : Env) (w : World) → does next (literals n as' t) e w ≡ does next t (literals_env n as' e) w
+pub literals-do : (next : Next) (n : ℕ) (as' : List Atom) (t : ssu.Tree) (e : Env) (w : World) → does next (literals n as' t) e w ≡ does next t (literals_env n as' e) w
 literals-do next n [] t e w = refl
 literals-do next n (a ∷ as') t e w = atom-does next (n + all_taken as') a (literals n as' t) e w ∙ literals-do next n as' t (atom_env (n + all_taken as') a e) w
 
@@ -117,10 +119,10 @@ head-word base r m n (Lit v) as' env e le g =
     literals-other n as' (last_taken b (n + all_taken as')) (literal_env b (n + all_taken as') (word v) e) (inr least.0)
     ∙ literal-word b (n + all_taken as') (word v) e (word-fits v)
 
-pub names-words : (base r : Counts) (m n : ℕ) (as' : List Atom) (env e : Env) → m ≤ n → Agrees base (λ y. occurs as' y + r y) m env e → words_of (literals_env n as' e) (names base r n as') ≡ atom_words env as'
+pub names-words : (base r : Counts) (m n : ℕ) (as' : List Atom) (env e : Env) → m ≤ n → Agrees base (λ y. occurs as' y + r y) m env e → map (literals_env n as' e) (names base r n as') ≡ atom_words env as'
 names-words base r m n [] env e le g = refl
 names-words base r m n (a ∷ as') env e le g =
     let E = literals_env n as' (atom_env (n + all_taken as') a e) in
     let far : m ≤ n + all_taken as' = omega arith in
-    ap (λ w. w ∷ words_of E (names base r n as')) (head-word base r m n a as' env e le g)
+    ap (λ w. w ∷ map E (names base r n as')) (head-word base r m n a as' env e le g)
     ∙ ap (λ ws. atom_word env a ∷ ws) (names-words base r m n as' env (atom_env (n + all_taken as') a e) le (agrees-tail base r m (n + all_taken as') a as' env e far g))

@@ -1,3 +1,2 @@
-pub mod Ssu
 pub mod Uses
 pub mod Made

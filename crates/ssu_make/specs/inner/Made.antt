@@ -15,14 +15,11 @@ use Rattle.nv_base.specs.Words.{word}
 use Rattle.flow_ir.specs.Tree.{Tree, Let, Read, Write, If, Jump, Halt}
 use Rattle.flow_ir.specs.Tree as flow
 use Rattle.flow_ir.specs.Formed.{defined}
+use Rattle.ssu_ir.specs.Tree as ssu
+use Rattle.ssu_ir.specs.Single.{is_narrow}
 use Rattle.ssu_make.specs.inner.Uses.{Counts, occurs, operands, outside, uses, all_uses}
-use Rattle.ssu_make.specs.inner.Ssu.{Step, NodeTree, Label, lit, una, bin, clone, read, write, jump, halt, step, fork, last}
 
 -- ---- literals
-
--- some word below 2^16, shifted to the left by 0, 8 or 16
-abbrev pub is_narrow : ℕ → Bool
-is_narrow w = nat_lt w 65536 || ((nat_lt w 16777216 && w % 256 == 0) || w % 65536 == 0)
 
 abbrev pub high : ℕ → ℕ
 high w = w / 65536 * 65536
@@ -31,9 +28,9 @@ abbrev pub low : ℕ → ℕ
 low w = w % 65536
 
 -- a word under a new name before a tree: a wide one by its halves
-abbrev pub literal : Bool → ℕ → ℕ → NodeTree → NodeTree
-literal true n w t = step (lit n w) t
-literal false n w t = step (lit n (high w)) (step (lit (n + 1) (low w)) (step (bin (n + 2) Or n (n + 1)) t))
+abbrev pub literal : Bool → ℕ → ℕ → ssu.Tree → ssu.Tree
+literal true n w t = ssu.Do (ssu.Lit n w) t
+literal false n w t = ssu.Do (ssu.Lit n (high w)) (ssu.Do (ssu.Lit (n + 1) (low w)) (ssu.Do (ssu.Bin (n + 2) Or n (n + 1)) t))
 
 -- how many names it takes, and the last of them, which is the word's
 abbrev pub names_taken : Bool → ℕ
@@ -63,12 +60,12 @@ abbrev pub names : Counts → Counts → ℕ → List Atom → List ℕ
 names base r n [] = []
 names base r n (a ∷ as') = name base (λ y. occurs as' y + r y) (n + all_taken as') a ∷ names base r n as'
 
-abbrev pub atom_literal : ℕ → Atom → NodeTree → NodeTree
+abbrev pub atom_literal : ℕ → Atom → ssu.Tree → ssu.Tree
 atom_literal n (Var x) t = t
 atom_literal n (Lit v) t = literal (is_narrow (word v)) n (word v) t
 
 -- the literals among operands, before a tree
-abbrev pub literals : ℕ → List Atom → NodeTree → NodeTree
+abbrev pub literals : ℕ → List Atom → ssu.Tree → ssu.Tree
 literals n [] t = t
 literals n (a ∷ as') t = atom_literal (n + all_taken as') a (literals n as' t)
 
@@ -77,22 +74,22 @@ literals n (a ∷ as') t = atom_literal (n + all_taken as') a (literals n as' t)
 abbrev pub value : Counts → Counts → ℕ → ℕ
 value base r x = if nat_lt 1 (r x) then base x + r x else base x
 
-abbrev pub clone_step : Bool → ℕ → ℕ → NodeTree → NodeTree
-clone_step true first n t = step (clone (range_with_len first n) (first + n)) t
+abbrev pub clone_step : Bool → ℕ → ℕ → ssu.Tree → ssu.Tree
+clone_step true first n t = ssu.Do (ssu.Clone (range_with_len first n) (first + n)) t
 clone_step false first n t = t
 
 -- the clones of values, before a tree
-abbrev pub clones : Counts → Counts → List ℕ → NodeTree → NodeTree
+abbrev pub clones : Counts → Counts → List ℕ → ssu.Tree → ssu.Tree
 clones base r [] t = t
 clones base r (x ∷ xs) t = clone_step (nat_lt 1 (r x)) (base x) (r x) (clones base r xs t)
 
 -- ---- trees
 
 -- a primitive by the names of its operands
-abbrev pub prim_step : ℕ → Primitive → List ℕ → Step
-prim_step x (Same a) ys = bin x Or (slice_index ys 0) (slice_index ys 1)
-prim_step x (UnaOf op a) ys = una x op (slice_index ys 0)
-prim_step x (BinOf op a b) ys = bin x op (slice_index ys 0) (slice_index ys 1)
+abbrev pub prim_step : ℕ → Primitive → List ℕ → ssu.Step
+prim_step x (Same a) ys = ssu.Bin x Or (slice_index ys 0) (slice_index ys 1)
+prim_step x (UnaOf op a) ys = ssu.Una x op (slice_index ys 0)
+prim_step x (BinOf op a b) ys = ssu.Bin x op (slice_index ys 0) (slice_index ys 1)
 
 -- how many new names a tree takes
 abbrev pub spent : Tree → ℕ
@@ -107,26 +104,26 @@ spent (Halt e bs) = all_taken bs
 abbrev pub most : Counts → Counts → Counts
 most r s y = max (r y) (s y)
 
-abbrev pub made_let : Counts → ℕ → ℕ → Primitive → Counts → NodeTree → NodeTree
-made_let base n x p r t = literals n (operands p) (step (prim_step (value base r x) p (names base (outside (x ∷ []) r) n (operands p))) (clones base r (x ∷ []) t))
+abbrev pub made_let : Counts → ℕ → ℕ → Primitive → Counts → ssu.Tree → ssu.Tree
+made_let base n x p r t = literals n (operands p) (ssu.Do (prim_step (value base r x) p (names base (outside (x ∷ []) r) n (operands p))) (clones base r (x ∷ []) t))
 
-abbrev pub made_read : Counts → ℕ → Mem → List ℕ → Atom → Counts → NodeTree → NodeTree
-made_read base n m xs a r t = literals n (a ∷ []) (step (read m (map (value base r) xs) (slice_index (names base (outside xs r) n (a ∷ [])) 0)) (clones base r xs t))
+abbrev pub made_read : Counts → ℕ → Mem → List ℕ → Atom → Counts → ssu.Tree → ssu.Tree
+made_read base n m xs a r t = literals n (a ∷ []) (ssu.Do (ssu.Read m (map (value base r) xs) (slice_index (names base (outside xs r) n (a ∷ [])) 0)) (clones base r xs t))
 
-abbrev pub made_write : Counts → ℕ → Mem → Atom → List Atom → Counts → NodeTree → NodeTree
-made_write base n m a bs r t = literals n (a ∷ bs) (step (write m (slice_index (names base r n (a ∷ bs)) 0) (drop 1 (names base r n (a ∷ bs)))) t)
+abbrev pub made_write : Counts → ℕ → Mem → Atom → List Atom → Counts → ssu.Tree → ssu.Tree
+made_write base n m a bs r t = literals n (a ∷ bs) (ssu.Do (ssu.Write m (slice_index (names base r n (a ∷ bs)) 0) (drop 1 (names base r n (a ∷ bs)))) t)
 
-abbrev pub made_if : Counts → ℕ → Cmp → Atom → Atom → Counts → NodeTree → NodeTree → NodeTree
-made_if base n c a b r t u = literals n (a ∷ b ∷ []) (fork c (slice_index (names base r n (a ∷ b ∷ [])) 0) (slice_index (names base r n (a ∷ b ∷ [])) 1) t u)
+abbrev pub made_if : Counts → ℕ → Cmp → Atom → Atom → Counts → ssu.Tree → ssu.Tree → ssu.Tree
+made_if base n c a b r t u = literals n (a ∷ b ∷ []) (ssu.If c (slice_index (names base r n (a ∷ b ∷ [])) 0) (slice_index (names base r n (a ∷ b ∷ [])) 1) t u)
 
-abbrev pub made_jump : Counts → ℕ → ℕ → List Atom → NodeTree
-made_jump base n l bs = literals n bs (last (jump l (names base (λ y. 0) n bs)))
+abbrev pub made_jump : Counts → ℕ → ℕ → List Atom → ssu.Tree
+made_jump base n l bs = literals n bs (ssu.End (ssu.Jump l (names base (λ y. 0) n bs)))
 
-abbrev pub made_halt : Counts → ℕ → ℕ → List Atom → NodeTree
-made_halt base n e bs = literals n bs (last (halt e (names base (λ y. 0) n bs)))
+abbrev pub made_halt : Counts → ℕ → ℕ → List Atom → ssu.Tree
+made_halt base n e bs = literals n bs (ssu.End (ssu.Halt e (names base (λ y. 0) n bs)))
 
 -- a tree, whose new names begin at n
-abbrev pub made : Counts → ℕ → Tree → NodeTree
+abbrev pub made : Counts → ℕ → Tree → ssu.Tree
 made base n (Let x p t) = made_let base (n + spent t) x p (uses t) (made base n t)
 made base n (Read m xs a t) = made_read base (n + spent t) m xs a (uses t) (made base n t)
 made base n (Write m a bs t) = made_write base (n + spent t) m a bs (uses t) (made base n t)
@@ -134,7 +131,7 @@ made base n (If c a b t u) = made_if base (n + (spent u + spent t)) c a b (most 
 made base n (Jump l bs) = made_jump base n l bs
 made base n (Halt e bs) = made_halt base n e bs
 
-abbrev pub made_label : Counts → ℕ → flow.Label → Label
+abbrev pub made_label : Counts → ℕ → flow.Label → ssu.Label
 made_label base n l = record {
   params = map (value base (uses l.body)) l.params;
   body = clones base (uses l.body) l.params (made base n l.body);
@@ -154,7 +151,7 @@ abbrev pub variables : flow.Label → List ℕ
 variables l = l.params ++ defined l.body
 
 -- what becomes of one label, where new names begin at c and go on at d
-pub record IsMade (c d : ℕ) (l : flow.Label) (s : Label) : Type 0 where
+pub record IsMade (c d : ℕ) (l : flow.Label) (s : ssu.Label) : Type 0 where
   pub base : Counts
   pub first : ℕ
   pub laid : Laid base (all_uses l.body) c first (variables l)
@@ -162,7 +159,7 @@ pub record IsMade (c d : ℕ) (l : flow.Label) (s : Label) : Type 0 where
   pub next : d ≡ first + spent l.body
 
 -- labels in order, each under new names
-abbrev pub AllMade : ℕ → List flow.Label → List Label → Type 0
+abbrev pub AllMade : ℕ → List flow.Label → List ssu.Label → Type 0
 AllMade c [] [] = ⊤
 AllMade c [] (s ∷ ss) = ⊥
 AllMade c (l ∷ ls) [] = ⊥
