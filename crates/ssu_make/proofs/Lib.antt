@@ -3,3 +3,6 @@ pub mod Literals
 pub mod Clones
 pub mod Fitting
 pub mod Equal
+pub mod Shape
+pub mod Sizes
+pub mod Counting
