@@ -6,3 +6,4 @@ pub mod Equal
 pub mod Shape
 pub mod Sizes
 pub mod Counting
+pub mod Once

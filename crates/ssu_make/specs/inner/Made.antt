@@ -154,6 +154,7 @@ variables l = l.params ++ defined l.body
 pub record IsMade (c d : ℕ) (l : flow.Label) (s : ssu.Label) : Type 0 where
   pub base : Counts
   pub first : ℕ
+  pub after : c ≤ first
   pub laid : Laid base (all_uses l.body) c first (variables l)
   pub is : s ≡ made_label base first l
   pub next : d ≡ first + spent l.body
