@@ -103,11 +103,11 @@ record Cloned (base r : Counts) (left : List ℕ) (env e : Env) : Type 0 where
   values : (y : ℕ) → is_in y left ≡ true → e (value base r y) ≡ env y
   copies : (y k : ℕ) → is_in y left ≡ false → k < r y → e (base y + k) ≡ env y
 
-pub clone_env : Bool → ℕ → ℕ → Env → Env
+unfoldable pub clone_env : Bool → ℕ → ℕ → Env → Env
 clone_env true first n e = assigned_each e (range_with_len first n) (e (first + n))
 clone_env false first n e = e
 
-pub clones_env : Counts → Counts → List ℕ → Env → Env
+unfoldable pub clones_env : Counts → Counts → List ℕ → Env → Env
 clones_env base r [] e = e
 clones_env base r (x ∷ xs) e = clones_env base r xs (clone_env (nat_lt 1 (r x)) (base x) (r x) e)
 
@@ -121,12 +121,12 @@ unfolding clones_env
 clones-do next base r [] t e w = refl
 clones-do next base r (x ∷ xs) t e w = clone-does (nat_lt 1 (r x)) next (base x) (r x) (clones base r xs t) e w ∙ clones-do next base r xs t (clone_env (nat_lt 1 (r x)) (base x) (r x) e) w
 
-clone-outside : (b : Bool) (first n z : ℕ) (e : Env) → (z < first) ⊎ (first + n ≤ z) → clone_env b first n e z ≡ e z
+pub clone-outside : (b : Bool) (first n z : ℕ) (e : Env) → (z < first) ⊎ (first + n ≤ z) → clone_env b first n e z ≡ e z
 unfolding clone_env
 clone-outside true first n z e h = each-outside n first z e (e (first + n)) h
 clone-outside false first n z e h = refl
 
-clone-inside : (b : Bool) (first n k : ℕ) (e : Env) (w : ℕ) → nat_lt 1 n ≡ b → e (if b then first + n else first) ≡ w → k < n → clone_env b first n e (first + k) ≡ w
+pub clone-inside : (b : Bool) (first n k : ℕ) (e : Env) (w : ℕ) → nat_lt 1 n ≡ b → e (if b then first + n else first) ≡ w → k < n → clone_env b first n e (first + k) ≡ w
 unfolding clone_env
 clone-inside true first n k e w two v lt = each-inside n first k e (e (first + n)) lt ∙ v
 clone-inside false first n k e w two v lt = let none : first + k ≡ first = grind (arith, nat_tests) in ap e none ∙ v
@@ -143,7 +143,7 @@ value-le false n k = (0, (let same : n ≡ n + 0 = omega arith in same), omega a
 keeps-other : (base r : Counts) (m : ℕ) (vs : List ℕ) (e : Env) (x y k : ℕ) → Place base r m vs → is_in x vs ≡ true → is_in y vs ≡ true → (x ≡ y → ⊥) → k ≤ r y → clone_env (nat_lt 1 (r x)) (base x) (r x) e (base y + k) ≡ e (base y + k)
 keeps-other base r m vs e x y k p ix iy ne le = clone-outside (nat_lt 1 (r x)) (base x) (r x) (base y + k) e (apart-outside base r x y k le (p.apart x y ix iy ne))
 
-keeps-own : (b : Bool) (n k : ℕ) (e : Env) → clone_env b n k e (if b then n + k else n) ≡ e (if b then n + k else n)
+pub keeps-own : (b : Bool) (n k : ℕ) (e : Env) → clone_env b n k e (if b then n + k else n) ≡ e (if b then n + k else n)
 unfolding clone_env
 keeps-own true n k e = each-outside k n (n + k) e (e (n + k)) (inr (omega arith))
 keeps-own false n k e = refl

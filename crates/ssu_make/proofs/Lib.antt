@@ -7,3 +7,6 @@ pub mod Shape
 pub mod Sizes
 pub mod Counting
 pub mod Once
+pub mod Scoped
+pub mod Results
+pub mod Rules

@@ -24,7 +24,7 @@ use Rattle.ssu_make.proofs.Counting.{from_on, lies, lies-more, lies-least, lies-
 
 -- ---- how often a name is used at most on a path
 
-pub used_times : ℕ → ssu.Tree → ℕ
+unfoldable pub used_times : ℕ → ssu.Tree → ℕ
 used_times z (ssu.Do s t) = times z (step_names s) + used_times z t
 used_times z (ssu.If c x y t u) = times z (x ∷ y ∷ []) + max (used_times z t) (used_times z u)
 used_times z (ssu.End l) = times z (ssu.last_uses l)
@@ -111,7 +111,7 @@ prim-names base r n x z (UnaOf op a) = refl
 prim-names base r n x z (BinOf op a b) = refl
 
 -- a known variable isn't defined again
-pub Fresh : List ℕ → List ℕ → Type 0
+unfoldable pub Fresh : List ℕ → List ℕ → Type 0
 Fresh known more = (y : ℕ) → times y known + times y more ≤ 1
 
 fresh-out : (known xs rest : List ℕ) → Fresh known (xs ++ rest) → (y : ℕ) → is_in y known ≡ true → is_in y xs ≡ false

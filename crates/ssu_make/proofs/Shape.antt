@@ -77,7 +77,7 @@ prim-node known x (UnaOf op a) ys h = (and_parts (has_count op) (is_known known 
 prim-node known x (BinOf op a b) ys h = refl
 
 -- labels with as many parameters
-pub AsMany : List Label → List ssu.Label → Type 0
+unfoldable pub AsMany : List Label → List ssu.Label → Type 0
 AsMany ls ss = (n l : ℕ) → takes_as_many n (slice_get ls l) ≡ true → single.takes_as_many n (slice_get ss l) ≡ true
 
 module _ (labels : List Label) (ss : List ssu.Label) (many : AsMany labels ss) (base : Counts) where
@@ -105,7 +105,7 @@ module _ (labels : List Label) (ss : List ssu.Label) (many : AsMany labels ss) (
 -- ---- clones stand directly behind their values
 
 -- whatever was defined directly before
-pub EarlyAnyway : ssu.Tree → Type 0
+unfoldable pub EarlyAnyway : ssu.Tree → Type 0
 EarlyAnyway t = (fresh : List ℕ) → clones_early fresh t ≡ true
 
 literal-early : (b : Bool) (n w : ℕ) (t : ssu.Tree) → EarlyAnyway t → EarlyAnyway (literal b n w t)
@@ -158,7 +158,7 @@ made-early base (Halt e bs) n = literals-early n bs _ (λ fresh. refl)
 
 -- ---- scratch is addressed by literals
 
-pub AddressedAnyway : ssu.Tree → Type 0
+unfoldable pub AddressedAnyway : ssu.Tree → Type 0
 AddressedAnyway t = (number : Numbers) → are_addressed number t ≡ true
 
 -- wherever this name has this number

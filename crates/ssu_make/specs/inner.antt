@@ -1,2 +1,3 @@
 pub mod Uses
 pub mod Made
+pub mod Making

@@ -1,10 +1,12 @@
-//! From flows to the single use form.
+//! From flows to the single-use form: each literal is made before the node that uses it, and each
+//! value has a clone for each of its uses where it has several.
 #![tactic(auto)]
 
-ghost use Rattle.std.specs.Prelude.{◌≡◌, ℕ};
-ghost use Rattle.flow_ir.specs.Tree.{Tree};
-ghost use Rattle.ssu_make.specs.inner.Uses.{uses};
+mod bases;
+mod counts;
+mod naming;
+mod nodes;
+mod program;
+mod tree;
 
-pub fn law()
-    ensures { (t : Tree) (x : ℕ) → uses t x ≡ uses t x }
-{}
+pub use program::make;
