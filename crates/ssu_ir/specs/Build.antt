@@ -1,5 +1,7 @@
 -- What contracts say of a builder: its roots, with their trees.
-use Rattle.std.specs.Prelude.{◌≡◌, ℕ, List, [], ◌∷◌, ◌++◌}
+use Rattle.std.specs.Prelude.{◌≡◌, ℕ, true, List, [], ◌∷◌, ◌++◌}
+use Rattle.std.specs.List.{list_all}
+use Rattle.nv_base.specs.Sets.{is_in, all_different}
 use Rattle.ssu_ir.specs.declared.node.SsuLabel.{SsuLabel}
 use Rattle.ssu_ir.specs.declared.node.SsuNode.{SsuNode}
 use Rattle.ssu_ir.specs.declared.build.SsuBuild.{SsuBuild}
@@ -20,9 +22,12 @@ abbrev pub trees_of : List Rooted → List Tree
 trees_of [] = []
 trees_of (r ∷ rs) = r.1 ∷ trees_of rs
 
+abbrev pub rooted : Placed → Rooted
+rooted p = (root p, bare p)
+
 abbrev pub rooted_all : List Placed → List Rooted
 rooted_all [] = []
-rooted_all (p ∷ ps) = (root p, bare p) ∷ rooted_all ps
+rooted_all (p ∷ ps) = rooted p ∷ rooted_all ps
 
 -- the slots hold exactly the nodes of these trees, each once
 pub record Forest (slots : Slots) (roots : List Rooted) : Type 0 where
@@ -42,6 +47,11 @@ pub record CanTake (b : SsuBuild) (n : SsuNode) : Type 0 where
   pub rest : List Rooted
   pub children : ids taken ≡ kids_of n
   pub holds : Holds b (taken ++ rest)
+
+-- the same in other words, where the builder has these roots
+pub record AreDifferentRoots (roots : List Rooted) (ks : List ℕ) : Type 0 where
+  pub different : all_different ks ≡ true
+  pub roots_all : list_all (λ k. is_in k (ids roots)) ks ≡ true
 
 -- the node stands under this number over the roots that it takes, and is a root in their place
 abbrev pub Grown : SsuBuild → SsuBuild → SsuNode → ℕ → Type 0

@@ -7,3 +7,5 @@ pub mod Measures
 pub mod Single
 pub mod Build
 pub mod Examples
+pub mod Work
+pub mod inner

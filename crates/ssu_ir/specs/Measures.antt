@@ -1,7 +1,7 @@
 -- How much a form holds at once, how large it is, and how long its code can get.
 use Rattle.std.specs.Prelude.{ℕ, ◌+◌, ◌*◌, max, List, [], ◌∷◌, length}
 use Rattle.ssu_ir.specs.Tree.{Step, Lit, Una, Bin, Clone, Read, Write, Last, Jump, Halt, Tree, Do, If, End, Label, Node, Does, Forks, Ends, node_values, node_uses}
-use Rattle.ssu_ir.specs.Points.{Point, points}
+use Rattle.ssu_ir.specs.Points.{Point, points, place_values}
 
 -- ---- the greatest number of values that are held at a point
 
@@ -57,3 +57,13 @@ entry_code (l ∷ ls) = 3 * length l.params
 
 abbrev pub code_bound : List Label → ℕ
 code_bound labels = labels_code labels + entry_code labels
+
+-- ---- over points
+
+-- a point with the values that it defines and its uses
+abbrev pub point_size : Point → ℕ
+point_size p = 1 + (length (place_values p.place) + length p.uses)
+
+abbrev pub total : (Point → ℕ) → List Point → ℕ
+total f [] = 0
+total f (p ∷ ps) = f p + total f ps

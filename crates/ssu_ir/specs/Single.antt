@@ -1,5 +1,5 @@
 -- When labels are in single-use form, rule by rule.
-use Rattle.std.specs.Prelude.{ℕ, ◌+◌, ◌/◌, ◌%◌, ◌^◌, ◌==◌, nat_le, nat_lt, Bool, true, false, not, ◌&&◌, List, [], ◌∷◌, ◌++◌, Option, Some, None, slice_get, length, if◌then◌else◌}
+use Rattle.std.specs.Prelude.{◌≡◌, ℕ, ◌+◌, ◌*◌, ◌<◌, ◌⊎◌, ◌/◌, ◌%◌, ◌^◌, ◌==◌, nat_le, nat_lt, Bool, true, false, not, ◌&&◌, List, [], ◌∷◌, ◌++◌, Option, Some, None, slice_get, length, if◌then◌else◌}
 use Rattle.std.specs.List.{list_all, list_any}
 use Rattle.nv_base.specs.declared.term.Mem.{Mem}
 use Rattle.nv_base.specs.declared.term.Mem.TheVariants.{Sram, Sdram, Scratch}
@@ -24,6 +24,10 @@ all_defined (l ∷ ls) = l.params ++ (defined l.body ++ all_defined ls)
 -- a number below 2^16, shifted to the left by 0, 8 or 16
 abbrev pub is_narrow : ℕ → Bool
 is_narrow v = list_any (λ k. ((v % 2 ^ k) == 0) && nat_lt (v / 2 ^ k) (2 ^ 16)) (0 ∷ 8 ∷ 16 ∷ [])
+
+-- what the test says
+abbrev pub IsNarrow : ℕ → Type 0
+IsNarrow v = (w : ℕ) × (w < 2 ^ 16) × ((v ≡ w) ⊎ ((v ≡ w * 2 ^ 8) ⊎ (v ≡ w * 2 ^ 16)))
 
 -- a literal is narrow, a shift's count is 1 to 31, and an access has 1 to 8 words, of SDRAM an even number
 abbrev pub is_step : Step → Bool

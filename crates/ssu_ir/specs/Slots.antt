@@ -54,9 +54,9 @@ root (DoAt i s p) = i
 root (IfAt i c x y p q) = i
 root (EndAt i l) = i
 
-abbrev pub roots : List Placed → List ℕ
-roots [] = []
-roots (p ∷ ps) = root p ∷ roots ps
+abbrev pub roots_of : List Placed → List ℕ
+roots_of [] = []
+roots_of (p ∷ ps) = root p ∷ roots_of ps
 
 -- the trees below its root
 abbrev pub kids : Placed → List Placed

@@ -1,16 +1,20 @@
 //! Laws of the definitions in specs/: each is the contract of a function that does nothing.
-ghost use Rattle.std.specs.Prelude.{◌≡◌, ℕ, true, false, List, [], ◌∷◌, map};
+ghost use Rattle.std.specs.Prelude.{◌≡◌, ◌≤◌, ◌↔◌, ℕ, true, false, List, [], ◌∷◌, All, length, map};
 ghost use Rattle.nv_base.specs.declared.term.Bin.TheVariants.{Add};
 ghost use Rattle.nv_base.specs.declared.term.Mem.TheVariants.{Sdram, Scratch};
 ghost use Rattle.nv_base.specs.declared.term.Una.TheVariants.{Not, Shl};
 ghost use Rattle.nv_base.specs.Memories.{Memories};
 ghost use Rattle.nv_base.specs.Progress.{Grows, FollowsAll};
+ghost use Rattle.ssu_ir.specs.Build.{Rooted, Holds, CanTake, AreDifferentRoots};
+ghost use Rattle.ssu_ir.specs.declared.build.SsuBuild.{SsuBuild};
+ghost use Rattle.ssu_ir.specs.declared.node.SsuNode.{SsuNode};
+ghost use Rattle.ssu_ir.specs.Slots.{kids_of};
 ghost use Rattle.ssu_ir.specs.Examples.{sum_of_two, copied_and_added, less_of_two, one_label};
 ghost use Rattle.ssu_ir.specs.Meaning.{ssu_meaning};
-ghost use Rattle.ssu_ir.specs.Measures.{peak, size, code_bound};
-ghost use Rattle.ssu_ir.specs.Points.{points};
-ghost use Rattle.ssu_ir.specs.Single.{single};
-ghost use Rattle.ssu_ir.specs.Tree.{Label, Do, End, Lit, Una, Bin, Clone, Read, Write, Jump, Halt};
+ghost use Rattle.ssu_ir.specs.Measures.{peak, size, code_bound, total, point_size};
+ghost use Rattle.ssu_ir.specs.Points.{points, tree_points, nodes, Names};
+ghost use Rattle.ssu_ir.specs.Single.{single, is_narrow, IsNarrow};
+ghost use Rattle.ssu_ir.specs.Tree.{Tree, Label, Do, End, Lit, Una, Bin, Clone, Read, Write, Jump, Halt};
 
 /// With more jumps a run only goes on: an outcome stays, and the writes before are the first ones of
 /// those after.
@@ -21,6 +25,24 @@ pub fn more_jumps_go_on()
 /// The memories of a run are the first ones after its writes.
 pub fn memories_follow_writes()
     ensures { (labels : List Label) (args : List ℕ) (p : Memories) → FollowsAll p (ssu_meaning labels args p) }
+{}
+
+/// Different roots of a builder can be taken, in any order.
+pub fn different_roots_can_be_taken()
+    ensures { (b : SsuBuild) (n : SsuNode) (roots : List Rooted) → Holds b roots → AreDifferentRoots roots (kids_of n) → CanTake b n }
+{}
+
+/// The size counts each point with the values that it defines and its uses, and the peak bounds what
+/// is held at each.
+pub fn measures_speak_of_points()
+    ensures size { (labels : List Label) → size labels ≡ total point_size (points labels) }
+    ensures peak { (labels : List Label) → All (λ p. length p.before ≤ peak labels) (points labels) }
+    ensures below { (of : Names) (above : List ℕ) (t : Tree) → length (tree_points of above t) ≡ nodes t }
+{}
+
+/// The test of a literal tells the narrow ones.
+pub fn narrow_literals_are_told()
+    ensures { (v : ℕ) → is_narrow v ≡ true ↔ IsNarrow v }
 {}
 
 /// The sum of two parameters: both are held at the entry and at the addition, then their sum.

@@ -5,8 +5,13 @@
 mod build;
 pub mod laws;
 mod node;
+mod pieces;
+mod rules;
+mod search;
 mod ssu;
+pub mod walk;
 
 pub use build::SsuBuild;
 pub use node::{NodeId, SsuLabel, SsuNode};
+pub use rules::single;
 pub use ssu::Ssu;

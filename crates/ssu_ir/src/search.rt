@@ -1,0 +1,269 @@
+// What the tree under a number says of one name. Each call takes no memory, and goes down by
+// recursion.
+
+ghost use Rattle.std.specs.Prelude.{◌≡◌, min};
+ghost use Rattle.std.specs.List.{list_all, list_any};
+ghost use Rattle.nv_base.specs.Sets.{is_in};
+ghost use Rattle.ssu_ir.specs.Single as rules;
+ghost use Rattle.ssu_ir.specs.Single.{names, defined};
+ghost use Rattle.ssu_ir.specs.Slots.{node_of};
+ghost use Rattle.ssu_ir.specs.Tree.{node_uses};
+ghost use Rattle.ssu_ir.specs.inner.Checks as checks;
+ghost use Rattle.ssu_ir.specs.inner.Checks.{node_names, node_defs, node_fits, times_in};
+ghost use Rattle.ssu_ir.specs.inner.Under.{HasTree, tree_at};
+
+use crate::node::{NodeId, SsuNode};
+use crate::pieces::{Kids, behind, clones, clones_from, operands, uses, values};
+use crate::ssu::Ssu;
+use nv_base::Mem;
+
+/// Whether a name is in a list.
+pub fn has(xs: &[u32], x: u32) -> bool
+    ensures { result ≡ is_in x xs.now }
+{
+    xs.contains(&x)
+}
+
+/// How often a name is in a list, at most 255.
+pub fn times(xs: &[u32], x: u32) -> u8
+    ensures { result ≡ min 255 (times_in x xs.now) }
+{
+    let mut n: u8 = 0;
+    for y in xs {
+        if x == *y {
+            n = n.saturating_add(1);
+        }
+    }
+    n
+}
+
+fn is_operand(n: &SsuNode, x: u32) -> bool
+    ensures { result ≡ is_in x (node_names (node_of n.now)) }
+{
+    let (front, rest) = operands(n);
+    if has(front, x) {
+        return true;
+    }
+    has(rest, x)
+}
+
+fn is_use(n: &SsuNode, x: u32) -> bool
+    ensures { result ≡ is_in x (node_uses (node_of n.now)) }
+{
+    let (front, rest) = uses(n);
+    if has(front, x) {
+        return true;
+    }
+    has(rest, x)
+}
+
+fn is_defined(n: &SsuNode, x: u32) -> bool
+    ensures { result ≡ is_in x (node_defs (node_of n.now)) }
+{
+    if has(values(n), x) {
+        return true;
+    }
+    has(clones(n), x)
+}
+
+// Whether an access of a node at this name may be, where the name has this number.
+fn fits(n: &SsuNode, x: u32, number: Option<u32>) -> bool
+    ensures { result ≡ node_fits (node_of n.now) x number }
+{
+    match n {
+        SsuNode::Lit(_, _, _) => true,
+        SsuNode::Una(_, _, _, _) => true,
+        SsuNode::Bin(_, _, _, _, _) => true,
+        SsuNode::Clone(_, _, _) => true,
+        SsuNode::Read(m, xs, y, _) => {
+            if x == *y {
+                is_address(*m, number, xs.len())
+            } else {
+                true
+            }
+        }
+        SsuNode::Write(m, y, xs, _) => {
+            if x == *y {
+                is_address(*m, number, xs.len())
+            } else {
+                true
+            }
+        }
+        SsuNode::If(_, _, _, _, _) => true,
+        SsuNode::Jump(_, _) => true,
+        SsuNode::Halt(_, _) => true,
+    }
+}
+
+// Whether so many words may be accessed there.
+fn is_address(m: Mem, number: Option<u32>, n: usize) -> bool
+    ensures { result ≡ rules.is_address m number n }
+{
+    match m {
+        Mem::Sram => true,
+        Mem::Sdram => true,
+        Mem::Scratch => fits_scratch(number, n),
+    }
+}
+
+fn fits_scratch(number: Option<u32>, n: usize) -> bool
+    ensures { result ≡ rules.fits_scratch n number }
+{
+    match number {
+        Some(v) => n <= 512 && v as usize + n <= 512,
+        None => false,
+    }
+}
+
+/// Whether the tree uses the name.
+pub fn mentions(s: &Ssu, id: NodeId, x: u32) -> bool
+    requires { HasTree s.now.nodes.slots id.0 }
+    ensures { result ≡ is_in x (names (tree_at s.now.nodes.slots id.0)) }
+{
+    let n = s.node(id);
+    if is_operand(n, x) {
+        return true;
+    }
+    match behind(n) {
+        Kids::None => false,
+        Kids::One(k) => mentions(s, k, x),
+        Kids::Two(j, k) => {
+            if mentions(s, j, x) {
+                return true;
+            }
+            mentions(s, k, x)
+        }
+    }
+}
+
+/// How often the tree defines the name, at most 255.
+pub fn times_defined(s: &Ssu, id: NodeId, x: u32) -> u8
+    requires { HasTree s.now.nodes.slots id.0 }
+    ensures { result ≡ min 255 (times_in x (defined (tree_at s.now.nodes.slots id.0))) }
+{
+    let n = s.node(id);
+    let here = times(values(n), x).saturating_add(times(clones(n), x));
+    match behind(n) {
+        Kids::None => here,
+        Kids::One(k) => here.saturating_add(times_defined(s, k, x)),
+        Kids::Two(j, k) => {
+            let first = times_defined(s, j, x);
+            here.saturating_add(first.saturating_add(times_defined(s, k, x)))
+        }
+    }
+}
+
+/// Whether the tree uses the name and doesn't define it above.
+pub fn is_free(s: &Ssu, id: NodeId, x: u32) -> bool
+    requires { HasTree s.now.nodes.slots id.0 }
+    ensures { result ≡ checks.is_free x (tree_at s.now.nodes.slots id.0) }
+{
+    let n = s.node(id);
+    if is_operand(n, x) {
+        return true;
+    }
+    match behind(n) {
+        Kids::None => false,
+        Kids::One(k) => {
+            if is_defined(n, x) {
+                return false;
+            }
+            is_free(s, k, x)
+        }
+        Kids::Two(j, k) => {
+            if is_free(s, j, x) {
+                return true;
+            }
+            is_free(s, k, x)
+        }
+    }
+}
+
+/// Whether the tree uses the name or a clone of it.
+#[cycle(copies)]
+pub fn copy_used(s: &Ssu, id: NodeId, x: u32) -> bool
+    requires { HasTree s.now.nodes.slots id.0 }
+    ensures { result ≡ checks.copy_used x (tree_at s.now.nodes.slots id.0) }
+{
+    let n = s.node(id);
+    if is_use(n, x) {
+        return true;
+    }
+    match behind(n) {
+        Kids::None => false,
+        Kids::One(k) => {
+            if any_used(s, k, clones_from(n, x)) {
+                return true;
+            }
+            if has(clones(n), x) {
+                return false;
+            }
+            copy_used(s, k, x)
+        }
+        Kids::Two(j, k) => {
+            if copy_used(s, j, x) {
+                return true;
+            }
+            copy_used(s, k, x)
+        }
+    }
+}
+
+// Whether it uses one of the names.
+#[cycle(copies)]
+fn any_used(s: &Ssu, id: NodeId, xs: &[u32]) -> bool
+    requires { HasTree s.now.nodes.slots id.0 }
+    ensures { result ≡ list_any (λ x. checks.copy_used x (tree_at s.now.nodes.slots id.0)) xs.now }
+{
+    for x in xs {
+        if copy_used(s, id, *x) {
+            return true;
+        }
+    }
+    false
+}
+
+/// Whether every access in the tree whose address is the name or a clone of it may be, where the
+/// name has this number or none that is known.
+#[cycle(accesses)]
+pub fn addressed(s: &Ssu, id: NodeId, x: u32, number: Option<u32>) -> bool
+    requires { HasTree s.now.nodes.slots id.0 }
+    ensures { result ≡ checks.addressed number x (tree_at s.now.nodes.slots id.0) }
+{
+    let n = s.node(id);
+    if !fits(n, x, number) {
+        return false;
+    }
+    match behind(n) {
+        Kids::None => true,
+        Kids::One(k) => {
+            if !all_addressed(s, k, clones_from(n, x), number) {
+                return false;
+            }
+            if is_defined(n, x) {
+                return true;
+            }
+            addressed(s, k, x, number)
+        }
+        Kids::Two(j, k) => {
+            if !addressed(s, j, x, number) {
+                return false;
+            }
+            addressed(s, k, x, number)
+        }
+    }
+}
+
+/// The same of some names.
+#[cycle(accesses)]
+pub fn all_addressed(s: &Ssu, id: NodeId, xs: &[u32], number: Option<u32>) -> bool
+    requires { HasTree s.now.nodes.slots id.0 }
+    ensures { result ≡ list_all (λ x. checks.addressed number x (tree_at s.now.nodes.slots id.0)) xs.now }
+{
+    for x in xs {
+        if !addressed(s, id, *x, number) {
+            return false;
+        }
+    }
+    true
+}
