@@ -99,9 +99,9 @@ begins-all base r m vs zs p (x ∷ xs) (w ∷ ws) set env e iv iz sub h =
 -- ---- their clones
 
 -- the values still to be cloned have their words, and so have the copies of all others
-record Cloned (base r : Counts) (left : List ℕ) (env e : Env) : Type 0 where
-  values : (y : ℕ) → is_in y left ≡ true → e (value base r y) ≡ env y
-  copies : (y k : ℕ) → is_in y left ≡ false → k < r y → e (base y + k) ≡ env y
+pub record Cloned (base r : Counts) (left : List ℕ) (env e : Env) : Type 0 where
+  pub values : (y : ℕ) → is_in y left ≡ true → e (value base r y) ≡ env y
+  pub copies : (y k : ℕ) → is_in y left ≡ false → k < r y → e (base y + k) ≡ env y
 
 unfoldable pub clone_env : Bool → ℕ → ℕ → Env → Env
 clone_env true first n e = assigned_each e (range_with_len first n) (e (first + n))
@@ -176,7 +176,7 @@ clone-one base r m vs env e x xs p iv h =
       copies = λ y k o lt. cloned-copy base r m vs env e x xs p ix h y k o lt (cases_eq y x);
     }
 
-clone-all : (base r : Counts) (m : ℕ) (vs : List ℕ) → Place base r m vs → (xs : List ℕ) (env e : Env) → ((y : ℕ) → is_in y xs ≡ true → is_in y vs ≡ true) → Cloned base r xs env e → Cloned base r [] env (clones_env base r xs e)
+pub clone-all : (base r : Counts) (m : ℕ) (vs : List ℕ) → Place base r m vs → (xs : List ℕ) (env e : Env) → ((y : ℕ) → is_in y xs ≡ true → is_in y vs ≡ true) → Cloned base r xs env e → Cloned base r [] env (clones_env base r xs e)
 unfolding clones_env
 clone-all base r m vs p [] env e iv h = h
 clone-all base r m vs p (x ∷ xs) env e iv h = clone-all base r m vs p xs env (clone_env (nat_lt 1 (r x)) (base x) (r x) e) (λ y i. iv y (or_right (nat_eq y x) (is_in y xs) i)) (clone-one base r m vs env e x xs p iv h)

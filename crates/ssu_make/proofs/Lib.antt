@@ -10,3 +10,7 @@ pub mod Once
 pub mod Scoped
 pub mod Results
 pub mod Rules
+pub mod Along
+pub mod Turns
+pub mod NodeForms
+pub mod Held

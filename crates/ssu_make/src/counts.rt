@@ -1,11 +1,8 @@
 // Numbers of variables.
 
 ghost use Rattle.std.specs.Prelude.{◌≡◌, ℕ, ◌<◌, max, nat_eq, true, IfOk, OnOk, if◌then◌else◌};
-ghost use Rattle.std.specs.HashMap.{get};
-ghost use Rattle.std.specs.Map.{count_at};
 ghost use Rattle.nv_base.specs.Sets.{is_in};
-ghost use Rattle.ssu_make.specs.inner.Making.{counted};
-ghost use Rattle.ssu_make.specs.inner.Uses.{outside};
+ghost use Rattle.ssu_make.specs.inner.Uses.{kept, outside};
 
 use nv_base::NoMemory;
 use std::alloc::Global;
@@ -17,13 +14,13 @@ pub struct Counts {
     map: HashMap<u32, u32>,
     // each variable that has a number, and maybe others
     keys: Vec<u32>,
-    ghost listed: { (y : ℕ) → 0 < count_at (get nat_eq map) y → is_in y keys.items ≡ true },
+    ghost listed: { (y : ℕ) → 0 < kept map y → is_in y keys.items ≡ true },
 }
 
 impl Counts {
     /// All numbers 0.
     pub fn new(alloc: Global) -> Counts
-        ensures { (y : ℕ) → counted result y ≡ 0 }
+        ensures { (y : ℕ) → kept result.map y ≡ 0 }
     {
         Counts {
             map: HashMap::new(alloc),
@@ -33,14 +30,14 @@ impl Counts {
 
     /// The number of a variable.
     pub fn at(&self, x: u32) -> u32
-        ensures { result ≡ counted self.now x }
+        ensures { result ≡ kept self.now.map x }
     {
         self.map.get(&x).copied().unwrap_or(0)
     }
 
     /// Gives a variable a number.
     pub fn put(&mut self, x: u32, n: u32) -> Result<(), NoMemory>
-        ensures { OnOk result ((y : ℕ) → counted self.new y ≡ (if nat_eq y x then n else counted self.old y)) }
+        ensures { OnOk result ((y : ℕ) → kept self.new.map y ≡ (if nat_eq y x then n else kept self.old.map y)) }
     {
         self.keys.push(x)?;
         self.map.insert(x, n)?;
@@ -49,16 +46,22 @@ impl Counts {
 
     /// Takes the numbers of variables away.
     pub fn forget(&mut self, xs: &[u32])
-        ensures { (y : ℕ) → counted self.new y ≡ outside xs.now (counted self.old) y }
+        ensures { (y : ℕ) → kept self.new.map y ≡ outside xs.now (kept self.old.map) y }
     {
         for x in xs {
-            self.map.remove(x);
+            self.remove(*x);
         }
+    }
+
+    fn remove(&mut self, x: u32)
+        ensures { (y : ℕ) → kept self.new.map y ≡ (if nat_eq y x then 0 else kept self.old.map y) }
+    {
+        self.map.remove(&x);
     }
 
     /// The greater number of each variable.
     pub fn most(self, other: Counts) -> Result<Counts, NoMemory>
-        ensures { IfOk result (λ c. (y : ℕ) → counted c y ≡ max (counted self y) (counted other y)) }
+        ensures { IfOk result (λ c. (y : ℕ) → kept c.map y ≡ max (kept self.map y) (kept other.map y)) }
     {
         if self.keys.len() < other.keys.len() {
             other.raised(&self)
@@ -69,7 +72,7 @@ impl Counts {
 
     // These numbers, raised to others where those are greater.
     fn raised(mut self, other: &Counts) -> Result<Counts, NoMemory>
-        ensures { IfOk result (λ c. (y : ℕ) → counted c y ≡ max (counted self y) (counted other.now y)) }
+        ensures { IfOk result (λ c. (y : ℕ) → kept c.map y ≡ max (kept self.map y) (kept other.now.map y)) }
     {
         for x in &other.keys {
             self.raise(*x, other.at(*x))?;
@@ -79,7 +82,7 @@ impl Counts {
 
     // Raises the number of a variable to n.
     fn raise(&mut self, x: u32, n: u32) -> Result<(), NoMemory>
-        ensures { OnOk result ((y : ℕ) → counted self.new y ≡ (if nat_eq y x then max n (counted self.old y) else counted self.old y)) }
+        ensures { OnOk result ((y : ℕ) → kept self.new.map y ≡ (if nat_eq y x then max n (kept self.old.map y) else kept self.old.map y)) }
     {
         if self.at(x) < n {
             self.put(x, n)?;

@@ -98,8 +98,8 @@ pub fn operands(
     Ok(v)
 }
 
-// The name of a value, where `counts` has its uses.
-fn value_name(bases: &Counts, counts: &Counts, x: u32) -> Result<u32, NoMemory>
+/// The name of a value, where `counts` has its uses.
+pub fn value_name(bases: &Counts, counts: &Counts, x: u32) -> Result<u32, NoMemory>
     ensures { IfOk result (λ z. z ≡ value (counted bases.now) (counted counts.now) x) }
 {
     let n = counts.at(x);

@@ -76,7 +76,11 @@ fn stretch(alloc: Global, first: u32, n: u32) -> Result<Vec<u32>, NoMemory>
     requires { first + n < 2 ^ 32 }
     ensures { IfOk result (λ v. v.items ≡ range_with_len first n) }
 {
-    Ok((first..first + n).collect(alloc)?)
+    let mut v = Vec::new(alloc);
+    for k in 0..n {
+        v.push(first + k)?;
+    }
+    Ok(v)
 }
 
 // The clones of a value of n uses, whose names begin at `first`.

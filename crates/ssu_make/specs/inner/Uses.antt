@@ -1,5 +1,7 @@
 -- How often variables of a flow are used.
 use Rattle.std.specs.Prelude.{ℕ, ◌+◌, max, nat_eq, List, [], ◌∷◌, if◌then◌else◌}
+use Rattle.std.specs.HashMap.{HashMap, get}
+use Rattle.std.specs.Map.{count_at}
 use Rattle.nv_base.specs.declared.term.Atom.{Atom}
 use Rattle.nv_base.specs.declared.term.Atom.TheVariants.{Var, Lit}
 use Rattle.nv_base.specs.declared.term.Primitive.{Primitive}
@@ -10,6 +12,10 @@ use Rattle.flow_ir.specs.Tree.{Tree, Let, Read, Write, If, Jump, Halt}
 -- a number for each variable
 abbrev pub Counts : Type 0
 Counts = ℕ → ℕ
+
+-- the numbers in a map, 0 where it has none
+abbrev pub kept : {S : Type 0} → HashMap ℕ ℕ S → Counts
+kept m = count_at (get nat_eq m)
 
 abbrev pub here : Atom → Counts
 here (Var x) y = if nat_eq y x then 1 else 0
