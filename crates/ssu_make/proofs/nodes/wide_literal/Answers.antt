@@ -1,0 +1,23 @@
+use Rattle.std.proofs.Common.{rules, ◌≡◌, ◌+◌, ◌<◌, ◌^◌, false, nat_lt, IfOk, ℕ, ◌-◌, ◌*◌, ◌≤◌, length, ◌/◌, ◌%◌, Bool, true, nat_eq, List, [], ◌∷◌, ◌++◌, slice_index_or, slice_set, bit_and, bit_or, Fits, w8, w32, w64, Bor, MutBor}
+use Rattle.std.specs.List.{range_with_len}
+use Rattle.nv_base.specs.declared.term.Atom.TheVariants.{Lit}
+use Rattle.ssu_make.specs.inner.Making.{counted, IsRoot, Becomes}
+use Rattle.ssu_make.specs.inner.Made as made
+use Rattle.ssu_make.specs.inner.Made.{all_taken}
+use Rattle.ssu_make.proofs.nodes.wide_literal.Goals as goal
+
+-- src/nodes.rt:22:17
+pub add-requires : goal.add-requires
+add-requires c = ?
+
+-- src/nodes.rt:23:15
+pub add-requires-2 : goal.add-requires-2
+add-requires-2 c = ?
+
+-- src/nodes.rt:24:5
+pub add-requires-3 : goal.add-requires-3
+add-requires-3 c = ?
+
+-- src/nodes.rt:17:1
+pub returns : goal.returns
+returns c = ?
