@@ -60,13 +60,13 @@ pub record Asks (A : Answers) : Type 0 where
 pub three : (F G H : Answers) → ((p : Primitive) (a : Option Primitive) → F p a → a ≡ value_rule p) → ((p : Primitive) (a : Option Primitive) → G p a → a ≡ operand_rule p) → ((p : Primitive) (a : Option Primitive) → H p a → a ≡ nothing_rule p) → Asks (λ p a. (IsSomeOf a × F p a) ⊎ (F p None × ((IsSomeOf a × G p a) ⊎ (G p None × H p a))))
 three F G H f g h = record {
   some =
-    λ p q s.
-    ⊎_elim (λ k. inl (sym (f p (Some q) k.1)))
-    (λ k. inr (⊎_elim (λ l. inl (sym (g p (Some q) l.1))) (λ l. inr (sym (h p (Some q) l.1))) k.1)) s;
+      λ p q s.
+      ⊎_elim (λ k. inl (sym (f p (Some q) k.1)))
+      (λ k. inr (⊎_elim (λ l. inl (sym (g p (Some q) l.1))) (λ l. inr (sym (h p (Some q) l.1))) k.1)) s;
   none =
-    λ p s.
-    ⊎_elim (λ k. absurd (none-some k.0.0 k.0.1))
-    (λ k. ⊎_elim (λ l. absurd (none-some l.0.0 l.0.1)) (λ l. (sym (f p None k.0), sym (g p None l.0), sym (h p None l.1))) k.1) s;
+      λ p s.
+      ⊎_elim (λ k. absurd (none-some k.0.0 k.0.1))
+      (λ k. ⊎_elim (λ l. absurd (none-some l.0.0 l.0.1)) (λ l. (sym (f p None k.0), sym (g p None l.0), sym (h p None l.1))) k.1) s;
 }
 
 at_rest : (A : Answers) → Asks A → (p q : Primitive) → IsAnswered A p q → is_same q ≡ false → is_answered q ≡ false

@@ -3,6 +3,8 @@
 
 mod program;
 mod rules;
+#[cfg(test)]
+mod tests;
 
 pub use program::to_flow;
 pub use rules::simplified;

@@ -13,8 +13,6 @@ mod lowering;
 #[cfg(test)]
 mod names;
 #[cfg(test)]
-mod rules;
-#[cfg(test)]
 mod texts;
 #[cfg(test)]
 mod types;
