@@ -1,0 +1,6 @@
+//! Where the values of a program in single use form stand while its code runs.
+#![tactic(auto)]
+
+mod place;
+
+pub use place::{First, Home, Pass, Place, PlaceError, Placement, Serve};
