@@ -1,0 +1,13 @@
+//! The single-use form: labels whose nodes lie in a slab under numbers, each value used at most
+//! once on each path, and cloned where it is used more often.
+#![tactic(auto)]
+
+mod build;
+pub mod laws;
+mod node;
+mod ssu;
+pub mod walk;
+
+pub use build::SsuBuild;
+pub use node::{NodeId, SsuLabel, SsuNode};
+pub use ssu::Ssu;
