@@ -69,9 +69,9 @@ over-le-one n i [] = omega arith
 over-le-one n i (None ∷ os) = over-le-one n (suc i) os
 over-le-one n i (Some p ∷ os) = head n i (nat_eq n i) refl (over (at_one n) (suc i) os) (over-le-one n (suc i) os) (over-past n (suc i) os)
   where
-  head : (n i : ℕ) (b : Bool) → nat_eq n i ≡ b → (r : ℕ) → r ≤ 1 → (n < suc i → r ≡ 0) → one_if b + r ≤ 1
-  head n i true e r h z = let same = eqb-true n i e in let rest = z (omega arith) in omega arith
-  head n i false e r h z = omega arith
+    head : (n i : ℕ) (b : Bool) → nat_eq n i ≡ b → (r : ℕ) → r ≤ 1 → (n < suc i → r ≡ 0) → one_if b + r ≤ 1
+    head n i true e r h z = let same = eqb-true n i e in let rest = z (omega arith) in omega arith
+    head n i false e r h z = omega arith
 
 over-absent : (n i j : ℕ) (os : Table) → n ≡ i + j → is_some (get_or os j None) ≡ false → over (at_one n) i os ≡ 0
 over-absent n i j [] e h = refl
@@ -88,9 +88,9 @@ one-source : (z : ℕ) (os : Table) (o : Option Place) → is_some (get_or os z 
 one-source z os None h = let none = over-none 0 os in omega arith
 one-source z os (Some p) h = at_place (nat_eq (number p) z) refl
   where
-  at_place : (b : Bool) → nat_eq (number p) z ≡ b → over (at_one (number p)) 0 os + one_if b ≤ 1
-  at_place true e = let none = over-absent (number p) 0 z os (let same = eqb-true (number p) z e in omega arith) h in omega arith
-  at_place false e = let most = over-le-one (number p) 0 os in omega arith
+    at_place : (b : Bool) → nat_eq (number p) z ≡ b → over (at_one (number p)) 0 os + one_if b ≤ 1
+    at_place true e = let none = over-absent (number p) 0 z os (let same = eqb-true (number p) z e in omega arith) h in omega arith
+    at_place false e = let most = over-le-one (number p) 0 os in omega arith
 
 sources-le : (z : ℕ) (os xs : Table) → is_some (get_or os z None) ≡ false → over (λ k. readings xs k) 0 os + readings xs z ≤ pending_count xs
 sources-le z os [] h = let none = over-none 0 os in omega arith

@@ -60,19 +60,19 @@ counted-gone src rds i p c w e =
       sources = length-set src i None ∙ c.sources;
       readers = length-set rds (number p) (slice_index rds (number p) - 1) ∙ c.readers;
       counts = λ k h. ⊎_elim
-        (λ (same : number p ≡ k).
-        let here : slice_index (set rds (number p) (slice_index rds (number p) - 1)) k ≡ slice_index rds (number p) - 1 = ap (λ n. slice_index (set rds (number p) (slice_index rds (number p) - 1)) n) (sym same) ∙ get_or-set_same rds (number p) (slice_index rds (number p) - 1) 0 (omega (arith, c.readers)) in
-        let was : slice_index rds (number p) ≡ readings src k = c.counts (number p) w ∙ ap (λ n. readings src n) same in
-        let fewer = readings-gone src i k p e in
-        let one = one-at (number p) k same in
-        omega arith)
-        (λ (ne : number p ≡ k → ⊥).
-        let here : slice_index (set rds (number p) (slice_index rds (number p) - 1)) k ≡ slice_index rds k = get_or-set_other rds (number p) k (slice_index rds (number p) - 1) 0 (λ f. ne (sym f)) in
-        let was = c.counts k h in
-        let fewer = readings-gone src i k p e in
-        let none = none-at (number p) k ne in
-        omega arith)
-        (cases_eq (number p) k);
+          (λ (same : number p ≡ k).
+          let here : slice_index (set rds (number p) (slice_index rds (number p) - 1)) k ≡ slice_index rds (number p) - 1 = ap (λ n. slice_index (set rds (number p) (slice_index rds (number p) - 1)) n) (sym same) ∙ get_or-set_same rds (number p) (slice_index rds (number p) - 1) 0 (omega (arith, c.readers)) in
+          let was : slice_index rds (number p) ≡ readings src k = c.counts (number p) w ∙ ap (λ n. readings src n) same in
+          let fewer = readings-gone src i k p e in
+          let one = one-at (number p) k same in
+          omega arith)
+          (λ (ne : number p ≡ k → ⊥).
+          let here : slice_index (set rds (number p) (slice_index rds (number p) - 1)) k ≡ slice_index rds k = get_or-set_other rds (number p) k (slice_index rds (number p) - 1) 0 (λ f. ne (sym f)) in
+          let was = c.counts k h in
+          let fewer = readings-gone src i k p e in
+          let none = none-at (number p) k ne in
+          omega arith)
+          (cases_eq (number p) k);
     }
 
 -- and where one is added
@@ -82,19 +82,19 @@ counted-added src rds i p c w wi e =
       sources = length-set src i (Some p) ∙ c.sources;
       readers = length-set rds (number p) (slice_index rds (number p) + 1) ∙ c.readers;
       counts = λ k h. ⊎_elim
-        (λ (same : number p ≡ k).
-        let here : slice_index (set rds (number p) (slice_index rds (number p) + 1)) k ≡ slice_index rds (number p) + 1 = ap (λ n. slice_index (set rds (number p) (slice_index rds (number p) + 1)) n) (sym same) ∙ get_or-set_same rds (number p) (slice_index rds (number p) + 1) 0 (omega (arith, c.readers)) in
-        let was : slice_index rds (number p) ≡ readings src k = c.counts (number p) w ∙ ap (λ n. readings src n) same in
-        let more' = readings-added src i k p (omega (arith, c.sources)) e in
-        let one = one-at (number p) k same in
-        omega arith)
-        (λ (ne : number p ≡ k → ⊥).
-        let here : slice_index (set rds (number p) (slice_index rds (number p) + 1)) k ≡ slice_index rds k = get_or-set_other rds (number p) k (slice_index rds (number p) + 1) 0 (λ f. ne (sym f)) in
-        let was = c.counts k h in
-        let more' = readings-added src i k p (omega (arith, c.sources)) e in
-        let none = none-at (number p) k ne in
-        omega arith)
-        (cases_eq (number p) k);
+          (λ (same : number p ≡ k).
+          let here : slice_index (set rds (number p) (slice_index rds (number p) + 1)) k ≡ slice_index rds (number p) + 1 = ap (λ n. slice_index (set rds (number p) (slice_index rds (number p) + 1)) n) (sym same) ∙ get_or-set_same rds (number p) (slice_index rds (number p) + 1) 0 (omega (arith, c.readers)) in
+          let was : slice_index rds (number p) ≡ readings src k = c.counts (number p) w ∙ ap (λ n. readings src n) same in
+          let more' = readings-added src i k p (omega (arith, c.sources)) e in
+          let one = one-at (number p) k same in
+          omega arith)
+          (λ (ne : number p ≡ k → ⊥).
+          let here : slice_index (set rds (number p) (slice_index rds (number p) + 1)) k ≡ slice_index rds k = get_or-set_other rds (number p) k (slice_index rds (number p) + 1) 0 (λ f. ne (sym f)) in
+          let was = c.counts k h in
+          let more' = readings-added src i k p (omega (arith, c.sources)) e in
+          let none = none-at (number p) k ne in
+          omega arith)
+          (cases_eq (number p) k);
     }
 
 -- ---- what is pending and what is done
@@ -152,8 +152,8 @@ stands-run ms src done p t a st e z =
       goes = λ k h. st.goes k (pending-before (source_at src k) (source_at (set src (number t) None) k) (gone-or-same src (number t) k p e) h);
       apart = λ q s h. st.apart q s (source-before (source_at src (number q)) (source_at (set src (number t) None) (number q)) s (gone-or-same src (number t) (number q) p e) h);
       effect = λ f q n.
-        ap (λ (g : Words). word_from g q (source_at (set src (number t) None) (number q))) (one_by_one-push done (p, t) f)
-        ∙ run-word src p t q (one_by_one done f) e z (cases_place q t) ∙ st.effect f q n;
+          ap (λ (g : Words). word_from g q (source_at (set src (number t) None) (number q))) (one_by_one-push done (p, t) f)
+          ∙ run-word src p t q (one_by_one done f) e z (cases_place q t) ∙ st.effect f q n;
       moves = λ r d. subst (λ (l : List Move). StandFor ms l) (sym (append_assoc done ((p, t) ∷ []) r)) (st.moves ((p, t) ∷ r) (rest-run src p t ms r e a (st.goes (number t) (pending-some src (number t) p e)) d));
     }
 
@@ -177,8 +177,8 @@ stands-save ms src done p t a st e n z =
       goes = λ k h. st.goes k (saved-pending src (number t) k p temporary e h);
       apart = λ q s h. saved-apart src p t q s e n (st.apart q) h (cases_place q t);
       effect = λ f q m.
-        ap (λ (g : Words). word_from g q (source_at (set src (number t) (Some temporary)) (number q))) (one_by_one-push done (p, temporary) f)
-        ∙ save-word src p t q (one_by_one done f) e z m (cases_place q t) ∙ st.effect f q m;
+          ap (λ (g : Words). word_from g q (source_at (set src (number t) (Some temporary)) (number q))) (one_by_one-push done (p, temporary) f)
+          ∙ save-word src p t q (one_by_one done f) e z m (cases_place q t) ∙ st.effect f q m;
       moves = λ r d. subst (λ (l : List Move). StandFor ms l) (sym (append_assoc done ((p, temporary) ∷ []) r)) (st.moves ((p, temporary) ∷ r) (rest-save src p t ms r e (λ h. not-read src (number temporary) (number t) p z e (ap number h)) a (st.goes (number t) (pending-some src (number t) p e)) d));
     }
 
@@ -213,10 +213,10 @@ none-counted src n e = ap (λ (s : Table). pending_count s) e ∙ blank-count n
 
 pub counted-blank : (src : Table) (rds : List ℕ) (n : ℕ) → n ≡ numbers → src ≡ replicate n None → rds ≡ replicate n 0 → Counted src rds
 counted-blank src rds n w e f = record {
-    sources = ap length e ∙ length-replicate n None ∙ w;
-    readers = ap length f ∙ length-replicate n 0 ∙ w;
-    counts = λ k h. ap (λ (r : List ℕ). slice_index r k) f ∙ get_or-replicate n k 0 0 (omega arith) ∙ sym (ap (λ (s : Table). readings s k) e ∙ blank-readings n k);
-  }
+  sources = ap length e ∙ length-replicate n None ∙ w;
+  readers = ap length f ∙ length-replicate n 0 ∙ w;
+  counts = λ k h. ap (λ (r : List ℕ). slice_index r k) f ∙ get_or-replicate n k 0 0 (omega arith) ∙ sym (ap (λ (s : Table). readings s k) e ∙ blank-readings n k);
+}
 
 pub if-some : (o : Option Place) (P : Type 0) → P → IfSome o (λ (x : Place). P)
 if-some None P h = tt

@@ -12,20 +12,20 @@ use Rattle.par_move.proofs.Keeping.{count-gone, count-saved, readings-gone, read
 
 pub ran-none : (src : Table) (done : List Move) → Ran src done src done
 ran-none src done = record {
-    stands = λ ms a st. st;
-    total = refl;
-    fewer = omega arith;
-    kept = λ k. inl refl;
-    unread = λ k h e. h;
-    two = λ k h p g. absurd (false≢true (sym (ap is_some g) ∙ p));
-  }
+  stands = λ ms a st. st;
+  total = refl;
+  fewer = omega arith;
+  kept = λ k. inl refl;
+  unread = λ k h e. h;
+  two = λ k h p g. absurd (false≢true (sym (ap is_some g) ∙ p));
+}
 
 still : (src : Table) (i k : ℕ) (p : Place) (was : Option Place) → source_at src i ≡ Some p → (source_at src k ≡ was) ⊎ (source_at src k ≡ None) → (source_at (set src i None) k ≡ was) ⊎ (source_at (set src i None) k ≡ None)
 still src i k p was e h = ⊎_elim
     (λ (same : k ≡ i). inr (ap (λ n. source_at (set src i None) n) same ∙ entry-same src i None (within-table src i p e)))
     (λ (ne : k ≡ i → ⊥). ⊎_elim
-      (λ (a : source_at src k ≡ was). inl (entry-other src i k None ne ∙ a))
-      (λ (b : source_at src k ≡ None). inr (entry-other src i k None ne ∙ b)) h)
+    (λ (a : source_at src k ≡ was). inl (entry-other src i k None ne ∙ a))
+    (λ (b : source_at src k ≡ None). inr (entry-other src i k None ne ∙ b)) h)
     (cases_eq k i)
 
 two-more : (first now : Table) (i k : ℕ) (p : Place) → source_at now i ≡ Some p → readings now i ≡ 0 → pending_count now ≤ pending_count first
@@ -96,9 +96,9 @@ free-saved src p t e h k w z = ⊎_elim
     (λ (same : number p ≡ k). inl same)
     (λ (ne : number p ≡ k → ⊥).
     let was : IsPending src k = ⊎_elim
-          (λ (same : k ≡ number t). ap (λ n. is_some (source_at src n)) same ∙ ap is_some e)
-          (λ (other : k ≡ number t → ⊥). ap is_some (sym (entry-other src (number t) k (Some temporary) other)) ∙ w)
-          (cases_eq k (number t)) in
+    (λ (same : k ≡ number t). ap (λ n. is_some (source_at src n)) same ∙ ap is_some e)
+    (λ (other : k ≡ number t → ⊥). ap is_some (sym (entry-other src (number t) k (Some temporary) other)) ∙ w)
+    (cases_eq k (number t)) in
     let r = readings-saved src (number t) k p temporary e in
     let n = none-at (number p) k ne in
     let one = each-read src h k was in

@@ -56,9 +56,9 @@ begun-none ms src h = record { each = λ j d l. absurd (omega arith); others = �
 pub not-yet : (ms : List Move) (i : ℕ) (m : Move) (src : Table) → i < length ms → m ≡ get_or ms i m → HaveOwnTargets ms → Begun ms i src → source_at src (number m.1) ≡ None
 not-yet ms i m src l e h b = none-when (source_at src (number m.1)) (λ w. not-before ms i m l h (subst (λ (n : Move). HasTarget (take i ms) (number n.1)) e (b.others (number m.1) w)))
   where
-  none-when : (o : Option Place) → (is_some o ≡ true → ⊥) → o ≡ None
-  none-when None n = refl
-  none-when (Some p) n = absurd (n refl)
+    none-when : (o : Option Place) → (is_some o ≡ true → ⊥) → o ≡ None
+    none-when None n = refl
+    none-when (Some p) n = absurd (n refl)
 
 take-next : (ms : List Move) (i : ℕ) (m : Move) → i < length ms → m ≡ get_or ms i m → take (i + 1) ms ≡ take i ms ++ m ∷ []
 take-next ms i m l e = take_more ms i m l ∙ ap (λ (n : Move). take i ms ++ n ∷ []) (sym e)
@@ -80,28 +80,28 @@ source-at-last ms i j m d src l e same h =
 -- a move whose ends are one place
 pub begun-same : (ms : List Move) (i : ℕ) (m : Move) (src : Table) → i < length ms → m ≡ get_or ms i m → HaveOwnTargets ms → Begun ms i src → m.0 ≡ m.1 → Begun ms (i + 1) src
 begun-same ms i m src l e h b same = record {
-    each = λ j d k. ⊎_elim
+  each = λ j d k. ⊎_elim
       (λ (less : j < i). b.each j d less)
       (λ (last : i ≤ j). source-at-last ms i j m d src l e (omega arith) (not-yet ms i m src l e h b ∙ sym (source_of-same m same)))
       (cases_lt j i);
-    others = λ k w. subst (λ (n : List Move). HasTarget n k) (sym (take-next ms i m l e)) (target-append (take i ms) (m ∷ []) k (b.others k w));
-  }
+  others = λ k w. subst (λ (n : List Move). HasTarget n k) (sym (take-next ms i m l e)) (target-append (take i ms) (m ∷ []) k (b.others k w));
+}
 
 -- any other move
 pub begun-more : (ms : List Move) (i : ℕ) (m : Move) (src : Table) → i < length ms → m ≡ get_or ms i m → number m.1 < length src → HaveOwnTargets ms → Begun ms i src → (m.0 ≡ m.1 → ⊥) → Begun ms (i + 1) (set src (number m.1) (Some m.0))
 begun-more ms i m src l e w h b ne = record {
-    each = λ j d k. ⊎_elim
+  each = λ j d k. ⊎_elim
       (λ (less : j < i).
       let other : number (get_or ms j d).1 ≡ number m.1 → ⊥ = λ f.
-          h j i d less l (number-injective (get_or ms j d).1 (get_or ms i d).1 (f ∙ ap (λ (n : Move). number n.1) (get_or_read ms i m l e d))) in
+      h j i d less l (number-injective (get_or ms j d).1 (get_or ms i d).1 (f ∙ ap (λ (n : Move). number n.1) (get_or_read ms i m l e d))) in
       entry-other src (number m.1) (number (get_or ms j d).1) (Some m.0) other ∙ b.each j d less)
       (λ (last : i ≤ j). source-at-last ms i j m d (set src (number m.1) (Some m.0)) l e (omega arith) (entry-same src (number m.1) (Some m.0) w ∙ sym (source_of-other m ne)))
       (cases_lt j i);
-    others = λ k p. subst (λ (n : List Move). HasTarget n k) (sym (take-next ms i m l e)) (⊎_elim
+  others = λ k p. subst (λ (n : List Move). HasTarget n k) (sym (take-next ms i m l e)) (⊎_elim
       (λ (same : k ≡ number m.1). subst (λ n. HasTarget (take i ms ++ m ∷ []) n) (sym same) (target-last (take i ms) m))
       (λ (other : k ≡ number m.1 → ⊥). target-append (take i ms) (m ∷ []) k (b.others k (ap is_some (sym (entry-other src (number m.1) k (Some m.0) other)) ∙ p)))
       (cases_eq k (number m.1)));
-  }
+}
 
 -- every move of a list is pending as it was given
 abbrev AllBegun : List Move → Table → Type 0
@@ -170,9 +170,9 @@ stands-first ms src done e b =
     subst (λ (l : List Move). Stands ms src l) (sym e) (record {
       goes = g;
       apart = λ q s f.
-        let it = begun-by ms src (number q) all' (g (number q) (pending-some src (number q) s f)) in
-        let from = source_of-some (same_place it.0.0 it.0.1) it.0 s refl (sym it.2 ∙ f) in
-        λ same. from.1 (from.0 ∙ same ∙ sym (number-injective it.0.1 q it.1));
+          let it = begun-by ms src (number q) all' (g (number q) (pending-some src (number q) s f)) in
+          let from = source_of-some (same_place it.0.0 it.0.1) it.0 s refl (sym it.2 ∙ f) in
+          λ same. from.1 (from.0 ∙ same ∙ sym (number-injective it.0.1 q it.1));
       effect = λ w q n. begun-effect ms src w q all' (λ x. none-unless (source_at src (number q)) (λ p. x (g (number q) p)));
       moves = λ r d. begun-moves src ms r all' d;
     })

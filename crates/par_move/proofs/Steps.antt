@@ -27,9 +27,9 @@ put-other e p q w h = ap (λ b. if b then w else e q) (same_place-false q p h)
 pub cases_place : (p q : Place) → (p ≡ q) ⊎ (p ≡ q → ⊥)
 cases_place p q = cases (same_place p q) refl
   where
-  cases : (b : Bool) → same_place p q ≡ b → (p ≡ q) ⊎ (p ≡ q → ⊥)
-  cases true e = inl (same_place-true p q e)
-  cases false e = inr (λ h. false≢true (sym e ∙ same_place-from p q h))
+    cases : (b : Bool) → same_place p q ≡ b → (p ≡ q) ⊎ (p ≡ q → ⊥)
+    cases true e = inl (same_place-true p q e)
+    cases false e = inr (λ h. false≢true (sym e ∙ same_place-from p q h))
 
 -- ---- entries
 

@@ -15,12 +15,12 @@ loop-m-preserved c =
     let i = c.loop-m.m-index in
     let m = get_or ms i (A 0, A 0) in
     elim c.match-source.branch [
-      in-Some+in_ok-turn w ↦
-        subst (λ (p : Pending). Turning ms (i + 1) p) (sym w.pending-is)
-        (turning-more ms i m c.loop-m.pending w.turn.new.self (omega arith) (get_or_default ms i (A 0, A 0) m (omega arith)) c.requires.targets c.loop-m.invariant w.in_ok-turn.ensures.counted w.in_ok-turn.ensures.turned)
-    | in_default w ↦
-        subst (λ (p : Pending). Turning ms (i + 1) p) (sym w.pending-is)
-        (turning-past ms i m c.loop-m.pending (omega arith) (get_or_default ms i (A 0, A 0) m (omega arith)) c.loop-m.invariant (sym c.source.ensures ∙ w.in_default.is))
+      | in-Some+in_ok-turn w ↦
+          subst (λ (p : Pending). Turning ms (i + 1) p) (sym w.pending-is)
+          (turning-more ms i m c.loop-m.pending w.turn.new.self (omega arith) (get_or_default ms i (A 0, A 0) m (omega arith)) c.requires.targets c.loop-m.invariant w.in_ok-turn.ensures.counted w.in_ok-turn.ensures.turned)
+      | in_default w ↦
+          subst (λ (p : Pending). Turning ms (i + 1) p) (sym w.pending-is)
+          (turning-past ms i m c.loop-m.pending (omega arith) (get_or_default ms i (A 0, A 0) m (omega arith)) c.loop-m.invariant (sym c.source.ensures ∙ w.in_default.is))
     ]
 
 pub returns-clause-nothing : goal.returns-clause-nothing

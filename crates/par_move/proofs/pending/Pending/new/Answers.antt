@@ -21,13 +21,13 @@ loop-m-preserved c =
     let i = c.loop-m.m-index in
     let m = get_or ms i (A 0, A 0) in
     elim c.if-number.branch [
-      then-number w ↦
-        subst (λ (p : Pending). Adding ms (i + 1) p) (sym w.pending-is)
-        (adding-more ms i m c.loop-m.pending w.add.new.self (omega arith) (get_or_default ms i (A 0, A 0) m (omega arith)) c.requires c.loop-m.invariant (λ e. w.if-number.true (c.number.ensures.value ∙ e ∙ sym c.number-in-loop-m.ensures.value))
-        w.add.ensures.counted w.add.ensures.sources w.add.ensures.within w.add.ensures.done)
-    | else-number w ↦
-        subst (λ (p : Pending). Adding ms (i + 1) p) (sym w.pending-is)
-        (adding-same ms i m c.loop-m.pending (omega arith) (get_or_default ms i (A 0, A 0) m (omega arith)) c.requires c.loop-m.invariant (sym c.number.ensures.value ∙ w.if-number.false ∙ c.number-in-loop-m.ensures.value))
+      | then-number w ↦
+          subst (λ (p : Pending). Adding ms (i + 1) p) (sym w.pending-is)
+          (adding-more ms i m c.loop-m.pending w.add.new.self (omega arith) (get_or_default ms i (A 0, A 0) m (omega arith)) c.requires c.loop-m.invariant (λ e. w.if-number.true (c.number.ensures.value ∙ e ∙ sym c.number-in-loop-m.ensures.value))
+          w.add.ensures.counted w.add.ensures.sources w.add.ensures.within w.add.ensures.done)
+      | else-number w ↦
+          subst (λ (p : Pending). Adding ms (i + 1) p) (sym w.pending-is)
+          (adding-same ms i m c.loop-m.pending (omega arith) (get_or_default ms i (A 0, A 0) m (omega arith)) c.requires c.loop-m.invariant (sym c.number.ensures.value ∙ w.if-number.false ∙ c.number-in-loop-m.ensures.value))
     ]
 
 pub returns-clause-stands : goal.returns-clause-stands

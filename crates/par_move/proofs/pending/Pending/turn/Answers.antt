@@ -15,7 +15,7 @@ returns-clause-turned c =
     (FreeGoTo c.run.new.self.sources.items [])
     (Turned (number c.args.t) src c.args.self.now.done.items c.run.new.self.sources.items c.run.new.self.done.items)
     (λ r h. turned-by src c.add.new.self.sources.items c.run.new.self.sources.items c.args.self.now.done.items c.add.new.self.done.items c.run.new.self.done.items c.args.s c.args.t
-      c.requires.source c.requires.apart c.requires.target c.requires.spare c.requires.stuck aside waits r h)
+    c.requires.source c.requires.apart c.requires.target c.requires.spare c.requires.stuck aside waits r h)
     c.run.ensures.ran
     (if-ok-at c.run.result (λ ms. FreeGoTo c.add.new.self.sources.items ((c.args.s, c.args.s) ∷ ms)) (λ ms. FreeGoTo c.run.new.self.sources.items ms) []
-      (free-aside src c.add.new.self.sources.items c.args.s c.args.t c.requires.source c.requires.stuck aside) c.run.ensures.free)
+    (free-aside src c.add.new.self.sources.items c.args.s c.args.t c.requires.source c.requires.stuck aside) c.run.ensures.free)
