@@ -12,8 +12,9 @@ use Rattle.ssu_ir.specs.View.{placed_of, with_bodies, labels_view}
 use Rattle.ssu_ir.proofs.Reading.{read_in, Below}
 use Rattle.ssu_ir.proofs.Trees.{arity}
 use Rattle.ssu_ir.specs.Points.{Names}
-use Rattle.place_ir.specs.inner.Live.{label_tree, row_over, root_row, tree_rows, root_rows, all_rows, Kept, on_stack, Takes}
-use Rattle.place_ir.proofs.Rows.{on-stack-push}
+use Rattle.place_ir.specs.inner.Live.{label_tree, row_over, root_row, tree_rows, root_rows, all_rows, on_stack, Takes}
+use Rattle.place_ir.specs.Held.{Kept}
+use Rattle.place_ir.proofs.RowSteps.{on-stack-push}
 
 -- the tree of a label: it stands, its root is the body, and the label's view has it
 pub record TreeAt (s : Ssu) (k : ℕ) : Type 0 where

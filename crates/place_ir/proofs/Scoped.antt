@@ -131,7 +131,7 @@ same-length a b h g e =
 
 -- ---- names that a place may use
 
-all-in : (known xs : List ℕ) (y : ℕ) → all_known known xs ≡ true → is_in y xs ≡ true → is_in y known ≡ true
+pub all-in : (known xs : List ℕ) (y : ℕ) → all_known known xs ≡ true → is_in y xs ≡ true → is_in y known ≡ true
 all-in known [] y h e = absurd (false≢true e)
 all-in known (x ∷ xs) y h e =
     let p = and_parts (is_in x known) (all_known known xs) h in
@@ -145,7 +145,7 @@ in-map of (y ∷ xs) x e = ⊎_elim
     (λ (b : is_in x (map of xs) ≡ true). let w = in-map of xs x b in (w.0, or_right (nat_eq w.0 y) (is_in w.0 xs) w.1, w.2))
     (or_cases (nat_eq x (of y)) (is_in x (map of xs)) e)
 
-map-same : (f g : Names) (xs : List ℕ) → ((y : ℕ) → is_in y xs ≡ true → f y ≡ g y) → map f xs ≡ map g xs
+pub map-same : (f g : Names) (xs : List ℕ) → ((y : ℕ) → is_in y xs ≡ true → f y ≡ g y) → map f xs ≡ map g xs
 map-same f g [] h = refl
 map-same f g (y ∷ xs) h = ap (λ z. z ∷ map f xs) (h y (or_left (nat_eq y y) (is_in y xs) (in-itself y))) ∙ ap (λ l. g y ∷ l) (map-same f g xs (λ z e. h z (or_right (nat_eq z y) (is_in z xs) e)))
 
@@ -322,7 +322,7 @@ scope-do of value above known fresh s t c =
 
 -- ---- in the arms
 
-first_of-none : (o : Option ℕ) → first_of o None ≡ o
+pub first_of-none : (o : Option ℕ) → first_of o None ≡ o
 first_of-none (Some x) = refl
 first_of-none None = refl
 

@@ -2,8 +2,9 @@
 #![tactic(auto)]
 
 mod copies;
-mod held;
+mod rows;
 mod place;
 mod row;
 
+pub use rows::{held, peak};
 pub use place::{First, Home, Pass, Place, PlaceError, Placement, Serve};

@@ -1,10 +1,9 @@
 -- The values that are held at each node of a tree, from its ends up.
-use Rattle.std.specs.Prelude.{◌≡◌, ℕ, List, [], ◌∷◌, ◌++◌, Option, Some, None, unwrap_or, map, reverse, length, slice_index_or, if◌then◌else◌}
-use Rattle.std.specs.declared.vec.Vec.{Vec}
-use Rattle.std.specs.declared.alloc.Global.{Global}
+use Rattle.std.specs.Prelude.{◌≡◌, ℕ, List, [], ◌∷◌, ◌++◌, Option, Some, None, unwrap_or, map, max, reverse, length, slice_index_or, if◌then◌else◌}
 use Rattle.nv_base.specs.Sets.{is_in, without}
-use Rattle.ssu_ir.specs.Tree.{Step, Lit, Una, Bin, Clone, Read, Write, Halt, Tree, Do, If, End, Node, Does, Forks, Ends, step_values, node_uses}
+use Rattle.ssu_ir.specs.Tree.{Step, Lit, Una, Bin, Clone, Read, Write, Halt, Tree, Do, If, End, Label, Node, Does, Forks, Ends, step_values, node_uses}
 use Rattle.ssu_ir.specs.Points.{Names}
+use Rattle.place_ir.specs.Held.{Kept, items_of}
 use Rattle.ssu_ir.specs.declared.ssu.Ssu.{Ssu}
 use Rattle.ssu_ir.specs.declared.node.SsuNode.{SsuNode}
 use Rattle.ssu_ir.specs.View.{placed_of}
@@ -87,12 +86,6 @@ all_rows of (p ∷ ps) = tree_rows of (bare p) ++ all_rows of ps
 
 -- ---- rows as they are kept
 
-abbrev pub Kept : Type 0
-Kept = Vec ℕ Global
-
-abbrev pub items_of : List Kept → List (List ℕ)
-items_of vs = map (λ v. v.items) vs
-
 -- rows on a stack, its top first
 abbrev pub on_stack : List Kept → List (List ℕ)
 on_stack vs = items_of (reverse vs)
@@ -113,3 +106,13 @@ slot_source (Some n) z = node_source (node_of n) z
 abbrev pub sources_at : Slots → List ℕ → ℕ → Option ℕ
 sources_at slots [] z = None
 sources_at slots (i ∷ is) z = first_of (slot_source (slot slots i) z) (sources_at slots is z)
+
+-- the rows of labels: of each its parameters, then those of its nodes
+abbrev pub labels_rows : Names → List Label → List (List ℕ)
+labels_rows of [] = []
+labels_rows of (l ∷ ls) = (l.params ∷ tree_rows of l.body) ++ labels_rows of ls
+
+-- the length of the longest row
+abbrev pub longest : List (List ℕ) → ℕ
+longest [] = 0
+longest (r ∷ rs) = max (length r) (longest rs)

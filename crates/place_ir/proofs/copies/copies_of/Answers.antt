@@ -7,7 +7,7 @@ use Rattle.ssu_ir.specs.Slots.{bodies}
 use Rattle.ssu_ir.specs.View.{placed_of}
 use Rattle.ssu_ir.specs.Work.{nums}
 use Rattle.place_ir.specs.inner.Live.{first_of, source_among, sources_at}
-use Rattle.place_ir.proofs.Rows.{AllThere, there-all, there-at, sources-at, sourced-more, sourced-all}
+use Rattle.place_ir.proofs.RowSteps.{AllThere, there-all, there-at, sources-at, sourced-more, sourced-all}
 use Rattle.place_ir.proofs.copies.copies_of.Goals as goal
 
 pub node-requires : goal.node-requires

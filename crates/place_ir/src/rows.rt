@@ -12,8 +12,8 @@ ghost use Rattle.ssu_ir.specs.Tree.{node_uses};
 ghost use Rattle.ssu_ir.specs.View.{labels_view};
 ghost use Rattle.ssu_ir.specs.Work.{nums, tops};
 ghost use Rattle.ssu_ir.proofs.Trees.{arity};
-ghost use Rattle.place_ir.specs.Held.{IsRow};
-ghost use Rattle.place_ir.specs.inner.Live.{add_all, value_by, behind, row_over, tree_rows, items_of, on_stack, label_tree, Takes};
+ghost use Rattle.place_ir.specs.Held.{IsRow, items_of};
+ghost use Rattle.place_ir.specs.inner.Live.{add_all, value_by, behind, row_over, tree_rows, on_stack, label_tree, longest, Takes};
 
 use crate::copies::{Copies, copies_of, value_of};
 use crate::row::{add, add_each, remove_each};
@@ -126,4 +126,53 @@ fn label_rows(alloc: Global, s: &Ssu, copies: &Copies, k: usize) -> Result<Vec<V
         roots.push(row)?;
     }
     Ok(rows)
+}
+
+/// Puts the rows of a stack behind others, its top first.
+fn unstack(rows: &mut Vec<Vec<u32>>, stack: Vec<Vec<u32>>) -> Result<(), NoMemory>
+    ensures { OnOk result (items_of rows.new.items ≡ items_of rows.old.items ++ on_stack stack.items) }
+{
+    let mut left = stack;
+    'walk: while let Some(row) = left.pop() {
+        rows.push(row)?;
+    }
+    Ok(())
+}
+
+/// One row a point: the values that are held there, without an order.
+pub fn held(alloc: Global, s: &Ssu) -> Result<Vec<Vec<u32>>, NoMemory>
+    requires { single (labels_view s.now) ≡ true }
+    ensures { IfOk result (λ v. AllZip IsRow (items_of v.items) (points (labels_view s.now))) }
+{
+    let copies = copies_of(alloc, s)?;
+    let mut rows = Vec::new(alloc);
+    for k in 0..s.labels.len() {
+        rows.push(copied(alloc, &s.labels[k].params)?)?;
+        let stack = label_rows(alloc, s, &copies, k)?;
+        unstack(&mut rows, stack)?;
+    }
+    Ok(rows)
+}
+
+/// The greatest number of values that are held at a point.
+pub fn peak(alloc: Global, s: &Ssu) -> Result<u32, NoMemory>
+    requires { single (labels_view s.now) ≡ true }
+    ensures { IfOk result (λ n. n ≡ measures.peak (labels_view s.now)) }
+{
+    let rows = held(alloc, s)?;
+    match u32::try_from(longest_row(&rows)) {
+        Ok(n) => Ok(n),
+        Err(_) => Err(NoMemory),
+    }
+}
+
+/// The length of the longest row.
+fn longest_row(rows: &[Vec<u32>]) -> usize
+    ensures { result ≡ longest (items_of rows.now) }
+{
+    let mut most = 0;
+    for row in rows {
+        most = row.len().max(most);
+    }
+    most
 }

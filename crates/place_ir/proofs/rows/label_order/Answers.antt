@@ -6,7 +6,7 @@ use Rattle.ssu_ir.specs.Work.{nums, tops}
 use Rattle.ssu_ir.proofs.Walks.{present, order_step, order_smaller, none_left, tops_push}
 use Rattle.place_ir.specs.inner.Live.{label_tree}
 use Rattle.place_ir.proofs.Labels.{tree-at}
-use Rattle.place_ir.proofs.held.label_order.Goals as goal
+use Rattle.place_ir.proofs.rows.label_order.Goals as goal
 
 pub walk-init : goal.walk-init
 walk-init c =

@@ -5,7 +5,7 @@ use Rattle.ssu_ir.specs.Slots.{preorder}
 use Rattle.ssu_ir.proofs.Turns.{completes_start, step_of, below_made, present_made, completes_end}
 use Rattle.place_ir.specs.inner.Live.{label_tree, value_by, on_stack, all_rows}
 use Rattle.place_ir.proofs.Labels.{tree-at, grown, all_rows-one}
-use Rattle.place_ir.proofs.held.label_rows.Goals as goal
+use Rattle.place_ir.proofs.rows.label_rows.Goals as goal
 
 pub walk-init : goal.walk-init
 walk-init c =

@@ -5,8 +5,8 @@ use Rattle.ssu_ir.specs.declared.node.SsuNode.{SsuNode}
 use Rattle.ssu_ir.specs.Slots.{node_of}
 use Rattle.ssu_ir.specs.Tree.{node_uses}
 use Rattle.place_ir.specs.inner.Live.{add_all, value_by}
-use Rattle.place_ir.proofs.Rows.{on-ok}
-use Rattle.place_ir.proofs.held.add_uses.Goals as goal
+use Rattle.place_ir.proofs.RowSteps.{on-ok}
+use Rattle.place_ir.proofs.rows.add_uses.Goals as goal
 
 pub returns-in-Bin : goal.returns-in-Bin
 returns-in-Bin c =

@@ -2,7 +2,7 @@ use Rattle.std.proofs.Common.{◌≡◌, ◌-◌, ◌++◌, length}
 use Rattle.ssu_ir.specs.Slots.{preorder, preorder_all}
 use Rattle.ssu_ir.specs.Work.{tops, nums, Todo}
 use Rattle.place_ir.specs.inner.Live.{label_tree}
-use Rattle.place_ir.proofs.held.label_order.Given as goal
+use Rattle.place_ir.proofs.rows.label_order.Given as goal
 
 abbrev pub invariant-walk : goal.invariant-walk
 invariant-walk l = record {

@@ -5,7 +5,7 @@ use Rattle.ssu_ir.specs.Slots.{Placed}
 use Rattle.ssu_ir.specs.Work.{tops}
 use Rattle.ssu_ir.proofs.Turns.{Completes}
 use Rattle.place_ir.specs.inner.Live.{label_tree, value_by, on_stack, root_rows, all_rows}
-use Rattle.place_ir.proofs.held.label_rows.Given as goal
+use Rattle.place_ir.proofs.rows.label_rows.Given as goal
 
 abbrev pub invariant-walk : goal.invariant-walk
 invariant-walk l = record {

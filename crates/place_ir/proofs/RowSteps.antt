@@ -9,7 +9,8 @@ use Rattle.ssu_ir.specs.Work.{nums}
 use Rattle.ssu_ir.proofs.Walks.{is_some_from}
 use Rattle.ssu_ir.specs.Tree.{Tree, Node, Does, Forks, Ends}
 use Rattle.ssu_ir.specs.Slots.{Placed, DoAt, IfAt, EndAt, bare, bare_all, preorder, preorder_all, Slots, slot, Stands, AllStand, node_of, root}
-use Rattle.place_ir.specs.inner.Live.{first_of, node_source, step_source, source_in, source_among, slot_source, sources_at, add_all, Kept, items_of, on_stack, Takes}
+use Rattle.place_ir.specs.inner.Live.{first_of, node_source, step_source, source_in, source_among, slot_source, sources_at, add_all, on_stack, Takes}
+use Rattle.place_ir.specs.Held.{Kept, items_of}
 
 pub first_of-assoc : (a b c : Option ℕ) → first_of (first_of a b) c ≡ first_of a (first_of b c)
 first_of-assoc (Some x) b c = refl
