@@ -1,0 +1,5 @@
+pub mod Places
+pub mod RowSteps
+pub mod Labels
+pub mod Scoped
+pub mod Kept
