@@ -1,4 +1,3 @@
 pub mod Sound
 pub mod Rest
 pub mod Whole
-pub mod Bits

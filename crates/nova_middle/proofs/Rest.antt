@@ -1,12 +1,10 @@
 -- Where the rules are done.
-use Rattle.std.proofs.Common.{◌≡◌, ℕ, Bool, true, false, ◌||◌, ◌⊎◌, inl, inr, ⊎_elim, Option, Some, None, is_some, List, [], ◌∷◌, refl, sym, ap, subst, ◌∙◌, if◌then◌else◌, All}
+use Rattle.std.proofs.Common.{◌≡◌, ℕ, Bool, true, false, ◌||◌, ◌⊎◌, inl, inr, ⊎_elim, Option, Some, None, is_some, List, [], ◌∷◌, sym, ap, ◌∙◌, if◌then◌else◌, All}
 use Rattle.std.proofs.lemmas.Bool.{or_from, false≢true}
 use Rattle.std.proofs.lemmas.Option.{none-some, same_Some}
 use Rattle.std.proofs.lemmas.List.Elements.{All-nil, All-cons, All-head, All-tail}
 use Rattle.nv_base.specs.declared.term.Atom.{Atom}
 use Rattle.nv_base.specs.declared.term.Atom.TheVariants.{Var, Lit}
-use Rattle.nv_base.specs.declared.term.Una.{Una}
-use Rattle.nv_base.specs.declared.term.Bin.{Bin}
 use Rattle.nv_base.specs.declared.term.Primitive.{Primitive}
 use Rattle.nv_base.specs.declared.term.Primitive.TheVariants.{Same, Una as UnaOf, Bin as BinOf}
 use Rattle.nv_base.specs.Access.{has_count}
@@ -14,7 +12,7 @@ use Rattle.nv_base.specs.Words.{word, una_word}
 use Rattle.flow_ir.specs.Tree.{Tree, Let, Read, Write, If, Jump, Halt, Label}
 use Rattle.cps_rules.specs.Rules.{Answers, IsAnswered, IsSomeOf}
 use Rattle.cps_rules.specs.Simplified.{EachLet, is_same, IsTidy, AreTidy, AreSimplified}
-use Rattle.nova_middle.specs.Rules.{value_of_one, value_of_two, value_rule, leaves_first, leaves_second, operand_rule, leaves_nothing, nothing_rule, is_answered, IsAtRest}
+use Rattle.nova_middle.specs.Rules.{value_rule, leaves_first, leaves_second, operand_rule, leaves_nothing, nothing_rule, is_answered, IsAtRest}
 
 -- ---- the rules answer operands alone
 

@@ -1,5 +1,5 @@
 -- Each rule is sound.
-use Rattle.std.proofs.Common.{◌≡◌, ℕ, ◌+◌, ◌-◌, ◌^◌, ◌%◌, ◌<◌, Bool, true, false, nat_eq, ◌||◌, ◌⊎◌, ⊎_elim, Option, Some, None, [], ◌++◌, refl, sym, ap, subst, ◌∙◌, if◌then◌else◌, arith}
+use Rattle.std.proofs.Common.{◌≡◌, ℕ, Bool, true, false, ⊎_elim, Some, None, refl, sym, ap, subst, ◌∙◌, if◌then◌else◌, arith}
 use Rattle.std.proofs.lemmas.Bool.{or_cases, false≢true, eqb-true}
 use Rattle.std.proofs.lemmas.Option.{none-some, same_Some}
 use Rattle.std.proofs.lemmas.Nat.{and_mask, and_comm}
@@ -12,14 +12,13 @@ use Rattle.nv_base.specs.declared.term.Bin.TheVariants.{Add, Sub, And, Or, Xor}
 use Rattle.nv_base.specs.declared.term.Primitive.{Primitive}
 use Rattle.nv_base.specs.declared.term.Primitive.TheVariants.{Same, Una as UnaOf, Bin as BinOf}
 use Rattle.nv_base.specs.Access.{has_count}
-use Rattle.nv_base.specs.Sets.{Within}
-use Rattle.nv_base.specs.Words.{IsWord, Env, IsEnv, word, word_sum, word_difference, una_word, bin_word, atom_word, prim_word, atom_vars, prim_vars}
+use Rattle.nv_base.specs.Words.{IsWord, Env, IsEnv, word, word_sum, word_difference, una_word, bin_word, atom_word, atom_vars}
 use Rattle.nv_base.proofs.Environments.{atom-fits}
 use Rattle.nv_base.proofs.Operands.{has_its_count}
 use Rattle.nv_base.proofs.Sets.{within-left, within-right}
 use Rattle.nv_base.proofs.WordLemmas.{word-fits, una-fits, bin-fits}
 use Rattle.cps_rules.specs.Rules.{IsSound}
-use Rattle.nova_middle.specs.Rules.{value_of_one, value_of_two, value_rule, is_literal, is_operand, ones, leaves_first, leaves_second, operand_rule, leaves_nothing, nothing_rule}
+use Rattle.nova_middle.specs.Rules.{value_rule, is_literal, is_operand, ones, leaves_first, leaves_second, operand_rule, leaves_nothing, nothing_rule}
 
 -- a number below 2^32 is its own word
 same-word : (n : ℕ) → IsWord n → word n ≡ n

@@ -1,5 +1,5 @@
 -- The rules for primitives, and what each answers.
-use Rattle.std.specs.Prelude.{◌≡◌, ℕ, ◌-◌, ◌^◌, nat_eq, Bool, true, false, ◌||◌, if◌then◌else◌, Option, Some, None, is_some}
+use Rattle.std.specs.Prelude.{◌≡◌, ℕ, ◌-◌, ◌^◌, nat_eq, Bool, false, ◌||◌, if◌then◌else◌, Option, Some, None, is_some}
 use Rattle.nv_base.specs.declared.term.Atom.{Atom}
 use Rattle.nv_base.specs.declared.term.Atom.TheVariants.{Var, Lit}
 use Rattle.nv_base.specs.declared.term.Una.{Una}
@@ -9,7 +9,7 @@ use Rattle.nv_base.specs.declared.term.Primitive.{Primitive}
 use Rattle.nv_base.specs.declared.term.Primitive.TheVariants.{Same, Una as UnaOf, Bin as BinOf}
 use Rattle.nv_base.specs.Access.{has_count}
 use Rattle.nv_base.specs.Words.{word, una_word, bin_word}
-use Rattle.flow_ir.specs.Tree.{Tree, Label}
+use Rattle.flow_ir.specs.Tree.{Label}
 use Rattle.cps_rules.specs.Simplified.{EachLet}
 
 -- ---- an operation on literals gives its word

@@ -99,6 +99,6 @@ fn five(alloc: Global) -> Result<FlatProgram, NoMemory> {
 fn a_constant_program_only_ends(rt: HostRuntime) -> Result<(), Fail> {
     let alloc = rt.alloc();
     let flow = to_flow(alloc, &five(alloc)?)?;
-    assert!(rt; matches!(flow.labels.get(0), Some(l) if gives(&l.body, 5)));
+    assert!(rt; flow.labels.iter().any(|l| gives(&l.body, 5)));
     Ok(())
 }

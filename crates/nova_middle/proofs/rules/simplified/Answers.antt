@@ -1,4 +1,4 @@
-use Rattle.std.proofs.Common.{◌≡◌, rules, Some, None}
+use Rattle.std.proofs.Common.{◌≡◌, rules, Some}
 use Rattle.nova_middle.specs.Rules.{value_rule, operand_rule, nothing_rule}
 use Rattle.nova_middle.proofs.Rest.{three, labels_at_rest}
 use Rattle.nova_middle.proofs.Sound.{value_sound, operand_sound, nothing_sound}
