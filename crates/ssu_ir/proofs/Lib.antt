@@ -13,3 +13,4 @@ pub mod Rules
 pub mod Unders
 pub mod Searches
 pub mod Keeps
+pub mod Sizes
