@@ -14,3 +14,4 @@ pub mod Unders
 pub mod Searches
 pub mod Keeps
 pub mod Sizes
+pub mod Held
