@@ -1,4 +1,4 @@
-use Rattle.std.proofs.Common.{◌≡◌, ap, arith}
+use Rattle.std.proofs.Common.{ap, arith}
 use Rattle.ssu_ir.specs.Slots.{node_of}
 use Rattle.ssu_ir.specs.Measures.{node_size}
 use Rattle.ssu_ir.proofs.measure.node_size.Goals as goal

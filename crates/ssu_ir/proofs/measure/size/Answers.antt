@@ -1,8 +1,7 @@
 use Rattle.std.proofs.Common.{◌≡◌, ◌+◌, [], arith, sym, ap, ◌∙◌}
 use Rattle.std.proofs.lemmas.List.{nil_from_length}
 use Rattle.ssu_ir.specs.Slots.{node_of, bare_all}
-use Rattle.ssu_ir.specs.View.{labels_view, placed_of}
-use Rattle.ssu_ir.specs.Measures.{size, tree_size, node_size}
+use Rattle.ssu_ir.specs.Measures.{tree_size, node_size}
 use Rattle.ssu_ir.proofs.Walks.{todo_start, present, sum_trees, sum_within, sum_step, none_left}
 use Rattle.ssu_ir.proofs.Sizes.{size-is_sum, size_split, node_size-positive}
 use Rattle.ssu_ir.proofs.measure.size.Goals as goal
