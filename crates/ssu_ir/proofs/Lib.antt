@@ -13,3 +13,5 @@ pub mod Rules
 pub mod Unders
 pub mod Searches
 pub mod Keeps
+pub mod Sizes
+pub mod Held

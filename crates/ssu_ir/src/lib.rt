@@ -4,6 +4,7 @@
 
 mod build;
 pub mod laws;
+mod measure;
 mod node;
 mod pieces;
 mod search;
@@ -12,6 +13,7 @@ mod ssu;
 pub mod walk;
 
 pub use build::SsuBuild;
+pub use measure::size;
 pub use node::{NodeId, SsuLabel, SsuNode};
 pub use single_use::single;
 pub use ssu::Ssu;
