@@ -3,3 +3,4 @@ pub mod RowSteps
 pub mod Labels
 pub mod Scoped
 pub mod Kept
+pub mod SpotSteps

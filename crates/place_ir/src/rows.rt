@@ -98,7 +98,7 @@ fn row_of(alloc: Global, n: &SsuNode, copies: &Copies, rows: &mut Vec<Vec<u32>>)
 }
 
 /// The numbers of a label's nodes in preorder.
-fn label_order(alloc: Global, s: &Ssu, k: usize) -> Result<Vec<NodeId>, NoMemory>
+pub fn label_order(alloc: Global, s: &Ssu, k: usize) -> Result<Vec<NodeId>, NoMemory>
     requires { k < length s.now.labels.items }
     ensures { IfOk result (λ v. nums v.items ≡ preorder (label_tree s.now k)) }
 {
