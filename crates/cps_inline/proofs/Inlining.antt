@@ -1,7 +1,8 @@
 -- What the call promises, from what its result is.
-use Rattle.std.proofs.Common.{◌≡◌, ℕ, ◌≤◌, ◌<◌, true, ◌&&◌, List, [], ◌∷◌, ◌++◌, map, length, get_or, Some, None, slice_get, All, refl, sym, ap, subst, ◌∙◌}
+use Rattle.std.proofs.Common.{◌≡◌, ℕ, zero, suc, arith, ◌≤◌, ◌<◌, true, ◌&&◌, List, [], ◌∷◌, ◌++◌, map, length, get_or, Some, None, slice_get, All, refl, sym, ap, subst, ◌∙◌}
 use Rattle.std.proofs.lemmas.List.Elements.{All-nil, All-cons}
-use Rattle.std.proofs.lemmas.Bool.{and_parts}
+use Rattle.std.proofs.lemmas.Bool.{and_parts, false≢true}
+use Rattle.std.proofs.lemmas.List.{length-map}
 use Rattle.std.specs.List.{list_all}
 use Rattle.nv_base.specs.Measures.{IsAtMost}
 use Rattle.cps_ir.specs.Bulk.{bulk, main_bulk, code_bulk, group_bulk, AreBulks}
@@ -41,8 +42,20 @@ pub one-function : (funs seen : List CpsFun) (i : ℕ) (f g : CpsFun) (none made
 one-function funs seen i f g none made same is empty push =
     ap (map fun_view) (push ∙ ap (λ l. l ++ g ∷ []) empty) ∙ ap (λ h. h ∷ []) (is ∙ ap (λ s. inlined_main (map fun_view s) i (fun_view f)) same)
 
-pub main-there : (funs seen : List CpsFun) (i : ℕ) (f : CpsFun) → seen ≡ funs → i < length seen → f ≡ get_or seen i f → slice_get (map fun_view funs) i ≡ Some (fun_view f)
-main-there funs seen i f same lt is = ap (λ s. slice_get (map fun_view s) i) (sym same) ∙ slice-view seen i f (slice_get_read seen (length seen) i f refl lt is)
+pub main-there : (funs : List CpsFun) (i : ℕ) (f : CpsFun) → i < length funs → f ≡ get_or funs i f → slice_get (map fun_view funs) i ≡ Some (fun_view f)
+main-there funs i f lt is = slice-view funs i f (slice_get_read funs (length funs) i f refl lt is)
+
+is-main-within : (all funs : List Fun) (i : ℕ) → is_main all (slice_get funs i) ≡ true → i < length funs
+is-main-within all [] i h = absurd (false≢true h)
+is-main-within all (f ∷ funs) zero h = omega arith
+is-main-within all (f ∷ funs) (suc i) h = let lt : i < length funs = is-main-within all funs i h in omega arith
+
+-- main is one of the functions
+pub main-within : (funs : List CpsFun) (main : ℕ) → is_program (map fun_view funs) main ≡ true → main < length funs
+main-within funs main program =
+    let parts = and_parts (list_all (is_function (map fun_view funs)) (map fun_view funs)) (agree (all_raised (map fun_view funs)) && is_main (map fun_view funs) (slice_get (map fun_view funs) main)) program in
+    let lt : main < length (map fun_view funs) = is-main-within (map fun_view funs) (map fun_view funs) main (and_parts (agree (all_raised (map fun_view funs))) (is_main (map fun_view funs) (slice_get (map fun_view funs) main)) parts.1).1 in
+    omega (arith, length-map funs fun_view)
 
 pub formed-at : (funs : List Fun) (main : ℕ) (f : Fun) → is_program funs main ≡ true → slice_get funs main ≡ Some f → (top : List Fun) → top ≡ inlined_main funs main f ∷ [] → is_program top 0 ≡ true
 formed-at funs main f program there top is = ap (λ t. is_program t 0) is ∙ program-formed funs main f program there

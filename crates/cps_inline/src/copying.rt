@@ -26,6 +26,15 @@ pub struct Place {
     pub handlers: Vec<(u16, u32)>,
 }
 
+// Where the copy of one function is made: in the program, at the place of its group, and with its numbers
+// moved up by a base.
+#[derive(Clone, Copy)]
+struct Site<'a> {
+    funs: &'a [CpsFun],
+    place: &'a Place,
+    base: u32,
+}
+
 // The number that is so many behind the next, which it becomes.
 fn take(fresh: &mut u32, count: u32) -> Result<u32, NoMemory>
     ensures first { IfOk result (λ n. n ≡ fresh.old) }
@@ -100,91 +109,68 @@ fn single(conts: &[Cont]) -> Option<&Cont>
     }
 }
 
-// The copy of a term of a function whose numbers are moved by `base`; `fresh` is the next number.
+// The copy of a term of a function; `fresh` is the next number.
 #[cycle(copies)]
-fn copy_term(
-    alloc: Global,
-    funs: &[CpsFun],
-    place: &Place,
-    base: u32,
-    t: &Term,
-    fresh: &mut u32,
-) -> Result<Term, NoMemory>
-    ensures count { IfOk result (λ u. fresh.new ≡ fresh.old + inner.count_at funs.now place.now (term_view t.now)) }
-    ensures term { IfOk result (λ u. term_view u ≡ inner.copy_at funs.now place.now base (term_view t.now) fresh.old) }
+fn copy_term(alloc: Global, site: &Site<'_>, t: &Term, fresh: &mut u32) -> Result<Term, NoMemory>
+    ensures count { IfOk result (λ u. fresh.new ≡ fresh.old + inner.count_at site.now.funs.now site.now.place.now (term_view t.now)) }
+    ensures term { IfOk result (λ u. term_view u ≡ inner.copy_at site.now.funs.now site.now.place.now site.now.base (term_view t.now) fresh.old) }
 {
     let mut steps = Vec::new(alloc);
     let mut cur = t;
     'spine: loop {
         match cur {
             Term::Let(x, a, rest) => {
-                push_let(base, *x, *a, &mut steps)?;
+                push_let(site.base, *x, *a, &mut steps)?;
                 cur = rest;
             }
             Term::Read(m, xs, a, rest) => {
-                push_read(alloc, base, *m, xs, *a, &mut steps)?;
+                push_read(alloc, site.base, *m, xs, *a, &mut steps)?;
                 cur = rest;
             }
             Term::Write(m, a, bs, rest) => {
-                push_write(alloc, base, *m, *a, bs, &mut steps)?;
+                push_write(alloc, site.base, *m, *a, bs, &mut steps)?;
                 cur = rest;
             }
             Term::If(c, a, b, first, second) => {
-                copy_first(
-                    alloc,
-                    funs,
-                    place,
-                    base,
-                    (*c, *a, *b),
-                    first,
-                    &mut steps,
-                    fresh,
-                )?;
+                copy_first(alloc, site, (*c, *a, *b), first, &mut steps, fresh)?;
                 cur = second;
             }
             Term::Fix(conts, rest) => match single(conts) {
                 Some(one) => {
-                    copy_around(alloc, funs, place, base, one, rest, &mut steps, fresh)?;
+                    copy_around(alloc, site, one, rest, &mut steps, fresh)?;
                     cur = &one.body;
                 }
                 None => {
-                    copy_several(alloc, funs, place, base, conts, &mut steps, fresh)?;
+                    copy_several(alloc, site, conts, &mut steps, fresh)?;
                     cur = rest;
                 }
             },
             Term::Call(f, bs, to, hs) => {
-                return copy_last(alloc, funs, place, base, *f, bs, *to, hs, steps, fresh);
+                return copy_last(alloc, site, *f, bs, *to, hs, steps, fresh);
             }
-            Term::Return(bs) => return landed(alloc, place.to, 0, base, bs, steps),
+            Term::Return(bs) => return landed(alloc, site.place.to, 0, site.base, bs, steps),
             Term::Throw(e, bs) => {
-                let to = find_handler(*e, &place.handlers);
-                return landed(alloc, to, *e, base, bs, steps);
+                let to = find_handler(*e, &site.place.handlers);
+                return landed(alloc, to, *e, site.base, bs, steps);
             }
             Term::Jump(l, bs) => {
-                let to = Some(moved(base, *l)?);
-                return landed(alloc, to, 0, base, bs, steps);
+                let to = Some(moved(site.base, *l)?);
+                return landed(alloc, to, 0, site.base, bs, steps);
             }
-            Term::Halt(e, bs) => return landed(alloc, None, *e, base, bs, steps),
+            Term::Halt(e, bs) => return landed(alloc, None, *e, site.base, bs, steps),
         }
     }
 }
 
 // The same for a part of a term, without the frame of that where it is a mere call.
 #[cycle(copies)]
-fn copy_part(
-    alloc: Global,
-    funs: &[CpsFun],
-    place: &Place,
-    base: u32,
-    t: &Term,
-    fresh: &mut u32,
-) -> Result<Term, NoMemory>
-    ensures count { IfOk result (λ u. fresh.new ≡ fresh.old + inner.count_at funs.now place.now (term_view t.now)) }
-    ensures term { IfOk result (λ u. term_view u ≡ inner.copy_at funs.now place.now base (term_view t.now) fresh.old) }
+fn copy_part(alloc: Global, site: &Site<'_>, t: &Term, fresh: &mut u32) -> Result<Term, NoMemory>
+    ensures count { IfOk result (λ u. fresh.new ≡ fresh.old + inner.count_at site.now.funs.now site.now.place.now (term_view t.now)) }
+    ensures term { IfOk result (λ u. term_view u ≡ inner.copy_at site.now.funs.now site.now.place.now site.now.base (term_view t.now) fresh.old) }
 {
     match t {
-        Term::Call(f, bs, to, hs) => { copy_call(alloc, funs, place, base, *f, bs, *to, hs, fresh) }
-        _ => copy_term(alloc, funs, place, base, t, fresh),
+        Term::Call(f, bs, to, hs) => { copy_call(alloc, site, *f, bs, *to, hs, fresh) }
+        _ => copy_term(alloc, site, t, fresh),
     }
 }
 
@@ -193,19 +179,17 @@ fn copy_part(
 #[inline(never)]
 fn copy_first(
     alloc: Global,
-    funs: &[CpsFun],
-    place: &Place,
-    base: u32,
+    site: &Site<'_>,
     test: (Cmp, Atom, Atom),
     first: &Term,
     steps: &mut Vec<Step>,
     fresh: &mut u32,
 ) -> Result<(), NoMemory>
-    ensures count { IfOk result (λ u. fresh.new ≡ fresh.old + inner.count_at funs.now place.now (term_view first.now)) }
-    ensures step { IfOk result (λ u. inner.Adds steps.old.items steps.new.items (cps.If test.0 (inner.moved_atom base test.1) (inner.moved_atom base test.2) (inner.copy_at funs.now place.now base (term_view first.now) fresh.old))) }
+    ensures count { IfOk result (λ u. fresh.new ≡ fresh.old + inner.count_at site.now.funs.now site.now.place.now (term_view first.now)) }
+    ensures step { IfOk result (λ u. inner.Adds steps.old.items steps.new.items (cps.If test.0 (inner.moved_atom site.now.base test.1) (inner.moved_atom site.now.base test.2) (inner.copy_at site.now.funs.now site.now.place.now site.now.base (term_view first.now) fresh.old))) }
 {
-    let part = copy_part(alloc, funs, place, base, first, fresh)?;
-    push_if(base, test.0, test.1, test.2, part, steps)
+    let part = copy_part(alloc, site, first, fresh)?;
+    push_if(site.base, test.0, test.1, test.2, part, steps)
 }
 
 // A single label, whose body comes behind.
@@ -213,19 +197,17 @@ fn copy_first(
 #[inline(never)]
 fn copy_around(
     alloc: Global,
-    funs: &[CpsFun],
-    place: &Place,
-    base: u32,
+    site: &Site<'_>,
     one: &Cont,
     rest: &Term,
     steps: &mut Vec<Step>,
     fresh: &mut u32,
 ) -> Result<(), NoMemory>
-    ensures count { IfOk result (λ u. fresh.new ≡ fresh.old + inner.count_at funs.now place.now (term_view rest.now)) }
-    ensures step { IfOk result (λ u. inner.Adds steps.old.items steps.new.items (λ t. cps.Fix (cps.label (base + one.now.label) (inner.moved base one.now.params.items) t cps.none) (inner.copy_at funs.now place.now base (term_view rest.now) fresh.old))) }
+    ensures count { IfOk result (λ u. fresh.new ≡ fresh.old + inner.count_at site.now.funs.now site.now.place.now (term_view rest.now)) }
+    ensures step { IfOk result (λ u. inner.Adds steps.old.items steps.new.items (λ t. cps.Fix (cps.label (site.now.base + one.now.label) (inner.moved site.now.base one.now.params.items) t cps.none) (inner.copy_at site.now.funs.now site.now.place.now site.now.base (term_view rest.now) fresh.old))) }
 {
-    let around = copy_part(alloc, funs, place, base, rest, fresh)?;
-    push_label(alloc, base, one, around, steps)
+    let around = copy_part(alloc, site, rest, fresh)?;
+    push_label(alloc, site.base, one, around, steps)
 }
 
 // Several labels, before the term round them.
@@ -233,17 +215,15 @@ fn copy_around(
 #[inline(never)]
 fn copy_several(
     alloc: Global,
-    funs: &[CpsFun],
-    place: &Place,
-    base: u32,
+    site: &Site<'_>,
     conts: &[Cont],
     steps: &mut Vec<Step>,
     fresh: &mut u32,
 ) -> Result<(), NoMemory>
-    ensures count { IfOk result (λ u. fresh.new ≡ fresh.old + inner.labels_count_at funs.now place.now (labels_view conts.now)) }
-    ensures step { IfOk result (λ u. inner.Adds steps.old.items steps.new.items (cps.Fix (inner.labels_at funs.now place.now base (labels_view conts.now) fresh.old))) }
+    ensures count { IfOk result (λ u. fresh.new ≡ fresh.old + inner.labels_count_at site.now.funs.now site.now.place.now (labels_view conts.now)) }
+    ensures step { IfOk result (λ u. inner.Adds steps.old.items steps.new.items (cps.Fix (inner.labels_at site.now.funs.now site.now.place.now site.now.base (labels_view conts.now) fresh.old))) }
 {
-    let labels = copy_labels(alloc, funs, place, base, conts, fresh)?;
+    let labels = copy_labels(alloc, site, conts, fresh)?;
     push_labels(labels, steps)
 }
 
@@ -252,9 +232,7 @@ fn copy_several(
 #[inline(never)]
 fn copy_last(
     alloc: Global,
-    funs: &[CpsFun],
-    place: &Place,
-    base: u32,
+    site: &Site<'_>,
     i: u32,
     bs: &[Atom],
     to: Option<u32>,
@@ -262,10 +240,10 @@ fn copy_last(
     steps: Vec<Step>,
     fresh: &mut u32,
 ) -> Result<Term, NoMemory>
-    ensures count { IfOk result (λ u. fresh.new ≡ fresh.old + inner.count_at funs.now place.now (cps.Call i bs.now to hs.now)) }
-    ensures term { IfOk result (λ u. term_view u ≡ put_all steps.items (inner.copy_at funs.now place.now base (cps.Call i bs.now to hs.now) fresh.old)) }
+    ensures count { IfOk result (λ u. fresh.new ≡ fresh.old + inner.count_at site.now.funs.now site.now.place.now (cps.Call i bs.now to hs.now)) }
+    ensures term { IfOk result (λ u. term_view u ≡ put_all steps.items (inner.copy_at site.now.funs.now site.now.place.now site.now.base (cps.Call i bs.now to hs.now) fresh.old)) }
 {
-    let end = copy_call(alloc, funs, place, base, i, bs, to, hs, fresh)?;
+    let end = copy_call(alloc, site, i, bs, to, hs, fresh)?;
     joined(alloc, steps, end)
 }
 
@@ -273,40 +251,31 @@ fn copy_last(
 #[cycle(copies)]
 fn copy_labels(
     alloc: Global,
-    funs: &[CpsFun],
-    place: &Place,
-    base: u32,
+    site: &Site<'_>,
     conts: &[Cont],
     fresh: &mut u32,
 ) -> Result<Vec<Cont>, NoMemory>
-    ensures count { IfOk result (λ v. fresh.new ≡ fresh.old + inner.labels_count_at funs.now place.now (labels_view conts.now)) }
-    ensures labels { IfOk result (λ v. labels_view v.items ≡ inner.labels_at funs.now place.now base (labels_view conts.now) fresh.old) }
+    ensures count { IfOk result (λ v. fresh.new ≡ fresh.old + inner.labels_count_at site.now.funs.now site.now.place.now (labels_view conts.now)) }
+    ensures labels { IfOk result (λ v. labels_view v.items ≡ inner.labels_at site.now.funs.now site.now.place.now site.now.base (labels_view conts.now) fresh.old) }
 {
     let mut v = Vec::new(alloc);
     for c in conts {
-        v.push(copy_label(alloc, funs, place, base, c, fresh)?)?;
+        v.push(copy_label(alloc, site, c, fresh)?)?;
     }
     Ok(v)
 }
 
 // The copy of one label.
 #[cycle(copies)]
-fn copy_label(
-    alloc: Global,
-    funs: &[CpsFun],
-    place: &Place,
-    base: u32,
-    c: &Cont,
-    fresh: &mut u32,
-) -> Result<Cont, NoMemory>
-    ensures count { IfOk result (λ d. fresh.new ≡ fresh.old + inner.count_at funs.now place.now (label_view c.now).body) }
-    ensures label { IfOk result (λ d. (label_view d).label ≡ base + (label_view c.now).label) }
-    ensures params { IfOk result (λ d. (label_view d).params ≡ inner.moved base (label_view c.now).params) }
-    ensures body { IfOk result (λ d. (label_view d).body ≡ inner.copy_at funs.now place.now base (label_view c.now).body fresh.old) }
+fn copy_label(alloc: Global, site: &Site<'_>, c: &Cont, fresh: &mut u32) -> Result<Cont, NoMemory>
+    ensures count { IfOk result (λ d. fresh.new ≡ fresh.old + inner.count_at site.now.funs.now site.now.place.now (label_view c.now).body) }
+    ensures label { IfOk result (λ d. (label_view d).label ≡ site.now.base + (label_view c.now).label) }
+    ensures params { IfOk result (λ d. (label_view d).params ≡ inner.moved site.now.base (label_view c.now).params) }
+    ensures body { IfOk result (λ d. (label_view d).body ≡ inner.copy_at site.now.funs.now site.now.place.now site.now.base (label_view c.now).body fresh.old) }
 {
-    let label = moved(base, c.label)?;
-    let params = moved_numbers(alloc, base, &c.params)?;
-    let body = copy_term(alloc, funs, place, base, &c.body, fresh)?;
+    let label = moved(site.base, c.label)?;
+    let params = moved_numbers(alloc, site.base, &c.params)?;
+    let body = copy_term(alloc, site, &c.body, fresh)?;
     Ok(Cont {
         label,
         params,
@@ -319,30 +288,28 @@ fn copy_label(
 #[inline(never)]
 fn copy_call(
     alloc: Global,
-    funs: &[CpsFun],
-    place: &Place,
-    base: u32,
+    site: &Site<'_>,
     i: u32,
     bs: &[Atom],
     to: Option<u32>,
     hs: &[(u16, u32)],
     fresh: &mut u32,
 ) -> Result<Term, NoMemory>
-    ensures count { IfOk result (λ u. fresh.new ≡ fresh.old + inner.count_at funs.now place.now (cps.Call i bs.now to hs.now)) }
-    ensures term { IfOk result (λ u. term_view u ≡ inner.copy_at funs.now place.now base (cps.Call i bs.now to hs.now) fresh.old) }
+    ensures count { IfOk result (λ u. fresh.new ≡ fresh.old + inner.count_at site.now.funs.now site.now.place.now (cps.Call i bs.now to hs.now)) }
+    ensures term { IfOk result (λ u. term_view u ≡ inner.copy_at site.now.funs.now site.now.place.now site.now.base (cps.Call i bs.now to hs.now) fresh.old) }
 {
     let k = match to {
         Some(k) => k,
-        None => return land(alloc, Some(moved(place.first, i)?), 0, base, bs),
+        None => return land(alloc, Some(moved(site.place.first, i)?), 0, site.base, bs),
     };
-    match funs.get(i as usize) {
+    match site.funs.get(i as usize) {
         Some(f) => {
-            if f.group >= place.group {
+            if f.group >= site.place.group {
                 return Err(NoMemory);
             }
-            let inner = place_of_call(alloc, place, base, f.group, k, hs, *fresh)?;
-            let words = moved_atoms(alloc, base, bs)?;
-            enter(alloc, funs, i, f, words, &inner, fresh)
+            let inner = place_of_call(alloc, site.place, site.base, f.group, k, hs, *fresh)?;
+            let words = moved_atoms(alloc, site.base, bs)?;
+            enter(alloc, site.funs, i, f, words, &inner, fresh)
         }
         None => Err(NoMemory),
     }
@@ -408,7 +375,8 @@ fn copy_function(
     let label = moved(place.first, j)?;
     let base = take(fresh, span(g)?)?;
     let params = moved_numbers(alloc, base, &g.params)?;
-    let body = copy_term(alloc, funs, place, base, &g.body, fresh)?;
+    let site = Site { funs, place, base };
+    let body = copy_term(alloc, &site, &g.body, fresh)?;
     Ok(Cont {
         label,
         params,

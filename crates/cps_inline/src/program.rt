@@ -1,6 +1,6 @@
 // Whole programs.
 
-ghost use Rattle.std.specs.Prelude.{◌≡◌, ◌≤◌, true, IfOk, map, All, Some, slice_get};
+ghost use Rattle.std.specs.Prelude.{◌≡◌, ◌≤◌, true, IfOk, map, All};
 ghost use Rattle.nv_base.specs.Meanings.{KeepsOutcomes};
 ghost use Rattle.nv_base.specs.Measures.{IsAtMost};
 ghost use Rattle.cps_ir.specs.Bulk.{bulk, code_bulk};
@@ -24,15 +24,11 @@ pub fn inline(alloc: Global, c: Cps) -> Result<Cps, NoMemory>
     ensures wide { IfOk result (λ d. wide (map fun_view d.funs.items) d.main ≤ wide (map fun_view c.funs.items) c.main) }
     ensures bulk { IfOk result (λ d. IsAtMost (code_bulk (map fun_view d.funs.items) d.main) (bulk (map fun_view c.funs.items) c.main)) }
 {
-    match c.funs.get(c.main as usize) {
-        Some(f) => {
-            let main = inline_main(alloc, &c.funs, c.main, f)?;
-            let mut funs = Vec::new(alloc);
-            funs.push(main)?;
-            Ok(Cps { funs, main: 0 })
-        }
-        None => Err(NoMemory),
-    }
+    let f = &c.funs[c.main as usize];
+    let main = inline_main(alloc, &c.funs, c.main, f)?;
+    let mut funs = Vec::new(alloc);
+    funs.push(main)?;
+    Ok(Cps { funs, main: 0 })
 }
 
 // Variables as operands.
@@ -48,7 +44,6 @@ fn operands(alloc: Global, xs: &[u32]) -> Result<Vec<Atom>, NoMemory>
 
 // The one function.
 fn inline_main(alloc: Global, funs: &[CpsFun], i: u32, f: &CpsFun) -> Result<CpsFun, NoMemory>
-    requires { slice_get funs.now i ≡ Some f.now }
     ensures { IfOk result (λ g. fun_view g ≡ inner.inlined_main (map fun_view funs.now) i (fun_view f.now)) }
 {
     let mut fresh = behind_all(0, &f.params)?;

@@ -13,15 +13,15 @@ use Rattle.cps_inline.proofs.copying.+copies.Goals.{copy_group-then-is_copied+in
 
 pub copy_call-returns-in_ok-words-in-Some-get-clause-count : goal.copy_call-returns-in_ok-words-in-Some-get-clause-count
 copy_call-returns-in_ok-words-in-Some-get-clause-count t c =
-    let there = slice_get_read c.args.funs.now (length c.args.funs.now) c.args.i c.in-Some-get.f.now refl c.in-Some-get.ensures.lookup.3.0 c.in-Some-get.ensures.lookup.1 in
+    let there = slice_get_read c.args.site.now.funs.now (length c.args.site.now.funs.now) c.args.i c.in-Some-get.f.now refl c.in-Some-get.ensures.lookup.3.0 c.in-Some-get.ensures.lookup.1 in
     let group = c.in_ok-inner-in-Some-get.ensures.group in
-    let same = ap (λ g. group_count (map fun_view c.args.funs.now) (counts (map fun_view c.args.funs.now) g) (fun_view c.in-Some-get.f.now)) group ∙ sym (call-counted c.args.funs.now c.args.place.now.group c.args.i c.in-Some.k c.in-Some-get.f.now c.args.bs.now c.args.to c.args.hs.now there c.in-Some.is c.if-f-place.false) in
+    let same = ap (λ g. group_count (map fun_view c.args.site.now.funs.now) (counts (map fun_view c.args.site.now.funs.now) g) (fun_view c.in-Some-get.f.now)) group ∙ sym (call-counted c.args.site.now.funs.now c.args.site.now.place.now.group c.args.i c.in-Some.k c.in-Some-get.f.now c.args.bs.now c.args.to c.args.hs.now there c.in-Some.is c.if-f-site.false) in
     ok-more _ _ c.enter.result (λ u e. e ∙ ap (λ k. c.args.fresh.now + k) same) c.enter.ensures.count
 
 pub copy_call-returns-in_ok-words-in-Some-get-clause-term : goal.copy_call-returns-in_ok-words-in-Some-get-clause-term
 copy_call-returns-in_ok-words-in-Some-get-clause-term t c =
-    let there = slice_get_read c.args.funs.now (length c.args.funs.now) c.args.i c.in-Some-get.f.now refl c.in-Some-get.ensures.lookup.3.0 c.in-Some-get.ensures.lookup.1 in
-    let same = call-entered c.args.funs.now c.args.place.now c.in_ok-inner-in-Some-get.inner c.args.base c.args.i c.in-Some.k c.in-Some-get.f.now c.args.bs.now c.args.to c.args.hs.now c.in_ok-words-in-Some-get.words.items c.args.fresh.now there c.in-Some.is c.if-f-place.false c.in_ok-inner-in-Some-get.ensures.group c.in_ok-inner-in-Some-get.ensures.view c.in_ok-words-in-Some-get.ensures in
+    let there = slice_get_read c.args.site.now.funs.now (length c.args.site.now.funs.now) c.args.i c.in-Some-get.f.now refl c.in-Some-get.ensures.lookup.3.0 c.in-Some-get.ensures.lookup.1 in
+    let same = call-entered c.args.site.now.funs.now c.args.site.now.place.now c.in_ok-inner-in-Some-get.inner c.args.site.now.base c.args.i c.in-Some.k c.in-Some-get.f.now c.args.bs.now c.args.to c.args.hs.now c.in_ok-words-in-Some-get.words.items c.args.fresh.now there c.in-Some.is c.if-f-site.false c.in_ok-inner-in-Some-get.ensures.group c.in_ok-inner-in-Some-get.ensures.view c.in_ok-words-in-Some-get.ensures in
     ok-more _ _ c.enter.result (λ u e. e ∙ same) c.enter.ensures.term
 
 pub copy_function-returns-clause-body : goal.copy_function-returns-clause-body
@@ -59,10 +59,10 @@ pub copy_labels-returns-clause-labels : goal.copy_labels-returns-clause-labels
 copy_labels-returns-clause-labels t c = in_end c.loop-c.invariant (drop_all c.loop-c.c-index c.args.conts.now c.loop-c-test.false)
 
 pub copy_first-returns-clause-step : goal.copy_first-returns-clause-step
-copy_first-returns-clause-step t c = ok-more _ _ c.push_if.result (λ u adds t'. adds t' ∙ ap (λ v. put_all c.args.steps.now.items (cps.If c.args.test.0 (moved_atom c.args.base c.args.test.1) (moved_atom c.args.base c.args.test.2) v t')) c.in_ok-part.ensures.term) c.push_if.ensures
+copy_first-returns-clause-step t c = ok-more _ _ c.push_if.result (λ u adds t'. adds t' ∙ ap (λ v. put_all c.args.steps.now.items (cps.If c.args.test.0 (moved_atom c.args.site.now.base c.args.test.1) (moved_atom c.args.site.now.base c.args.test.2) v t')) c.in_ok-part.ensures.term) c.push_if.ensures
 
 pub copy_around-returns-clause-step : goal.copy_around-returns-clause-step
-copy_around-returns-clause-step t c = ok-more _ _ c.push_label.result (λ u adds t'. adds t' ∙ ap (λ v. put_all c.args.steps.now.items (cps.Fix (cps.label (c.args.base + c.args.one.now.label) (moved c.args.base c.args.one.now.params.items) t' cps.none) v)) c.in_ok-around.ensures.term) c.push_label.ensures
+copy_around-returns-clause-step t c = ok-more _ _ c.push_label.result (λ u adds t'. adds t' ∙ ap (λ v. put_all c.args.steps.now.items (cps.Fix (cps.label (c.args.site.now.base + c.args.one.now.label) (moved c.args.site.now.base c.args.one.now.params.items) t' cps.none) v)) c.in_ok-around.ensures.term) c.push_label.ensures
 
 pub copy_several-returns-clause-step : goal.copy_several-returns-clause-step
 copy_several-returns-clause-step t c = ok-more _ _ c.push_labels.result (λ u adds t'. adds t' ∙ ap (λ v. put_all c.args.steps.now.items (cps.Fix v t')) c.in_ok-labels.ensures.labels) c.push_labels.ensures
