@@ -1,5 +1,5 @@
 -- The rows of a whole in single-use form are those of its points.
-use Rattle.std.proofs.Common.{◌≡◌, ℕ, zero, suc, ◌+◌, ◌<◌, ◌≤◌, max, Bool, true, false, not, nat_eq, ◌||◌, ◌&&◌, ◌⊎◌, inl, inr, ⊎_elim, Option, Some, None, List, [], ◌∷◌, ◌++◌, length, map, filter, get_or, drop, unwrap_or, refl, sym, ap, subst, ◌∙◌, append_assoc, arith}
+use Rattle.std.proofs.Common.{◌≡◌, ℕ, zero, suc, ◌+◌, ◌<◌, ◌≤◌, max, Bool, true, false, not, nat_eq, ◌||◌, ◌&&◌, ◌⊎◌, inl, inr, ⊎_elim, Option, Some, None, Result, Ok, Err, IfOk, List, [], ◌∷◌, ◌++◌, length, map, filter, get_or, drop, unwrap_or, refl, sym, ap, subst, ◌∙◌, append_assoc, arith}
 use Rattle.std.specs.Prelude.{slice_get}
 use Rattle.std.specs.List.{list_all, AllZip}
 use Rattle.std.proofs.lemmas.Bool.{or_parts, and_parts, and_from, not-true, not_from_false, false≢true, false_from_ne_true}
@@ -187,7 +187,7 @@ sourced-param value l ls d h z e =
     ∙ ap (λ o. unwrap_or (first_of o (source_among (trees ls) z)) z) (no-source l.body z (false_from_ne_true (is_in z (defined l.body)) (λ f. a.2 z e (in-left z (defined l.body) (all_defined ls) f))))
     ∙ ap (λ o. unwrap_or o z) (none-among ls z (false_from_ne_true (is_in z (all_defined ls)) (λ f. a.2 z e (in-right z (defined l.body) (all_defined ls) f))))
 
-sourced-tail : (value : Names) (l : Label) (ls : List Label) → all_different (all_defined (l ∷ ls)) ≡ true → Sourced value (l ∷ ls) → Sourced value ls
+pub sourced-tail : (value : Names) (l : Label) (ls : List Label) → all_different (all_defined (l ∷ ls)) ≡ true → Sourced value (l ∷ ls) → Sourced value ls
 sourced-tail value l ls d h z e =
     let a = split-different l.params (defined l.body ++ all_defined ls) d in
     let b = split-different (defined l.body) (all_defined ls) a.1 in
@@ -289,3 +289,7 @@ kept-more s of k d rows pushed new copy stack goal l e c p t n h =
         ap items_of p ∙ map-append (λ (v : Kept). v.items) rows (copy ∷ []) ∙ ap (λ r. items_of rows ++ r ∷ []) (c ∙ ap (λ (m : SsuLabel). m.params.items) e) in
     ap (λ m. m ++ labels_rows of (drop (k + 1) (labels_view s))) (n ∙ ap (λ m. m ++ on_stack stack) put)
     ∙ label-more s of k d (items_of rows) (on_stack stack) goal l t h
+
+pub if-ok-map : {A E : Type 0} (r : Result A E) (P Q : A → Type 0) → ((v : A) → P v → Q v) → IfOk r P → IfOk r Q
+if-ok-map (Ok v) P Q h p = h v p
+if-ok-map (Err e) P Q h p = tt

@@ -4,3 +4,5 @@ pub mod Labels
 pub mod Scoped
 pub mod Kept
 pub mod SpotSteps
+pub mod Marks
+pub mod Numbering

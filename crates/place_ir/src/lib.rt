@@ -3,6 +3,7 @@
 
 mod copies;
 mod rows;
+mod slots;
 mod spots;
 mod place;
 mod row;

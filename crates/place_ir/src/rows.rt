@@ -13,7 +13,7 @@ ghost use Rattle.ssu_ir.specs.View.{labels_view};
 ghost use Rattle.ssu_ir.specs.Work.{nums, tops};
 ghost use Rattle.ssu_ir.proofs.Trees.{arity};
 ghost use Rattle.place_ir.specs.Held.{IsRow, items_of};
-ghost use Rattle.place_ir.specs.inner.Live.{add_all, value_by, behind, row_over, tree_rows, on_stack, label_tree, longest, Takes};
+ghost use Rattle.place_ir.specs.inner.Live.{add_all, value_by, behind, row_over, tree_rows, on_stack, label_tree, labels_rows, longest, Takes};
 
 use crate::copies::{Copies, copies_of, value_of};
 use crate::row::{add, add_each, remove_each};
@@ -139,19 +139,26 @@ fn unstack(rows: &mut Vec<Vec<u32>>, stack: Vec<Vec<u32>>) -> Result<(), NoMemor
     Ok(())
 }
 
+/// The rows of all points, where these are the clones.
+pub fn all_rows(alloc: Global, s: &Ssu, copies: &Copies) -> Result<Vec<Vec<u32>>, NoMemory>
+    ensures { IfOk result (λ v. items_of v.items ≡ labels_rows (value_by (get nat_eq copies.now)) (labels_view s.now)) }
+{
+    let mut rows = Vec::new(alloc);
+    for k in 0..s.labels.len() {
+        rows.push(copied(alloc, &s.labels[k].params)?)?;
+        let stack = label_rows(alloc, s, copies, k)?;
+        unstack(&mut rows, stack)?;
+    }
+    Ok(rows)
+}
+
 /// One row a point: the values that are held there, without an order.
 pub fn held(alloc: Global, s: &Ssu) -> Result<Vec<Vec<u32>>, NoMemory>
     requires { single (labels_view s.now) ≡ true }
     ensures { IfOk result (λ v. AllZip IsRow (items_of v.items) (points (labels_view s.now))) }
 {
     let copies = copies_of(alloc, s)?;
-    let mut rows = Vec::new(alloc);
-    for k in 0..s.labels.len() {
-        rows.push(copied(alloc, &s.labels[k].params)?)?;
-        let stack = label_rows(alloc, s, &copies, k)?;
-        unstack(&mut rows, stack)?;
-    }
-    Ok(rows)
+    all_rows(alloc, s, &copies)
 }
 
 /// The greatest number of values that are held at a point.

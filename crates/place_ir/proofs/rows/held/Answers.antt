@@ -1,21 +1,16 @@
-use Rattle.std.proofs.Common.{◌≡◌, ◌∷◌, ◌++◌, [], nat_eq, sym, ap, subst, ◌∙◌, arith}
+use Rattle.std.proofs.Common.{◌≡◌, nat_eq, Vec, Global, ℕ}
 use Rattle.std.specs.HashMap.{get}
+use Rattle.std.specs.List.{AllZip}
+use Rattle.ssu_ir.specs.Points.{points}
 use Rattle.ssu_ir.specs.View.{labels_view}
-use Rattle.place_ir.specs.Held.{items_of}
-use Rattle.place_ir.specs.inner.Live.{value_by, labels_rows, on_stack}
-use Rattle.place_ir.proofs.Kept.{rows-of-whole, kept-more, labels-end}
+use Rattle.place_ir.specs.Held.{IsRow, Kept, items_of}
+use Rattle.place_ir.specs.inner.Live.{labels_rows, value_by}
+use Rattle.place_ir.proofs.Kept.{rows-of-whole, if-ok-map}
 use Rattle.place_ir.proofs.rows.held.Goals as goal
-
-pub loop-k-preserved : goal.loop-k-preserved
-loop-k-preserved c =
-    let s = c.args.s.now in
-    let of = value_by (get nat_eq c.in_ok-copies.copies) in
-    kept-more s of c.loop-k.k c.index.result.now c.loop-k.rows.items c.push.new.self.items c.unstack.new.rows.items c.in_ok-copied.field-0 c.in_ok-stack.stack.items (labels_rows of (labels_view s))
-    (omega (arith, s.labels.ok.0)) c.index.ensures (c.in_ok-copied.ensures ∙ c.deref.ensures.value) c.in_ok-push.ensures.items c.in_ok-stack.ensures c.in_ok-unstack.ensures c.loop-k.invariant
 
 pub returns : goal.returns
 returns c =
     let s = c.args.s.now in
     let source = get nat_eq c.in_ok-copies.copies in
-    rows-of-whole s source (items_of c.loop-k.rows.items) c.requires c.in_ok-copies.ensures
-    (labels-end s (value_by source) c.loop-k.k (items_of c.loop-k.rows.items) (labels_rows (value_by source) (labels_view s)) (omega (arith, s.labels.ok.0)) c.loop-k.invariant)
+    if-ok-map c.all_rows.result (λ (v : Vec Kept Global). items_of v.items ≡ labels_rows (value_by source) (labels_view s)) (λ (v : Vec Kept Global). AllZip IsRow (items_of v.items) (points (labels_view s)))
+    (λ v e. rows-of-whole s source (items_of v.items) c.requires c.in_ok-copies.ensures e) c.all_rows.ensures

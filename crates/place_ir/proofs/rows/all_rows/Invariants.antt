@@ -3,7 +3,7 @@ use Rattle.std.specs.HashMap.{get}
 use Rattle.ssu_ir.specs.View.{labels_view}
 use Rattle.place_ir.specs.Held.{items_of}
 use Rattle.place_ir.specs.inner.Live.{labels_rows, value_by}
-use Rattle.place_ir.proofs.rows.held.Given as goal
+use Rattle.place_ir.proofs.rows.all_rows.Given as goal
 
 abbrev pub invariant-loop-k : goal.invariant-loop-k
 invariant-loop-k l =
