@@ -1,14 +1,14 @@
 //! Running sums of the rows while columns are fixed and unfixed.
 
-ghost use Rattle.std.specs.Prelude.{◌≡◌, ℕ, ◌+◌, ◌<◌, ◌≤◌, ◌^◌, ◌↔◌, ◌<ℤ◌, List, [], length, pos, ℤ, ◌+ℤ◌, ◌-ℤ◌, All, Bool, Option, None, Some, IfNone, IfOk, IfSome, IsTrue, replicate, nat_eq, slice_get, slice_set, slice_index_or};
+ghost use Rattle.std.specs.Prelude.{◌≡◌, ℕ, ◌+◌, ◌<◌, ◌≤◌, ◌^◌, ◌↔◌, ◌<ℤ◌, [], length, pos, ℤ, ◌+ℤ◌, All, Option, None, Some, IfNone, IfOk, IfSome, IsTrue, slice_get, slice_set, slice_index_or};
 ghost use Rattle.std.specs.Global.{Vec as VecOf};
-ghost use Rattle.zo_model.specs.Program.{AreSmallTerms, AtMost, IsValid, columns, terms_sum, where_one};
+ghost use Rattle.zo_model.specs.Program.{AreSmallTerms, AtMost, IsValid, columns, terms_sum};
 ghost use Rattle.zo_cert.specs.Certificate.{terms_of, unfixed};
 ghost use Rattle.zo_cert.specs.Fixing.{ones};
 ghost use Rattle.zo_cert.specs.Searched.{IsInReach, IsMet};
 ghost use Rattle.zo_cert.specs.Searched as searched;
 ghost use Rattle.zo_cert.specs.inner.Path.{IsFixed};
-ghost use Rattle.zo_solve.specs.inner.Keeping.{AreEntries, IsSpread, IsTranspose, EachReaches, along, entries_of, moved, settled};
+ghost use Rattle.zo_solve.specs.inner.Keeping.{AreEntries, IsSpread, IsTranspose, EachReaches, along, moved, settled};
 
 use crate::reach::{ones_total, reach, reach_part};
 use std::alloc::{AllocError, Global};
