@@ -1,4 +1,4 @@
-//! The vector that a search begins with: the best of several dives and of a local search behind them.
+//! The vector that a search begins with: that of a dive, made cheaper by a local search.
 
 ghost use Rattle.std.specs.Prelude.{◌≡◌, IfOk, IfSome};
 ghost use Rattle.zo_model.specs.Program.{IsValid};
@@ -12,24 +12,15 @@ use crate::rounds::Rounds;
 use std::alloc::{AllocError, Global};
 use zo_model::{Assignment, NoMemory, ZeroOne, feasible};
 
-/// So many rounds go before the first dive.
+/// So many rounds go before the dive.
 const ROOT_ROUNDS: u32 = 1_000;
-/// How the first dive goes, and how many terms of rows it and the rounds before it may visit.
-const FIRST: Way = Way {
+/// How the dive goes, and how many terms of rows it and the rounds before it may visit.
+const WAY: Way = Way {
     first: 20,
     next: 20,
-    noise: 0,
 };
 
-const FIRST_WORK: u64 = 600_000_000;
-/// The same of the second.
-const SECOND: Way = Way {
-    first: 200,
-    next: 20,
-    noise: 16_384,
-};
-
-const SECOND_WORK: u64 = 200_000_000;
+const WORK_LIMIT: u64 = 300_000_000;
 
 /// Takes the vector where it meets the rows and is better. Whether it was taken.
 pub fn take(z: &ZeroOne, best: &mut Best, x: Assignment) -> bool
@@ -54,7 +45,6 @@ fn dive_once(
     best: &mut Best,
     dive: &mut Dive,
     rounds: &mut Rounds,
-    way: Way,
 ) -> Result<(), AllocError>
     requires valid { IsValid z.now }
     requires best { IsBest z.now best.old }
@@ -63,15 +53,14 @@ fn dive_once(
 {
     dive.restart();
     dive.enqueue_all(z)?;
-    if dive.run(z, rounds, way)? {
+    if dive.run(z, rounds, WAY)? {
         let x = dive.vector(alloc)?;
         take(z, best, x);
     }
     Ok(())
 }
 
-/// The best of the start and of the vectors that two dives and a local search find; where the first dive finds one that costs no
-/// more than the rounds before it tell, that one alone.
+/// The best of the start and of the vectors that a dive and a local search behind it find.
 pub fn begin(alloc: Global, z: &ZeroOne, start: Option<Assignment>) -> Result<Best, NoMemory>
     requires valid { IsValid z.now }
     requires start { IfSome start (IsVector z.now) }
@@ -80,16 +69,15 @@ pub fn begin(alloc: Global, z: &ZeroOne, start: Option<Assignment>) -> Result<Be
 {
     let mut best = Best::new(z, start);
     let mut dive = Dive::new(alloc, z)?;
-    let mut rounds = Rounds::new(alloc, z, FIRST_WORK)?;
+    let mut rounds = Rounds::new(alloc, z, WORK_LIMIT)?;
     rounds.run(z, &dive.sums.fixed().at, ROOT_ROUNDS);
     let bound = rounds.bound(z);
-    dive_once(alloc, z, &mut best, &mut dive, &mut rounds, FIRST)?;
+    dive_once(alloc, z, &mut best, &mut dive, &mut rounds)?;
     drop_needless(alloc, z, &mut best, &dive.sums)?;
+    // no vector costs less than the rounds before the dive tell
     if costs_as_much(&best.claim, bound) {
         return Ok(best);
     }
-    rounds.restart(SECOND_WORK);
-    dive_once(alloc, z, &mut best, &mut dive, &mut rounds, SECOND)?;
     exchange(alloc, z, &mut best, &mut dive, &mut rounds)?;
     drop_needless(alloc, z, &mut best, &dive.sums)?;
     Ok(best)

@@ -23,8 +23,6 @@ pub struct Way {
     pub first: u32,
     /// So many behind each doubtful one.
     pub next: u32,
-    /// By up to so many 65536ths what the rounds say is changed, at each choice anew.
-    pub noise: u64,
 }
 
 /// A dive's place: the columns that are fixed, and the rows that may force others.
@@ -42,8 +40,6 @@ pub struct Dive<'a> {
     work: u64,
     // so many choices turned out to be wrong
     wrong: u32,
-    // the state of the noise
-    draw: u64,
 }
 
 impl<'a> Dive<'a> {
@@ -59,7 +55,6 @@ impl<'a> Dive<'a> {
             first: 0,
             work: 0,
             wrong: 0,
-            draw: 1,
         })
     }
 
@@ -183,25 +178,15 @@ impl<'a> Dive<'a> {
         None
     }
 
-    /// The next number of the noise.
-    fn noise(&mut self, most: u64) -> i64 {
-        self.draw = self
-            .draw
-            .wrapping_mul(6_364_136_223_846_793_005)
-            .wrapping_add(1_442_695_040_888_963_407);
-        let drawn = (self.draw >> 33).checked_rem(most).unwrap_or(0);
-        i64::try_from(drawn).unwrap_or(0)
-    }
-
     /// The unfixed column that helps the row and is greatest by the rounds, of equal ones the cheapest.
-    fn choice(&mut self, z: &ZeroOne, row: usize, rounds: &Rounds, noise: u64) -> Option<u32> {
+    fn choice(&self, z: &ZeroOne, row: usize, rounds: &Rounds) -> Option<u32> {
         let mut best: Option<u32> = None;
         let mut greatest: i64 = -1;
         let mut cheapest: u32 = 0;
         let row = z.rows.get(row)?;
         for (j, a) in &row.terms {
             if *a > 0 && self.sums.is_free(*j) {
-                let value = rounds.value(*j).saturating_add(self.noise(noise));
+                let value = rounds.value(*j);
                 let cost = z.costs.get(*j as usize).copied().unwrap_or(0);
                 if value > greatest || (value == greatest && cost < cheapest) {
                     best = Some(*j);
@@ -254,7 +239,7 @@ impl<'a> Dive<'a> {
             let Some(row) = self.first_unmet(z, rounds) else {
                 return Ok(true);
             };
-            let Some(column) = self.choice(z, row, rounds, way.noise) else {
+            let Some(column) = self.choice(z, row, rounds) else {
                 return Ok(false);
             };
             is_doubtful |= rounds.value(column) < SURE;

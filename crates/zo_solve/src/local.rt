@@ -26,7 +26,6 @@ const LOW: u64 = 0xffff_ffff;
 const WAY: Way = Way {
     first: 40,
     next: 10,
-    noise: 0,
 };
 
 /// The columns that are 1 and cost something, the dearest first.

@@ -17,7 +17,7 @@ const ROOT_ROUNDS: u32 = 400;
 
 const ROUNDS: u32 = 20;
 /// They visit at most so many terms of rows.
-const WORK_LIMIT: u64 = 600_000_000;
+const WORK_LIMIT: u64 = 300_000_000;
 
 /// Rounds of their own for the choice of the column to branch on: each choice carries them on with the columns of its node
 /// fixed, and names a column that is nearest to one half. A closure may capture it, since a choice takes no memory.

@@ -1,14 +1,14 @@
 //! Running sums of the rows while columns are fixed and unfixed.
 
-ghost use Rattle.std.specs.Prelude.{◌≡◌, ℕ, ◌+◌, ◌<◌, ◌≤◌, ◌^◌, ◌↔◌, ◌<ℤ◌, List, [], length, pos, ℤ, ◌+ℤ◌, ◌-ℤ◌, All, Bool, Option, None, Some, IfNone, IfOk, IfSome, IsTrue, replicate, nat_eq, slice_get, slice_set, slice_index_or};
+ghost use Rattle.std.specs.Prelude.{◌≡◌, ℕ, ◌+◌, ◌<◌, ◌≤◌, ◌^◌, ◌↔◌, ◌<ℤ◌, [], length, pos, ℤ, ◌+ℤ◌, All, Option, None, Some, IfNone, IfOk, IfSome, IsTrue, slice_get, slice_set, slice_index_or};
 ghost use Rattle.std.specs.Global.{Vec as VecOf};
-ghost use Rattle.zo_model.specs.Program.{AreSmallTerms, AtMost, IsValid, columns, terms_sum, where_one};
+ghost use Rattle.zo_model.specs.Program.{AreSmallTerms, AtMost, IsValid, columns, terms_sum};
 ghost use Rattle.zo_cert.specs.Certificate.{terms_of, unfixed};
 ghost use Rattle.zo_cert.specs.Fixing.{ones};
 ghost use Rattle.zo_cert.specs.Searched.{IsInReach, IsMet};
 ghost use Rattle.zo_cert.specs.Searched as searched;
 ghost use Rattle.zo_cert.specs.inner.Path.{IsFixed};
-ghost use Rattle.zo_solve.specs.inner.Keeping.{AreEntries, IsSpread, IsTranspose, EachReaches, along, entries_of, moved, settled};
+ghost use Rattle.zo_solve.specs.inner.Keeping.{AreEntries, IsSpread, IsTranspose, EachReaches, along, moved, settled};
 
 use crate::reach::{ones_total, reach, reach_part};
 use std::alloc::{AllocError, Global};
@@ -194,7 +194,7 @@ impl<'a> Sums<'a> {
     }
 
     /// Puts all columns into these places.
-    pub fn follow(&mut self, fixed: &[Option<bool>])
+    pub(crate) fn follow(&mut self, fixed: &[Option<bool>])
         requires { length fixed.now ≡ length self.old.fixed }
         ensures { self.new ≡ record self.old { fixed = fixed.now } }
     {
@@ -204,7 +204,7 @@ impl<'a> Sums<'a> {
     }
 
     /// Whether the column is there and unfixed.
-    pub fn is_free(&self, column: u32) -> bool
+    pub(crate) fn is_free(&self, column: u32) -> bool
         ensures { IsTrue result ↔ slice_get self.now.fixed column ≡ Some None }
     {
         let j = column as usize;
@@ -212,7 +212,7 @@ impl<'a> Sums<'a> {
     }
 
     /// Whether the column is there and fixed.
-    pub fn is_fixed(&self, column: u32) -> bool
+    pub(crate) fn is_fixed(&self, column: u32) -> bool
         ensures { IsTrue result → IsFixed (slice_get self.now.fixed column) }
     {
         let j = column as usize;
@@ -245,7 +245,7 @@ impl<'a> Sums<'a> {
     }
 
     /// By how much the most that the row's sum can still be exceeds its least; 0 where there is no such row.
-    pub fn slack(&self, row: u32) -> i64 {
+    pub(crate) fn slack(&self, row: u32) -> i64 {
         let i = row as usize;
         if i < self.z.rows.len() {
             return self
@@ -256,7 +256,7 @@ impl<'a> Sums<'a> {
     }
 
     /// Whether the row holds with 0 for all unfixed columns, or isn't there.
-    pub fn is_row_met(&self, row: usize) -> bool {
+    pub(crate) fn is_row_met(&self, row: usize) -> bool {
         if row < self.z.rows.len() {
             return self.ones[row] >= i128::from(self.z.rows[row].least);
         }
@@ -264,17 +264,17 @@ impl<'a> Sums<'a> {
     }
 
     /// The rows of a column, each with the coefficient there.
-    pub fn rows_of(&self, column: u32) -> Option<&[(u32, i32)]> {
+    pub(crate) fn rows_of(&self, column: u32) -> Option<&[(u32, i32)]> {
         Some(self.columns.get(column as usize)?.as_slice())
     }
 
     /// The row and the coefficient at a place of a column.
-    pub fn term(&self, column: u32, place: usize) -> Option<(u32, i32)> {
+    pub(crate) fn term(&self, column: u32, place: usize) -> Option<(u32, i32)> {
         self.columns.get(column as usize)?.get(place).copied()
     }
 
     /// How many rows a column has.
-    pub fn count(&self, column: u32) -> usize {
+    pub(crate) fn count(&self, column: u32) -> usize {
         match self.columns.get(column as usize) {
             Some(terms) => terms.len(),
             None => 0,
@@ -282,14 +282,14 @@ impl<'a> Sums<'a> {
     }
 
     /// Whether every row holds with 0 for all unfixed columns.
-    pub fn is_met(&self) -> bool
+    pub(crate) fn is_met(&self) -> bool
         ensures { IsTrue result ↔ IsMet self.now.program self.now.fixed }
     {
         first_below(&self.z.rows, &self.ones).is_none()
     }
 
     /// The first row that can't hold any more, if there is one.
-    pub fn out_of_reach(&self) -> Option<u32>
+    pub(crate) fn out_of_reach(&self) -> Option<u32>
         ensures some { IfSome result (λ i. IfSome (slice_get self.now.program.rows.items i) (λ row. IsInReach self.now.fixed row → ⊥)) }
         ensures there { IfSome result (λ i. i < length self.now.program.rows.items) }
         ensures none { IfNone result (All (IsInReach self.now.fixed) self.now.program.rows.items) }
