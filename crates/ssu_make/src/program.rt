@@ -55,6 +55,13 @@ fn make_labels(
     Ok(v)
 }
 
+// The same numbers.
+fn numbers(alloc: Global, xs: &[u32]) -> Result<Vec<u32>, NoMemory>
+    ensures { IfOk result (λ v. v.items ≡ xs.now) }
+{
+    Ok(xs.to_vec(alloc)?)
+}
+
 // A label whose names begin at `fresh`.
 fn make_label(
     alloc: Global,
@@ -65,7 +72,7 @@ fn make_label(
     requires { HasRoots build.old }
     ensures { IfOk result (λ s. LabelMade (label_view l.now) s fresh.old fresh.new build.old build.new) }
 {
-    let mut variables = l.params.clone()?;
+    let mut variables = numbers(alloc, &l.params)?;
     let counts = survey(alloc, &l.body, &mut variables)?;
     let bases = lay_out(alloc, &counts, &variables, fresh)?;
     let part = make_tree(alloc, build, &bases, fresh, &l.body)?;
