@@ -33,7 +33,7 @@ drop-step F xs i d x lt e = at_drop_more F xs i d lt ∙ ap (λ z. F (z ∷ drop
 
 pub range-last : (n a : ℕ) → range_with_len a (n + 1) ≡ range_with_len a n ++ (a + n) ∷ []
 range-last zero a = let e : a ≡ a + 0 = omega arith in ap (λ z. z ∷ []) e
-range-last (suc n) a = let e : a + 1 + n ≡ a + suc n = omega arith in ap (λ l. a ∷ l) (range-last n (a + 1) ∙ ap (λ z. range_with_len (a + 1) n ++ z ∷ []) e)
+range-last (suc n) a = let k : suc n + 1 ≡ suc (n + 1) = omega arith in let e : a + 1 + n ≡ a + suc n = omega arith in ap (range_with_len a) k ∙ ap (λ l. a ∷ l) (range-last n (a + 1) ∙ ap (λ z. range_with_len (a + 1) n ++ z ∷ []) e)
 
 -- ---- builders
 

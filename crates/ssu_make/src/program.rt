@@ -31,6 +31,7 @@ pub fn make(alloc: Global, f: &Flow) -> Result<Ssu, NoMemory>
     ensures params { IfOk result (λ s. flow_params (map label_view f.now.labels.items) ≡ ssu_params (labels_view s)) }
     ensures equal { IfOk result (λ s. AreEqual (flow_params (map label_view f.now.labels.items)) (flow_meaning (map label_view f.now.labels.items)) (ssu_meaning (labels_view s))) }
     ensures single { IfOk result (λ s. single (labels_view s) ≡ true) }
+    ensures peak { IfOk result (λ s. peak (labels_view s) ≤ wide (map label_view f.now.labels.items)) }
     ensures size { IfOk result (λ s. size (labels_view s) ≤ size_bound (wide (map label_view f.now.labels.items)) (bulk (map label_view f.now.labels.items))) }
     ensures code { IfOk result (λ s. code_bound (labels_view s) ≤ length_bound (wide (map label_view f.now.labels.items)) (bulk (map label_view f.now.labels.items))) }
 {

@@ -7,6 +7,7 @@ use Rattle.ssu_ir.specs.View.{labels_view}
 use Rattle.ssu_make.proofs.NodeForms.{whole-made}
 use Rattle.ssu_make.proofs.Rules.{same-params, single-made}
 use Rattle.ssu_make.proofs.Equal.{equal}
+use Rattle.ssu_make.proofs.Peak.{peak-of}
 use Rattle.ssu_make.proofs.Sizes.{size-made, code-made}
 use Rattle.ssu_make.proofs.program.make.Goals as goal
 
@@ -28,3 +29,8 @@ pub returns-clause-code : goal.returns-clause-code
 returns-clause-code c =
     let ls = map label_view c.args.f.now.labels.items in
     code-made 0 ls _ (whole-made (map label_view c.deref.result.now) (map label_view c.args.f.now.labels.items) c.in_ok-labels.labels.items c.make_labels.new.build (labels_view c.finish.result) c.in_ok-labels.ensures c.finish.ensures.trees (ap (map label_view) c.deref.ensures.value)) (and_parts (list_all (is_label ls) ls) (is_entry (slice_get ls 0)) c.args.f.now.formed).1
+
+pub returns-clause-peak : goal.returns-clause-peak
+returns-clause-peak c =
+    let ls = map label_view c.args.f.now.labels.items in
+    peak-of 0 ls _ (and_parts (list_all (is_label ls) ls) (is_entry (slice_get ls 0)) c.args.f.now.formed).0 (whole-made (map label_view c.deref.result.now) (map label_view c.args.f.now.labels.items) c.in_ok-labels.labels.items c.make_labels.new.build (labels_view c.finish.result) c.in_ok-labels.ensures c.finish.ensures.trees (ap (map label_view) c.deref.ensures.value))
