@@ -4,7 +4,7 @@ use Rattle.std.specs.List.{list_all}
 use Rattle.std.proofs.lemmas.Bool.{and_parts, or_cases, or_parts, not-true}
 use Rattle.nv_base.specs.Sets.{is_in, all_different}
 use Rattle.nv_base.proofs.Sets.{same-number, other-number}
-use Rattle.ssu_ir.specs.Slots.{Placed, times_all, weight_all, Slots, held, filled, AllStand}
+use Rattle.ssu_ir.specs.Slots.{Placed, times_all, weight_all, Slots, occupied, filled, AllStand}
 use Rattle.ssu_ir.specs.Build.{Rooted, ids, rooted, rooted_all, Forest, AreDifferentRoots}
 use Rattle.ssu_ir.proofs.Trees.{split, times_all-append, weight_all-append, all_stand_front, all_stand_back}
 
@@ -36,7 +36,7 @@ brought slots a b c f =
           all_stand_both slots t.front (s.front ++ t.back) (all_stand_front slots t.front t.back later)
           (all_stand_both slots s.front t.back (all_stand_front slots s.front (t.front ++ t.back) stand) (all_stand_back slots t.front t.back later));
       once = λ i.
-          let all : times_all i (s.front ++ (t.front ++ t.back)) ≡ held slots i = ap (times_all i) (sym whole) ∙ f.once i in
+          let all : times_all i (s.front ++ (t.front ++ t.back)) ≡ occupied slots i = ap (times_all i) (sym whole) ∙ f.once i in
           omega (arith, all, times_all-append i s.front (t.front ++ t.back), times_all-append i t.front t.back, times_all-append i t.front (s.front ++ t.back), times_all-append i s.front t.back);
       many =
           let all : weight_all (s.front ++ (t.front ++ t.back)) ≡ filled slots = ap weight_all (sym whole) ∙ f.many in

@@ -1,12 +1,11 @@
 -- With more jumps left, a run gets at least as far; and its memories follow its writes.
 use Rattle.std.proofs.Common.{◌≡◌, ℕ, zero, suc, ◌≤◌, Bool, true, false, List, Option, Some, None, refl, arith, slice_get, length, map, if◌then◌else◌}
 use Rattle.nv_base.specs.declared.term.Mem.{Mem}
-use Rattle.nv_base.specs.declared.outcome.Outcome.{Outcome}
 use Rattle.nv_base.specs.Memories.{Memories, fetched, stored}
 use Rattle.nv_base.specs.Meanings.{FullOutcome, IsPrefix, left_by}
 use Rattle.nv_base.specs.Progress.{Grows, FollowsAll}
 use Rattle.nv_base.specs.Words.{Env, word, una_word, bin_word, assigned, assigned_all, compares}
-use Rattle.nv_base.specs.World.{World, begun, over, after_read, read_words, wrote, after_write, write_words}
+use Rattle.nv_base.specs.World.{World, begun, after_read, wrote, after_write}
 use Rattle.nv_base.proofs.Same.{prefix-refl}
 use Rattle.nv_base.proofs.Kept.{IsKept, kept-read, kept-write, kept-if, kept-over, Adds, adds-kept, Gets, gets-kept, gets-going}
 use Rattle.nv_base.proofs.Accesses.{store-follows}

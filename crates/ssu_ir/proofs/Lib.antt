@@ -10,3 +10,8 @@ pub mod Lists
 pub mod Scopes
 pub mod Addresses
 pub mod Rules
+pub mod Unders
+pub mod Searches
+pub mod Keeps
+pub mod Sizes
+pub mod Held

@@ -1,9 +1,9 @@
 -- Sums and greatest numbers over points.
-use Rattle.std.proofs.Common.{◌≡◌, ℕ, zero, suc, ◌+◌, ◌≤◌, max, List, [], ◌∷◌, ◌++◌, length, map, refl, sym, ap, ◌∙◌, arith, length-append}
+use Rattle.std.proofs.Common.{◌≡◌, ℕ, suc, ◌+◌, ◌≤◌, max, List, [], ◌∷◌, ◌++◌, length, refl, arith, length-append}
 use Rattle.std.specs.List.{All}
 use Rattle.std.proofs.lemmas.List.{length-map}
-use Rattle.std.proofs.lemmas.List.Elements.{All-nil, All-cons, All-append}
-use Rattle.std.proofs.Math.Nat.{le-max_left, le-max_right, max-le}
+use Rattle.std.proofs.lemmas.List.Elements.{All-nil, All-cons}
+use Rattle.std.proofs.Math.Nat.{le-max_left, le-max_right}
 use Rattle.ssu_ir.specs.Tree.{Tree, Label, step_values, step_uses, last_uses, Do, If, End}
 use Rattle.ssu_ir.specs.Points.{Names, own, names_after, Point, nodes, tree_points, points_from}
 use Rattle.ssu_ir.specs.Measures.{most_held, tree_size, size, point_size, total}

@@ -1,10 +1,9 @@
 -- The tests name by name decide single use.
-use Rattle.std.proofs.Common.{◌≡◌, ℕ, ◌==◌, nat_le, Bool, true, false, not, nat_eq, ◌&&◌, ◌||◌, List, [], ◌∷◌, ◌++◌, length, Option, Some, None, refl, sym, ap, ◌∙◌, subst, ⊎_elim, slice_get}
+use Rattle.std.proofs.Common.{◌≡◌, ℕ, Bool, true, false, not, ◌&&◌, ◌||◌, List, [], ◌∷◌, ◌++◌, None, refl, sym, ap, ◌∙◌, slice_get}
 use Rattle.std.specs.List.{list_all}
-use Rattle.std.proofs.lemmas.Bool.{and_parts, and_from, or_cases, or_left, or_right, or_parts, not-true, not_from_false, false_from_ne_true, false≢true, cases_Bool, eqb-true, eq-eqb}
+use Rattle.std.proofs.lemmas.Bool.{and_parts, and_from, or_left, or_right, not-true, false≢true, eqb-true, eq-eqb}
 use Rattle.std.proofs.lemmas.List.Folds.{list_all-append}
 use Rattle.nv_base.specs.Sets.{is_in, all_different}
-use Rattle.nv_base.proofs.Sets.{in-append}
 use Rattle.ssu_ir.specs.Tree.{Tree, Label, step_values, step_clones, last_uses, Do, If, End, Does, Forks}
 use Rattle.ssu_ir.specs.Points.{own, used}
 use Rattle.ssu_ir.specs.Single.{defined, all_defined, is_step, is_last, are_nodes, step_names, names, are_new, uses_once, is_scoped, fresh_after, clones_fresh, clones_early, step_results, results_used, unknown, are_addressed, is_entry, is_single, single}
@@ -21,7 +20,7 @@ both_parts p a b h = and_parts (list_all p a) (list_all p b) (sym (list_all-appe
 both_from : (p : ℕ → Bool) (a b : List ℕ) → list_all p a ≡ true → list_all p b ≡ true → list_all p (a ++ b) ≡ true
 both_from p a b f g = list_all-append p a b ∙ and_from (list_all p a) (list_all p b) f g
 
-none-new : (xs : List ℕ) → list_all (λ x. not (is_in x [])) xs ≡ true
+pub none-new : (xs : List ℕ) → list_all (λ x. not (is_in x [])) xs ≡ true
 none-new [] = refl
 none-new (x ∷ xs) = none-new xs
 

@@ -4,7 +4,7 @@ use Rattle.ssu_ir.specs.declared.node.SsuNode.TheVariants.{Lit, Una, Clone, Read
 use Rattle.std.proofs.lemmas.Bool.Decides.{eqb_tells}
 use Rattle.ssu_ir.specs.declared.node.SsuNode.{SsuNode}
 use Rattle.ssu_ir.specs.Tree.{Node, Does, Forks, Ends}
-use Rattle.ssu_ir.specs.Slots.{node_of, kids_of, over, Placed, root, roots_of, bare, bare_all, here, times, times_all, weight, weight_all, Slots, slot, held, filled, Stands, AllStand, place, place_slot, placed_at, placed_all, placed_in, each_number, is_slot, is_there, Formed, DoAt, IfAt, EndAt}
+use Rattle.ssu_ir.specs.Slots.{node_of, kids_of, over, Placed, root, roots_of, bare, bare_all, here, times, times_all, weight, weight_all, Slots, slot, occupied, filled, Stands, AllStand, place, place_slot, placed_at, placed_all, placed_in, each_number, is_slot, is_there, Formed, DoAt, IfAt, EndAt}
 use Rattle.ssu_ir.specs.Build.{Rooted, ids, trees_of, rooted, rooted_all, Forest}
 
 -- ---- nodes
@@ -42,11 +42,11 @@ pub is_slot_is : (test : ℕ → Bool) (o : Option SsuNode) (n : SsuNode) (ks : 
 is_slot_is test o n ks e k = ap (is_slot test) e ∙ ap (each_number test) k
 
 -- what is read under the root of a tree
-record Again (f : ℕ) (slots : Slots) (p : Placed) : Type 0 where
-  same : placed_at f slots (root p) ≡ p
-  there : is_there f slots (root p) ≡ true
+pub record Again (f : ℕ) (slots : Slots) (p : Placed) : Type 0 where
+  pub same : placed_at f slots (root p) ≡ p
+  pub there : is_there f slots (root p) ≡ true
 
-again : (slots : Slots) (f : ℕ) (p : Placed) → Stands slots p → weight p ≤ f → Again f slots p
+pub again : (slots : Slots) (f : ℕ) (p : Placed) → Stands slots p → weight p ≤ f → Again f slots p
 again slots zero (DoAt i s p) h w = absurd (omega arith)
 again slots zero (IfAt i c x y p q) h w = absurd (omega arith)
 again slots zero (EndAt i l) h w = absurd (omega arith)
@@ -206,17 +206,17 @@ pub record Added (slots new : Slots) (key : ℕ) (n : SsuNode) : Type 0 where
   pub others : (i : ℕ) → i ≢ key → slot new i ≡ slot slots i
   pub more : filled new ≡ filled slots + 1
 
-held_more : (slots new : Slots) (key : ℕ) (n : SsuNode) → Added slots new key n → (i : ℕ) → held new i ≡ here i key + held slots i
-held_more slots new key n a i =
+occupied_more : (slots new : Slots) (key : ℕ) (n : SsuNode) → Added slots new key n → (i : ℕ) → occupied new i ≡ here i key + occupied slots i
+occupied_more slots new key n a i =
     elim (eqb_tells i key) [
       | inl h ↦
           let was : slot slots i ≡ None = ap (slot slots) h.1 ∙ a.was in
           let is : slot new i ≡ Some n = ap (slot new) h.1 ∙ a.is in
-          ap (λ o. cond (is_some o) 1 0) is ∙ sym (ap (λ b. cond b 1 0 + held slots i) h.0 ∙ ap (λ o. 1 + cond (is_some o) 1 0) was)
+          ap (λ o. cond (is_some o) 1 0) is ∙ sym (ap (λ b. cond b 1 0 + occupied slots i) h.0 ∙ ap (λ o. 1 + cond (is_some o) 1 0) was)
       | inr h ↦
           let same = a.others i h.1 in
           let zero_here : here i key ≡ 0 = ap (λ b. cond b 1 0) h.0 in
-          let one_held : held new i ≡ held slots i = ap (λ o. cond (is_some o) 1 0) same in
+          let one_occupied : occupied new i ≡ occupied slots i = ap (λ o. cond (is_some o) 1 0) same in
           omega arith
     ]
 
@@ -239,8 +239,8 @@ grown slots new key n a taken rest e f =
         all_stand_more slots new keeps s.back (all_stand_back slots s.front s.back stand),
       );
       once = λ i.
-          let all : times_all i (s.front ++ s.back) ≡ held slots i = ap (times_all i) (sym s.whole) ∙ f.once i in
-          omega (arith, o.counts i, times_all-append i s.front s.back, held_more slots new key n a i, all);
+          let all : times_all i (s.front ++ s.back) ≡ occupied slots i = ap (times_all i) (sym s.whole) ∙ f.once i in
+          omega (arith, o.counts i, times_all-append i s.front s.back, occupied_more slots new key n a i, all);
       many =
           let all : weight_all (s.front ++ s.back) ≡ filled slots = ap weight_all (sym s.whole) ∙ f.many in
           omega (arith, o.weighs, weight_all-append s.front s.back, a.more, all);

@@ -8,7 +8,7 @@ use Rattle.ssu_ir.specs.declared.build.SsuBuild.{SsuBuild}
 use Rattle.ssu_ir.specs.declared.ssu.Ssu.{Ssu}
 use Rattle.ssu_ir.specs.Tree.{Tree}
 use Rattle.ssu_ir.specs.View.{with_bodies, labels_view}
-use Rattle.ssu_ir.specs.Slots.{Slots, Placed, root, bare, AllStand, times_all, held, weight_all, filled, bodies, over, node_of, kids_of}
+use Rattle.ssu_ir.specs.Slots.{Slots, Placed, root, bare, AllStand, times_all, occupied, weight_all, filled, bodies, over, node_of, kids_of}
 
 -- a root, and its tree
 abbrev pub Rooted : Type 0
@@ -34,7 +34,7 @@ pub record Forest (slots : Slots) (roots : List Rooted) : Type 0 where
   pub placed : List Placed
   pub as_said : rooted_all placed ≡ roots
   pub stand : AllStand slots placed
-  pub once : (i : ℕ) → times_all i placed ≡ held slots i
+  pub once : (i : ℕ) → times_all i placed ≡ occupied slots i
   pub many : weight_all placed ≡ filled slots
 
 -- the builder has exactly these roots, with these trees

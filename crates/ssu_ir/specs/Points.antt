@@ -1,7 +1,7 @@
 -- Points of a form, and the values that are held at each. The points are, for each label in order, its entry and then its nodes in
 -- preorder, a first arm before the second; a point's number is its place in the list, from 0.
-use Rattle.std.specs.Prelude.{ℕ, zero, suc, ◌+◌, List, [], ◌∷◌, ◌++◌, map, filter, length, if◌then◌else◌}
-use Rattle.nv_base.specs.Sets.{is_in, without}
+use Rattle.std.specs.Prelude.{◌≡◌, true, ℕ, suc, ◌+◌, List, [], ◌∷◌, ◌++◌, map, filter, if◌then◌else◌}
+use Rattle.nv_base.specs.Sets.{is_in, without, all_different, Within}
 use Rattle.ssu_ir.specs.Tree.{Step, Lit, Una, Bin, Clone, Read, Write, Tree, Do, If, End, Label, Node, Does, Forks, Ends, node_values, step_values, step_uses, last_uses}
 
 -- ---- copies: a value's copies are itself and its clones
@@ -96,3 +96,9 @@ points_from k (l ∷ ls) = label_points k l ++ points_from (suc k) ls
 
 abbrev pub points : List Label → List Point
 points labels = points_from 0 labels
+
+-- what is said of a point: what it uses is held, no value is held twice, and what is held behind it was held or is defined here
+pub record IsHeld (p : Point) : Type 0 where
+  pub uses : Within p.uses p.before
+  pub different : all_different p.before ≡ true
+  pub later : Within p.after (p.before ++ place_values p.place)

@@ -5,7 +5,7 @@ use Rattle.nv_base.specs.declared.term.Mem.{Mem}
 use Rattle.nv_base.specs.declared.term.Mem.TheVariants.{Sram, Sdram, Scratch}
 use Rattle.nv_base.specs.Access.{has_count, can_move}
 use Rattle.nv_base.specs.Sets.{is_in, all_different}
-use Rattle.ssu_ir.specs.Tree.{Step, Lit, Una, Bin, Clone, Read, Write, Last, Jump, Halt, Tree, Do, If, End, Label, step_values, step_clones, step_uses, last_uses}
+use Rattle.ssu_ir.specs.Tree.{Step, Lit, Una, Bin, Clone, Read, Write, Last, Jump, Halt, Tree, Do, If, End, Label, step_values, step_clones, last_uses}
 use Rattle.ssu_ir.specs.Points.{own, used}
 
 -- ---- each variable is defined once

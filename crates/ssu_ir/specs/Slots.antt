@@ -117,8 +117,8 @@ abbrev pub slot : Slots → ℕ → Option SsuNode
 slot slots i = slice_index_or slots i None
 
 -- 1 where the slot of the number has a node, else 0
-abbrev pub held : Slots → ℕ → ℕ
-held slots i = cond (is_some (slot slots i)) 1 0
+abbrev pub occupied : Slots → ℕ → ℕ
+occupied slots i = cond (is_some (slot slots i)) 1 0
 
 -- how many slots have a node
 abbrev pub filled : Slots → ℕ
@@ -185,7 +185,7 @@ is_there (suc f) slots i = is_slot (is_there f slots) (slot slots i)
 -- every number names a node that is there, and every node is reached from these numbers in exactly one way
 pub record Formed (slots : Slots) (is : List ℕ) : Type 0 where
   pub there : each_number (is_there (filled slots) slots) is ≡ true
-  pub once : (i : ℕ) → times_all i (placed_in slots is) ≡ held slots i
+  pub once : (i : ℕ) → times_all i (placed_in slots is) ≡ occupied slots i
   pub many : weight_all (placed_in slots is) ≡ filled slots
 
 -- the numbers of the bodies

@@ -12,7 +12,7 @@ ghost use Rattle.ssu_ir.specs.Slots.{kids_of};
 ghost use Rattle.ssu_ir.specs.Examples.{sum_of_two, copied_and_added, less_of_two, one_label};
 ghost use Rattle.ssu_ir.specs.Meaning.{ssu_meaning};
 ghost use Rattle.ssu_ir.specs.Measures.{peak, size, code_bound, total, point_size};
-ghost use Rattle.ssu_ir.specs.Points.{points, tree_points, nodes, Names};
+ghost use Rattle.ssu_ir.specs.Points.{points, tree_points, nodes, Names, IsHeld};
 ghost use Rattle.ssu_ir.specs.Single.{single, is_narrow, IsNarrow};
 ghost use Rattle.ssu_ir.specs.Tree.{Tree, Label, Do, End, Lit, Una, Bin, Clone, Read, Write, Jump, Halt};
 
@@ -38,6 +38,12 @@ pub fn measures_speak_of_points()
     ensures size { (labels : List Label) → size labels ≡ total point_size (points labels) }
     ensures peak { (labels : List Label) → All (λ p. length p.before ≤ peak labels) (points labels) }
     ensures below { (of : Names) (above : List ℕ) (t : Tree) → length (tree_points of above t) ≡ nodes t }
+{}
+
+/// In single-use form what a node uses is held at it, no value is held twice at a point, and what is
+/// held behind a point was held at it or is defined there.
+pub fn what_is_used_is_held()
+    ensures { (labels : List Label) → single labels ≡ true → All IsHeld (points labels) }
 {}
 
 /// The test of a literal tells the narrow ones.

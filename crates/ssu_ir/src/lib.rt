@@ -4,14 +4,16 @@
 
 mod build;
 pub mod laws;
+mod measure;
 mod node;
 mod pieces;
-mod rules;
 mod search;
+mod single_use;
 mod ssu;
 pub mod walk;
 
 pub use build::SsuBuild;
+pub use measure::size;
 pub use node::{NodeId, SsuLabel, SsuNode};
-pub use rules::single;
+pub use single_use::single;
 pub use ssu::Ssu;

@@ -1,15 +1,15 @@
 // What the tree under a number says of one name. Each call takes no memory, and goes down by
 // recursion.
 
-ghost use Rattle.std.specs.Prelude.{◌≡◌, min};
+ghost use Rattle.std.specs.Prelude.{◌≡◌, ◌+◌, min, nat_eq, if◌then◌else◌};
 ghost use Rattle.std.specs.List.{list_all, list_any};
 ghost use Rattle.nv_base.specs.Sets.{is_in};
 ghost use Rattle.ssu_ir.specs.Single as rules;
 ghost use Rattle.ssu_ir.specs.Single.{names, defined};
 ghost use Rattle.ssu_ir.specs.Slots.{node_of};
-ghost use Rattle.ssu_ir.specs.Tree.{node_uses};
+ghost use Rattle.ssu_ir.specs.Tree.{node_values, node_uses};
 ghost use Rattle.ssu_ir.specs.inner.Checks as checks;
-ghost use Rattle.ssu_ir.specs.inner.Checks.{node_names, node_defs, node_fits, times_in};
+ghost use Rattle.ssu_ir.specs.inner.Checks.{node_names, node_defs, node_clones, node_fits, times_in};
 ghost use Rattle.ssu_ir.specs.inner.Under.{HasTree, tree_at};
 
 use crate::node::{NodeId, SsuNode};
@@ -30,11 +30,25 @@ pub fn times(xs: &[u32], x: u32) -> u8
 {
     let mut n: u8 = 0;
     for y in xs {
-        if x == *y {
-            n = n.saturating_add(1);
-        }
+        n = n.saturating_add(same(x, *y));
     }
     n
+}
+
+// 1 for equal names, else 0.
+fn same(x: u32, y: u32) -> u8
+    ensures { result ≡ (if nat_eq x y then 1 else 0) }
+{
+    if x == y { 1 } else { 0 }
+}
+
+// How often a node defines a name, at most 255.
+fn times_here(n: &SsuNode, x: u32) -> u8
+    ensures { result ≡ min 255 (times_in x (node_values (node_of n.now)) + times_in x (node_clones (node_of n.now))) }
+{
+    let in_values = times(values(n), x);
+    let in_clones = times(clones(n), x);
+    in_values.saturating_add(in_clones)
 }
 
 fn is_operand(n: &SsuNode, x: u32) -> bool
@@ -116,6 +130,7 @@ fn fits_scratch(number: Option<u32>, n: usize) -> bool
 }
 
 /// Whether the tree uses the name.
+#[tactic(none)]
 pub fn mentions(s: &Ssu, id: NodeId, x: u32) -> bool
     requires { HasTree s.now.nodes.slots id.0 }
     ensures { result ≡ is_in x (names (tree_at s.now.nodes.slots id.0)) }
@@ -137,23 +152,30 @@ pub fn mentions(s: &Ssu, id: NodeId, x: u32) -> bool
 }
 
 /// How often the tree defines the name, at most 255.
+#[tactic(none)]
 pub fn times_defined(s: &Ssu, id: NodeId, x: u32) -> u8
     requires { HasTree s.now.nodes.slots id.0 }
     ensures { result ≡ min 255 (times_in x (defined (tree_at s.now.nodes.slots id.0))) }
 {
     let n = s.node(id);
-    let here = times(values(n), x).saturating_add(times(clones(n), x));
+    let here = times_here(n, x);
     match behind(n) {
         Kids::None => here,
-        Kids::One(k) => here.saturating_add(times_defined(s, k, x)),
+        Kids::One(k) => {
+            let below = times_defined(s, k, x);
+            here.saturating_add(below)
+        }
         Kids::Two(j, k) => {
             let first = times_defined(s, j, x);
-            here.saturating_add(first.saturating_add(times_defined(s, k, x)))
+            let second = times_defined(s, k, x);
+            let below = first.saturating_add(second);
+            here.saturating_add(below)
         }
     }
 }
 
 /// Whether the tree uses the name and doesn't define it above.
+#[tactic(none)]
 pub fn is_free(s: &Ssu, id: NodeId, x: u32) -> bool
     requires { HasTree s.now.nodes.slots id.0 }
     ensures { result ≡ checks.is_free x (tree_at s.now.nodes.slots id.0) }
@@ -181,6 +203,7 @@ pub fn is_free(s: &Ssu, id: NodeId, x: u32) -> bool
 
 /// Whether the tree uses the name or a clone of it.
 #[cycle(copies)]
+#[tactic(none)]
 pub fn copy_used(s: &Ssu, id: NodeId, x: u32) -> bool
     requires { HasTree s.now.nodes.slots id.0 }
     ensures { result ≡ checks.copy_used x (tree_at s.now.nodes.slots id.0) }
@@ -226,6 +249,7 @@ fn any_used(s: &Ssu, id: NodeId, xs: &[u32]) -> bool
 /// Whether every access in the tree whose address is the name or a clone of it may be, where the
 /// name has this number or none that is known.
 #[cycle(accesses)]
+#[tactic(none)]
 pub fn addressed(s: &Ssu, id: NodeId, x: u32, number: Option<u32>) -> bool
     requires { HasTree s.now.nodes.slots id.0 }
     ensures { result ≡ checks.addressed number x (tree_at s.now.nodes.slots id.0) }

@@ -1,8 +1,8 @@
 -- The rules of single use in the form in which they are tested: name by name, down the tree below where the name stands, so that nothing
 -- has to be kept on the way.
-use Rattle.std.specs.Prelude.{ℕ, zero, suc, ◌+◌, ◌==◌, nat_eq, Bool, true, false, not, ◌&&◌, ◌||◌, List, [], ◌∷◌, ◌++◌, Option, Some, None, slice_get, length, if◌then◌else◌}
+use Rattle.std.specs.Prelude.{ℕ, ◌+◌, ◌==◌, nat_eq, Bool, true, not, ◌&&◌, ◌||◌, List, [], ◌∷◌, ◌++◌, Option, Some, None, slice_get, length, if◌then◌else◌}
 use Rattle.std.specs.List.{list_all, list_any}
-use Rattle.nv_base.specs.Sets.{is_in}
+use Rattle.nv_base.specs.Sets.{is_in, all_different}
 use Rattle.ssu_ir.specs.Tree.{Step, Lit, Una, Bin, Clone, Read, Write, Tree, Do, If, End, Label, Node, Does, Forks, Ends, step_values, step_clones, step_uses, last_uses, node_values}
 use Rattle.ssu_ir.specs.Single.{all_defined, is_step, is_last, step_names, names, are_new, fresh_after, clones_fresh, step_results, is_address, is_entry}
 
@@ -155,3 +155,7 @@ abbrev pub defs_kept : List Label → List ℕ → Node → Tree → Bool
 defs_kept labels fresh n t =
     list_all (is_once labels) (node_defs n)
     && (node_fresh fresh n && (list_all (λ x. copy_used x t) (node_results n) && list_all (λ x. addressed (node_number n) x t) (node_values n)))
+
+-- what needs nothing behind a node
+abbrev pub node_alone : List Label → (ℕ → Bool) → Node → Bool
+node_alone labels known n = is_node labels n && (all_different (node_names n) && list_all known (node_names n))

@@ -1,16 +1,16 @@
 // The test of single use. It takes no memory: each rule is tested name by name, by a walk down the tree
 // below where the name stands.
 
-ghost use Rattle.std.specs.Prelude.{◌≡◌, ◌≢◌, ◌<◌, ◌&&◌, ◌==◌, nat_lt, nat_le, ◌/◌, ◌%◌, min, not, slice_get};
+ghost use Rattle.std.specs.Prelude.{◌≡◌, ◌≢◌, ◌+◌, ◌&&◌, ◌||◌, ◌==◌, nat_lt, nat_le, ◌/◌, ◌%◌, min, not, slice_get};
 ghost use Rattle.std.specs.List.{list_all};
 ghost use Rattle.nv_base.specs.Access as access;
 ghost use Rattle.nv_base.specs.Sets.{is_in, all_different};
 ghost use Rattle.ssu_ir.specs.Single as rules;
-ghost use Rattle.ssu_ir.specs.Single.{names, all_defined};
+ghost use Rattle.ssu_ir.specs.Single.{names, defined, all_defined};
 ghost use Rattle.ssu_ir.specs.Slots.{node_of, bodies};
 ghost use Rattle.ssu_ir.specs.View.{labels_view};
 ghost use Rattle.ssu_ir.specs.inner.Checks as checks;
-ghost use Rattle.ssu_ir.specs.inner.Checks.{node_names, node_fresh, times_in};
+ghost use Rattle.ssu_ir.specs.inner.Checks.{node_names, node_defs, node_fresh, times_in};
 ghost use Rattle.ssu_ir.specs.inner.Under.{HasTree, AllHave, tree_at, label_of};
 
 use crate::node::{NodeId, SsuLabel, SsuNode};
@@ -23,6 +23,7 @@ use nv_base::{Mem, Una};
 
 /// Whether labels are in single-use form: each variable is defined once and used at most once on each
 /// path, and the rules on clones, literals, accesses, jumps and ends hold.
+#[tactic(none)]
 pub fn single(s: &Ssu) -> bool
     ensures { result ≡ rules.single (labels_view s.now) }
 {
@@ -33,24 +34,24 @@ pub fn single(s: &Ssu) -> bool
 }
 
 // Whether label 0 is there, with at most 8 parameters.
+#[tactic(none)]
 fn has_entry(s: &Ssu) -> bool
     ensures { result ≡ rules.is_entry (slice_get (labels_view s.now) 0) }
 {
-    if s.labels.is_empty() {
-        return false;
+    match s.labels.first() {
+        Some(l) => l.params.len() <= 8,
+        None => false,
     }
-    s.labels[0].params.len() <= 8
 }
 
 // Whether a label is there and has so many parameters.
 fn takes(s: &Ssu, l: u32, n: usize) -> bool
     ensures { result ≡ rules.takes_as_many n (slice_get (labels_view s.now) l) }
 {
-    let l = l as usize;
-    if l >= s.labels.len() {
-        return false;
+    match s.labels.get(l as usize) {
+        Some(l) => l.params.len() == n,
+        None => false,
     }
-    s.labels[l].params.len() == n
 }
 
 fn all_labels_kept(s: &Ssu) -> bool
@@ -65,6 +66,7 @@ fn all_labels_kept(s: &Ssu) -> bool
     true
 }
 
+#[tactic(none)]
 fn label_kept(s: &Ssu, l: &SsuLabel) -> bool
     requires all { AllHave s.now.nodes.slots (bodies s.now.labels.items) }
     requires body { HasTree s.now.nodes.slots l.now.body.0 }
@@ -78,6 +80,7 @@ fn label_kept(s: &Ssu, l: &SsuLabel) -> bool
 
 // Whether the tests hold of the tree under a number of this label, where the values of `fresh` may be
 // cloned first.
+#[tactic(none)]
 fn is_kept(s: &Ssu, l: &SsuLabel, id: NodeId, fresh: &[u32]) -> bool
     requires all { AllHave s.now.nodes.slots (bodies s.now.labels.items) }
     requires body { HasTree s.now.nodes.slots l.now.body.0 }
@@ -85,19 +88,28 @@ fn is_kept(s: &Ssu, l: &SsuLabel, id: NodeId, fresh: &[u32]) -> bool
     ensures { result ≡ checks.is_kept (labels_view s.now) (checks.is_bound l.now.params.items (tree_at s.now.nodes.slots l.now.body.0)) fresh.now (tree_at s.now.nodes.slots id.0) }
 {
     let n = s.node(id);
-    if !is_node(s, n) || !operands_differ(n) || !operands_bound(s, l, n) {
+    if !node_alone(s, l, n) {
         return false;
     }
     match behind(n) {
         Kids::None => true,
         Kids::One(k) => {
-            if !operands_new(s, n, k) || !defs_kept(s, n, k, fresh) {
+            if !operands_new(s, n, k) {
+                return false;
+            }
+            if !defs_kept(s, n, k, fresh) {
                 return false;
             }
             is_kept(s, l, k, fresh_behind(n, fresh))
         }
         Kids::Two(j, k) => {
-            if !operands_new(s, n, j) || !operands_new(s, n, k) || !is_kept(s, l, j, &[]) {
+            if !operands_new(s, n, j) {
+                return false;
+            }
+            if !operands_new(s, n, k) {
+                return false;
+            }
+            if !is_kept(s, l, j, &[]) {
                 return false;
             }
             is_kept(s, l, k, &[])
@@ -105,21 +117,51 @@ fn is_kept(s: &Ssu, l: &SsuLabel, id: NodeId, fresh: &[u32]) -> bool
     }
 }
 
+// The tests of a node for which nothing behind it is wanted.
+#[tactic(none)]
+fn node_alone(s: &Ssu, l: &SsuLabel, n: &SsuNode) -> bool
+    requires { HasTree s.now.nodes.slots l.now.body.0 }
+    ensures { result ≡ checks.node_alone (labels_view s.now) (checks.is_bound l.now.params.items (tree_at s.now.nodes.slots l.now.body.0)) (node_of n.now) }
+{
+    if !is_node(s, n) {
+        return false;
+    }
+    if !operands_differ(n) {
+        return false;
+    }
+    operands_bound(s, l, n)
+}
+
 // ---- what a node defines
 
 // Whether the tests hold of what a node defines, before the tree under `k`.
+#[tactic(none)]
 fn defs_kept(s: &Ssu, n: &SsuNode, k: NodeId, fresh: &[u32]) -> bool
     requires all { AllHave s.now.nodes.slots (bodies s.now.labels.items) }
     requires tree { HasTree s.now.nodes.slots k.0 }
     ensures { result ≡ checks.defs_kept (labels_view s.now) fresh.now (node_of n.now) (tree_at s.now.nodes.slots k.0) }
 {
-    if !all_once(s, values(n)) || !all_once(s, clones(n)) || !is_fresh(n, fresh) {
+    if !defs_once(s, n) {
+        return false;
+    }
+    if !is_fresh(n, fresh) {
         return false;
     }
     if !all_used(s, k, results(n)) {
         return false;
     }
     all_addressed(s, k, values(n), number(n))
+}
+
+#[tactic(none)]
+fn defs_once(s: &Ssu, n: &SsuNode) -> bool
+    requires { AllHave s.now.nodes.slots (bodies s.now.labels.items) }
+    ensures { result ≡ list_all (checks.is_once (labels_view s.now)) (node_defs (node_of n.now)) }
+{
+    if !all_once(s, values(n)) {
+        return false;
+    }
+    all_once(s, clones(n))
 }
 
 // Whether the source of a `Clone` may be cloned here.
@@ -179,19 +221,32 @@ fn times_in_all(s: &Ssu, x: u32) -> u8
 {
     let mut n: u8 = 0;
     for l in &s.labels {
-        let here = times(&l.params, x).saturating_add(times_defined(s, l.body, x));
-        n = n.saturating_add(here);
+        n = n.saturating_add(times_in_label(s, l, x));
     }
     n
 }
 
+#[tactic(none)]
+fn times_in_label(s: &Ssu, l: &SsuLabel, x: u32) -> u8
+    requires { HasTree s.now.nodes.slots l.now.body.0 }
+    ensures { result ≡ min 255 (times_in x l.now.params.items + times_in x (defined (tree_at s.now.nodes.slots l.now.body.0))) }
+{
+    let in_params = times(&l.params, x);
+    let in_body = times_defined(s, l.body, x);
+    in_params.saturating_add(in_body)
+}
+
 // ---- what a node uses
 
+#[tactic(none)]
 fn operands_differ(n: &SsuNode) -> bool
     ensures { result ≡ all_different (node_names (node_of n.now)) }
 {
     let (front, rest) = operands(n);
-    if !differ(front) || !differ(rest) {
+    if !differ(front) {
+        return false;
+    }
+    if !differ(rest) {
         return false;
     }
     none_in(front, rest)
@@ -220,6 +275,7 @@ fn none_in(xs: &[u32], others: &[u32]) -> bool
 }
 
 // Whether the tree under `k` uses none of them.
+#[tactic(none)]
 fn operands_new(s: &Ssu, n: &SsuNode, k: NodeId) -> bool
     requires { HasTree s.now.nodes.slots k.0 }
     ensures { result ≡ list_all (λ x. not (is_in x (names (tree_at s.now.nodes.slots k.0)))) (node_names (node_of n.now)) }
@@ -244,6 +300,7 @@ fn none_mentioned(s: &Ssu, k: NodeId, xs: &[u32]) -> bool
 }
 
 // Whether each is a parameter or defined above, and no scratch is addressed by one that isn't.
+#[tactic(none)]
 fn operands_bound(s: &Ssu, l: &SsuLabel, n: &SsuNode) -> bool
     requires { HasTree s.now.nodes.slots l.now.body.0 }
     ensures { result ≡ list_all (checks.is_bound l.now.params.items (tree_at s.now.nodes.slots l.now.body.0)) (node_names (node_of n.now)) }
@@ -267,14 +324,27 @@ fn all_bound(s: &Ssu, l: &SsuLabel, xs: &[u32]) -> bool
     true
 }
 
+#[tactic(none)]
 fn is_bound(s: &Ssu, l: &SsuLabel, x: u32) -> bool
     requires { HasTree s.now.nodes.slots l.now.body.0 }
     ensures { result ≡ checks.is_bound l.now.params.items (tree_at s.now.nodes.slots l.now.body.0) x }
 {
-    if !has(&l.params, x) && is_free(s, l.body, x) {
+    if !is_known(s, l, x) {
         return false;
     }
     addressed(s, l.body, x, None)
+}
+
+// Whether it is a parameter or isn't free in the body.
+#[tactic(none)]
+fn is_known(s: &Ssu, l: &SsuLabel, x: u32) -> bool
+    requires { HasTree s.now.nodes.slots l.now.body.0 }
+    ensures { result ≡ (is_in x l.now.params.items || not (checks.is_free x (tree_at s.now.nodes.slots l.now.body.0))) }
+{
+    if has(&l.params, x) {
+        return true;
+    }
+    !is_free(s, l.body, x)
 }
 
 // ---- nodes by themselves
