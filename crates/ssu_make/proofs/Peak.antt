@@ -22,7 +22,7 @@ use Rattle.ssu_make.specs.inner.Uses.{Counts, here, occurs, operands, outside, u
 use Rattle.ssu_make.specs.inner.Made.{literal, last_taken, names_taken, taken, all_taken, name, names, atom_literal, literals, value, clone_step, clones, prim_step, spent, most, made, Laid, variables, IsMade, AllMade}
 use Rattle.ssu_make.proofs.Assigned.{same-test}
 use Rattle.ssu_make.proofs.Clones.{clone_env, clones_env, value-is}
-use Rattle.ssu_make.proofs.Counting.{lies, lies-more, lies-out, times, times-append, times-in, times-not, different-from, different-times, lies_all, lies_all-none, lies_all-once, lies_all-least}
+use Rattle.ssu_make.proofs.Counting.{lies, lies-more, lies-out, times, times-append, times-in, in-times, times-not, different-from, different-times, lies_all, lies_all-none, lies_all-once, lies_all-least}
 use Rattle.ssu_make.proofs.Fitting.{Fits, fits-let, fits-read, fits-write, fits-first, fits-second, place-of, uses-all}
 use Rattle.ssu_make.proofs.Once.{Fresh, fresh-more, fresh-first, fresh-second, values-defined}
 use Rattle.ssu_make.proofs.Scoped.{param-at}
@@ -224,7 +224,7 @@ literals-peak n d (a ∷ as') t of above h wide far g first room unhalved next =
     atom-peak N a (literals n as' t) of above h wide first (omega arith)
     (λ v i. none v (half-at N a v i) (unhalved v (within-left (atom_halves N a) (halves n as') v i)) (cases_Bool (is_in v (used of (literals n as' t)))))
     (λ above' adds few.
-    literals-peak n d as' t of above' (h + lit_count a) wide far g few (room-left (some as') (some-at as') room) (λ v i. no v (within-right (atom_halves N a) (halves n as') v i))
+    literals-peak n d as' t of above' (h + lit_count a) wide far g few (room-left (some as') (some-at as') room) (λ v i. unhalved v (within-right (atom_halves N a) (halves n as') v i))
     (λ above'' adds' few'. next above'' (λ z. let x = adds z in let y = adds' z in let j : lies n (taken a + all_taken as') z ≡ lies n (all_taken as') z + lies N (taken a) z = omega arith in omega (arith, x, y, j)) (omega arith)))
   where
     half-at : (n : ℕ) (a : Atom) (v : ℕ) → is_in v (atom_halves n a) ≡ true → n ≤ v
