@@ -1,10 +1,10 @@
 -- What the loops keep.
-use Rattle.std.proofs.Common.{◌≡◌, ℕ, zero, suc, ◌+◌, ◌<◌, ◌≤◌, max, Bool, true, false, nat_eq, nat_lt, List, [], ◌∷◌, ◌++◌, map, All, refl, sym, ap, subst, ◌∙◌, ◌⊎◌, inl, inr, ⊎_elim, if◌then◌else◌, length, get_or, drop, take, reverse, append_assoc, arith}
+use Rattle.std.proofs.Common.{◌≡◌, ℕ, zero, suc, ◌+◌, ◌-◌, ◌<◌, ◌≤◌, max, Bool, true, false, nat_eq, nat_lt, ◌||◌, List, [], ◌∷◌, ◌++◌, map, All, refl, sym, ap, subst, ◌∙◌, ◌⊎◌, inl, inr, ⊎_elim, if◌then◌else◌, length, get_or, drop, take, reverse, append_assoc, arith}
 use Rattle.std.specs.Borrow.{Bor}
 use Rattle.std.specs.List.{range_with_len}
 use Rattle.std.proofs.Math.Seq.{drop-cons}
 use Rattle.std.proofs.lemmas.Bool.{false≢true, or_cases, or_left, or_right, or_parts, cases_eq, cases_Bool}
-use Rattle.std.proofs.lemmas.List.{append-nil, at_drop_more, take_more, reverse-append}
+use Rattle.std.proofs.lemmas.List.{append-nil, at_drop_more, take_more, take_all, reverse-append}
 use Rattle.std.proofs.lemmas.List.Elements.{All-nil, All-cons, All-head, All-tail, All-append}
 use Rattle.nv_base.specs.declared.term.Atom.{Atom}
 use Rattle.nv_base.specs.declared.term.Atom.TheVariants.{Var, Lit}
@@ -157,3 +157,30 @@ pub record LabelsOn (ls : List Label) (ss : List SsuLabel) (b : SsuBuild) (d : �
   pub holds : Holds b roots
   pub at_bodies : ids roots ≡ bodies ss
   pub made : AllMadeTo 0 d ls (with_bodies ss (trees_of roots))
+
+pub words-rest : (ys : List ℕ) → take (length ys - 1) (drop 1 ys) ≡ drop 1 ys
+words-rest [] = refl
+words-rest (y ∷ ys) = take_all (suc (length ys) - 1) ys (omega arith)
+
+pub literals-start : (b : SsuBuild) (root first : ℕ) (list : List Atom) → IsRoot b root → LiteralsOn b b root root first first list (length list)
+literals-start b root first list r = record {
+  small = omega arith;
+  root = r;
+  becomes = subst (λ l. Becomes b b root root (literals first l)) (sym (drop-all list)) (record { by = λ t rest h. h });
+  next = let e : first ≡ first + 0 = omega arith in e ∙ sym (ap (λ l. first + all_taken l) (drop-all list));
+}
+  where
+    drop-all : {X : Type 0} (xs : List X) → drop (length xs) xs ≡ []
+    drop-all [] = refl
+    drop-all (x ∷ xs) = drop-all xs
+
+pub clones-start : (b : SsuBuild) (root : ℕ) (base r : Counts) (xs : List ℕ) → IsRoot b root → ClonesOn b b root root base r xs (length xs)
+clones-start b root base r xs h = record {
+  small = omega arith;
+  root = h;
+  becomes = subst (λ l. Becomes b b root root (clones base r l)) (sym (drop-all xs)) (record { by = λ t rest k. k });
+}
+  where
+    drop-all : {X : Type 0} (xs : List X) → drop (length xs) xs ≡ []
+    drop-all [] = refl
+    drop-all (x ∷ xs) = drop-all xs

@@ -14,3 +14,4 @@ pub mod Along
 pub mod Turns
 pub mod NodeForms
 pub mod Held
+pub mod Peak

@@ -237,3 +237,7 @@ labels-more old new ls ss ss' l s d e h m es =
 
 pub labels-end : (ls : List Label) (ss : List SsuLabel) (b : SsuBuild) (d : ℕ) → LabelsOn ls ss b d → LabelsMade ls ss b
 labels-end ls ss b d h = record { roots = h.roots; holds = h.holds; at_bodies = h.at_bodies; made = all-made 0 d ls (with_bodies ss (trees_of h.roots)) h.made }
+
+-- the whole of the labels
+pub whole-made : (ls ls' : List Label) (ss : List SsuLabel) (b : SsuBuild) (view : List ssu.Label) → LabelsMade ls ss b → ((roots : List Rooted) → Holds b roots → ids roots ≡ bodies ss → view ≡ with_bodies ss (trees_of roots)) → ls ≡ ls' → AllMade 0 ls' view
+whole-made ls ls' ss b view m h e = subst (λ l. AllMade 0 l view) e (subst (AllMade 0 ls) (sym (h m.roots m.holds m.at_bodies)) m.made)

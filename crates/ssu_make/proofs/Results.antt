@@ -34,7 +34,7 @@ atom-occurs (Lit v) y h = absurd (false≢true h)
 in-either : (z : ℕ) (xs ys : List ℕ) → is_in z (xs ++ ys) ≡ true → (is_in z xs ≡ true) ⊎ (is_in z ys ≡ true)
 in-either z xs ys h = or_cases (is_in z xs) (is_in z ys) (sym (in-append z xs ys) ∙ h)
 
-vars-occur : (as' : List Atom) (y : ℕ) → is_in y (all_vars as') ≡ true → 0 < occurs as' y
+pub vars-occur : (as' : List Atom) (y : ℕ) → is_in y (all_vars as') ≡ true → 0 < occurs as' y
 vars-occur [] y h = absurd (false≢true h)
 vars-occur (a ∷ as') y h =
     ⊎_elim (λ (e : is_in y (atom_vars a) ≡ true). let p = atom-occurs a y e in omega arith) (λ (e : is_in y (all_vars as') ≡ true). let p = vars-occur as' y e in omega arith) (in-either y (atom_vars a) (all_vars as') h)
@@ -146,7 +146,7 @@ named-in of v z ns e i = subst (λ w. is_in w (map of ns) ≡ true) e (in-map of
 
 module _ (base size : Counts) (c d : ℕ) (vs : List ℕ) (laid : Laid base size c d vs) where
   -- clones of other variables leave a variable's copies as they are
-  clones-leave : (r : Counts) (xs : List ℕ) (y k : ℕ) (of : Names) → ((x : ℕ) → r x ≤ size x) → Within xs vs → is_in y vs ≡ true → is_in y xs ≡ false → k ≤ size y → clones_env base r xs of (base y + k) ≡ of (base y + k)
+  pub clones-leave : (r : Counts) (xs : List ℕ) (y k : ℕ) (of : Names) → ((x : ℕ) → r x ≤ size x) → Within xs vs → is_in y vs ≡ true → is_in y xs ≡ false → k ≤ size y → clones_env base r xs of (base y + k) ≡ of (base y + k)
   unfolding clones_env
   clones-leave r [] y k of le w i o lk = refl
   clones-leave r (x ∷ xs) y k of le w i o lk =

@@ -155,7 +155,7 @@ made-scoped base (Jump l bs) n known g =
 made-scoped base (Halt e bs) n known g =
     literals-scoped base (λ y. 0) n bs (ssu.End (ssu.Halt e (names base (λ y. 0) n bs))) known (scope-more base (occurs bs) (λ y. occurs bs y + 0) known known (λ y. omega arith) (within-same known) g) (λ known' w ks. ks)
 
-param-at : (b : Bool) (labels : List Label) (params : List ℕ) (t : Tree) (y k : ℕ) → is_in y params ≡ b → is_formed labels params t ≡ true → k < (if b then 0 else uses t y) → ⊥
+pub param-at : (b : Bool) (labels : List Label) (params : List ℕ) (t : Tree) (y k : ℕ) → is_in y params ≡ b → is_formed labels params t ≡ true → k < (if b then 0 else uses t y) → ⊥
 param-at true labels params t y k e f lt = omega arith
 param-at false labels params t y k e f lt = false≢true (sym e ∙ live-known labels params t y f (omega arith))
 

@@ -9,6 +9,7 @@ use Rattle.nv_base.specs.declared.term.Primitive.{Primitive}
 use Rattle.nv_base.specs.declared.term.Mem.{Mem}
 use Rattle.nv_base.specs.declared.term.Cmp.{Cmp}
 use Rattle.flow_ir.specs.declared.flow.Tree.{Tree as Boxed, size-Tree}
+use Rattle.flow_ir.specs.declared.flow.Tree.TheVariants as boxed
 use Rattle.flow_ir.specs.Tree.{Tree, Let, Read, Write, If, Jump, Halt, Label}
 use Rattle.flow_ir.specs.View.{tree_view}
 use Rattle.flow_ir.specs.Formed.{defined}
@@ -32,7 +33,7 @@ drop-step F xs i d x lt e = at_drop_more F xs i d lt ∙ ap (λ z. F (z ∷ drop
 
 pub range-last : (n a : ℕ) → range_with_len a (n + 1) ≡ range_with_len a n ++ (a + n) ∷ []
 range-last zero a = let e : a ≡ a + 0 = omega arith in ap (λ z. z ∷ []) e
-range-last (suc n) a = let e : a + 1 + n ≡ a + suc n = omega arith in ap (λ l. a ∷ l) (range-last n (a + 1) ∙ ap (λ z. range_with_len (a + 1) n ++ z ∷ []) e)
+range-last (suc n) a = let k : suc n + 1 ≡ suc (n + 1) = omega arith in let e : a + 1 + n ≡ a + suc n = omega arith in ap (range_with_len a) k ∙ ap (λ l. a ∷ l) (range-last n (a + 1) ∙ ap (λ z. range_with_len (a + 1) n ++ z ∷ []) e)
 
 -- ---- builders
 
@@ -238,6 +239,74 @@ if-becomes base d e c a b first rest mid mid' new arm part id m j =
     let same : made_if base e c a b (most (counted arm.counts) r) (made base d first) ≡ made_if base (d + spent first) c a b (most (uses first) r) (made base d first) =
     ap (λ k. made_if base k c a b (most (counted arm.counts) r) (made base d first)) m.fresh ∙ ap (λ f. made_if base (d + spent first) c a b (most f r) (made base d first)) counts in
     record { by = λ t roots h. subst (λ f. Holds new ((id, f t) ∷ roots)) same (j.by (made base d first) t roots (m.adds.by ((part.root.0, t) ∷ roots) h)) }
+
+pub way-start : (base : Counts) (n d : ℕ) (t : Boxed) (steps : List (Bor Boxed)) (old new : SsuBuild) (part : Part) → HasRoots old → Reaches base n t steps old new d part → OnWay base n t steps old new d part
+way-start base n d t steps old new part h r = record {
+  cur = r.last;
+  leads = r.leads;
+  sizes = r.sizes;
+  root = adds-root old new part.root.0 (made base n r.last) r.made.adds h;
+  made = r.made;
+}
+
+pub way-end : (base : Counts) (n d : ℕ) (t : Boxed) (steps : List (Bor Boxed)) (old new : SsuBuild) (part : Part) → steps ≡ [] → OnWay base n t steps old new d part → MadeTo base n (tree_view t) old new d part
+way-end base n d t steps old new part e w =
+    let same : tree_view t ≡ w.cur = subst (λ l. Leads (tops l) (tree_view t) w.cur) e w.leads in
+    subst (λ c. MadeTo base n c old new d part) (sym same) w.made
+
+pub way-let : (base : Counts) (n d d' : ℕ) (t : Boxed) (steps ss : List (Bor Boxed)) (s : Bor Boxed) (old mid new : SsuBuild) (part part' : Part) (x : ℕ) (p : Primitive) (q : _) (r : Boxed) → OnWay base n t steps old mid d part → steps ≡ ss ++ s ∷ [] → s.now ≡ boxed.Let' x p q r
+    → Becomes mid new part.root.0 part'.root.0 (made_let base d x p (counted part.counts)) → ((y : ℕ) → counted part'.counts y ≡ occurs (operands p) y + outside (x ∷ []) (counted part.counts) y) → d' ≡ d + all_taken (operands p)
+    → OnWay base n t ss old new d' part'
+way-let base n d d' t steps ss s old mid new part part' x p q r w e is b ec ed =
+    let v : tree_view s.now ≡ Let x p (tree_view r) = ap tree_view is in
+    way-step base n d d' t steps ss s old mid new part part' w e
+    (subst (λ c. Becomes mid new part.root.0 part'.root.0 (made_node base d c (counted part.counts))) (sym v) b)
+    (λ y. ec y ∙ ap (λ c. node_uses c (counted part.counts) y) (sym v)) (ed ∙ ap (λ c. d + node_spent c) (sym v))
+
+pub way-read : (base : Counts) (n d d' : ℕ) (t : Boxed) (steps ss : List (Bor Boxed)) (s : Bor Boxed) (old mid new : SsuBuild) (part part' : Part) (m : Mem) (xs : _) (a : Atom) (q : _) (r : Boxed) (l : List ℕ) → OnWay base n t steps old mid d part → steps ≡ ss ++ s ∷ [] → s.now ≡ boxed.Read' m xs a q r → l ≡ xs.items
+    → Becomes mid new part.root.0 part'.root.0 (made_read base d m l a (counted part.counts)) → ((y : ℕ) → counted part'.counts y ≡ occurs (a ∷ []) y + outside l (counted part.counts) y) → d' ≡ d + all_taken (a ∷ [])
+    → OnWay base n t ss old new d' part'
+way-read base n d d' t steps ss s old mid new part part' m xs a q r l w e is el b ec ed =
+    let v : tree_view s.now ≡ Read m l a (tree_view r) = ap tree_view is ∙ ap (λ k. Read m k a (tree_view r)) (sym el) in
+    way-step base n d d' t steps ss s old mid new part part' w e
+    (subst (λ c. Becomes mid new part.root.0 part'.root.0 (made_node base d c (counted part.counts))) (sym v) b)
+    (λ y. ec y ∙ ap (λ c. node_uses c (counted part.counts) y) (sym v)) (ed ∙ ap (λ c. d + node_spent c) (sym v))
+
+pub way-write : (base : Counts) (n d d' : ℕ) (t : Boxed) (steps ss : List (Bor Boxed)) (s : Bor Boxed) (old mid new : SsuBuild) (part part' : Part) (m : Mem) (a : Atom) (bs : _) (q : _) (r : Boxed) (l : List Atom) → OnWay base n t steps old mid d part → steps ≡ ss ++ s ∷ [] → s.now ≡ boxed.Write' m a bs q r → l ≡ bs.items
+    → Becomes mid new part.root.0 part'.root.0 (made_write base d m a l (counted part.counts)) → ((y : ℕ) → counted part'.counts y ≡ occurs (a ∷ l) y + counted part.counts y) → d' ≡ d + all_taken (a ∷ l)
+    → OnWay base n t ss old new d' part'
+way-write base n d d' t steps ss s old mid new part part' m a bs q r l w e is el b ec ed =
+    let v : tree_view s.now ≡ Write m a l (tree_view r) = ap tree_view is ∙ ap (λ k. Write m a k (tree_view r)) (sym el) in
+    way-step base n d d' t steps ss s old mid new part part' w e
+    (subst (λ c. Becomes mid new part.root.0 part'.root.0 (made_node base d c (counted part.counts))) (sym v) b)
+    (λ y. ec y ∙ ap (λ c. node_uses c (counted part.counts) y) (sym v)) (ed ∙ ap (λ c. d + node_spent c) (sym v))
+
+pub way-if : (base : Counts) (n d k d' : ℕ) (t : Boxed) (steps ss : List (Bor Boxed)) (s : Bor Boxed) (old mid mid' new : SsuBuild) (arm part part' : Part) (c : Cmp) (a b : Atom) (q q' : _) (f r first : Boxed) → OnWay base n t steps old mid d part → steps ≡ ss ++ s ∷ [] → s.now ≡ boxed.If' c a b q f q' r → first ≡ f
+    → MadeTo base d (tree_view first) mid mid' k arm → Joined mid' new arm.root.0 part.root.0 part'.root.0 (made_if base k c a b (most (counted arm.counts) (counted part.counts)))
+    → ((y : ℕ) → counted part'.counts y ≡ occurs (a ∷ b ∷ []) y + most (counted arm.counts) (counted part.counts) y) → d' ≡ k + all_taken (a ∷ b ∷ []) → OnWay base n t ss old new d' part'
+way-if base n d k d' t steps ss s old mid mid' new arm part part' c a b q q' f r first w e is ef m j ec ed =
+    let v : tree_view s.now ≡ If c a b (tree_view first) (tree_view r) = ap tree_view is ∙ ap (λ z. If c a b (tree_view z) (tree_view r)) (sym ef) in
+    let counts : counted arm.counts ≡ uses (tree_view first) = same-everywhere (counted arm.counts) (uses (tree_view first)) m.counts in
+    let more : k + all_taken (a ∷ b ∷ []) ≡ d + (spent (tree_view first) + all_taken (a ∷ b ∷ [])) = ap (λ z. z + all_taken (a ∷ b ∷ [])) m.fresh ∙ omega arith in
+    way-step base n d d' t steps ss s old mid new part part' w e
+    (subst (λ z. Becomes mid new part.root.0 part'.root.0 (made_node base d z (counted part.counts))) (sym v) (if-becomes base d k c a b (tree_view first) (tree_view r) mid mid' new arm part part'.root.0 m j))
+    (λ y. ec y ∙ ap (λ g. occurs (a ∷ b ∷ []) y + most g (counted part.counts) y) counts ∙ ap (λ z. node_uses z (counted part.counts) y) (sym v)) (ed ∙ more ∙ ap (λ z. d + node_spent z) (sym v))
+
+pub way-jump : (base : Counts) (n d : ℕ) (t : Boxed) (steps ss : List (Bor Boxed)) (s : Bor Boxed) (old mid : SsuBuild) (part : Part) (l : ℕ) (bs : _) → OnWay base n t steps old mid d part → steps ≡ ss ++ s ∷ [] → s.now ≡ boxed.Jump l bs → OnWay base n t ss old mid d part
+way-jump base n d t steps ss s old mid part l bs w e is =
+    let v : tree_view s.now ≡ Jump l bs.items = ap tree_view is in
+    let none : d ≡ d + 0 = omega arith in
+    way-step base n d d t steps ss s old mid mid part part w e
+    (subst (λ c. Becomes mid mid part.root.0 part.root.0 (made_node base d c (counted part.counts))) (sym v) (becomes-same mid part.root.0))
+    (λ y. ap (λ c. node_uses c (counted part.counts) y) (sym v)) (none ∙ ap (λ c. d + node_spent c) (sym v))
+
+pub way-halt : (base : Counts) (n d : ℕ) (t : Boxed) (steps ss : List (Bor Boxed)) (s : Bor Boxed) (old mid : SsuBuild) (part : Part) (k : ℕ) (bs : _) → OnWay base n t steps old mid d part → steps ≡ ss ++ s ∷ [] → s.now ≡ boxed.Halt k bs → OnWay base n t ss old mid d part
+way-halt base n d t steps ss s old mid part k bs w e is =
+    let v : tree_view s.now ≡ Halt k bs.items = ap tree_view is in
+    let none : d ≡ d + 0 = omega arith in
+    way-step base n d d t steps ss s old mid mid part part w e
+    (subst (λ c. Becomes mid mid part.root.0 part.root.0 (made_node base d c (counted part.counts))) (sym v) (becomes-same mid part.root.0))
+    (λ y. ap (λ c. node_uses c (counted part.counts) y) (sym v)) (none ∙ ap (λ c. d + node_spent c) (sym v))
 
 -- ---- a survey
 

@@ -5,7 +5,6 @@ ghost use Rattle.std.specs.List.{range_with_len};
 ghost use Rattle.nv_base.specs.declared.term.Atom.TheVariants.{Lit};
 ghost use Rattle.ssu_make.specs.inner.Making.{counted, IsRoot, Becomes};
 ghost use Rattle.ssu_make.specs.inner.Made as made;
-ghost use Rattle.ssu_make.specs.inner.Made.{all_taken};
 
 use crate::counts::Counts;
 use crate::naming::{is_literal, plus, taken};
@@ -56,8 +55,7 @@ pub fn literals(
     list: &[Atom],
     root: NodeId,
 ) -> Result<NodeId, NoMemory>
-    requires root { IsRoot build.old root.0 }
-    requires names { first + all_taken list.now < 2 ^ 32 }
+    requires { IsRoot build.old root.0 }
     ensures { IfOk result (λ id. Becomes build.old build.new root.0 id.0 (made.literals first list.now)) }
 {
     let mut id = root;
@@ -65,8 +63,9 @@ pub fn literals(
     let mut i = list.len();
     while i > 0 {
         i -= 1;
+        let next = plus(n, taken(list[i]))?;
         id = atom_literal(build, n, list[i], id)?;
-        n += taken(list[i]);
+        n = next;
     }
     Ok(id)
 }

@@ -31,6 +31,7 @@ pub fn make(alloc: Global, f: &Flow) -> Result<Ssu, NoMemory>
     ensures params { IfOk result (λ s. flow_params (map label_view f.now.labels.items) ≡ ssu_params (labels_view s)) }
     ensures equal { IfOk result (λ s. AreEqual (flow_params (map label_view f.now.labels.items)) (flow_meaning (map label_view f.now.labels.items)) (ssu_meaning (labels_view s))) }
     ensures single { IfOk result (λ s. single (labels_view s) ≡ true) }
+    ensures peak { IfOk result (λ s. peak (labels_view s) ≤ wide (map label_view f.now.labels.items)) }
     ensures size { IfOk result (λ s. size (labels_view s) ≤ size_bound (wide (map label_view f.now.labels.items)) (bulk (map label_view f.now.labels.items))) }
     ensures code { IfOk result (λ s. code_bound (labels_view s) ≤ length_bound (wide (map label_view f.now.labels.items)) (bulk (map label_view f.now.labels.items))) }
 {
@@ -55,6 +56,13 @@ fn make_labels(
     Ok(v)
 }
 
+// The same numbers.
+fn numbers(alloc: Global, xs: &[u32]) -> Result<Vec<u32>, NoMemory>
+    ensures { IfOk result (λ v. v.items ≡ xs.now) }
+{
+    Ok(xs.to_vec(alloc)?)
+}
+
 // A label whose names begin at `fresh`.
 fn make_label(
     alloc: Global,
@@ -65,7 +73,7 @@ fn make_label(
     requires { HasRoots build.old }
     ensures { IfOk result (λ s. LabelMade (label_view l.now) s fresh.old fresh.new build.old build.new) }
 {
-    let mut variables = l.params.clone()?;
+    let mut variables = numbers(alloc, &l.params)?;
     let counts = survey(alloc, &l.body, &mut variables)?;
     let bases = lay_out(alloc, &counts, &variables, fresh)?;
     let part = make_tree(alloc, build, &bases, fresh, &l.body)?;

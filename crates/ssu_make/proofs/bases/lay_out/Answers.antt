@@ -1,10 +1,14 @@
-use Rattle.std.proofs.Common.{rules, ◌≡◌, ℕ, ◌+◌, ◌≤◌, ◌++◌, map, IfOk, OnOk, ◌-◌, ◌*◌, ◌<◌, length, ◌/◌, ◌%◌, Bool, true, false, nat_eq, nat_lt, List, [], ◌∷◌, slice_index_or, slice_set, bit_and, bit_or, Fits, w8, w32, w64, Bor, MutBor}
-use Rattle.flow_ir.specs.Formed.{defined}
-use Rattle.flow_ir.specs.View.{tree_view}
-use Rattle.ssu_make.specs.inner.Making.{counted, tops, kids, node_operands, node_defined, LaidOut}
-use Rattle.ssu_make.specs.inner.Uses.{here, occurs, all_uses}
+use Rattle.std.proofs.Common.{◌+◌, get_or, take, subst, sym, arith}
+use Rattle.std.proofs.lemmas.List.{take_more}
+use Rattle.ssu_make.specs.inner.Making.{counted, LaidOut}
+use Rattle.ssu_make.proofs.NodeForms.{laid-more}
 use Rattle.ssu_make.proofs.bases.lay_out.Goals as goal
 
--- src/bases.rt:99:5
 pub loop-x-preserved : goal.loop-x-preserved
-loop-x-preserved c = ?
+loop-x-preserved c =
+    let xs = c.args.variables.now in
+    let i = c.loop-x.x-index in
+    let x = get_or xs i 0 in
+    subst (λ l. LaidOut (counted c.put.new.self) (counted c.args.counts.now) c.args.fresh.now c.in_ok-fresh.field-0 l) (sym (take_more xs i 0 (omega arith)))
+    (laid-more (counted c.loop-x.bases) (counted c.put.new.self) (counted c.args.counts.now) c.args.fresh.now c.loop-x.fresh c.in_ok-fresh.field-0 x (take i xs) c.loop-x.invariant c.in_ok-put.ensures
+    (omega (arith, c.in_ok-fresh.ensures, c.in_ok-plus.ensures, c.at.ensures)))

@@ -1,47 +1,25 @@
-use Rattle.std.proofs.Common.{rules, ◌≡◌, ◌+◌, ◌<◌, ◌^◌, false, nat_lt, IfOk, ℕ, ◌-◌, ◌*◌, ◌≤◌, length, ◌/◌, ◌%◌, Bool, true, nat_eq, List, [], ◌∷◌, ◌++◌, slice_index_or, slice_set, bit_and, bit_or, Fits, w8, w32, w64, Bor, MutBor}
-use Rattle.std.specs.List.{range_with_len}
-use Rattle.nv_base.specs.declared.term.Atom.TheVariants.{Lit}
-use Rattle.ssu_make.specs.inner.Making.{counted, IsRoot, Becomes}
-use Rattle.ssu_make.specs.inner.Made as made
-use Rattle.ssu_make.specs.inner.Made.{all_taken}
+use Rattle.std.proofs.Common.{◌≡◌, ◌+◌, ◌-◌, zero, get_or, drop, refl, ap, subst, ◌∙◌, arith}
+use Rattle.nv_base.specs.declared.term.Atom.TheVariants.{Var}
+use Rattle.ssu_make.specs.inner.Making.{Becomes}
+use Rattle.ssu_make.specs.inner.Made.{literals}
+use Rattle.ssu_make.proofs.Along.{literals-start}
+use Rattle.ssu_make.proofs.Turns.{literals-more}
 use Rattle.ssu_make.proofs.nodes.literals.Goals as goal
 
--- src/nodes.rt:66:5
 pub loop-i-init : goal.loop-i-init
-loop-i-init c = ?
+loop-i-init c = literals-start c.args.build.now c.args.root.0 c.args.first c.args.list.now c.requires
 
--- src/nodes.rt:68:37
-pub offset_bounds-list-i : goal.offset_bounds-list-i
-offset_bounds-list-i c = ?
-
--- src/nodes.rt:68:37
-pub bounds-list-i : goal.bounds-list-i
-bounds-list-i c = ?
-
--- src/nodes.rt:68:14
 pub atom_literal-requires-clause-root : goal.atom_literal-requires-clause-root
-atom_literal-requires-clause-root c = ?
+atom_literal-requires-clause-root c = c.loop-i.invariant.root
 
--- src/nodes.rt:68:14
-pub atom_literal-requires-clause-names : goal.atom_literal-requires-clause-names
-atom_literal-requires-clause-names c = ?
-
--- src/nodes.rt:69:20
-pub offset_bounds-list-i-in-loop-i : goal.offset_bounds-list-i-in-loop-i
-offset_bounds-list-i-in-loop-i c = ?
-
--- src/nodes.rt:69:20
-pub bounds-list-i-in-loop-i : goal.bounds-list-i-in-loop-i
-bounds-list-i-in-loop-i c = ?
-
--- src/nodes.rt:69:9
-pub overflow_add-n : goal.overflow_add-n
-overflow_add-n c = ?
-
--- src/nodes.rt:66:5
 pub loop-i-preserved : goal.loop-i-preserved
-loop-i-preserved c = ?
+loop-i-preserved c =
+    let list = c.args.list.now in
+    let j = c.loop-i.i - 1 in
+    literals-more c.args.build.now c.loop-i.build c.atom_literal.new.build c.args.root.0 c.loop-i.id.0 c.in_ok-id.id.0 c.args.first c.loop-i.n c.in_ok-next.next c.loop-i.i j list (Var 0) (get_or list j (Var 0)) c.loop-i.invariant (omega arith) refl c.in_ok-id.ensures
+    (c.in_ok-next.ensures ∙ ap (λ k. c.loop-i.n + k) c.taken.ensures)
 
--- src/nodes.rt:53:1
 pub returns : goal.returns
-returns c = ?
+returns c =
+    let none : c.loop-i.i ≡ 0 = omega arith in
+    subst (λ k. Becomes c.args.build.now c.loop-i.build c.args.root.0 c.loop-i.id.0 (literals c.args.first (drop k c.args.list.now))) none c.loop-i.invariant.becomes

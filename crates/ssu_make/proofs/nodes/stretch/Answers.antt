@@ -1,11 +1,6 @@
-use Rattle.std.proofs.Common.{rules, ◌≡◌, ◌+◌, ◌<◌, ◌^◌, false, nat_lt, IfOk, ℕ, ◌-◌, ◌*◌, ◌≤◌, length, ◌/◌, ◌%◌, Bool, true, nat_eq, List, [], ◌∷◌, ◌++◌, slice_index_or, slice_set, bit_and, bit_or, Fits, w8, w32, w64, Bor, MutBor}
-use Rattle.std.specs.List.{range_with_len}
-use Rattle.nv_base.specs.declared.term.Atom.TheVariants.{Lit}
-use Rattle.ssu_make.specs.inner.Making.{counted, IsRoot, Becomes}
-use Rattle.ssu_make.specs.inner.Made as made
-use Rattle.ssu_make.specs.inner.Made.{all_taken}
+use Rattle.std.proofs.Common.{◌+◌, [], ◌∷◌, ◌++◌, ap, sym, ◌∙◌}
+use Rattle.ssu_make.proofs.Turns.{range-last}
 use Rattle.ssu_make.proofs.nodes.stretch.Goals as goal
 
--- src/nodes.rt:80:5
 pub loop-k-preserved : goal.loop-k-preserved
-loop-k-preserved c = ?
+loop-k-preserved c = c.in_ok-push.ensures.items ∙ ap (λ l. l ++ (c.args.first + c.loop-k.k) ∷ []) c.loop-k.invariant ∙ sym (range-last c.loop-k.k c.args.first)

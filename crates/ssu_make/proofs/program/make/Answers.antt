@@ -1,35 +1,36 @@
-use Rattle.std.proofs.Common.{rules, ◌≡◌, ◌≤◌, true, [], map, IfOk, ℕ, ◌+◌, ◌-◌, ◌*◌, ◌<◌, length, ◌/◌, ◌%◌, Bool, false, nat_eq, nat_lt, List, ◌∷◌, ◌++◌, slice_index_or, slice_set, bit_and, bit_or, Fits, w8, w32, w64, Bor, MutBor}
-use Rattle.nv_base.specs.Meanings.{AreEqual}
-use Rattle.flow_ir.specs.Bulk.{bulk}
-use Rattle.flow_ir.specs.Meaning.{flow_meaning, flow_params}
+use Rattle.std.proofs.Common.{map, ap, slice_get}
+use Rattle.std.specs.List.{list_all}
+use Rattle.std.proofs.lemmas.Bool.{and_parts}
+use Rattle.flow_ir.specs.Formed.{is_label, is_entry}
 use Rattle.flow_ir.specs.View.{label_view}
-use Rattle.flow_ir.specs.Wide.{wide}
-use Rattle.ssu_ir.specs.Build.{Holds}
-use Rattle.ssu_ir.specs.Meaning.{ssu_meaning, ssu_params}
-use Rattle.ssu_ir.specs.Measures.{peak, size, code_bound}
-use Rattle.ssu_ir.specs.Single.{single}
 use Rattle.ssu_ir.specs.View.{labels_view}
-use Rattle.ssu_make.specs.Bounds.{size_bound, length_bound}
-use Rattle.ssu_make.specs.Used.{all_lets_used}
-use Rattle.ssu_make.specs.inner.Making.{HasRoots, LabelMade, LabelsMade}
+use Rattle.ssu_make.proofs.NodeForms.{whole-made}
+use Rattle.ssu_make.proofs.Rules.{same-params, single-made}
+use Rattle.ssu_make.proofs.Equal.{equal}
+use Rattle.ssu_make.proofs.Peak.{peak-of}
+use Rattle.ssu_make.proofs.Sizes.{size-made, code-made}
 use Rattle.ssu_make.proofs.program.make.Goals as goal
 
--- src/program.rt:29:1
 pub returns-clause-params : goal.returns-clause-params
-returns-clause-params c = ?
+returns-clause-params c = same-params 0 _ _ (whole-made (map label_view c.deref.result.now) (map label_view c.args.f.now.labels.items) c.in_ok-labels.labels.items c.make_labels.new.build (labels_view c.finish.result) c.in_ok-labels.ensures c.finish.ensures.trees (ap (map label_view) c.deref.ensures.value))
 
--- src/program.rt:29:1
 pub returns-clause-equal : goal.returns-clause-equal
-returns-clause-equal c = ?
+returns-clause-equal c =
+    let ls = map label_view c.args.f.now.labels.items in
+    equal 0 ls _ (and_parts (list_all (is_label ls) ls) (is_entry (slice_get ls 0)) c.args.f.now.formed).0 (whole-made (map label_view c.deref.result.now) (map label_view c.args.f.now.labels.items) c.in_ok-labels.labels.items c.make_labels.new.build (labels_view c.finish.result) c.in_ok-labels.ensures c.finish.ensures.trees (ap (map label_view) c.deref.ensures.value))
 
--- src/program.rt:29:1
 pub returns-clause-single : goal.returns-clause-single
-returns-clause-single c = ?
+returns-clause-single c = single-made 0 _ _ c.args.f.now.formed c.requires (whole-made (map label_view c.deref.result.now) (map label_view c.args.f.now.labels.items) c.in_ok-labels.labels.items c.make_labels.new.build (labels_view c.finish.result) c.in_ok-labels.ensures c.finish.ensures.trees (ap (map label_view) c.deref.ensures.value))
 
--- src/program.rt:29:1
 pub returns-clause-size : goal.returns-clause-size
-returns-clause-size c = ?
+returns-clause-size c = size-made 0 _ _ (whole-made (map label_view c.deref.result.now) (map label_view c.args.f.now.labels.items) c.in_ok-labels.labels.items c.make_labels.new.build (labels_view c.finish.result) c.in_ok-labels.ensures c.finish.ensures.trees (ap (map label_view) c.deref.ensures.value))
 
--- src/program.rt:29:1
 pub returns-clause-code : goal.returns-clause-code
-returns-clause-code c = ?
+returns-clause-code c =
+    let ls = map label_view c.args.f.now.labels.items in
+    code-made 0 ls _ (whole-made (map label_view c.deref.result.now) (map label_view c.args.f.now.labels.items) c.in_ok-labels.labels.items c.make_labels.new.build (labels_view c.finish.result) c.in_ok-labels.ensures c.finish.ensures.trees (ap (map label_view) c.deref.ensures.value)) (and_parts (list_all (is_label ls) ls) (is_entry (slice_get ls 0)) c.args.f.now.formed).1
+
+pub returns-clause-peak : goal.returns-clause-peak
+returns-clause-peak c =
+    let ls = map label_view c.args.f.now.labels.items in
+    peak-of 0 ls _ (and_parts (list_all (is_label ls) ls) (is_entry (slice_get ls 0)) c.args.f.now.formed).0 (whole-made (map label_view c.deref.result.now) (map label_view c.args.f.now.labels.items) c.in_ok-labels.labels.items c.make_labels.new.build (labels_view c.finish.result) c.in_ok-labels.ensures c.finish.ensures.trees (ap (map label_view) c.deref.ensures.value))

@@ -1,23 +1,22 @@
-use Rattle.std.proofs.Common.{rules, ◌≡◌, ◌≤◌, true, [], map, IfOk, ℕ, ◌+◌, ◌-◌, ◌*◌, ◌<◌, length, ◌/◌, ◌%◌, Bool, false, nat_eq, nat_lt, List, ◌∷◌, ◌++◌, slice_index_or, slice_set, bit_and, bit_or, Fits, w8, w32, w64, Bor, MutBor}
-use Rattle.nv_base.specs.Meanings.{AreEqual}
-use Rattle.flow_ir.specs.Bulk.{bulk}
-use Rattle.flow_ir.specs.Meaning.{flow_meaning, flow_params}
+use Rattle.std.proofs.Common.{◌≡◌, ◌+◌, [], ◌∷◌, ◌++◌, length, map, take, ap, subst, sym, ◌∙◌, arith}
+use Rattle.std.proofs.lemmas.List.{map_more, take_all}
 use Rattle.flow_ir.specs.View.{label_view}
-use Rattle.flow_ir.specs.Wide.{wide}
-use Rattle.ssu_ir.specs.Build.{Holds}
-use Rattle.ssu_ir.specs.Meaning.{ssu_meaning, ssu_params}
-use Rattle.ssu_ir.specs.Measures.{peak, size, code_bound}
-use Rattle.ssu_ir.specs.Single.{single}
-use Rattle.ssu_ir.specs.View.{labels_view}
-use Rattle.ssu_make.specs.Bounds.{size_bound, length_bound}
-use Rattle.ssu_make.specs.Used.{all_lets_used}
-use Rattle.ssu_make.specs.inner.Making.{HasRoots, LabelMade, LabelsMade}
+use Rattle.ssu_make.specs.inner.Making.{LabelsMade}
+use Rattle.ssu_make.proofs.Along.{LabelsOn}
+use Rattle.ssu_make.proofs.NodeForms.{labels-more, labels-end}
 use Rattle.ssu_make.proofs.program.make_labels.Goals as goal
 
--- src/program.rt:52:5
 pub loop-l-preserved : goal.loop-l-preserved
-loop-l-preserved c = ?
+loop-l-preserved c =
+    let ls = c.args.labels.now in
+    let i = c.loop-l.l-index in
+    let l = c.l-item.result in
+    let front = map_more label_view ls i l (omega arith) ∙ ap (λ k. map label_view (take i ls) ++ label_view k ∷ []) (sym c.l-item.is) in
+    subst (λ k. LabelsOn k c.push.new.self.items c.make_label.new.build c.make_label.new.fresh) (sym front)
+    (labels-more c.loop-l.build c.make_label.new.build (map label_view (take i ls)) c.loop-l.v.items c.push.new.self.items (label_view l) c.in_ok-make_label.field-0 c.loop-l.fresh c.make_label.new.fresh c.loop-l.invariant c.in_ok-make_label.ensures c.in_ok-push.ensures.items)
 
--- src/program.rt:42:1
 pub returns : goal.returns
-returns c = ?
+returns c =
+    let ls = c.args.labels.now in
+    let all = take_all c.loop-l.l-index ls (omega arith) in
+    subst (λ k. LabelsMade (map label_view k) c.loop-l.v.items c.loop-l.build) all (labels-end (map label_view (take c.loop-l.l-index ls)) c.loop-l.v.items c.loop-l.build c.loop-l.fresh c.loop-l.invariant)

@@ -1,25 +1,19 @@
-use Rattle.std.proofs.Common.{rules, ◌≡◌, ℕ, ◌+◌, [], ◌∷◌, length, slice_index, IfOk, ◌-◌, ◌*◌, ◌<◌, ◌≤◌, ◌/◌, ◌%◌, Bool, true, false, nat_eq, nat_lt, List, ◌++◌, slice_index_or, slice_set, bit_and, bit_or, Fits, w8, w32, w64, Bor, MutBor}
-use Rattle.flow_ir.specs.View.{tree_view}
+use Rattle.std.proofs.Common.{refl}
+use Rattle.ssu_ir.specs.declared.node.SsuNode.TheVariants.{Jump}
 use Rattle.ssu_ir.specs.Tree as ssu
-use Rattle.ssu_ir.specs.Slots.{node_of, kids_of}
-use Rattle.ssu_make.specs.inner.Making.{counted, HasRoots, IsRoot, AreRoots, Becomes, Joined, Adds, MadeTo, Reaches}
-use Rattle.ssu_make.specs.inner.Made.{all_taken, most, spent, made, made_let, made_read, made_write, made_if, made_jump, made_halt, prim_step}
-use Rattle.ssu_make.specs.inner.Uses.{occurs, outside, uses}
-use Rattle.ssu_make.specs.inner.Uses as spec
+use Rattle.ssu_make.specs.inner.Making.{counted}
+use Rattle.ssu_make.proofs.Turns.{can-take-none, adds-node, adds-root}
+use Rattle.ssu_make.proofs.NodeForms.{jump-made}
 use Rattle.ssu_make.proofs.tree.make_jump.Goals as goal
 
--- src/tree.rt:178:16
 pub add-requires : goal.add-requires
-add-requires c = ?
+add-requires c = can-take-none _ _ c.requires refl
 
--- src/tree.rt:179:16
-pub literals-requires-clause-root : goal.literals-requires-clause-root
-literals-requires-clause-root c = ?
+pub literals-requires : goal.literals-requires
+literals-requires c =
+    adds-root _ _ _ _ (adds-node c.args.build.now c.add.new.self (Jump c.args.l c.in_ok-ys.ys) c.in_ok-jump.jump.0 (ssu.Jump c.args.l c.in_ok-ys.ys.items) c.in_ok-jump.ensures.grown refl refl) c.requires
 
--- src/tree.rt:179:16
-pub literals-requires-clause-names : goal.literals-requires-clause-names
-literals-requires-clause-names c = ?
-
--- src/tree.rt:162:1
 pub returns-clause-tree : goal.returns-clause-tree
-returns-clause-tree c = ?
+returns-clause-tree c =
+    jump-made c.args.build.now c.add.new.self c.literals.new.build (Jump c.args.l c.in_ok-ys.ys) c.in_ok-jump.jump.0 c.in_ok-root.root.0 (counted c.args.bases.now) (counted c.new-counts.result) c.args.fresh.now c.args.l c.args.bs.now c.in_ok-ys.ys.items
+    c.new-counts.ensures c.in_ok-ys.ensures.names c.in_ok-jump.ensures.grown refl refl c.in_ok-root.ensures

@@ -1,25 +1,26 @@
-use Rattle.std.proofs.Common.{rules, ◌≡◌, ℕ, ◌+◌, [], ◌∷◌, length, slice_index, IfOk, ◌-◌, ◌*◌, ◌<◌, ◌≤◌, ◌/◌, ◌%◌, Bool, true, false, nat_eq, nat_lt, List, ◌++◌, slice_index_or, slice_set, bit_and, bit_or, Fits, w8, w32, w64, Bor, MutBor}
-use Rattle.flow_ir.specs.View.{tree_view}
-use Rattle.ssu_ir.specs.Tree as ssu
-use Rattle.ssu_ir.specs.Slots.{node_of, kids_of}
-use Rattle.ssu_make.specs.inner.Making.{counted, HasRoots, IsRoot, AreRoots, Becomes, Joined, Adds, MadeTo, Reaches}
-use Rattle.ssu_make.specs.inner.Made.{all_taken, most, spent, made, made_let, made_read, made_write, made_if, made_jump, made_halt, prim_step}
-use Rattle.ssu_make.specs.inner.Uses.{occurs, outside, uses}
-use Rattle.ssu_make.specs.inner.Uses as spec
+use Rattle.std.proofs.Common.{ap, subst, ◌∙◌}
+use Rattle.ssu_make.specs.inner.Making.{counted, Becomes}
+use Rattle.ssu_make.specs.inner.Made.{names, literals}
+use Rattle.ssu_make.specs.inner.Uses.{operands}
+use Rattle.ssu_make.proofs.Turns.{can-take-one, becomes-node, becomes-root}
+use Rattle.ssu_make.proofs.NodeForms.{let-made}
 use Rattle.ssu_make.proofs.tree.make_let.Goals as goal
 
--- src/tree.rt:72:16
 pub add-requires : goal.add-requires
-add-requires c = ?
+add-requires c = can-take-one _ _ c.in_ok-behind.behind.0 (becomes-root _ _ _ _ _ c.in_ok-behind.ensures c.requires) c.prim_node.ensures.children
 
--- src/tree.rt:73:16
-pub literals-requires-clause-root : goal.literals-requires-clause-root
-literals-requires-clause-root c = ?
+pub literals-requires : goal.literals-requires
+literals-requires c =
+    becomes-root _ _ _ _ _ (becomes-node c.clones.new.build c.add.new.self c.prim_node.result c.in_ok-behind.behind.0 c.in_ok-node.node.0 _ c.in_ok-node.ensures.grown c.prim_node.ensures.node c.prim_node.ensures.children)
+    (becomes-root _ _ _ _ _ c.in_ok-behind.ensures c.requires)
 
--- src/tree.rt:73:16
-pub literals-requires-clause-names : goal.literals-requires-clause-names
-literals-requires-clause-names c = ?
-
--- src/tree.rt:51:1
 pub returns-clause-tree : goal.returns-clause-tree
-returns-clause-tree c = ?
+returns-clause-tree c =
+    let base = counted c.args.bases.now in
+    let n = c.args.fresh.now in
+    let list = c.in_ok-list.list.items in
+    let r' = counted c.forget.new.self in
+    let ys = c.deref-2.ensures.value ∙ c.in_ok-ys.ensures.names ∙ ap (names base r' n) c.deref.ensures.value in
+    let after = subst (λ l. Becomes c.add.new.self c.literals.new.build c.in_ok-node.node.0 c.in_ok-root.root.0 (literals n l)) c.deref-3.ensures.value c.in_ok-root.ensures in
+    let-made c.args.build.now c.clones.new.build c.add.new.self c.literals.new.build c.prim_node.result c.args.part.root.0 c.in_ok-behind.behind.0 c.in_ok-node.node.0 c.in_ok-root.root.0 base (counted c.args.part.counts) r' n c.args.x c.in_ok-own.own c.args.p list c.deref-2.result.now
+    c.in_ok-behind.ensures c.in_ok-own.ensures c.forget.ensures c.in_ok-list.ensures ys c.in_ok-node.ensures.grown c.prim_node.ensures.node c.prim_node.ensures.children after

@@ -1,25 +1,36 @@
-use Rattle.std.proofs.Common.{rules, ◌≡◌, ℕ, ◌+◌, [], ◌∷◌, length, slice_index, IfOk, ◌-◌, ◌*◌, ◌<◌, ◌≤◌, ◌/◌, ◌%◌, Bool, true, false, nat_eq, nat_lt, List, ◌++◌, slice_index_or, slice_set, bit_and, bit_or, Fits, w8, w32, w64, Bor, MutBor}
-use Rattle.flow_ir.specs.View.{tree_view}
+use Rattle.std.proofs.Common.{◌≡◌, ◌<◌, [], ◌∷◌, length, slice_index, drop, take, refl, ap, subst, sym, ◌∙◌, arith}
+use Rattle.std.proofs.lemmas.List.{get_or_read}
+use Rattle.ssu_ir.specs.declared.node.SsuNode.TheVariants.{Write}
 use Rattle.ssu_ir.specs.Tree as ssu
-use Rattle.ssu_ir.specs.Slots.{node_of, kids_of}
-use Rattle.ssu_make.specs.inner.Making.{counted, HasRoots, IsRoot, AreRoots, Becomes, Joined, Adds, MadeTo, Reaches}
-use Rattle.ssu_make.specs.inner.Made.{all_taken, most, spent, made, made_let, made_read, made_write, made_if, made_jump, made_halt, prim_step}
-use Rattle.ssu_make.specs.inner.Uses.{occurs, outside, uses}
-use Rattle.ssu_make.specs.inner.Uses as spec
+use Rattle.ssu_make.specs.inner.Making.{counted, Becomes}
+use Rattle.ssu_make.specs.inner.Made.{names, literals}
+use Rattle.ssu_make.proofs.Along.{words-rest}
+use Rattle.ssu_make.proofs.Turns.{can-take-one, becomes-node, becomes-root}
+use Rattle.ssu_make.proofs.NodeForms.{write-made}
 use Rattle.ssu_make.proofs.tree.make_write.Goals as goal
 
--- src/tree.rt:133:17
 pub add-requires : goal.add-requires
-add-requires c = ?
+add-requires c = can-take-one _ _ c.args.part.root.0 c.requires refl
 
--- src/tree.rt:134:16
-pub literals-requires-clause-root : goal.literals-requires-clause-root
-literals-requires-clause-root c = ?
+pub literals-requires : goal.literals-requires
+literals-requires c =
+    let words = c.in_ok-from_slice.field-0 in
+    let y = c.index.result.now in
+    becomes-root _ _ _ _ _ (becomes-node c.args.build.now c.add.new.self (Write c.args.m y words c.args.part.root) c.args.part.root.0 c.in_ok-write.write.0 (ssu.Write c.args.m y words.items) c.in_ok-write.ensures.grown refl refl) c.requires
 
--- src/tree.rt:134:16
-pub literals-requires-clause-names : goal.literals-requires-clause-names
-literals-requires-clause-names c = ?
-
--- src/tree.rt:113:1
 pub returns-clause-tree : goal.returns-clause-tree
-returns-clause-tree c = ?
+returns-clause-tree c =
+    let words = c.in_ok-from_slice.field-0 in
+    let ys = c.in_ok-ys.ys.items in
+    let y = c.index.result.now in
+    let base = counted c.args.bases.now in
+    let r = counted c.args.part.counts in
+    let n = c.args.fresh.now in
+    let list = c.in_ok-list.list.items in
+    let named : ys ≡ names base r n list = c.in_ok-ys.ensures.names ∙ ap (names base r n) c.deref.ensures.value in
+    let whole : ys ≡ names base r n (c.args.a ∷ c.args.bs.now) = named ∙ ap (names base r n) c.in_ok-list.ensures in
+    let many = ap length whole in
+    let rest = c.in_ok-from_slice.ensures.ok ∙ words-rest c.deref-2.result.now ∙ ap (drop 1) c.deref-2.ensures.value in
+    let after = subst (λ l. Becomes c.add.new.self c.literals.new.build c.in_ok-write.write.0 c.in_ok-root.root.0 (literals n l)) c.deref-3.ensures.value c.in_ok-root.ensures in
+    write-made c.args.build.now c.add.new.self c.literals.new.build (Write c.args.m y words c.args.part.root) c.args.part.root.0 c.in_ok-write.write.0 c.in_ok-root.root.0 base r n c.args.m c.args.a c.args.bs.now list ys words.items y
+    c.in_ok-list.ensures named (get_or_read ys 0 y (omega (arith, many)) c.index.ensures 0) rest c.in_ok-write.ensures.grown refl refl after
