@@ -1,4 +1,3 @@
-use Rattle.std.proofs.Common.{◌≡◌, ◌++◌}
 use Rattle.made_source.proofs.Pieces.{line_pieces}
 use Rattle.made_source.proofs.text.push_line.Goals as goal
 

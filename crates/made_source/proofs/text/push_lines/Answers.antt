@@ -1,4 +1,4 @@
-use Rattle.std.proofs.Common.{◌≡◌, ◌++◌}
+use Rattle.std.proofs.Common.{◌++◌}
 use Rattle.made_source.specs.Made.{lines_text, lines_from}
 use Rattle.made_source.proofs.Pieces.{lines_first, line_more, lines_last}
 use Rattle.made_source.proofs.text.push_lines.Goals as goal
