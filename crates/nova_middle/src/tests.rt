@@ -1,6 +1,6 @@
 // Stored rules, one of them of its own, and a program that comes to a constant.
 
-use crate::to_flow;
+use crate::{middle, to_flow};
 use cps_rules::{Rule, simplify};
 use flat_ir::{Flat, FlatFun, FlatProgram};
 use flow_ir::{Flow, Label, Tree};
@@ -100,5 +100,13 @@ fn a_constant_program_only_ends(rt: HostRuntime) -> Result<(), Fail> {
     let alloc = rt.alloc();
     let flow = to_flow(alloc, &five(alloc)?)?;
     assert!(rt; flow.labels.iter().any(|l| gives(&l.body, 5)));
+    Ok(())
+}
+
+#[test]
+fn a_program_has_a_single_use_form(rt: HostRuntime) -> Result<(), Fail> {
+    let alloc = rt.alloc();
+    let single = middle(alloc, &five(alloc)?)?;
+    assert!(rt; single.labels.len() > 0);
     Ok(())
 }
