@@ -9,7 +9,9 @@ pub mod Mains
 pub mod OneSource
 pub mod OneReport
 pub mod OneAnswer
+pub mod Generated
 pub mod Inputs
 pub mod Saves
 pub mod Steps
+pub mod Numbers
 pub mod Printing

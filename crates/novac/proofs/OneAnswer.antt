@@ -25,10 +25,12 @@ use Rattle.nova_front.proofs.OneSource.{source-program}
 use Rattle.nv_ast.specs.Sizes.{main_words}
 use Rattle.nv_ast.specs.Tree.{ProgramTree}
 use Rattle.nv_meaning.specs.Meaning.{source as meaning}
+use Rattle.made_source.specs.Made.{made}
 use Rattle.novac.specs.Answers.{Makes, CanMake, Refuses}
 use Rattle.novac.specs.Assembly.{AsmRefuses, IsListed}
-use Rattle.novac.specs.Command.{Command, Compile, Run, Exec, Asm, Dis, Lint, Check}
+use Rattle.novac.specs.Command.{Command, Compile, Run, Exec, Asm, Dis, Lint, Check, Gen}
 use Rattle.novac.specs.Executing.{ExecRefuses, IsExecuted}
+use Rattle.novac.specs.Generating.{IsGenerated, generated_text}
 use Rattle.novac.specs.Headline.{HasProgram}
 use Rattle.novac.specs.Lines.{counted}
 use Rattle.novac.specs.Machine.{IsBadObjectFor, IsUnlawfulFor, IsMemoryRefusedFor, LintRefuses, RunRefuses, IsLinted, IsRun, spill_base, full_text}
@@ -204,6 +206,18 @@ executed-one b t calls s s' text text' h k =
     let status : FullOutcome → Status = λ f. outcome_status f.outcome in
     (h.ends ∙ ap status run ∙ sym k.ends, h.prints ∙ ap full_text run ∙ sym k.prints)
 
+-- made sources
+ended-word : (a b : ℕ) → outcome.Ended (a ∷ []) ≡ outcome.Ended (b ∷ []) → a ≡ b
+ended-word a b e = cc
+
+generated-one : (seed size : ℕ) (t t' : List ℕ) → IsGenerated seed size t → IsGenerated seed size t' → t ≡ t'
+generated-one seed size t t' h k =
+    let same = source-program (made seed size) h.program k.program h.is_source.is_source k.is_source.is_source in
+    let blank : Memories = record { sram = []; sdram = []; scratch = [] } in
+    let means : (meaning k.program (1 ∷ 2 ∷ []) blank 0).outcome ≡ outcome.Ended (h.word ∷ []) = subst (λ (p : ProgramTree). (meaning p (1 ∷ 2 ∷ []) blank 0).outcome ≡ outcome.Ended (h.word ∷ [])) same (h.means blank 0) in
+    let word = ended-word h.word k.word (sym means ∙ k.means blank 0) in
+    h.told ∙ ap (λ (w : ℕ). generated_text seed size (length (made seed size)) w) word ∙ sym k.told
+
 -- of the same contents at most one refusal is true
 pub refusal-one : (c : Command) (bs : List (List ℕ)) (e e' : Refusal) → Refuses c bs e → Refuses c bs e' → e ≡ e'
 refusal-one (Compile source object) (b ∷ []) e e' h k = compile-one b e e' h k
@@ -226,6 +240,7 @@ makes-good (Asm input object) (b ∷ []) s fs t e h k = assembly-good b e h.asse
 makes-good (Dis object) (b ∷ []) s fs t e h k = bad-good b e h.1.c h.1.object k
 makes-good (Lint object) (b ∷ []) s fs t e h k = lint-good b e h.1.c h.1.object h.1.lawful k
 makes-good (Check report) (b ∷ []) s fs t e h k = check-good b s t e h.1 k
+makes-good (Gen seed size) [] s fs t e h k = k
 makes-good _ _ s fs t e h k = h
 
 -- or can
@@ -252,6 +267,7 @@ shows-one (Asm input object) (b ∷ []) s s' fs t t' h k = absurd (no-file (file
 shows-one (Dis object) (b ∷ []) s s' fs t t' h k = listed-one b s s' t t' h.1 k.1
 shows-one (Lint object) (b ∷ []) s s' fs t t' h k = linted-one b s s' t t' h.1 k.1
 shows-one (Check report) (b ∷ []) s s' fs t t' h k = checked-one b s s' t t' h.1 k.1
+shows-one (Gen seed size) [] s s' fs t t' h k = (h.1 ∙ sym k.1, generated-one seed size t t' h.2 k.2)
 shows-one _ _ s s' fs t t' h k = absurd h
 
 -- the statuses of what is made
@@ -269,6 +285,7 @@ makes-outcome (Asm input object) (b ∷ []) s fs t h = subst IsOutcome (sym h.do
 makes-outcome (Dis object) (b ∷ []) s fs t h = subst IsOutcome (sym h.1.done) tt
 makes-outcome (Lint object) (b ∷ []) s fs t h = subst IsOutcome (sym h.1.done) tt
 makes-outcome (Check report) (b ∷ []) s fs t h = subst IsOutcome (sym h.1.done) tt
+makes-outcome (Gen seed size) [] s fs t h = subst IsOutcome (sym h.1) tt
 makes-outcome _ _ s fs t h = absurd h
 
 -- a file is saved only by what is done
@@ -280,6 +297,7 @@ makes-kept (Asm input object) (b ∷ []) s fs t h = inl h.done
 makes-kept (Dis object) (b ∷ []) s fs t h = inr h.0
 makes-kept (Lint object) (b ∷ []) s fs t h = inr h.0
 makes-kept (Check report) (b ∷ []) s fs t h = inr h.0
+makes-kept (Gen seed size) [] s fs t h = inr h.0
 makes-kept _ _ s fs t h = absurd h
 
 -- contents are never why an input couldn't be read

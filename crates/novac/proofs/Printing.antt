@@ -1,14 +1,15 @@
 -- From what a command answers to what was printed.
-use Rattle.std.proofs.Common.{◌≡◌, ◌≢◌, ℕ, ◌⊎◌, inl, inr, List, [], ◌++◌, Option, Some, None, refl, ap, sym, ◌∙◌, subst}
+use Rattle.std.proofs.Common.{◌≡◌, ◌≢◌, ℕ, ◌⊎◌, inl, inr, List, [], ◌∷◌, ◌++◌, Option, Some, None, refl, ap, sym, ◌∙◌, subst}
 use Rattle.std.specs.Prelude.{⊤}
 use Rattle.std.proofs.lemmas.List.{append-nil}
 use Rattle.nv_outside.specs.Holding.{Holding, AppendsFront}
 use Rattle.novac.specs.Answers.{Makes, Refuses, Shows, IsMakeable, IsRefusable, IsCaused, IsDone, IsStopped, IsRefused, Ends, IsPrinted, IsBegun, IsFree, IsOnly}
-use Rattle.novac.specs.Command.{Command, Compile, Run, Exec, Asm, Dis, Lint, Check, IfCommand, IfCompile, ForCommand, SomeFile, outputs_of}
+use Rattle.novac.specs.Command.{Command, Compile, Run, Exec, Asm, Dis, Lint, Check, Gen, IfCommand, IfCompile, IfGen, ForCommand, SomeFile, outputs_of}
+use Rattle.novac.specs.Generating.{IsGenerated, EndsGenerated}
 use Rattle.novac.specs.Headline.{IsCompiled}
 use Rattle.novac.specs.Lines.{IsUncaused, refusal_status, refusal_text, cannot_read, cannot_write}
 use Rattle.novac.specs.Loading.{AreRead, StopsAt, IsUnread, inputs_of}
-use Rattle.novac.specs.Saving.{IsSameBut}
+use Rattle.novac.specs.Saving.{File, IsSameBut}
 use Rattle.novac.specs.Status.{MaySave}
 use Rattle.novac.specs.inner.Replies.{IsOutcome, HasEnded}
 use Rattle.novac.specs.declared.refusal.Refusal.{Refusal}
@@ -87,8 +88,60 @@ compiled Tells old new LR SR s r text before after T Failed tells told (Some (As
 compiled Tells old new LR SR s r text before after T Failed tells told (Some (Dis object)) a d = tt
 compiled Tells old new LR SR s r text before after T Failed tells told (Some (Lint object)) a d = tt
 compiled Tells old new LR SR s r text before after T Failed tells told (Some (Check report)) a d = tt
+compiled Tells old new LR SR s r text before after T Failed tells told (Some (Gen seed size)) a d = tt
 compiled Tells old new LR SR s r text before after T Failed tells (inl w) (Some (Compile source object)) a d = absurd (done-not_fault r d w.0)
 compiled Tells old new LR SR s r text before after T Failed tells (inr h) (Some (Compile source object)) a d = (text, compiled-end Tells old new LR SR source object s text tells (sym h.0 ∙ d) a, h.1)
+
+-- the line of `gen`
+gen-made : (seed size : ℕ) (bs : List (List ℕ)) (s : Status) (fs : List File) (t : List ℕ) → Makes (Gen seed size) bs s fs t → (s ≡ status.Done) × IsGenerated seed size t
+gen-made seed size [] s fs t h = (h.1, h.2)
+gen-made seed size (b ∷ bs) s fs t h = absurd h
+
+uncaused-memory : (e : Refusal) → IsUncaused e → refusal_status e ≡ status.NoMemory
+uncaused-memory NoMemory h = refl
+uncaused-memory _ h = absurd h
+
+gen-cause : (T : Type 0) (old : Holding) (R : List ℕ → Type 0) (seed size : ℕ) (e : Refusal) → IsUncaused e ⊎ IsCaused T old R (Gen seed size) e → refusal_status e ≡ status.NoMemory
+gen-cause T old R seed size e (inl u) = uncaused-memory e u
+gen-cause T old R seed size e (inr (inl h)) = absurd h
+gen-cause T old R seed size e (inr (inr h)) = absurd h.2
+
+gen-told : (seed size : ℕ) (s r : Status) (text before after : List ℕ) (T : Type 0) → r ≡ s → (T → after ≡ before ++ text)
+    → (s ≡ status.WriteFault) ⊎ (s ≡ status.NoMemory) ⊎ ((s ≡ status.Done) × IsGenerated seed size text) → EndsGenerated seed size r T before after
+gen-told seed size s r text before after T e p (inl w) = inl (e ∙ w)
+gen-told seed size s r text before after T e p (inr (inl m)) = inr (inl (e ∙ m))
+gen-told seed size s r text before after T e p (inr (inr d)) = inr (inr (e ∙ d.0, (text, d.1, p)))
+
+gen-ended : (T : Type 0) (old new : Holding) (LR SR : List ℕ → Type 0) (seed size : ℕ) (s : Status) (text : List ℕ) → HasEnded T old new LR SR (Gen seed size) s text
+    → (s ≡ status.WriteFault) ⊎ (s ≡ status.NoMemory) ⊎ ((s ≡ status.Done) × IsGenerated seed size text)
+gen-ended T old new LR SR seed size s text (inl h) = inr (inr (gen-made seed size h.contents s h.files text h.makes))
+gen-ended T old new LR SR seed size s text (inr (inl w)) = inl w.0
+gen-ended T old new LR SR seed size s text (inr (inr e)) = inr (inl (e.status_is ∙ gen-cause T old LR seed size e.why e.cause))
+
+pub generated : (Tells : Type 0) (old new : Holding) (LR SR : List ℕ → Type 0) (s r : Status) (text before after : List ℕ) (T Failed : Type 0) → IsTold s r text before after T Failed
+    → (o : Option Command) → IfCommand o (λ c. HasEnded Tells old new LR SR c s text) → IfGen o (λ seed size. EndsGenerated seed size r T before after)
+generated Tells old new LR SR s r text before after T Failed told None a = tt
+generated Tells old new LR SR s r text before after T Failed told (Some (Compile source object)) a = tt
+generated Tells old new LR SR s r text before after T Failed told (Some (Run object memory steps)) a = tt
+generated Tells old new LR SR s r text before after T Failed told (Some (Exec source memory calls)) a = tt
+generated Tells old new LR SR s r text before after T Failed told (Some (Asm input object)) a = tt
+generated Tells old new LR SR s r text before after T Failed told (Some (Dis object)) a = tt
+generated Tells old new LR SR s r text before after T Failed told (Some (Lint object)) a = tt
+generated Tells old new LR SR s r text before after T Failed told (Some (Check report)) a = tt
+generated Tells old new LR SR s r text before after T Failed (inl w) (Some (Gen seed size)) a = inl w.0
+generated Tells old new LR SR s r text before after T Failed (inr h) (Some (Gen seed size)) a = gen-told seed size s r text before after T h.0 h.1 (gen-ended Tells old new LR SR seed size s text a)
+
+-- memory failed before anything was printed
+pub memory-generated : (o : Option Command) (before after : List ℕ) (T : Type 0) → IfGen o (λ seed size. EndsGenerated seed size status.NoMemory T before after)
+memory-generated None before after T = tt
+memory-generated (Some (Compile source object)) before after T = tt
+memory-generated (Some (Run object memory steps)) before after T = tt
+memory-generated (Some (Exec source memory calls)) before after T = tt
+memory-generated (Some (Asm input object)) before after T = tt
+memory-generated (Some (Dis object)) before after T = tt
+memory-generated (Some (Lint object)) before after T = tt
+memory-generated (Some (Check report)) before after T = tt
+memory-generated (Some (Gen seed size)) before after T = inr (inl refl)
 
 -- what was printed
 pub printed : (Tells : Type 0) (old new : Holding) (LR SR : List ℕ → Type 0) (s r : Status) (text before after : List ℕ) (T Failed : Type 0) → IsTold s r text before after T Failed

@@ -1,8 +1,8 @@
 -- The files that a command saves.
-use Rattle.std.proofs.Common.{◌≡◌, ℕ, ◌⊎◌, inl, inr, List, [], ◌∷◌, refl, ap, sym, ◌∙◌, subst, arith}
+use Rattle.std.proofs.Common.{◌≡◌, ℕ, ◌⊎◌, inl, inr, List, [], ◌∷◌, refl, ap, sym, subst, arith}
 use Rattle.nv_outside.specs.Holding.{Holding, Replaced, SameElsewhere}
 use Rattle.novac.specs.Answers.{Makes, Refuses, IsCaused, IsDone, IsStopped}
-use Rattle.novac.specs.Command.{Command, Compile, Run, Exec, Asm, Dis, Lint, Check, SomeFile, outputs_of}
+use Rattle.novac.specs.Command.{Command, Compile, Run, Exec, Asm, Dis, Lint, Check, Gen, SomeFile, outputs_of}
 use Rattle.novac.specs.Headline.{IsCompiled}
 use Rattle.novac.specs.Lines.{IsUncaused, cannot_write}
 use Rattle.novac.specs.Loading.{AreRead, StopsAt, IsUnread, inputs_of}
@@ -38,6 +38,7 @@ cut-output T (Asm input object) (b ∷ []) s fs t old new P h k = (object, (0, o
 cut-output T (Dis object) (b ∷ []) s fs t old new P h k = absurd (subst (λ (x : List File). IsCut T x old new P) h.0 k)
 cut-output T (Lint object) (b ∷ []) s fs t old new P h k = absurd (subst (λ (x : List File). IsCut T x old new P) h.0 k)
 cut-output T (Check report) (b ∷ []) s fs t old new P h k = absurd (subst (λ (x : List File). IsCut T x old new P) h.0 k)
+cut-output T (Gen seed size) [] s fs t old new P h k = absurd (subst (λ (x : List File). IsCut T x old new P) h.0 k)
 cut-output T _ _ s fs t old new P h k = absurd h
 
 -- no other file changed
@@ -58,6 +59,7 @@ saved-elsewhere (Asm input object) (b ∷ []) s fs t old new h k = same-but old 
 saved-elsewhere (Dis object) (b ∷ []) s fs t old new h k = same-all [] old new (nothing-saved fs old new h.0 k)
 saved-elsewhere (Lint object) (b ∷ []) s fs t old new h k = same-all [] old new (nothing-saved fs old new h.0 k)
 saved-elsewhere (Check report) (b ∷ []) s fs t old new h k = same-all [] old new (nothing-saved fs old new h.0 k)
+saved-elsewhere (Gen seed size) [] s fs t old new h k = same-all [] old new (nothing-saved fs old new h.0 k)
 saved-elsewhere _ _ s fs t old new h k = absurd h
 
 pub cut-elsewhere : (T : Type 0) (c : Command) (bs : List (List ℕ)) (s : Status) (fs : List File) (t : List ℕ) (old new : Holding) (P : List ℕ → Type 0) → T → Makes c bs s fs t → IsCut T fs old new P → IsSameBut (outputs_of c) old new
@@ -68,6 +70,7 @@ cut-elsewhere T (Asm input object) (b ∷ []) s fs t old new P tells h k = same-
 cut-elsewhere T (Dis object) (b ∷ []) s fs t old new P tells h k = absurd (subst (λ (x : List File). IsCut T x old new P) h.0 k)
 cut-elsewhere T (Lint object) (b ∷ []) s fs t old new P tells h k = absurd (subst (λ (x : List File). IsCut T x old new P) h.0 k)
 cut-elsewhere T (Check report) (b ∷ []) s fs t old new P tells h k = absurd (subst (λ (x : List File). IsCut T x old new P) h.0 k)
+cut-elsewhere T (Gen seed size) [] s fs t old new P tells h k = absurd (subst (λ (x : List File). IsCut T x old new P) h.0 k)
 cut-elsewhere T _ _ s fs t old new P tells h k = absurd h
 
 -- what `compile` saved is compiled

@@ -2,9 +2,10 @@
 use Rattle.std.specs.Prelude.{◌≡◌, ◌⊎◌, ◌++◌, ℕ, List, [], ◌∷◌, ⊤}
 use Rattle.nv_outside.specs.Holding.{Holding, AppendsFront}
 use Rattle.novac.specs.Assembly.{AsmMakes, AsmRefuses, HasAssembly, IsListed}
-use Rattle.novac.specs.Command.{Command, Compile, Run, Exec, Asm, Dis, Lint, Check}
+use Rattle.novac.specs.Command.{Command, Compile, Run, Exec, Asm, Dis, Lint, Check, Gen}
 use Rattle.novac.specs.Checking.{CheckRefuses, IsChecked}
 use Rattle.novac.specs.Executing.{ExecRefuses, IsExecuted}
+use Rattle.novac.specs.Generating.{IsGenerated}
 use Rattle.novac.specs.Headline.{CompileMakes, CompileRefuses, HasProgram}
 use Rattle.novac.specs.Lines.{IsUncaused, refusal_status, refusal_text, cannot_write}
 use Rattle.novac.specs.Loading.{AreRead, StopsAt, IsUnread, inputs_of}
@@ -23,6 +24,7 @@ Makes (Asm input object) (bytes ∷ []) status files text = AsmMakes bytes objec
 Makes (Dis object) (bytes ∷ []) status files text = (files ≡ []) × IsListed bytes status text
 Makes (Lint object) (bytes ∷ []) status files text = (files ≡ []) × IsLinted bytes status text
 Makes (Check report) (bytes ∷ []) status files text = (files ≡ []) × IsChecked bytes status text
+Makes (Gen seed size) [] status files text = (files ≡ []) × (status ≡ Done) × IsGenerated seed size text
 Makes _ _ status files text = ⊥
 
 -- a command that saves files can make something with this status of the contents of its inputs

@@ -13,6 +13,7 @@ pub data Command : Type 0 where
   Dis : (object : List ℕ) → Command
   Lint : (object : List ℕ) → Command
   Check : (report : List ℕ) → Command
+  Gen : (seed size : ℕ) → Command
 
 -- the texts of words
 abbrev pub texts_of : Vec (String Global) Global → List (List ℕ)
@@ -36,6 +37,21 @@ steps_of word =
     let n = digits_value 10 (drop 6 word) in
     if bytes_eq word (steps_word n) && nat_le 1 n && nat_le n 100000000 then Some n else None
 
+-- the number of a range that a word spells
+abbrev pub number_in : ℕ → ℕ → List ℕ → Option ℕ
+number_in least most word =
+    let n = digits_value 10 word in
+    if bytes_eq word (decimal n) && nat_le least n && nat_le n most then Some n else None
+
+-- the command of a seed and a size
+abbrev pub gen_with : Option ℕ → Option ℕ → Option Command
+gen_with (Some seed) (Some size) = Some (Gen seed size)
+gen_with _ _ = None
+
+-- gen SEED SIZE: a seed of 32 bits, and a size of 1 to 500
+abbrev pub gen_of : List ℕ → List ℕ → Option Command
+gen_of seed size = gen_with (number_in 0 4294967295 seed) (number_in 1 500 size)
+
 -- dis OBJ, lint OBJ, check REPORT
 abbrev pub command_of_two : List ℕ → List ℕ → Option Command
 command_of_two verb name =
@@ -44,10 +60,11 @@ command_of_two verb name =
     else if bytes_eq verb (codes "check") && is_name name then Some (Check name)
     else None
 
--- compile SRC OBJ, asm TEXT OBJ
+-- gen SEED SIZE, compile SRC OBJ, asm TEXT OBJ
 abbrev pub command_of_three : List ℕ → List ℕ → List ℕ → Option Command
 command_of_three verb input object =
-    if bytes_eq verb (codes "compile") && are_names input object then Some (Compile input object)
+    if bytes_eq verb (codes "gen") then gen_of input object
+    else if bytes_eq verb (codes "compile") && are_names input object then Some (Compile input object)
     else if bytes_eq verb (codes "asm") && are_names input object then Some (Asm input object)
     else None
 
@@ -74,6 +91,7 @@ outputs_of (Asm text object) = object ∷ []
 outputs_of (Dis object) = []
 outputs_of (Lint object) = []
 outputs_of (Check report) = []
+outputs_of (Gen seed size) = []
 
 -- a fact about one of these files
 abbrev pub SomeFile : List (List ℕ) → (List ℕ → Type 0) → Type 0
@@ -88,6 +106,11 @@ IfCommand None P = ⊤
 abbrev pub IfCompile : Option Command → (List ℕ → List ℕ → Type 0) → Type 0
 IfCompile (Some (Compile source object)) P = P source object
 IfCompile _ P = ⊤
+
+-- a fact about the seed and the size of `gen`, where the command is that one
+abbrev pub IfGen : Option Command → (ℕ → ℕ → Type 0) → Type 0
+IfGen (Some (Gen seed size)) P = P seed size
+IfGen _ P = ⊤
 
 -- there is a command, of which this holds
 abbrev pub ForCommand : Option Command → (Command → Type 0) → Type 0

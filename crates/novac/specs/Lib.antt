@@ -10,6 +10,7 @@ pub mod Headline
 pub mod Building
 pub mod Machine
 pub mod Executing
+pub mod Generating
 pub mod Assembly
 pub mod Checking
 pub mod Answers

@@ -1,7 +1,7 @@
 -- What a command reads: its inputs, in the order of the words.
 use Rattle.std.specs.Prelude.{◌≡◌, ◌≤◌, ◌⊎◌, ℕ, List, [], ◌∷◌, Some, length, ⊤}
 use Rattle.nv_outside.specs.Holding.{Holding, IsLonger}
-use Rattle.novac.specs.Command.{Command, Compile, Run, Exec, Asm, Dis, Lint, Check}
+use Rattle.novac.specs.Command.{Command, Compile, Run, Exec, Asm, Dis, Lint, Check, Gen}
 use Rattle.novac.specs.Limits.{source_limit, object_limit, memory_limit, assembly_limit, report_limit}
 use Rattle.novac.specs.declared.refusal.Refusal.{Refusal}
 use Rattle.novac.specs.declared.refusal.Refusal.TheVariants.{ReadFault, TooLarge}
@@ -23,6 +23,7 @@ inputs_of (Asm text object) = input text assembly_limit ∷ []
 inputs_of (Dis object) = input object object_limit ∷ []
 inputs_of (Lint object) = input object object_limit ∷ []
 inputs_of (Check report) = input report report_limit ∷ []
+inputs_of (Gen seed size) = []
 
 -- an input has these bytes, at most as many as it may have; they are what the store holds, where it tells
 pub record IsRead (Tells : Type 0) (held : Holding) (i : Input) (bytes : List ℕ) : Type 0 where

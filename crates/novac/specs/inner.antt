@@ -4,3 +4,4 @@ pub mod Telling
 pub mod Contents
 pub mod Replies
 pub mod Words
+pub mod Generated

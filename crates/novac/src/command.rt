@@ -1,12 +1,18 @@
 //! The words of a command line.
 ghost use Rattle.std.specs.Prelude.{◌≡◌, ◌≤◌, None, Some, IfSome, IfNone};
-ghost use Rattle.novac.specs.Command.{command_of, command_of_two, command_of_three, command_of_four, steps_of, texts_of};
-ghost use Rattle.novac.specs.inner.Words.{command_as, HasSteps};
+ghost use Rattle.novac.specs.Command.{command_of, command_of_two, command_of_three, command_of_four, gen_of, number_in, steps_of, texts_of};
+ghost use Rattle.novac.specs.inner.Words.{command_as, HasLimits};
 
 use line_text::read_decimal;
 
 /// The most steps, or calls, of a run.
 const MOST_STEPS: u64 = 100_000_000;
+
+/// The greatest seed.
+const MOST_SEED: u64 = 4_294_967_295;
+
+/// The most lines of a made source.
+const MOST_LINES: u64 = 500;
 
 /// A command with what its words name.
 #[derive(Clone, Copy, Debug, PartialEq, Eq)]
@@ -25,6 +31,8 @@ pub enum Command<'a> {
     Lint(&'a str),
     /// Report.
     Check(&'a str),
+    /// Seed, size.
+    Gen(u32, u32),
 }
 
 impl<'a> Command<'a> {
@@ -32,7 +40,7 @@ impl<'a> Command<'a> {
     pub fn of(words: &'a Vec<String>) -> Option<Command<'a>>
         ensures some { IfSome result (λ c. command_of (texts_of words.now) ≡ Some (command_as c)) }
         ensures none { IfNone result (command_of (texts_of words.now) ≡ None) }
-        ensures steps { IfSome result HasSteps }
+        ensures limits { IfSome result HasLimits }
     {
         match words.len() {
             2 => of_two(words[0].as_str(), words[1].as_str()),
@@ -52,7 +60,7 @@ impl<'a> Command<'a> {
 fn of_two<'a>(verb: &'a str, name: &'a str) -> Option<Command<'a>>
     ensures some { IfSome result (λ c. command_of_two verb.now name.now ≡ Some (command_as c)) }
     ensures none { IfNone result (command_of_two verb.now name.now ≡ None) }
-    ensures steps { IfSome result HasSteps }
+    ensures limits { IfSome result HasLimits }
 {
     if name.is_empty() {
         None
@@ -67,13 +75,15 @@ fn of_two<'a>(verb: &'a str, name: &'a str) -> Option<Command<'a>>
     }
 }
 
-// `compile SRC OBJ` and `asm TEXT OBJ`.
+// `gen SEED SIZE`, `compile SRC OBJ` and `asm TEXT OBJ`.
 fn of_three<'a>(verb: &'a str, input: &'a str, object: &'a str) -> Option<Command<'a>>
     ensures some { IfSome result (λ c. command_of_three verb.now input.now object.now ≡ Some (command_as c)) }
     ensures none { IfNone result (command_of_three verb.now input.now object.now ≡ None) }
-    ensures steps { IfSome result HasSteps }
+    ensures limits { IfSome result HasLimits }
 {
-    if input.is_empty() || object.is_empty() || input == object {
+    if verb == "gen" {
+        of_gen(input, object)
+    } else if input.is_empty() || object.is_empty() || input == object {
         None
     } else if verb == "compile" {
         Some(Command::Compile(input, object))
@@ -82,6 +92,28 @@ fn of_three<'a>(verb: &'a str, input: &'a str, object: &'a str) -> Option<Comman
     } else {
         None
     }
+}
+
+// `gen SEED SIZE`.
+fn of_gen<'a>(seed: &str, size: &str) -> Option<Command<'a>>
+    ensures some { IfSome result (λ c. gen_of seed.now size.now ≡ Some (command_as c)) }
+    ensures none { IfNone result (gen_of seed.now size.now ≡ None) }
+    ensures limits { IfSome result HasLimits }
+{
+    let seed = number_in(seed, 0, MOST_SEED)?;
+    let size = number_in(size, 1, MOST_LINES)?;
+    Some(Command::Gen(seed as u32, size as u32))
+}
+
+// The number from `least` to `most` of which the word is the spelling.
+fn number_in(word: &str, least: u64, most: u64) -> Option<u64>
+    ensures some { IfSome result (λ n. number_in least most word.now ≡ Some n) }
+    ensures none { IfNone result (number_in least most word.now ≡ None) }
+    ensures least { IfSome result (λ n. least ≤ n) }
+    ensures most { IfSome result (λ n. n ≤ most) }
+{
+    let n = read_decimal(word.as_bytes(), most)?;
+    if n < least { None } else { Some(n) }
 }
 
 // `run OBJ MEM steps=N` and `exec SRC MEM steps=N`.
@@ -93,7 +125,7 @@ fn of_four<'a>(
 ) -> Option<Command<'a>>
     ensures some { IfSome result (λ c. command_of_four verb.now input.now memory.now steps.now ≡ Some (command_as c)) }
     ensures none { IfNone result (command_of_four verb.now input.now memory.now steps.now ≡ None) }
-    ensures steps { IfSome result HasSteps }
+    ensures limits { IfSome result HasLimits }
 {
     if input.is_empty() || memory.is_empty() || input == memory {
         None

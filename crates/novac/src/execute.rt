@@ -40,8 +40,8 @@ pub fn exec_bytes<'a>(
     Ok(exec_job(alloc, &program, job, calls)?)
 }
 
-// The typed program that the bytes are the text of.
-fn source_of<'a>(alloc: Global, bytes: &[u8]) -> Result<Typed, Refusal<'a>>
+/// The typed program that the bytes are the text of.
+pub fn source_of<'a>(alloc: Global, bytes: &[u8]) -> Result<Typed, Refusal<'a>>
     requires { length bytes.now ≤ source_limit }
     ensures source { IfOk result (λ t. IsTypedSource bytes.now (typed_program t)) }
     ensures refused { IfErr result (λ e. IsUncaused e ⊎ SourceRefuses bytes.now e) }

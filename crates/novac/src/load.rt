@@ -13,7 +13,7 @@ use crate::refusal::Refusal;
 use nv_outside::{Files, Loaded};
 use std::alloc::Global;
 
-/// The contents of a command's inputs; the second is empty where there is one.
+/// The contents of a command's inputs, each empty where the command has fewer.
 #[derive(Drop)]
 pub struct Inputs {
     pub first: Vec<u8>,
@@ -40,6 +40,10 @@ pub fn load_inputs<'a, F: Files>(
         Command::Dis(object) => load_one(alloc, object, OBJECT_LIMIT, files),
         Command::Lint(object) => load_one(alloc, object, OBJECT_LIMIT, files),
         Command::Check(report) => load_one(alloc, report, REPORT_LIMIT, files),
+        Command::Gen(_, _) => Ok(Inputs {
+            first: Vec::new(alloc),
+            second: Vec::new(alloc),
+        }),
     }
 }
 

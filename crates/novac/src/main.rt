@@ -8,6 +8,7 @@ mod compile;
 mod emit;
 mod execute;
 mod form;
+mod generate;
 mod limits;
 mod lint;
 mod list;

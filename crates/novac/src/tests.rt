@@ -174,6 +174,19 @@ fn check_tells_the_least_cost(rt: HostRuntime) -> Result<(), Fail> {
 }
 
 #[test]
+fn gen_tells_the_length_and_the_word(rt: HostRuntime) -> Result<(), Fail> {
+    ends(
+        &rt,
+        rt.alloc(),
+        &[],
+        &["gen", "0", "2"],
+        Status::Done,
+        b"gen 0 2 source 73 outcome 00000006\n",
+    )?;
+    Ok(())
+}
+
+#[test]
 fn other_words_are_no_command(rt: HostRuntime) -> Result<(), Fail> {
     ends(
         &rt,

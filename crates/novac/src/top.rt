@@ -3,8 +3,9 @@ ghost use Rattle.std.specs.Prelude.{◌≡◌, ◌≢◌, ◌⊎◌, ◌++◌, �
 ghost use Rattle.nv_outside.specs.Causes.{Rose};
 ghost use Rattle.nv_outside.specs.Holding.{AppendsFront};
 ghost use Rattle.novac.specs.Answers.{Shows, Ends, IsCaused, IsDone, IsStopped, IsMakeable, IsRefusable, IsPrinted, IsBegun, IsFree, IsOnly};
-ghost use Rattle.novac.specs.Command.{command_of, texts_of, outputs_of, SomeFile, IfCommand, IfCompile, ForCommand};
-ghost use Rattle.novac.specs.inner.Words.{command_as, HasSteps};
+ghost use Rattle.novac.specs.Command.{command_of, texts_of, outputs_of, SomeFile, IfCommand, IfCompile, IfGen, ForCommand};
+ghost use Rattle.novac.specs.Generating.{EndsGenerated};
+ghost use Rattle.novac.specs.inner.Words.{command_as, HasLimits};
 ghost use Rattle.novac.specs.Headline.{IsCompiled};
 ghost use Rattle.novac.specs.Lines.{IsUncaused, usage_text, cannot_read, cannot_write, refusal_status, refusal_text};
 ghost use Rattle.novac.specs.Loading.{inputs_of, StopsAt};
@@ -36,6 +37,7 @@ use std::alloc::Global;
 /// | `dis OBJ` | prints the listing of OBJ's code |
 /// | `lint OBJ` | prints whether OBJ's code is lawful |
 /// | `check REPORT` | checks a report by itself, and prints its verdict |
+/// | `gen SEED SIZE` | makes a source of 1 to 500 lines from a seed of 32 bits, runs it, and prints its length and its word |
 ///
 /// Sources have at most 262,144 bytes, objects 8,388,620, memory texts 4 MiB, assembly texts and reports 64 MiB.
 pub fn run<F: Files, K: Sink>(
@@ -46,6 +48,10 @@ pub fn run<F: Files, K: Sink>(
 ) -> Status
     // The headline: what `compile` saved is lawful code that does what the source says.
     ensures compiled { F.tells → result ≡ Status.Done → IfCompile (command_of (texts_of words.now)) (λ source object. (line : List ℕ) × IsCompiled (F.held files.old) (F.held files.new) source object line × (K.tells → K.written out.new ≡ K.written out.old ++ line)) }
+
+    // What `gen` prints: the length of the text that the seed makes, and the word that its program means. Only the sink and
+    // memory keep it from that.
+    ensures generated { IfGen (command_of (texts_of words.now)) (λ seed size. EndsGenerated seed size result K.tells (K.written out.old) (K.written out.new)) }
 
     // What the command made of the contents of its inputs and saved, or why it is refused, and the text that was printed. A
     // store that tells holds these contents; over every other the answer is that for some contents.
@@ -131,7 +137,7 @@ fn perform<'a, F: Files>(
     command: Command<'a>,
     files: &mut F,
 ) -> Result<Reply, Refusal<'a>>
-    requires { HasSteps command }
+    requires { HasLimits command }
     ensures ended { IfOk result (λ r. IsDone F.tells (F.held files.old) (F.held files.new) (command_as command.entry) r.status r.text.items ⊎ ((r.status ≡ Status.WriteFault) × IsStopped F.tells (F.held files.old) (F.held files.new) (λ q. Rose (F.save_faults files.old q) (F.save_faults files.new q)) (command_as command.entry) r.text.items)) }
     ensures end { IfOk result (λ r. IsEnd r.status) }
     ensures refused { IfErr result (λ e. IsUncaused e ⊎ IsCaused F.tells (F.held files.old) (λ q. Rose (F.load_faults files.old q) (F.load_faults files.new q)) (command_as command.entry) e) }

@@ -1,7 +1,7 @@
 //! What a command makes of the contents of its inputs.
 ghost use Rattle.std.specs.Prelude.{◌≡◌, ◌⊎◌, IfOk, IfErr};
 ghost use Rattle.novac.specs.Answers.{Makes, Refuses};
-ghost use Rattle.novac.specs.inner.Words.{command_as, HasSteps};
+ghost use Rattle.novac.specs.inner.Words.{command_as, HasLimits};
 ghost use Rattle.novac.specs.Lines.{IsUncaused};
 ghost use Rattle.novac.specs.Loading.{inputs_of};
 ghost use Rattle.novac.specs.inner.Contents.{contents_of, files_of, AreShort, AreTold};
@@ -11,6 +11,7 @@ use crate::assemble::assemble_bytes;
 use crate::command::Command;
 use crate::compile::compile_bytes;
 use crate::execute::exec_bytes;
+use crate::generate::generate;
 use crate::lint::lint_bytes;
 use crate::list::list_bytes;
 use crate::load::Inputs;
@@ -27,7 +28,7 @@ pub fn work<'a>(
     command: Command<'a>,
     inputs: &Inputs,
 ) -> Result<Made<'a>, Refusal<'a>>
-    requires steps { HasSteps command }
+    requires limits { HasLimits command }
     requires short { AreShort (inputs_of (command_as command)) (contents_of (command_as command) inputs.now.first.items inputs.now.second.items) }
     ensures made { IfOk result (λ m. Makes (command_as command.entry) (contents_of (command_as command.entry) inputs.now.first.items inputs.now.second.items) m.status (files_of m.output) m.text.items) }
     ensures told { IfOk result (λ m. AreTold m.output) }
@@ -46,6 +47,7 @@ pub fn work<'a>(
         Command::Dis(_) => shown(list_bytes(alloc, &inputs.first)),
         Command::Lint(_) => shown(lint_bytes(alloc, &inputs.first)),
         Command::Check(_) => shown(check_bytes(alloc, &inputs.first)),
+        Command::Gen(seed, size) => shown(generate(alloc, seed, size)),
     }
 }
 

@@ -1,15 +1,16 @@
 -- The contents of a command's inputs, and the file that it saves.
 use Rattle.std.specs.Prelude.{◌≡◌, ◌≤◌, ℕ, List, [], ◌∷◌, Option, Some, None, length, ⊤}
-use Rattle.novac.specs.Command.{Command, Run, Exec}
+use Rattle.novac.specs.Command.{Command, Run, Exec, Gen}
 use Rattle.novac.specs.Lines.{cannot_write}
 use Rattle.novac.specs.Loading.{Input}
 use Rattle.novac.specs.Saving.{File, file}
 use Rattle.novac.specs.declared.save.Output.{Output}
 
--- the contents of its inputs, which are two for `run` and `exec`
+-- the contents of its inputs, which are two for `run` and `exec`, and none for `gen`
 abbrev pub contents_of : Command → List ℕ → List ℕ → List (List ℕ)
 contents_of (Run object memory steps) first second = first ∷ second ∷ []
 contents_of (Exec source memory calls) first second = first ∷ second ∷ []
+contents_of (Gen seed size) first second = []
 contents_of _ first second = first ∷ []
 
 -- each has at most as many bytes as its input may have

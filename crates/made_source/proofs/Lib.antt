@@ -1,0 +1,10 @@
+pub mod Worked
+pub mod Pieces
+pub mod Drawn
+pub mod Derived
+pub mod Typed
+pub mod Heights
+pub mod Spelled
+pub mod Reading
+pub mod Runs
+pub mod Programs

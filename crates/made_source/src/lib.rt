@@ -1,0 +1,10 @@
+//! Sources that a seed makes, for measuring and for tests.
+#![tactic(auto)]
+
+mod draws;
+pub mod laws;
+#[cfg(test)]
+mod tests;
+mod text;
+
+pub use text::made_text;
