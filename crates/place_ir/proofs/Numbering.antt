@@ -1,8 +1,8 @@
 -- Along the points of a form in single use, values get numbers that differ wherever two are held.
-use Rattle.std.proofs.Common.{◌≡◌, ◌≢◌, ℕ, zero, suc, ◌+◌, ◌<◌, ◌≤◌, Bool, true, false, not, nat_eq, ◌&&◌, ◌⊎◌, inl, inr, ⊎_elim, Option, Some, None, List, [], ◌∷◌, ◌++◌, length, refl, sym, ap, subst, ◌∙◌, append_assoc, arith}
+use Rattle.std.proofs.Common.{◌≡◌, ◌≢◌, ℕ, zero, suc, ◌+◌, ◌<◌, ◌≤◌, Bool, true, false, not, nat_eq, ◌&&◌, ◌⊎◌, inl, inr, ⊎_elim, Option, Some, None, List, [], ◌∷◌, ◌++◌, length, get_or, drop, refl, sym, ap, subst, ◌∙◌, append_assoc, arith}
 use Rattle.std.specs.Prelude.{slice_get, map}
 use Rattle.std.specs.List.{list_all}
-use Rattle.std.proofs.lemmas.List.{map-append}
+use Rattle.std.proofs.lemmas.List.{map-append, drop_more, drop_all}
 use Rattle.std.proofs.lemmas.Bool.{and_parts, false≢true, false_from_ne_true, cases_Bool}
 use Rattle.nv_base.specs.Sets.{is_in, all_different}
 use Rattle.nv_base.specs.declared.term.Cmp.{Cmp}
@@ -10,10 +10,13 @@ use Rattle.ssu_ir.specs.Tree.{Step, Tree, Do, If, End, Label, Does, Forks, Ends,
 use Rattle.ssu_ir.specs.Points.{Names, own, names_after, used, Place, Entry, At, place_values, label_points, points_from}
 use Rattle.ssu_ir.specs.Single.{defined, all_defined, is_single, fresh_after}
 use Rattle.place_ir.specs.inner.Live.{root_row, tree_rows, labels_rows}
-use Rattle.place_ir.specs.inner.Spots.{tree_places}
-use Rattle.place_ir.specs.inner.Numbers.{Numbers, HasBelow, Numbered, Group, row_at, group_row, groups, Chain, IsApart}
+use Rattle.place_ir.specs.inner.Spots.{tree_places, spot_place}
+use Rattle.place_ir.specs.declared.spots.Spot.{Spot}
+use Rattle.ssu_ir.specs.declared.ssu.Ssu.{Ssu}
+use Rattle.place_ir.specs.Held.{Kept, items_of}
+use Rattle.place_ir.specs.inner.Numbers.{Numbers, HasBelow, Numbered, Group, row_at, group_row, groups, values_among, Chain, IsApart}
 use Rattle.place_ir.specs.inner.Numbers as inner
-use Rattle.place_ir.proofs.Scoped.{Scope, scope-do, scope-first, scope-second, in-left, in-right, in-either, split-different}
+use Rattle.place_ir.proofs.Scoped.{Scope, scope-do, scope-first, scope-second, in-left, in-right, in-either, split-different, join-different}
 use Rattle.place_ir.proofs.SpotSteps.{places-of-points}
 use Rattle.place_ir.proofs.Kept.{row-from, row-to, Sourced, scope-of-label, sourced-tail}
 
@@ -240,3 +243,114 @@ chain-gives o w hs inner.last = tt
 chain-gives o w hs (inner.next {old} {new} mid {g} {gs} d c) =
     let k = chain-keeps mid new gs c in
     (λ z h i. let b = d.given z h i in record { it = b.it; has = k.still z b.it b.has; below = b.below }, chain-gives mid new gs c)
+
+-- ---- over all points, one by one
+
+pub record Giving (s : Ssu) (spots : List Spot) (rows : List Kept) (k : ℕ) (old now : Numbers) : Type 0 where
+  pub chain : (new : Numbers) → Chain now (groups (map (spot_place s) (drop k spots)) (items_of (drop k rows))) new → Chain old (groups (map (spot_place s) spots) (items_of rows)) new
+  pub once : all_different (values_among (map (spot_place s) (drop k spots))) ≡ true
+  pub fresh : (z : ℕ) → is_in z (values_among (map (spot_place s) (drop k spots))) ≡ true → now z ≡ None
+
+pub giving-none : (s : Ssu) (spots : List Spot) (rows : List Kept) (old : Numbers) → all_different (values_among (map (spot_place s) spots)) ≡ true → ((z : ℕ) → old z ≡ None) → Giving s spots rows 0 old old
+giving-none s spots rows old d none = record { chain = λ new c. c; once = d; fresh = λ z e. none z }
+
+first-spot : (spots : List Spot) (k : ℕ) (x : Spot) → k < length spots → x ≡ get_or spots k x → drop k spots ≡ x ∷ drop (k + 1) spots
+first-spot spots k x l e = drop_more spots k x l ∙ ap (λ (y : Spot). y ∷ drop (k + 1) spots) (sym e)
+
+pub giving-once : (s : Ssu) (spots : List Spot) (rows : List Kept) (k : ℕ) (old now : Numbers) (x : Spot) → k < length spots → x ≡ get_or spots k x → Giving s spots rows k old now → all_different (place_values (spot_place s x)) ≡ true
+giving-once s spots rows k old now x l e g =
+    (split-different (place_values (spot_place s x)) (values_among (map (spot_place s) (drop (k + 1) spots))) (subst (λ (ys : List Spot). all_different (values_among (map (spot_place s) ys)) ≡ true) (first-spot spots k x l e) g.once)).0
+
+pub giving-fresh : (s : Ssu) (spots : List Spot) (rows : List Kept) (k : ℕ) (old now : Numbers) (x : Spot) → k < length spots → x ≡ get_or spots k x → Giving s spots rows k old now → (z : ℕ) → is_in z (place_values (spot_place s x)) ≡ true → now z ≡ None
+giving-fresh s spots rows k old now x l e g z h =
+    g.fresh z (subst (λ (ys : List Spot). is_in z (values_among (map (spot_place s) ys)) ≡ true) (sym (first-spot spots k x l e)) (in-left z (place_values (spot_place s x)) (values_among (map (spot_place s) (drop (k + 1) spots))) h))
+
+some-row : (rows : List Kept) (k : ℕ) → k < length rows → (r : Kept) × (drop k rows ≡ r ∷ drop (k + 1) rows)
+some-row [] k l = absurd (omega arith)
+some-row (r ∷ rows) zero l = (r, refl)
+some-row (r ∷ rows) (suc k) l =
+    let w = some-row rows k (omega arith) in
+    let e : suc (k + 1) ≡ suc k + 1 = omega arith in
+    (w.0, w.1 ∙ ap (λ n. w.0 ∷ drop n (r ∷ rows)) e)
+
+pub giving-more : (s : Ssu) (spots : List Spot) (rows : List Kept) (k : ℕ) (old now later : Numbers) (x : Spot) → k < length spots → x ≡ get_or spots k x → length rows ≡ length spots
+    → Numbered now (place_values (spot_place s x)) (group_row (spot_place s x) (row_at (items_of (drop k rows))) (items_of (drop (k + 1) rows))) later → Giving s spots rows k old now → Giving s spots rows (k + 1) old later
+giving-more s spots rows k old now later x l e w d g =
+    let first = first-spot spots k x l e in
+    let row = some-row rows k (omega arith) in
+    let vs = place_values (spot_place s x) in
+    let rest = values_among (map (spot_place s) (drop (k + 1) spots)) in
+    let split = split-different vs rest (subst (λ (ys : List Spot). all_different (values_among (map (spot_place s) ys)) ≡ true) first g.once) in
+    let d' : Numbered now vs (group_row (spot_place s x) row.0.items (items_of (drop (k + 1) rows))) later =
+        subst (λ (q : List Kept). Numbered now vs (group_row (spot_place s x) (row_at (items_of q)) (items_of (drop (k + 1) rows))) later) row.1 d in
+    record {
+      chain = λ new c. g.chain new
+        (subst (λ (ys : List Spot). Chain now (groups (map (spot_place s) ys) (items_of (drop k rows))) new) (sym first)
+        (subst (λ (q : List Kept). Chain now (groups (map (spot_place s) (x ∷ drop (k + 1) spots)) (items_of q)) new) (sym row.1) (inner.next later d' c)));
+      once = split.1;
+      fresh = λ z h.
+        d.kept z (false_from_ne_true (is_in z vs) (λ f. split.2 z f h))
+        ∙ g.fresh z (subst (λ (ys : List Spot). is_in z (values_among (map (spot_place s) ys)) ≡ true) (sym first) (in-right z vs rest h));
+    }
+
+pub giving-all : (s : Ssu) (spots : List Spot) (rows : List Kept) (k : ℕ) (old now : Numbers) → length spots ≤ k → ((z : ℕ) → old z ≡ None) → Giving s spots rows k old now → inner.AreNumbered (groups (map (spot_place s) spots) (items_of rows)) now
+giving-all s spots rows k old now l none g = record {
+    old = old;
+    none = none;
+    chain = g.chain now (subst (λ (ys : List Spot). Chain now (groups (map (spot_place s) ys) (items_of (drop k rows))) now) (sym (drop_all k spots l)) inner.last);
+  }
+
+-- ---- the values of a form in single use are different
+
+values_among-append : (a b : List Place) → values_among (a ++ b) ≡ values_among a ++ values_among b
+values_among-append [] b = refl
+values_among-append (q ∷ a) b = ap (λ l. place_values q ++ l) (values_among-append a b) ∙ sym (append_assoc (place_values q) (values_among a) (values_among b))
+
+defined-value : (t : Tree) (z : ℕ) → is_in z (values_among (tree_places t)) ≡ true → is_in z (defined t) ≡ true
+defined-value (Do s t) z e = ⊎_elim
+    (λ (a : is_in z (step_values s) ≡ true). in-left z (step_values s) (step_clones s ++ defined t) a)
+    (λ (b : is_in z (values_among (tree_places t)) ≡ true). in-right z (step_values s) (step_clones s ++ defined t) (in-right z (step_clones s) (defined t) (defined-value t z b)))
+    (in-either z (step_values s) (values_among (tree_places t)) e)
+defined-value (If c x y t u) z e = ⊎_elim
+    (λ (a : is_in z (values_among (tree_places t)) ≡ true). in-left z (defined t) (defined u) (defined-value t z a))
+    (λ (b : is_in z (values_among (tree_places u)) ≡ true). in-right z (defined t) (defined u) (defined-value u z b))
+    (in-either z (values_among (tree_places t)) (values_among (tree_places u)) (ap (λ l. is_in z l) (sym (values_among-append (tree_places t) (tree_places u))) ∙ e))
+defined-value (End l) z e = absurd (false≢true e)
+
+different-values : (t : Tree) → all_different (defined t) ≡ true → all_different (values_among (tree_places t)) ≡ true
+different-values (Do s t) h =
+    let p = split-different (step_values s) (step_clones s ++ defined t) h in
+    let q = split-different (step_clones s) (defined t) p.1 in
+    join-different (step_values s) (values_among (tree_places t)) p.0 (different-values t q.1)
+    (λ z e f. p.2 z e (in-right z (step_clones s) (defined t) (defined-value t z f)))
+different-values (If c x y t u) h =
+    let p = split-different (defined t) (defined u) h in
+    ap (λ l. all_different l) (values_among-append (tree_places t) (tree_places u))
+    ∙ join-different (values_among (tree_places t)) (values_among (tree_places u)) (different-values t p.0) (different-values u p.1)
+    (λ z e f. p.2 z (defined-value t z e) (defined-value u z f))
+different-values (End l) h = refl
+
+labels-value : (k : ℕ) (ls : List Label) (z : ℕ) → is_in z (values_among (labels_places k ls)) ≡ true → is_in z (all_defined ls) ≡ true
+labels-value k [] z e = absurd (false≢true e)
+labels-value k (l ∷ ls) z e = ⊎_elim
+    (λ (a : is_in z l.params ≡ true). in-left z l.params (defined l.body ++ all_defined ls) a)
+    (λ (b : is_in z (values_among (tree_places l.body ++ labels_places (suc k) ls)) ≡ true). in-right z l.params (defined l.body ++ all_defined ls) (⊎_elim
+      (λ (p : is_in z (values_among (tree_places l.body)) ≡ true). in-left z (defined l.body) (all_defined ls) (defined-value l.body z p))
+      (λ (q : is_in z (values_among (labels_places (suc k) ls)) ≡ true). in-right z (defined l.body) (all_defined ls) (labels-value (suc k) ls z q))
+      (in-either z (values_among (tree_places l.body)) (values_among (labels_places (suc k) ls)) (ap (λ m. is_in z m) (sym (values_among-append (tree_places l.body) (labels_places (suc k) ls))) ∙ b))))
+    (in-either z l.params (values_among (tree_places l.body ++ labels_places (suc k) ls)) e)
+
+pub different-labels : (k : ℕ) (ls : List Label) → all_different (all_defined ls) ≡ true → all_different (values_among (labels_places k ls)) ≡ true
+different-labels k [] h = refl
+different-labels k (l ∷ ls) h =
+    let p = split-different l.params (defined l.body ++ all_defined ls) h in
+    let q = split-different (defined l.body) (all_defined ls) p.1 in
+    let rest = values_among-append (tree_places l.body) (labels_places (suc k) ls) in
+    let inside : all_different (values_among (tree_places l.body ++ labels_places (suc k) ls)) ≡ true =
+        ap (λ m. all_different m) rest ∙ join-different (values_among (tree_places l.body)) (values_among (labels_places (suc k) ls)) (different-values l.body q.0) (different-labels (suc k) ls q.1)
+        (λ z e f. q.2 z (defined-value l.body z e) (labels-value (suc k) ls z f)) in
+    join-different l.params (values_among (tree_places l.body ++ labels_places (suc k) ls)) p.0 inside
+    (λ z e f. p.2 z e (⊎_elim
+      (λ (a : is_in z (values_among (tree_places l.body)) ≡ true). in-left z (defined l.body) (all_defined ls) (defined-value l.body z a))
+      (λ (b : is_in z (values_among (labels_places (suc k) ls)) ≡ true). in-right z (defined l.body) (all_defined ls) (labels-value (suc k) ls z b))
+      (in-either z (values_among (tree_places l.body)) (values_among (labels_places (suc k) ls)) (ap (λ m. is_in z m) (sym rest) ∙ f))))
