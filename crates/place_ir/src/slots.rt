@@ -13,8 +13,8 @@ ghost use Rattle.place_ir.specs.inner.Spots.{spot_place};
 
 use crate::row::is_in_row;
 use crate::spots::Spot;
-use ssu_ir::{Ssu, SsuNode};
 use nv_base::NoMemory;
+use ssu_ir::{Ssu, SsuNode};
 use std::alloc::Global;
 use std::collections::HashMap;
 
@@ -134,7 +134,14 @@ fn node_slots(alloc: Global, slots: &mut Slots, n: &SsuNode, row: &[u32]) -> Res
 }
 
 /// Slots for the values that a point defines, in its own row where it is an entry, else in that of the next point.
-fn spot_slots(alloc: Global, slots: &mut Slots, s: &Ssu, spot: Spot, rows: &[Vec<u32>], k: usize) -> Result<(), NoMemory>
+fn spot_slots(
+    alloc: Global,
+    slots: &mut Slots,
+    s: &Ssu,
+    spot: Spot,
+    rows: &[Vec<u32>],
+    k: usize,
+) -> Result<(), NoMemory>
     requires room { k + 1 < 2 ^ 64 }
     requires once { all_different (place_values (spot_place s.now spot)) ≡ true }
     requires fresh { (z : ℕ) → is_in z (place_values (spot_place s.now spot)) ≡ true → get nat_eq slots.old z ≡ None }
@@ -153,7 +160,12 @@ fn spot_slots(alloc: Global, slots: &mut Slots, s: &Ssu, spot: Spot, rows: &[Vec
 }
 
 /// Slots for the values of all points, by the rows of values that are held at each.
-pub fn slots_for(alloc: Global, s: &Ssu, spots: &[Spot], rows: &[Vec<u32>]) -> Result<Slots, NoMemory>
+pub fn slots_for(
+    alloc: Global,
+    s: &Ssu,
+    spots: &[Spot],
+    rows: &[Vec<u32>],
+) -> Result<Slots, NoMemory>
     requires once { all_different (values_among (map (spot_place s.now) spots.now)) ≡ true }
     requires count { length rows.now ≡ length spots.now }
     ensures { IfOk result (λ m. AreNumbered (groups (map (spot_place s.now) spots.now) (items_of rows.now)) (get nat_eq m)) }
