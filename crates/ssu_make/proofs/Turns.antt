@@ -48,12 +48,12 @@ can-take-none b n r e = record { taken = []; rest = r.roots; children = sym e; h
 
 pub becomes-node : (old new : SsuBuild) (n : SsuNode) (i id : ℕ) (s : ssu.Step) → Grown old new n id → node_of n ≡ ssu.Does s → kids_of n ≡ i ∷ [] → Becomes old new i id (ssu.Do s)
 becomes-node old new n i id s g e k = record {
-  by = λ t rest h. subst (λ m. Holds new ((id, over m (t ∷ [])) ∷ rest)) e (g ((i, t) ∷ []) rest (sym k) h)
+  by = λ t rest h. subst (λ m. Holds new ((id, over m (t ∷ [])) ∷ rest)) e (g ((i, t) ∷ []) rest (sym k) h);
 }
 
 pub joined-node : (old new : SsuBuild) (n : SsuNode) (i j id : ℕ) (c : Cmp) (x y : ℕ) → Grown old new n id → node_of n ≡ ssu.Forks c x y → kids_of n ≡ i ∷ j ∷ [] → Joined old new i j id (ssu.If c x y)
 joined-node old new n i j id c x y g e k = record {
-  by = λ t u rest h. subst (λ m. Holds new ((id, over m (t ∷ u ∷ [])) ∷ rest)) e (g ((i, t) ∷ (j, u) ∷ []) rest (sym k) h)
+  by = λ t u rest h. subst (λ m. Holds new ((id, over m (t ∷ u ∷ [])) ∷ rest)) e (g ((i, t) ∷ (j, u) ∷ []) rest (sym k) h);
 }
 
 pub adds-node : (old new : SsuBuild) (n : SsuNode) (id : ℕ) (l : ssu.Last) → Grown old new n id → node_of n ≡ ssu.Ends l → kids_of n ≡ [] → Adds old new id (ssu.End l)
