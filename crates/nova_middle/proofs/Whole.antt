@@ -6,7 +6,7 @@ use Rattle.nv_base.specs.Measures.{Bulk, IsAtMost}
 use Rattle.nv_base.proofs.Same.{keeps-trans, keeps-equal}
 use Rattle.nv_base.proofs.Measures.{most-trans}
 
-equal_kept : (a b : ℕ) (m n : List ℕ → Memories → Meaning) → b ≡ a → AreEqual a m n → KeepsOutcomes a b m n
+pub equal_kept : (a b : ℕ) (m n : List ℕ → Memories → Meaning) → b ≡ a → AreEqual a m n → KeepsOutcomes a b m n
 equal_kept a b m n e h = subst (λ k. KeepsOutcomes a k m n) (sym e) (keeps-equal a m n h)
 
 -- two passes that keep outcomes, and two whose outcomes are equal

@@ -1,4 +1,4 @@
-//! The middle of the compiler: from flat programs to flows.
+//! The middle of the compiler: from flat programs to flows, and to the single-use form.
 #![tactic(auto)]
 
 mod program;
@@ -6,5 +6,5 @@ mod rules;
 #[cfg(test)]
 mod tests;
 
-pub use program::to_flow;
+pub use program::{middle, to_flow};
 pub use rules::simplified;

@@ -1,6 +1,6 @@
 // Whole programs.
 
-ghost use Rattle.std.specs.Prelude.{◌≡◌, ◌≤◌, All, IfOk, map};
+ghost use Rattle.std.specs.Prelude.{◌≡◌, ◌≤◌, true, All, IfOk, map};
 ghost use Rattle.nv_base.specs.Meanings.{KeepsOutcomes};
 ghost use Rattle.nv_base.specs.Measures.{IsAtMost};
 ghost use Rattle.flat_ir.specs.Bulk.{bulk as flat_bulk};
@@ -13,6 +13,11 @@ ghost use Rattle.flow_ir.specs.View.{label_view};
 ghost use Rattle.flow_ir.specs.Wide.{wide};
 ghost use Rattle.cps_rules.specs.Simplified.{AreTidy};
 ghost use Rattle.nova_middle.specs.Rules.{IsAtRest};
+ghost use Rattle.ssu_ir.specs.Meaning.{ssu_meaning, ssu_params};
+ghost use Rattle.ssu_ir.specs.Measures.{peak, size, code_bound};
+ghost use Rattle.ssu_ir.specs.Single.{single};
+ghost use Rattle.ssu_ir.specs.View.{labels_view};
+ghost use Rattle.ssu_make.specs.Bounds.{size_bound, length_bound};
 
 use crate::rules::simplified;
 use cps_close::close;
@@ -21,6 +26,8 @@ use cps_lower::lower;
 use flat_ir::FlatProgram;
 use flow_ir::Flow;
 use nv_base::NoMemory;
+use ssu_ir::Ssu;
+use ssu_make::make;
 use std::alloc::Global;
 
 /// The flow of a flat program, which has its outcomes and is neither wider nor larger: in continuation form, in
@@ -38,4 +45,18 @@ pub fn to_flow(alloc: Global, f: &FlatProgram) -> Result<Flow, NoMemory>
     let inlined = inline(alloc, lowered)?;
     let closed = close(alloc, inlined)?;
     simplified(alloc, closed)
+}
+
+/// The single-use form of a flat program, which has its outcomes. It holds no more values at once than the
+/// program is wide, and its size and the length of its code are bounded by the program's width and bulk. Want
+/// of memory is also the answer where a form would need 2^32 labels or variables.
+pub fn middle(alloc: Global, f: &FlatProgram) -> Result<Ssu, NoMemory>
+    ensures kept { IfOk result (λ s. KeepsOutcomes (flat_params f.now.funs.items f.now.main) (ssu_params (labels_view s)) (flat_meaning f.now.funs.items f.now.main) (ssu_meaning (labels_view s))) }
+    ensures single { IfOk result (λ s. single (labels_view s) ≡ true) }
+    ensures peak { IfOk result (λ s. peak (labels_view s) ≤ flat_wide f.now.funs.items f.now.main) }
+    ensures size { IfOk result (λ s. size (labels_view s) ≤ size_bound (flat_wide f.now.funs.items f.now.main) (flat_bulk f.now.funs.items f.now.main)) }
+    ensures code { IfOk result (λ s. code_bound (labels_view s) ≤ length_bound (flat_wide f.now.funs.items f.now.main) (flat_bulk f.now.funs.items f.now.main)) }
+{
+    let flow = to_flow(alloc, f)?;
+    make(alloc, &flow)
 }
