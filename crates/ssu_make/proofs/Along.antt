@@ -24,7 +24,7 @@ use Rattle.ssu_ir.specs.Tree as ssu
 use Rattle.ssu_make.specs.declared.tree.Part.{Part}
 use Rattle.ssu_make.specs.inner.Uses.{Counts, here, occurs, operands, outside, uses, all_uses}
 use Rattle.ssu_make.specs.inner.Made.{name, names, taken, all_taken, value, literals, atom_literal, clone_step, clones, most, spent, made, made_let, made_read, made_write, made_if, Laid, IsMade, AllMade}
-use Rattle.ssu_make.specs.inner.Making.{counted, HasRoots, IsRoot, AreRoots, Becomes, Joined, Adds, MadeTo, Reaches, Leads, rest_of, made_node, node_uses, node_spent, tops, AreWithin, kids, node_operands, node_defined, LaidOut, LabelMade, LabelsMade}
+use Rattle.ssu_make.specs.inner.Making.{counted, HasRoots, IsRoot, AreRoots, Becomes, Joined, Adds, MadeTo, Reaches, Leads, rest_of, tops, AreWithin, kids, node_operands, node_defined, LaidOut, LabelMade, LabelsMade}
 use Rattle.ssu_make.proofs.Assigned.{same-test, other-test}
 
 -- ---- functions that are equal everywhere
