@@ -1,8 +1,8 @@
 -- One turn of each loop, and the nodes that are added.
-use Rattle.std.proofs.Common.{◌≡◌, ℕ, zero, suc, ◌+◌, ◌-◌, ◌<◌, ◌≤◌, max, Bool, true, false, nat_eq, nat_lt, List, [], ◌∷◌, ◌++◌, map, All, refl, sym, ap, subst, ◌∙◌, ◌⊎◌, inl, inr, ⊎_elim, if◌then◌else◌, length, get_or, drop, take, reverse, slice_index, append_assoc, arith}
+use Rattle.std.proofs.Common.{◌≡◌, ℕ, zero, suc, ◌+◌, ◌<◌, ◌≤◌, nat_lt, List, [], ◌∷◌, ◌++◌, map, refl, sym, ap, subst, ◌∙◌, length, get_or, drop, reverse, append_assoc, arith}
 use Rattle.std.specs.Borrow.{Bor}
 use Rattle.std.specs.List.{range_with_len}
-use Rattle.std.proofs.lemmas.List.{append-nil, at_drop_more, take_more, reverse-append}
+use Rattle.std.proofs.lemmas.List.{append-nil, at_drop_more, reverse-append}
 use Rattle.std.proofs.lemmas.List.Elements.{All-nil, All-cons, All-head, All-tail, All-append}
 use Rattle.nv_base.specs.declared.term.Atom.{Atom}
 use Rattle.nv_base.specs.declared.term.Primitive.{Primitive}
@@ -10,21 +10,19 @@ use Rattle.nv_base.specs.declared.term.Mem.{Mem}
 use Rattle.nv_base.specs.declared.term.Cmp.{Cmp}
 use Rattle.flow_ir.specs.declared.flow.Tree.{Tree as Boxed, size-Tree}
 use Rattle.flow_ir.specs.declared.flow.Tree.TheVariants as boxed
-use Rattle.flow_ir.specs.Tree.{Tree, Let, Read, Write, If, Jump, Halt, Label}
+use Rattle.flow_ir.specs.Tree.{Tree, Let, Read, Write, If, Jump, Halt}
 use Rattle.flow_ir.specs.View.{tree_view}
 use Rattle.flow_ir.specs.Formed.{defined}
 use Rattle.ssu_ir.specs.declared.build.SsuBuild.{SsuBuild}
-use Rattle.ssu_ir.specs.declared.node.SsuLabel.{SsuLabel}
 use Rattle.ssu_ir.specs.declared.node.SsuNode.{SsuNode}
-use Rattle.ssu_ir.specs.Build.{Rooted, Holds, CanTake, Grown, ids, trees_of}
-use Rattle.ssu_ir.specs.Slots.{bodies, over, node_of, kids_of}
-use Rattle.ssu_ir.specs.View.{with_bodies}
+use Rattle.ssu_ir.specs.Build.{Holds, CanTake, Grown}
+use Rattle.ssu_ir.specs.Slots.{over, node_of, kids_of}
 use Rattle.ssu_ir.specs.Tree as ssu
 use Rattle.ssu_make.specs.declared.tree.Part.{Part}
 use Rattle.ssu_make.specs.inner.Uses.{Counts, here, occurs, operands, outside, uses, all_uses}
-use Rattle.ssu_make.specs.inner.Made.{name, names, taken, all_taken, value, literals, atom_literal, clone_step, clones, prim_step, most, spent, made, made_let, made_read, made_write, made_if, made_jump, made_halt, Laid, IsMade, AllMade}
-use Rattle.ssu_make.specs.inner.Making.{counted, HasRoots, IsRoot, AreRoots, Becomes, Joined, Adds, MadeTo, Reaches, Leads, rest_of, tops, AreWithin, kids, node_operands, node_defined, LaidOut, LabelMade, LabelsMade}
-use Rattle.ssu_make.proofs.Along.{same-everywhere, Named, LiteralsOn, ClonesOn, Goes, OnWay, weight, weights, sum_uses, defined_in, Surveys, AllMadeTo, LabelsOn}
+use Rattle.ssu_make.specs.inner.Made.{name, names, taken, all_taken, literals, atom_literal, clone_step, clones, most, spent, made, made_let, made_read, made_write, made_if}
+use Rattle.ssu_make.specs.inner.Making.{counted, HasRoots, IsRoot, AreRoots, Becomes, Joined, Adds, MadeTo, Reaches, Leads, rest_of, tops, AreWithin, kids, node_operands, node_defined}
+use Rattle.ssu_make.proofs.Along.{same-everywhere, Named, LiteralsOn, ClonesOn, Goes, OnWay, weight, weights, sum_uses, defined_in, Surveys}
 
 -- ---- lists
 
