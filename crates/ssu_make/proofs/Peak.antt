@@ -1,35 +1,35 @@
 -- At no point of a form that was made more values are held than the flow is wide.
-use Rattle.std.proofs.Common.{◌≡◌, ℕ, zero, suc, ◌+◌, ◌<◌, ◌≤◌, max, Bool, true, false, not, nat_eq, nat_lt, ◌&&◌, ◌||◌, List, [], ◌∷◌, ◌++◌, map, filter, refl, sym, ap, subst, ◌∙◌, ◌⊎◌, inl, inr, ⊎_elim, if◌then◌else◌, length, slice_index, drop, arith}
+use Rattle.std.proofs.Common.{◌≡◌, ℕ, suc, ◌+◌, ◌<◌, ◌≤◌, max, Bool, true, false, nat_eq, nat_lt, ◌||◌, List, [], ◌∷◌, ◌++◌, map, filter, refl, sym, ap, subst, ◌∙◌, ◌⊎◌, inl, inr, ⊎_elim, if◌then◌else◌, length, slice_index, drop, arith}
 use Rattle.std.specs.List.{list_all}
-use Rattle.std.proofs.lemmas.Bool.{false≢true, and_parts, or_cases, or_left, or_right, cases_lt, cases_eq, cases_Bool}
+use Rattle.std.proofs.lemmas.Bool.{false≢true, and_parts, or_cases, or_left, or_right, cases_lt, cases_Bool}
 use Rattle.std.proofs.lemmas.List.{append-nil}
 use Rattle.nv_base.specs.declared.term.Atom.{Atom}
 use Rattle.nv_base.specs.declared.term.Atom.TheVariants.{Var, Lit}
 use Rattle.nv_base.specs.declared.term.Primitive.{Primitive}
 use Rattle.nv_base.specs.declared.term.Primitive.TheVariants.{Same, Una as UnaOf, Bin as BinOf}
-use Rattle.nv_base.specs.Words.{word, atom_vars, prim_vars}
+use Rattle.nv_base.specs.Words.{word, atom_vars}
 use Rattle.nv_base.specs.Sets.{is_in, Within, without, all_vars, different, all_different}
-use Rattle.nv_base.specs.Measures.{operands_wide, let_wide, entry_wide}
+use Rattle.nv_base.specs.Measures.{operands_wide}
 use Rattle.nv_base.proofs.Sets.{in-append, same-number, within-left, within-right, within-both, within-behind, different-below, different-append, different-length}
 use Rattle.flow_ir.specs.Tree.{Tree, Let, Read, Write, If, Jump, Halt, Label}
 use Rattle.flow_ir.specs.Formed.{defined, is_formed, is_label}
 use Rattle.flow_ir.specs.Wide.{live, tree_wide, label_wide, wide}
 use Rattle.ssu_ir.specs.Tree as ssu
-use Rattle.ssu_ir.specs.Points.{Names, Point, own, used, held, tree_points, points_from, points}
+use Rattle.ssu_ir.specs.Points.{Names, Point, own, used, held, tree_points, points_from}
 use Rattle.ssu_ir.specs.Measures.{most_held, peak}
 use Rattle.ssu_ir.specs.Single.{is_narrow}
 use Rattle.ssu_make.specs.inner.Uses.{Counts, here, occurs, operands, outside, uses, all_uses}
 use Rattle.ssu_make.specs.inner.Made.{literal, last_taken, names_taken, taken, all_taken, name, names, atom_literal, literals, value, clone_step, clones, prim_step, spent, most, made, Laid, variables, IsMade, AllMade}
 use Rattle.ssu_make.proofs.Assigned.{same-test}
 use Rattle.ssu_make.proofs.Clones.{clone_env, clones_env, value-is}
-use Rattle.ssu_make.proofs.Counting.{lies, lies-more, lies-out, times, times-append, times-in, in-times, times-not, different-from, different-times, lies_all, lies_all-none, lies_all-once, lies_all-least}
+use Rattle.ssu_make.proofs.Counting.{lies, lies-out, times, times-append, times-in, in-times, times-not, different-from, different-times, lies_all, lies_all-none, lies_all-once, lies_all-least}
 use Rattle.ssu_make.proofs.Fitting.{Fits, fits-let, fits-read, fits-write, fits-first, fits-second, place-of, uses-all}
-use Rattle.ssu_make.proofs.Once.{Fresh, fresh-more, fresh-first, fresh-second, values-defined}
+use Rattle.ssu_make.proofs.Once.{Fresh, fresh-first, fresh-second, values-defined}
 use Rattle.ssu_make.proofs.Scoped.{param-at}
 use Rattle.ssu_make.proofs.Equal.{label-fits}
 use Rattle.ssu_make.proofs.Results.{clones-names, used-prim, live-used, vars-occur}
 use Rattle.ssu_make.proofs.Shape.{same-length, in-map}
-use Rattle.ssu_make.proofs.Held.{Sees, sees-weaker, sees-behind, valued, Behind, behind, used-of, IsOf, filter-fewer, filter-among, different-map, names-of, literals-of}
+use Rattle.ssu_make.proofs.Held.{Sees, sees-weaker, sees-behind, valued, behind, used-of, IsOf, filter-fewer, filter-among, different-map, names-of, literals-of}
 
 -- ---- one more value above
 
