@@ -16,8 +16,9 @@ use cps_ir::{Cps, CpsFun};
 use nv_base::{Atom, NoMemory};
 use std::alloc::Global;
 
-/// The program in one function, without calls, returns and throws, which has its outcomes within each
-/// number of jumps. Want of memory is also the answer where 2^32 variables or labels would be needed.
+/// The program in one function, without calls, returns and throws, which has its outcomes, is at most as
+/// wide, and has at most as much code. Want of memory is also the answer where 2^32 variables or labels
+/// would be needed.
 pub fn inline(alloc: Global, c: Cps) -> Result<Cps, NoMemory>
     ensures kept { IfOk result (λ d. KeepsOutcomes (params_in (map fun_view c.funs.items) c.main) (params_in (map fun_view d.funs.items) d.main) (cps_meaning (map fun_view c.funs.items) c.main) (cps_meaning (map fun_view d.funs.items) d.main)) }
     ensures jumps { IfOk result (λ d. All (λ f. only_jumps f.body ≡ true) (map fun_view d.funs.items)) }

@@ -49,16 +49,16 @@ row-from of value above known fresh (Do s t) x c e =
     let k : (y : ℕ) → is_in y (step_uses s) ≡ true → is_in y known ≡ true = λ y f. all-in known (step_names s) y sc.0 (use-name s y f) in
     let same = same-values of value known (step_uses s) c.same k in
     let rest : is_in x (without (root_row value t) (step_values s)) ≡ true → HeldThere of above (Do s t) x = λ b.
-        let p = and_parts (is_in x (root_row value t)) (not (is_in x (step_values s))) (sym (in-without x (root_row value t) (step_values s)) ∙ b) in
-        let w = row-from (names_after of s) value (above ++ step_values s) (known ++ (step_values s ++ step_clones s)) (fresh_after fresh s) t x (scope-do of value above known fresh s t c) p.0 in
-        record {
-          above_ = ⊎_elim (λ (a : is_in x above ≡ true). a) (λ (v : is_in x (step_values s) ≡ true). absurd (false≢true (sym (not-true (is_in x (step_values s)) p.1) ∙ v))) (in-either x above (step_values s) w.above_);
-          used_ = in-right x (map of (step_uses s)) (used (names_after of s) t) w.used_;
-        } in
+    let p = and_parts (is_in x (root_row value t)) (not (is_in x (step_values s))) (sym (in-without x (root_row value t) (step_values s)) ∙ b) in
+    let w = row-from (names_after of s) value (above ++ step_values s) (known ++ (step_values s ++ step_clones s)) (fresh_after fresh s) t x (scope-do of value above known fresh s t c) p.0 in
+    record {
+      above_ = ⊎_elim (λ (a : is_in x above ≡ true). a) (λ (v : is_in x (step_values s) ≡ true). absurd (false≢true (sym (not-true (is_in x (step_values s)) p.1) ∙ v))) (in-either x above (step_values s) w.above_);
+      used_ = in-right x (map of (step_uses s)) (used (names_after of s) t) w.used_;
+    } in
     ⊎_elim
     (λ (a : is_in x (map value (step_uses s)) ≡ true).
-      let there : is_in x (map of (step_uses s)) ≡ true = ap (λ l. is_in x l) (sym same) ∙ a in
-      record { above_ = named-above of above known (step_uses s) x c.placed k there; used_ = in-left x (map of (step_uses s)) (used (names_after of s) t) there })
+    let there : is_in x (map of (step_uses s)) ≡ true = ap (λ l. is_in x l) (sym same) ∙ a in
+    record { above_ = named-above of above known (step_uses s) x c.placed k there; used_ = in-left x (map of (step_uses s)) (used (names_after of s) t) there })
     (λ (b : is_in x (without (root_row value t) (step_values s)) ≡ true). rest b)
     (in-added x (map value (step_uses s)) (without (root_row value t) (step_values s)) e)
 row-from of value above known fresh (If d v w t u) x c e =
@@ -69,21 +69,21 @@ row-from of value above known fresh (If d v w t u) x c e =
     let second = row-from of value above known [] u x (scope-second of value above known fresh d v w t u c) in
     ⊎_elim
     (λ (a : is_in x (map value (v ∷ w ∷ [])) ≡ true).
-      let there : is_in x (map of (v ∷ w ∷ [])) ≡ true = ap (λ l. is_in x l) (sym same) ∙ a in
-      record { above_ = named-above of above known (v ∷ w ∷ []) x c.placed k there; used_ = in-left x (map of (v ∷ w ∷ [])) (used of t ++ used of u) there })
+    let there : is_in x (map of (v ∷ w ∷ [])) ≡ true = ap (λ l. is_in x l) (sym same) ∙ a in
+    record { above_ = named-above of above known (v ∷ w ∷ []) x c.placed k there; used_ = in-left x (map of (v ∷ w ∷ [])) (used of t ++ used of u) there })
     (λ (b : is_in x (add_all (root_row value u) (root_row value t)) ≡ true).
-      ⊎_elim
-      (λ (q : is_in x (root_row value u) ≡ true). let h = second q in record { above_ = h.above_; used_ = in-right x (map of (v ∷ w ∷ [])) (used of t ++ used of u) (in-right x (used of t) (used of u) h.used_) })
-      (λ (q : is_in x (root_row value t) ≡ true). let h = first q in record { above_ = h.above_; used_ = in-right x (map of (v ∷ w ∷ [])) (used of t ++ used of u) (in-left x (used of t) (used of u) h.used_) })
-      (in-added x (root_row value u) (root_row value t) b))
+    ⊎_elim
+    (λ (q : is_in x (root_row value u) ≡ true). let h = second q in record { above_ = h.above_; used_ = in-right x (map of (v ∷ w ∷ [])) (used of t ++ used of u) (in-right x (used of t) (used of u) h.used_) })
+    (λ (q : is_in x (root_row value t) ≡ true). let h = first q in record { above_ = h.above_; used_ = in-right x (map of (v ∷ w ∷ [])) (used of t ++ used of u) (in-left x (used of t) (used of u) h.used_) })
+    (in-added x (root_row value u) (root_row value t) b))
     (in-added x (map value (v ∷ w ∷ [])) (add_all (root_row value u) (root_row value t)) e)
 row-from of value above known fresh (End l) x c e =
     let k : (y : ℕ) → is_in y (last_uses l) ≡ true → is_in y known ≡ true = λ y f. all-in known (last_uses l) y c.scoped f in
     let same = same-values of value known (last_uses l) c.same k in
     ⊎_elim
     (λ (a : is_in x (map value (last_uses l)) ≡ true).
-      let there : is_in x (map of (last_uses l)) ≡ true = ap (λ m. is_in x m) (sym same) ∙ a in
-      record { above_ = named-above of above known (last_uses l) x c.placed k there; used_ = there })
+    let there : is_in x (map of (last_uses l)) ≡ true = ap (λ m. is_in x m) (sym same) ∙ a in
+    record { above_ = named-above of above known (last_uses l) x c.placed k there; used_ = there })
     (λ (b : is_in x [] ≡ true). absurd (false≢true b))
     (in-added x (map value (last_uses l)) [] e)
 
@@ -97,8 +97,8 @@ row-to of value above known fresh (Do s t) x c h e =
     ⊎_elim
     (λ (a : is_in x (map of (step_uses s)) ≡ true). comes-added x (map value (step_uses s)) (without (root_row value t) (step_values s)) (ap (λ l. is_in x l) same ∙ a))
     (λ (b : is_in x (used (names_after of s) t) ≡ true).
-      stays-added x (map value (step_uses s)) (without (root_row value t) (step_values s))
-      (in-without x (root_row value t) (step_values s) ∙ and_from (is_in x (root_row value t)) (not (is_in x (step_values s))) (deeper b) (not_from_false (is_in x (step_values s)) out)))
+    stays-added x (map value (step_uses s)) (without (root_row value t) (step_values s))
+    (in-without x (root_row value t) (step_values s) ∙ and_from (is_in x (root_row value t)) (not (is_in x (step_values s))) (deeper b) (not_from_false (is_in x (step_values s)) out)))
     (in-either x (map of (step_uses s)) (used (names_after of s) t) e)
 row-to of value above known fresh (If d v w t u) x c h e =
     let sc = and_parts (all_known known (v ∷ w ∷ [])) (is_scoped known t && is_scoped known u) c.scoped in
@@ -110,10 +110,10 @@ row-to of value above known fresh (If d v w t u) x c h e =
     ⊎_elim
     (λ (a : is_in x (map of (v ∷ w ∷ [])) ≡ true). comes-added x (map value (v ∷ w ∷ [])) arms (ap (λ l. is_in x l) same ∙ a))
     (λ (b : is_in x (used of t ++ used of u) ≡ true). stays-added x (map value (v ∷ w ∷ [])) arms
-      (⊎_elim
-      (λ (q : is_in x (used of t) ≡ true). stays-added x (root_row value u) (root_row value t) (first q))
-      (λ (q : is_in x (used of u) ≡ true). comes-added x (root_row value u) (root_row value t) (second q))
-      (in-either x (used of t) (used of u) b)))
+    (⊎_elim
+    (λ (q : is_in x (used of t) ≡ true). stays-added x (root_row value u) (root_row value t) (first q))
+    (λ (q : is_in x (used of u) ≡ true). comes-added x (root_row value u) (root_row value t) (second q))
+    (in-either x (used of t) (used of u) b)))
     (in-either x (map of (v ∷ w ∷ [])) (used of t ++ used of u) e)
 row-to of value above known fresh (End l) x c h e =
     let k : (y : ℕ) → is_in y (last_uses l) ≡ true → is_in y known ≡ true = λ y f. all-in known (last_uses l) y c.scoped f in
@@ -130,9 +130,9 @@ root-is-row : (of value : Names) (above known fresh : List ℕ) (t : Tree) (p : 
 root-is-row of value above known fresh t p e c =
     let there : (x : ℕ) → is_in x p.before ≡ (is_in x above && is_in x (used of t)) = λ x. ap (λ l. is_in x l) e ∙ in-filter (λ y. is_in y (used of t)) x above in
     let members : (x : ℕ) → is_in x (root_row value t) ≡ is_in x p.before = λ x.
-        same-truth (is_in x (root_row value t)) (is_in x p.before)
-        (λ h. let w = row-from of value above known fresh t x c h in there x ∙ and_from (is_in x above) (is_in x (used of t)) w.above_ w.used_)
-        (λ h. let w = and_parts (is_in x above) (is_in x (used of t)) (sym (there x) ∙ h) in row-to of value above known fresh t x c w.0 w.1) in
+    same-truth (is_in x (root_row value t)) (is_in x p.before)
+    (λ h. let w = row-from of value above known fresh t x c h in there x ∙ and_from (is_in x above) (is_in x (used of t)) w.above_ w.used_)
+    (λ h. let w = and_parts (is_in x above) (is_in x (used of t)) (sym (there x) ∙ h) in row-to of value above known fresh t x c w.0 w.1) in
     record {
       once = different-row value t;
       members = members;
@@ -148,11 +148,12 @@ zip-append (r ∷ a) b (x ∷ p) q h g = (h.0, zip-append a b p q h.1 g)
 pub rows-of-tree : (of value : Names) (above known fresh : List ℕ) (t : Tree) → Scope of value above known fresh t → AllZip IsRow (tree_rows value t) (tree_points of above t)
 rows-of-tree of value above known fresh (Do s t) c =
     (root-is-row of value above known fresh (Do s t) _ refl c, rows-of-tree (names_after of s) value (above ++ step_values s) (known ++ (step_values s ++ step_clones s)) (fresh_after fresh s) t (scope-do of value above known fresh s t c))
-rows-of-tree of value above known fresh (If d v w t u) c =
-    (root-is-row of value above known fresh (If d v w t u) _ refl c,
-      zip-append (tree_rows value t) (tree_rows value u) (tree_points of above t) (tree_points of above u)
+rows-of-tree of value above known fresh (If d v w t u) c = (
+  root-is-row of value above known fresh (If d v w t u) _ refl c,
+  zip-append (tree_rows value t) (tree_rows value u) (tree_points of above t) (tree_points of above u)
       (rows-of-tree of value above known [] t (scope-first of value above known fresh d v w t u c))
-      (rows-of-tree of value above known [] u (scope-second of value above known fresh d v w t u c)))
+      (rows-of-tree of value above known [] u (scope-second of value above known fresh d v w t u c)),
+)
 rows-of-tree of value above known fresh (End l) c = (root-is-row of value above known fresh (End l) _ refl c, tt)
 
 -- ---- labels
@@ -223,11 +224,12 @@ rows-of-labels labels value k [] a d h = tt
 rows-of-labels labels value k (l ∷ ls) a d h =
     let p = and_parts (is_single labels l) (list_all (is_single labels) ls) a in
     let e = split-different l.params (defined l.body ++ all_defined ls) d in
-    let f = split-different (defined l.body) (all_defined ls) e.1 in
-    (record { once = e.0; members = λ x. refl; count = refl },
+    let f = split-different (defined l.body) (all_defined ls) e.1 in (
+      record { once = e.0; members = λ x. refl; count = refl },
       zip-append (tree_rows value l.body) (labels_rows value ls) (tree_points own l.params l.body) (points_from (suc k) ls)
-      (rows-of-tree own value l.params l.params l.params l.body (scope-of-label labels value l ls p.0 d h))
-      (rows-of-labels labels value (suc k) ls p.1 f.1 (sourced-tail value l ls d h)))
+          (rows-of-tree own value l.params l.params l.params l.body (scope-of-label labels value l ls p.0 d h))
+          (rows-of-labels labels value (suc k) ls p.1 f.1 (sourced-tail value l ls d h)),
+    )
 
 -- ---- the whole
 
@@ -286,7 +288,7 @@ pub kept-more : (s : Ssu) (of : Names) (k : ℕ) (d : SsuLabel) (rows pushed new
     → items_of new ++ labels_rows of (drop (k + 1) (labels_view s)) ≡ goal
 kept-more s of k d rows pushed new copy stack goal l e c p t n h =
     let put : items_of pushed ≡ items_of rows ++ (get_or s.labels.items k d).params.items ∷ [] =
-        ap items_of p ∙ map-append (λ (v : Kept). v.items) rows (copy ∷ []) ∙ ap (λ r. items_of rows ++ r ∷ []) (c ∙ ap (λ (m : SsuLabel). m.params.items) e) in
+    ap items_of p ∙ map-append (λ (v : Kept). v.items) rows (copy ∷ []) ∙ ap (λ r. items_of rows ++ r ∷ []) (c ∙ ap (λ (m : SsuLabel). m.params.items) e) in
     ap (λ m. m ++ labels_rows of (drop (k + 1) (labels_view s))) (n ∙ ap (λ m. m ++ on_stack stack) put)
     ∙ label-more s of k d (items_of rows) (on_stack stack) goal l t h
 

@@ -94,6 +94,6 @@ grown of top rest made slots n old mid new rows more' row copy u b f g t e c h =
     record {
       roots = ap on_stack e ∙ on-stack-push mid row ∙ ap (λ l. l ∷ on_stack mid) it ∙ ap (λ l. root_row of (bare top) ∷ l) w.1;
       rows = ap on_stack h ∙ on-stack-push rows copy ∙ ap (λ l. l ∷ on_stack rows) (c ∙ it)
-        ∙ ap (λ l. root_row of (bare top) ∷ l) (g ∙ ap (λ l. all_rows of l) u ∙ all_rows-append of (kids top) rest)
-        ∙ ap (λ l. l ++ all_rows of rest) (sym (tree_rows-root of top));
+          ∙ ap (λ l. root_row of (bare top) ∷ l) (g ∙ ap (λ l. all_rows of l) u ∙ all_rows-append of (kids top) rest)
+          ∙ ap (λ l. l ++ all_rows of rest) (sym (tree_rows-root of top));
     }

@@ -161,14 +161,14 @@ two-parts (a ∷ b ∷ c ∷ rs) l = absurd (omega arith)
 
 pub takes-two : (old mid new : List Kept) (a b : List ℕ) → Takes old mid (λ rs. rs ≡ a ∷ []) 1 → Takes mid new (λ rs. rs ≡ b ∷ []) 1 → Takes old new (λ rs. rs ≡ a ∷ b ∷ []) 2
 takes-two old mid new a b t u = record {
-    taken = λ rs rest f l.
+  taken = λ rs rest f l.
       let w = two-parts rs l in
       let first = t.taken (w.0 ∷ []) (w.1 ∷ rest) (f ∙ ap (λ r. r ++ rest) w.2) refl in
       let second = u.taken (w.1 ∷ []) rest first.1 refl in
       let p : w.0 ≡ a = let e = first.0 in cc in
       let q : w.1 ≡ b = let e = second.0 in cc in
       (w.2 ∙ ap (λ r. r ∷ w.1 ∷ []) p ∙ ap (λ r. a ∷ r ∷ []) q, second.1);
-  }
+}
 
 pub takes-as : (old new : List Kept) (P Q : List (List ℕ) → Type 0) (n m : ℕ) → n ≡ m → ((rs : List (List ℕ)) → P rs → Q rs) → Takes old new P n → Takes old new Q m
 takes-as old new P Q n m e h t = record { taken = λ rs rest f l. let w = t.taken rs rest f (l ∙ sym e) in (h rs w.0, w.1) }

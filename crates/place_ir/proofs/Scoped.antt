@@ -20,9 +20,9 @@ in-itself x = eq-eqb x x refl
 pub in-last : (x : ℕ) (row : List ℕ) (y : ℕ) → is_in x (row ++ y ∷ []) ≡ (is_in x row || nat_eq x y)
 in-last x row y = in-append x row (y ∷ []) ∙ ap (λ b. is_in x row || b) (or-false (nat_eq x y))
   where
-  or-false : (b : Bool) → (b || false) ≡ b
-  or-false true = refl
-  or-false false = refl
+    or-false : (b : Bool) → (b || false) ≡ b
+    or-false true = refl
+    or-false false = refl
 
 either : (a b : Bool) → a ≡ true → (b || a) ≡ true
 either a true e = refl
@@ -34,9 +34,9 @@ in-added x [] row h = inr h
 in-added x (u ∷ us) row h = ⊎_elim (λ (a : is_in x us ≡ true). inl (or_right (nat_eq x u) (is_in x us) a)) (λ (b : is_in x (if is_in u row then row else row ++ u ∷ []) ≡ true). one (is_in u row) b)
     (in-added x us (if is_in u row then row else row ++ u ∷ []) h)
   where
-  one : (b : Bool) → is_in x (if b then row else row ++ u ∷ []) ≡ true → (is_in x (u ∷ us) ≡ true) ⊎ (is_in x row ≡ true)
-  one true e = inr e
-  one false e = ⊎_elim (λ (a : is_in x row ≡ true). inr a) (λ (b : nat_eq x u ≡ true). inl (or_left (nat_eq x u) (is_in x us) b)) (or_cases (is_in x row) (nat_eq x u) (sym (in-last x row u) ∙ e))
+    one : (b : Bool) → is_in x (if b then row else row ++ u ∷ []) ≡ true → (is_in x (u ∷ us) ≡ true) ⊎ (is_in x row ≡ true)
+    one true e = inr e
+    one false e = ⊎_elim (λ (a : is_in x row ≡ true). inr a) (λ (b : nat_eq x u ≡ true). inl (or_left (nat_eq x u) (is_in x us) b)) (or_cases (is_in x row) (nat_eq x u) (sym (in-last x row u) ∙ e))
 
 grows-by : (x u : ℕ) (row : List ℕ) (b : Bool) → is_in x row ≡ true → is_in x (if b then row else row ++ u ∷ []) ≡ true
 grows-by x u row true h = h
@@ -171,9 +171,11 @@ split-different [] b h = (refl, h, λ y e f. false≢true e)
 split-different (x ∷ a) b h =
     let p = and_parts (not (is_in x (a ++ b))) (all_different (a ++ b)) h in
     let out = or_parts (is_in x a) (is_in x b) (sym (in-append x a b) ∙ not-true (is_in x (a ++ b)) p.0) in
-    let w = split-different a b p.1 in
-    (and_from (not (is_in x a)) (all_different a) (not_from_false (is_in x a) out.0) w.0, w.1,
-      λ y e f. ⊎_elim (λ (q : nat_eq y x ≡ true). false≢true (sym out.1 ∙ (ap (λ z. is_in z b) (sym (same-number y x q)) ∙ f))) (λ (q : is_in y a ≡ true). w.2 y q f) (or_cases (nat_eq y x) (is_in y a) e))
+    let w = split-different a b p.1 in (
+      and_from (not (is_in x a)) (all_different a) (not_from_false (is_in x a) out.0) w.0,
+      w.1,
+      λ y e f. ⊎_elim (λ (q : nat_eq y x ≡ true). false≢true (sym out.1 ∙ (ap (λ z. is_in z b) (sym (same-number y x q)) ∙ f))) (λ (q : is_in y a ≡ true). w.2 y q f) (or_cases (nat_eq y x) (is_in y a) e),
+    )
 
 pub join-different : (a b : List ℕ) → all_different a ≡ true → all_different b ≡ true → ((y : ℕ) → is_in y a ≡ true → is_in y b ≡ true → ⊥) → all_different (a ++ b) ≡ true
 join-different [] b h g n = g
@@ -199,13 +201,13 @@ no-source (Do s t) z e =
     let q = or_parts (is_in z (step_clones s)) (is_in z (defined t)) (sym (in-append z (step_clones s) (defined t)) ∙ p.1) in
     ap (λ o. first_of o (source_in t z)) (none-by s q.0) ∙ no-source t z q.1
   where
-  none-by : (s : Step) → is_in z (step_clones s) ≡ false → step_source s z ≡ None
-  none-by (Lit x v) f = refl
-  none-by (Una x op y) f = refl
-  none-by (Bin x op y w) f = refl
-  none-by (Clone xs y) f = ap (λ b. if b then Some y else None) f
-  none-by (Read m xs y) f = refl
-  none-by (Write m y xs) f = refl
+    none-by : (s : Step) → is_in z (step_clones s) ≡ false → step_source s z ≡ None
+    none-by (Lit x v) f = refl
+    none-by (Una x op y) f = refl
+    none-by (Bin x op y w) f = refl
+    none-by (Clone xs y) f = ap (λ b. if b then Some y else None) f
+    none-by (Read m xs y) f = refl
+    none-by (Write m y xs) f = refl
 no-source (If c x y t u) z e =
     let p = or_parts (is_in z (defined t)) (is_in z (defined u)) (sym (in-append z (defined t) (defined u)) ∙ e) in
     ap (λ o. first_of o (source_in u z)) (no-source t z p.0) ∙ no-source u z p.1
@@ -277,45 +279,45 @@ scope-do of value above known fresh s t c =
     let known-out : (y : ℕ) → is_in y known ≡ true → is_in y cs ≡ false = λ y e. false_from_ne_true (is_in y cs) (λ f. c.apart y e (clone-in y f)) in
     let rest-out : (y : ℕ) → is_in y (defined t) ≡ true → is_in y cs ≡ false = λ y e. false_from_ne_true (is_in y cs) (λ f. d2.2 y f e) in
     let value-plain : (y : ℕ) → is_in y vs ≡ true → value y ≡ y = λ y e.
-        c.sourced y (in-all y e)
-        ∙ ap (λ o. unwrap_or (first_of o (source_in t y)) y) (step-none s y (no-clones s y e))
-        ∙ ap (λ o. unwrap_or o y) (no-source t y (false_from_ne_true (is_in y (defined t)) (λ f. d.2 y e (in-right y cs (defined t) f)))) in
+    c.sourced y (in-all y e)
+    ∙ ap (λ o. unwrap_or (first_of o (source_in t y)) y) (step-none s y (no-clones s y e))
+    ∙ ap (λ o. unwrap_or o y) (no-source t y (false_from_ne_true (is_in y (defined t)) (λ f. d.2 y e (in-right y cs (defined t) f)))) in
     record {
       scoped = sc.1;
       early = er.1;
       once = d2.1;
       distinct = join-different above vs c.distinct d.0 (λ y e f. c.apart y (c.values y e) (in-all y f));
       apart = λ y e f. ⊎_elim
-        (λ (k : is_in y known ≡ true). c.apart y k (rest-in y f))
-        (λ (k : is_in y (vs ++ cs) ≡ true). ⊎_elim (λ (a : is_in y vs ≡ true). d.2 y a (in-right y cs (defined t) f)) (λ (b : is_in y cs ≡ true). d2.2 y b f) (in-either y vs cs k))
-        (in-either y known (vs ++ cs) e);
+          (λ (k : is_in y known ≡ true). c.apart y k (rest-in y f))
+          (λ (k : is_in y (vs ++ cs) ≡ true). ⊎_elim (λ (a : is_in y vs ≡ true). d.2 y a (in-right y cs (defined t) f)) (λ (b : is_in y cs ≡ true). d2.2 y b f) (in-either y vs cs k))
+          (in-either y known (vs ++ cs) e);
       values = λ y e. ⊎_elim
-        (λ (k : is_in y above ≡ true). in-left y known (vs ++ cs) (c.values y k))
-        (λ (k : is_in y vs ≡ true). in-right y known (vs ++ cs) (in-left y vs cs k))
-        (in-either y above vs e);
+          (λ (k : is_in y above ≡ true). in-left y known (vs ++ cs) (c.values y k))
+          (λ (k : is_in y vs ≡ true). in-right y known (vs ++ cs) (in-left y vs cs k))
+          (in-either y above vs e);
       placed = λ y e. ⊎_elim
-        (λ (k : is_in y known ≡ true). ap (λ z. is_in z (above ++ vs)) (after-same of s y (known-out y k)) ∙ in-left (of y) above vs (c.placed y k))
-        (λ (k : is_in y (vs ++ cs) ≡ true). ⊎_elim
+          (λ (k : is_in y known ≡ true). ap (λ z. is_in z (above ++ vs)) (after-same of s y (known-out y k)) ∙ in-left (of y) above vs (c.placed y k))
+          (λ (k : is_in y (vs ++ cs) ≡ true). ⊎_elim
           (λ (a : is_in y vs ≡ true). ap (λ z. is_in z (above ++ vs)) (after-same of s y (no-clones s y a) ∙ c.later y (in-all y a)) ∙ in-right y above vs a)
           (λ (b : is_in y cs ≡ true).
           let w = cloned-at of value fresh s t y er.0 b in
           ap (λ z. is_in z (above ++ vs)) w.after ∙ in-left (of w.from) above vs (c.placed w.from (c.fresh_known w.from w.fresh_)))
           (in-either y vs cs k))
-        (in-either y known (vs ++ cs) e);
+          (in-either y known (vs ++ cs) e);
       same = λ y e. ⊎_elim
-        (λ (k : is_in y known ≡ true). after-same of s y (known-out y k) ∙ c.same y k)
-        (λ (k : is_in y (vs ++ cs) ≡ true). ⊎_elim
+          (λ (k : is_in y known ≡ true). after-same of s y (known-out y k) ∙ c.same y k)
+          (λ (k : is_in y (vs ++ cs) ≡ true). ⊎_elim
           (λ (a : is_in y vs ≡ true). after-same of s y (no-clones s y a) ∙ c.later y (in-all y a) ∙ sym (value-plain y a))
           (λ (b : is_in y cs ≡ true).
           let w = cloned-at of value fresh s t y er.0 b in
           w.after ∙ c.same w.from (c.fresh_known w.from w.fresh_) ∙ c.plain w.from w.fresh_ ∙ sym (c.sourced y (clone-in y b) ∙ ap (λ o. unwrap_or o y) w.source))
           (in-either y vs cs k))
-        (in-either y known (vs ++ cs) e);
+          (in-either y known (vs ++ cs) e);
       plain = λ y e. ⊎_elim (λ (a : is_in y vs ≡ true). value-plain y a) (λ (b : is_in y fresh ≡ true). c.plain y b) (fresh-from fresh s y e);
       fresh_known = λ y e. ⊎_elim
-        (λ (a : is_in y vs ≡ true). in-right y known (vs ++ cs) (in-left y vs cs a))
-        (λ (b : is_in y fresh ≡ true). in-left y known (vs ++ cs) (c.fresh_known y b))
-        (fresh-from fresh s y e);
+          (λ (a : is_in y vs ≡ true). in-right y known (vs ++ cs) (in-left y vs cs a))
+          (λ (b : is_in y fresh ≡ true). in-left y known (vs ++ cs) (c.fresh_known y b))
+          (fresh-from fresh s y e);
       later = λ y e. after-same of s y (rest-out y e) ∙ c.later y (rest-in y e);
       sourced = λ y e. c.sourced y (rest-in y e) ∙ ap (λ o. unwrap_or (first_of o (source_in t y)) y) (step-none s y (rest-out y e));
     }
@@ -345,9 +347,9 @@ scope-first of value above known fresh c x y t u k =
       fresh_known = λ z e. absurd (false≢true e);
       later = λ z e. k.later z (in-left z (defined t) (defined u) e);
       sourced = λ z e.
-        k.sourced z (in-left z (defined t) (defined u) e)
-        ∙ ap (λ o. unwrap_or (first_of (source_in t z) o) z) (no-source u z (false_from_ne_true (is_in z (defined u)) (λ f. d.2 z e f)))
-        ∙ ap (λ o. unwrap_or o z) (first_of-none (source_in t z));
+          k.sourced z (in-left z (defined t) (defined u) e)
+          ∙ ap (λ o. unwrap_or (first_of (source_in t z) o) z) (no-source u z (false_from_ne_true (is_in z (defined u)) (λ f. d.2 z e f)))
+          ∙ ap (λ o. unwrap_or o z) (first_of-none (source_in t z));
     }
 
 pub scope-second : (of value : Names) (above known fresh : List ℕ) (c : Cmp) (x y : ℕ) (t u : Tree) → Scope of value above known fresh (If c x y t u) → Scope of value above known [] u
@@ -369,6 +371,6 @@ scope-second of value above known fresh c x y t u k =
       fresh_known = λ z e. absurd (false≢true e);
       later = λ z e. k.later z (in-right z (defined t) (defined u) e);
       sourced = λ z e.
-        k.sourced z (in-right z (defined t) (defined u) e)
-        ∙ ap (λ o. unwrap_or (first_of o (source_in u z)) z) (no-source t z (false_from_ne_true (is_in z (defined t)) (λ f. d.2 z f e)));
+          k.sourced z (in-right z (defined t) (defined u) e)
+          ∙ ap (λ o. unwrap_or (first_of o (source_in u z)) z) (no-source t z (false_from_ne_true (is_in z (defined t)) (λ f. d.2 z f e)));
     }

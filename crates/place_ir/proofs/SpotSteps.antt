@@ -70,13 +70,13 @@ label-behind s k d spots pushed new order goal l p o n h =
     let first : drop k view ≡ e0 ∷ drop (k + 1) view = drop_more view k e0 (omega (arith, length-view s)) ∙ ap (λ x. x ∷ drop (k + 1) view) (t.view_is d e0) in
     let next : suc k ≡ k + 1 = omega arith in
     let entry : map (spot_place s) pushed ≡ map (spot_place s) spots ++ Entry k e0.params ∷ [] =
-        ap (map (spot_place s)) p ∙ map-append (spot_place s) spots (EntrySpot k ∷ []) ∙ ap (λ w. map (spot_place s) spots ++ Entry k (params_of w) ∷ []) (get-there s.labels.items k d l) in
+    ap (map (spot_place s)) p ∙ map-append (spot_place s) spots (EntrySpot k ∷ []) ∙ ap (λ w. map (spot_place s) spots ++ Entry k (params_of w) ∷ []) (get-there s.labels.items k d l) in
     let nodes' : node_places s.nodes.slots (nums order) ≡ tree_places e0.body = ap (node_places s.nodes.slots) o ∙ places-in s.nodes.slots (label_tree s k) t.stands in
     let mine : places_from k (drop k view) ≡ Entry k e0.params ∷ (tree_places e0.body ++ places_from (k + 1) (drop (k + 1) view)) =
-        ap (places_from k) first
-        ∙ map-append (λ p. p.place) (label_points k e0) (points_from (suc k) (drop (k + 1) view))
-        ∙ ap (λ m. Entry k e0.params ∷ (m ++ places_from (suc k) (drop (k + 1) view))) (places-of-points own e0.params e0.body)
-        ∙ ap (λ j. Entry k e0.params ∷ (tree_places e0.body ++ places_from j (drop (k + 1) view))) next in
+    ap (places_from k) first
+    ∙ map-append (λ p. p.place) (label_points k e0) (points_from (suc k) (drop (k + 1) view))
+    ∙ ap (λ m. Entry k e0.params ∷ (m ++ places_from (suc k) (drop (k + 1) view))) (places-of-points own e0.params e0.body)
+    ∙ ap (λ j. Entry k e0.params ∷ (tree_places e0.body ++ places_from j (drop (k + 1) view))) next in
     let rest = places_from (k + 1) (drop (k + 1) view) in
     ap (λ m. m ++ rest) (n ∙ ap (λ m. m ++ node_places s.nodes.slots (nums order)) entry ∙ ap (λ m. (map (spot_place s) spots ++ Entry k e0.params ∷ []) ++ m) nodes')
     ∙ append_assoc (map (spot_place s) spots ++ Entry k e0.params ∷ []) (tree_places e0.body) rest

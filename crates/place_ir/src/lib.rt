@@ -2,11 +2,11 @@
 #![tactic(auto)]
 
 mod copies;
+mod place;
+mod row;
 mod rows;
 mod slots;
 mod spots;
-mod place;
-mod row;
 
-pub use rows::{held, peak};
 pub use place::{First, Home, Pass, Place, PlaceError, Placement, Serve};
+pub use rows::{held, peak};

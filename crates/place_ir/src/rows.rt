@@ -89,7 +89,12 @@ fn behind_node(alloc: Global, n: &SsuNode, rows: &mut Vec<Vec<u32>>) -> Result<V
 }
 
 /// The row of a node, by those of the nodes that follow directly, which are taken from the stack.
-fn row_of(alloc: Global, n: &SsuNode, copies: &Copies, rows: &mut Vec<Vec<u32>>) -> Result<Vec<u32>, NoMemory>
+fn row_of(
+    alloc: Global,
+    n: &SsuNode,
+    copies: &Copies,
+    rows: &mut Vec<Vec<u32>>,
+) -> Result<Vec<u32>, NoMemory>
     ensures { IfOk result (λ row. Takes rows.old.items rows.new.items (λ rs. row.items ≡ row_over (value_by (get nat_eq copies.now)) (node_of n.now) rs) (arity (node_of n.now))) }
 {
     let mut row = behind_node(alloc, n, rows)?;

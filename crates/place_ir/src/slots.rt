@@ -1,20 +1,20 @@
 //! Slots for values: no two that are held at a point have the same.
 
-ghost use Rattle.std.specs.Prelude.{◌≡◌, ◌≢◌, ◌≤◌, ◌<◌, ◌+◌, ◌^◌, ℕ, nat_eq, true, false, None, Some, count_by, drop, length, slice_set, slice_index_or, IfOk, OnOk, if◌then◌else◌};
+ghost use Rattle.std.specs.Prelude.{◌≡◌, ◌≢◌, ◌≤◌, ◌<◌, ◌+◌, ◌^◌, ℕ, nat_eq, true, false, None, Some, count_by, map, drop, length, slice_set, slice_index_or, IfOk, OnOk, if◌then◌else◌};
 ghost use Rattle.std.specs.HashMap.{get};
 ghost use Rattle.nv_base.specs.Sets.{is_in, all_different};
 ghost use Rattle.ssu_ir.specs.Slots.{node_of};
 ghost use Rattle.ssu_ir.specs.Tree.{node_values};
 ghost use Rattle.place_ir.specs.Held.{items_of};
 ghost use Rattle.place_ir.specs.inner.Numbers as inner;
-ghost use Rattle.place_ir.specs.inner.Numbers.{has_number, Numbered, group_row};
+ghost use Rattle.place_ir.specs.inner.Numbers.{has_number, Numbered, AreNumbered, group_row, groups, values_among};
 ghost use Rattle.ssu_ir.specs.Points.{place_values};
 ghost use Rattle.place_ir.specs.inner.Spots.{spot_place};
 
 use crate::row::is_in_row;
 use crate::spots::Spot;
-use ssu_ir::{Ssu, SsuNode};
 use nv_base::NoMemory;
+use ssu_ir::{Ssu, SsuNode};
 use std::alloc::Global;
 use std::collections::HashMap;
 
@@ -134,7 +134,14 @@ fn node_slots(alloc: Global, slots: &mut Slots, n: &SsuNode, row: &[u32]) -> Res
 }
 
 /// Slots for the values that a point defines, in its own row where it is an entry, else in that of the next point.
-fn spot_slots(alloc: Global, slots: &mut Slots, s: &Ssu, spot: Spot, rows: &[Vec<u32>], k: usize) -> Result<(), NoMemory>
+fn spot_slots(
+    alloc: Global,
+    slots: &mut Slots,
+    s: &Ssu,
+    spot: Spot,
+    rows: &[Vec<u32>],
+    k: usize,
+) -> Result<(), NoMemory>
     requires room { k + 1 < 2 ^ 64 }
     requires once { all_different (place_values (spot_place s.now spot)) ≡ true }
     requires fresh { (z : ℕ) → is_in z (place_values (spot_place s.now spot)) ≡ true → get nat_eq slots.old z ≡ None }
@@ -150,4 +157,22 @@ fn spot_slots(alloc: Global, slots: &mut Slots, s: &Ssu, spot: Spot, rows: &[Vec
             None => Ok(()),
         },
     }
+}
+
+/// Slots for the values of all points, by the rows of values that are held at each.
+pub fn slots_for(
+    alloc: Global,
+    s: &Ssu,
+    spots: &[Spot],
+    rows: &[Vec<u32>],
+) -> Result<Slots, NoMemory>
+    requires once { all_different (values_among (map (spot_place s.now) spots.now)) ≡ true }
+    requires count { length rows.now ≡ length spots.now }
+    ensures { IfOk result (λ m. AreNumbered (groups (map (spot_place s.now) spots.now) (items_of rows.now)) (get nat_eq m)) }
+{
+    let mut slots = HashMap::new(alloc);
+    for k in 0..spots.len() {
+        spot_slots(alloc, &mut slots, s, spots[k], rows, k)?;
+    }
+    Ok(slots)
 }

@@ -55,29 +55,20 @@ fn is_operand(n: &SsuNode, x: u32) -> bool
     ensures { result ≡ is_in x (node_names (node_of n.now)) }
 {
     let (front, rest) = operands(n);
-    if has(front, x) {
-        return true;
-    }
-    has(rest, x)
+    has(front, x) || has(rest, x)
 }
 
 fn is_use(n: &SsuNode, x: u32) -> bool
     ensures { result ≡ is_in x (node_uses (node_of n.now)) }
 {
     let (front, rest) = uses(n);
-    if has(front, x) {
-        return true;
-    }
-    has(rest, x)
+    has(front, x) || has(rest, x)
 }
 
 fn is_defined(n: &SsuNode, x: u32) -> bool
     ensures { result ≡ is_in x (node_defs (node_of n.now)) }
 {
-    if has(values(n), x) {
-        return true;
-    }
-    has(clones(n), x)
+    has(values(n), x) || has(clones(n), x)
 }
 
 // Whether an access of a node at this name may be, where the name has this number.
@@ -142,12 +133,7 @@ pub fn mentions(s: &Ssu, id: NodeId, x: u32) -> bool
     match behind(n) {
         Kids::None => false,
         Kids::One(k) => mentions(s, k, x),
-        Kids::Two(j, k) => {
-            if mentions(s, j, x) {
-                return true;
-            }
-            mentions(s, k, x)
-        }
+        Kids::Two(j, k) => mentions(s, j, x) || mentions(s, k, x),
     }
 }
 
@@ -186,18 +172,8 @@ pub fn is_free(s: &Ssu, id: NodeId, x: u32) -> bool
     }
     match behind(n) {
         Kids::None => false,
-        Kids::One(k) => {
-            if is_defined(n, x) {
-                return false;
-            }
-            is_free(s, k, x)
-        }
-        Kids::Two(j, k) => {
-            if is_free(s, j, x) {
-                return true;
-            }
-            is_free(s, k, x)
-        }
+        Kids::One(k) => !is_defined(n, x) && is_free(s, k, x),
+        Kids::Two(j, k) => is_free(s, j, x) || is_free(s, k, x),
     }
 }
 
@@ -215,20 +191,9 @@ pub fn copy_used(s: &Ssu, id: NodeId, x: u32) -> bool
     match behind(n) {
         Kids::None => false,
         Kids::One(k) => {
-            if any_used(s, k, clones_from(n, x)) {
-                return true;
-            }
-            if has(clones(n), x) {
-                return false;
-            }
-            copy_used(s, k, x)
+            any_used(s, k, clones_from(n, x)) || (!has(clones(n), x) && copy_used(s, k, x))
         }
-        Kids::Two(j, k) => {
-            if copy_used(s, j, x) {
-                return true;
-            }
-            copy_used(s, k, x)
-        }
+        Kids::Two(j, k) => copy_used(s, j, x) || copy_used(s, k, x),
     }
 }
 
@@ -261,20 +226,10 @@ pub fn addressed(s: &Ssu, id: NodeId, x: u32, number: Option<u32>) -> bool
     match behind(n) {
         Kids::None => true,
         Kids::One(k) => {
-            if !all_addressed(s, k, clones_from(n, x), number) {
-                return false;
-            }
-            if is_defined(n, x) {
-                return true;
-            }
-            addressed(s, k, x, number)
+            all_addressed(s, k, clones_from(n, x), number)
+                && (is_defined(n, x) || addressed(s, k, x, number))
         }
-        Kids::Two(j, k) => {
-            if !addressed(s, j, x, number) {
-                return false;
-            }
-            addressed(s, k, x, number)
-        }
+        Kids::Two(j, k) => addressed(s, j, x, number) && addressed(s, k, x, number),
     }
 }
 

@@ -27,10 +27,7 @@ use nv_base::{Mem, Una};
 pub fn single(s: &Ssu) -> bool
     ensures { result ≡ rules.single (labels_view s.now) }
 {
-    if !has_entry(s) {
-        return false;
-    }
-    all_labels_kept(s)
+    has_entry(s) && all_labels_kept(s)
 }
 
 // Whether label 0 is there, with at most 8 parameters.
@@ -72,10 +69,7 @@ fn label_kept(s: &Ssu, l: &SsuLabel) -> bool
     requires body { HasTree s.now.nodes.slots l.now.body.0 }
     ensures { result ≡ checks.label_kept (labels_view s.now) (label_of s.now.nodes.slots l.now) }
 {
-    if !all_once(s, &l.params) {
-        return false;
-    }
-    is_kept(s, l, l.body, &l.params)
+    all_once(s, &l.params) && is_kept(s, l, l.body, &l.params)
 }
 
 // Whether the tests hold of the tree under a number of this label, where the values of `fresh` may be
@@ -158,10 +152,7 @@ fn defs_once(s: &Ssu, n: &SsuNode) -> bool
     requires { AllHave s.now.nodes.slots (bodies s.now.labels.items) }
     ensures { result ≡ list_all (checks.is_once (labels_view s.now)) (node_defs (node_of n.now)) }
 {
-    if !all_once(s, values(n)) {
-        return false;
-    }
-    all_once(s, clones(n))
+    all_once(s, values(n)) && all_once(s, clones(n))
 }
 
 // Whether the source of a `Clone` may be cloned here.
@@ -281,10 +272,7 @@ fn operands_new(s: &Ssu, n: &SsuNode, k: NodeId) -> bool
     ensures { result ≡ list_all (λ x. not (is_in x (names (tree_at s.now.nodes.slots k.0)))) (node_names (node_of n.now)) }
 {
     let (front, rest) = operands(n);
-    if !none_mentioned(s, k, front) {
-        return false;
-    }
-    none_mentioned(s, k, rest)
+    none_mentioned(s, k, front) && none_mentioned(s, k, rest)
 }
 
 fn none_mentioned(s: &Ssu, k: NodeId, xs: &[u32]) -> bool
@@ -306,10 +294,7 @@ fn operands_bound(s: &Ssu, l: &SsuLabel, n: &SsuNode) -> bool
     ensures { result ≡ list_all (checks.is_bound l.now.params.items (tree_at s.now.nodes.slots l.now.body.0)) (node_names (node_of n.now)) }
 {
     let (front, rest) = operands(n);
-    if !all_bound(s, l, front) {
-        return false;
-    }
-    all_bound(s, l, rest)
+    all_bound(s, l, front) && all_bound(s, l, rest)
 }
 
 fn all_bound(s: &Ssu, l: &SsuLabel, xs: &[u32]) -> bool
@@ -329,10 +314,7 @@ fn is_bound(s: &Ssu, l: &SsuLabel, x: u32) -> bool
     requires { HasTree s.now.nodes.slots l.now.body.0 }
     ensures { result ≡ checks.is_bound l.now.params.items (tree_at s.now.nodes.slots l.now.body.0) x }
 {
-    if !is_known(s, l, x) {
-        return false;
-    }
-    addressed(s, l.body, x, None)
+    is_known(s, l, x) && addressed(s, l.body, x, None)
 }
 
 // Whether it is a parameter or isn't free in the body.
@@ -341,10 +323,7 @@ fn is_known(s: &Ssu, l: &SsuLabel, x: u32) -> bool
     requires { HasTree s.now.nodes.slots l.now.body.0 }
     ensures { result ≡ (is_in x l.now.params.items || not (checks.is_free x (tree_at s.now.nodes.slots l.now.body.0))) }
 {
-    if has(&l.params, x) {
-        return true;
-    }
-    !is_free(s, l.body, x)
+    has(&l.params, x) || !is_free(s, l.body, x)
 }
 
 // ---- nodes by themselves
@@ -369,10 +348,7 @@ fn is_node(s: &Ssu, n: &SsuNode) -> bool
 fn is_jump(s: &Ssu, l: u32, n: usize) -> bool
     ensures { result ≡ (nat_le 1 l && rules.takes_as_many n (slice_get (labels_view s.now) l)) }
 {
-    if l == 0 {
-        return false;
-    }
-    takes(s, l, n)
+    l >= 1 && takes(s, l, n)
 }
 
 fn is_narrow(v: u32) -> bool

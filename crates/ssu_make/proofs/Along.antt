@@ -1,13 +1,9 @@
 -- What the loops keep.
-use Rattle.std.proofs.Common.{◌≡◌, ℕ, zero, suc, ◌+◌, ◌-◌, ◌<◌, ◌≤◌, max, Bool, true, false, nat_eq, nat_lt, ◌||◌, List, [], ◌∷◌, ◌++◌, map, All, refl, sym, ap, subst, ◌∙◌, ◌⊎◌, inl, inr, ⊎_elim, if◌then◌else◌, length, get_or, drop, take, reverse, append_assoc, arith}
+use Rattle.std.proofs.Common.{◌≡◌, ℕ, zero, suc, ◌+◌, ◌-◌, ◌<◌, ◌≤◌, max, Bool, true, false, nat_eq, ◌||◌, List, [], ◌∷◌, ◌++◌, refl, sym, ap, subst, ◌∙◌, ⊎_elim, if◌then◌else◌, length, drop, take, reverse, arith}
 use Rattle.std.specs.Borrow.{Bor}
-use Rattle.std.specs.List.{range_with_len}
-use Rattle.std.proofs.Math.Seq.{drop-cons}
-use Rattle.std.proofs.lemmas.Bool.{false≢true, or_cases, or_left, or_right, or_parts, cases_eq, cases_Bool}
-use Rattle.std.proofs.lemmas.List.{append-nil, at_drop_more, take_more, take_all, reverse-append}
-use Rattle.std.proofs.lemmas.List.Elements.{All-nil, All-cons, All-head, All-tail, All-append}
+use Rattle.std.proofs.lemmas.Bool.{false≢true, or_cases, cases_eq, cases_Bool}
+use Rattle.std.proofs.lemmas.List.{take_all}
 use Rattle.nv_base.specs.declared.term.Atom.{Atom}
-use Rattle.nv_base.specs.declared.term.Atom.TheVariants.{Var, Lit}
 use Rattle.nv_base.specs.Sets.{is_in}
 use Rattle.nv_base.proofs.Sets.{in-append, same-number}
 use Rattle.flow_ir.specs.declared.flow.Tree.{Tree as Boxed, size-Tree}
@@ -16,16 +12,14 @@ use Rattle.flow_ir.specs.View.{tree_view}
 use Rattle.flow_ir.specs.Formed.{defined}
 use Rattle.ssu_ir.specs.declared.build.SsuBuild.{SsuBuild}
 use Rattle.ssu_ir.specs.declared.node.SsuLabel.{SsuLabel}
-use Rattle.ssu_ir.specs.declared.node.SsuNode.{SsuNode}
-use Rattle.ssu_ir.specs.Build.{Rooted, Holds, CanTake, Grown, ids, trees_of}
-use Rattle.ssu_ir.specs.Slots.{bodies, over, node_of, kids_of}
+use Rattle.ssu_ir.specs.Build.{Rooted, Holds, ids, trees_of}
+use Rattle.ssu_ir.specs.Slots.{bodies}
 use Rattle.ssu_ir.specs.View.{with_bodies}
 use Rattle.ssu_ir.specs.Tree as ssu
 use Rattle.ssu_make.specs.declared.tree.Part.{Part}
-use Rattle.ssu_make.specs.inner.Uses.{Counts, here, occurs, operands, outside, uses, all_uses}
-use Rattle.ssu_make.specs.inner.Made.{name, names, taken, all_taken, value, literals, atom_literal, clone_step, clones, most, spent, made, made_let, made_read, made_write, made_if, Laid, IsMade, AllMade}
-use Rattle.ssu_make.specs.inner.Making.{counted, HasRoots, IsRoot, AreRoots, Becomes, Joined, Adds, MadeTo, Reaches, Leads, rest_of, made_node, node_uses, node_spent, tops, AreWithin, kids, node_operands, node_defined, LaidOut, LabelMade, LabelsMade}
-use Rattle.ssu_make.proofs.Assigned.{same-test, other-test}
+use Rattle.ssu_make.specs.inner.Uses.{Counts, occurs, outside, all_uses}
+use Rattle.ssu_make.specs.inner.Made.{names, all_taken, literals, clones, IsMade}
+use Rattle.ssu_make.specs.inner.Making.{IsRoot, Becomes, MadeTo, Leads, tops, AreWithin}
 
 -- ---- functions that are equal everywhere
 

@@ -1,5 +1,5 @@
 -- Environments after assignments.
-use Rattle.std.proofs.Common.{◌≡◌, ℕ, zero, suc, ◌+◌, ◌<◌, ◌≤◌, Bool, true, false, nat_eq, List, [], ◌∷◌, refl, sym, ap, ◌∙◌, ◌⊎◌, inl, inr, ⊎_elim, if◌then◌else◌, arith}
+use Rattle.std.proofs.Common.{◌≡◌, ℕ, zero, suc, ◌+◌, ◌<◌, ◌≤◌, true, false, nat_eq, refl, ap, ◌∙◌, ◌⊎◌, inl, inr, ⊎_elim, if◌then◌else◌, arith}
 use Rattle.std.proofs.lemmas.Bool.{false_from_ne_true, eq-eqb, or_left, or_right, or_from}
 use Rattle.std.specs.List.{range_with_len}
 use Rattle.nv_base.specs.Words.{Env, assigned}

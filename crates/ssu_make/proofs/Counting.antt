@@ -1,11 +1,11 @@
 -- How often a name stands in lists, and in how many stretches it lies. A stretch is n numbers from a on.
-use Rattle.std.proofs.Common.{◌≡◌, ℕ, zero, suc, ◌+◌, ◌-◌, ◌<◌, ◌≤◌, max, min, Bool, true, false, not, nat_eq, ◌&&◌, ◌||◌, List, [], ◌∷◌, ◌++◌, map, refl, sym, ap, subst, ◌∙◌, ◌⊎◌, inl, inr, ⊎_elim, if◌then◌else◌, arith}
-use Rattle.std.specs.List.{list_all, range_with_len}
-use Rattle.std.proofs.lemmas.Bool.{false≢true, and_parts, and_from, or_cases, or_left, or_right, or_parts, or_from, cases_eq, cases_lt, eq-eqb, not-true, not_from_false, false_from_ne_true}
+use Rattle.std.proofs.Common.{◌≡◌, ℕ, zero, suc, ◌+◌, ◌-◌, ◌<◌, ◌≤◌, min, true, false, not, nat_eq, List, [], ◌∷◌, ◌++◌, refl, sym, ap, subst, ◌∙◌, ◌⊎◌, inl, inr, ⊎_elim, arith}
+use Rattle.std.specs.List.{range_with_len}
+use Rattle.std.proofs.lemmas.Bool.{false≢true, and_parts, and_from, or_cases, or_left, or_right, cases_eq, cases_lt, eq-eqb, not-true, not_from_false, false_from_ne_true}
 use Rattle.nv_base.specs.Sets.{is_in, all_different}
 use Rattle.nv_base.proofs.Sets.{same-number}
 use Rattle.ssu_make.specs.inner.Uses.{Counts}
-use Rattle.ssu_make.proofs.Assigned.{same-test, other-test}
+use Rattle.ssu_make.proofs.Assigned.{same-test}
 
 -- 1 where a number is at least a, else 0
 abbrev pub from_on : ℕ → ℕ → ℕ

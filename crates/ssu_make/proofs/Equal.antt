@@ -1,11 +1,8 @@
 -- A flow and its single use form do the same within each number of jumps.
-use Rattle.std.proofs.Common.{◌≡◌, ℕ, zero, suc, ◌+◌, ◌<◌, ◌≤◌, max, Bool, true, false, ◌&&◌, List, [], ◌∷◌, ◌++◌, map, Option, Some, None, refl, sym, ap, subst, ◌∙◌, ◌⊎◌, inl, inr, ⊎_elim, if◌then◌else◌, length, slice_get, slice_index, drop, bit_or, arith}
+use Rattle.std.proofs.Common.{◌≡◌, ℕ, zero, suc, ◌+◌, ◌≤◌, Bool, true, false, List, [], ◌∷◌, ◌++◌, map, Option, Some, None, refl, sym, ap, ◌∙◌, if◌then◌else◌, length, slice_get, slice_index, drop, arith}
 use Rattle.std.specs.List.{list_all}
 use Rattle.std.specs.Int.Bits.{or_zero_r}
-use Rattle.std.proofs.lemmas.Bool.{and_parts, false≢true}
-use Rattle.nv_base.specs.declared.term.Atom.{Atom}
-use Rattle.nv_base.specs.declared.term.Mem.{Mem}
-use Rattle.nv_base.specs.declared.term.Cmp.{Cmp}
+use Rattle.std.proofs.lemmas.Bool.{and_parts}
 use Rattle.nv_base.specs.declared.term.Primitive.{Primitive}
 use Rattle.nv_base.specs.declared.term.Primitive.TheVariants.{Same, Una as UnaOf, Bin as BinOf}
 use Rattle.nv_base.specs.declared.term.Bin.TheVariants.{Or}
@@ -13,17 +10,17 @@ use Rattle.nv_base.specs.Memories.{Memories, fetched, stored}
 use Rattle.nv_base.specs.Meanings.{FullOutcome, AreEqual}
 use Rattle.nv_base.specs.Words.{Env, assigned, assigned_all, atom_word, atom_words, prim_word, una_word, bin_word, compares}
 use Rattle.nv_base.specs.World.{World, begun, over, ended, after_read, read_words, wrote, after_write, write_words}
-use Rattle.nv_base.specs.Sets.{is_in, Within}
+use Rattle.nv_base.specs.Sets.{Within}
 use Rattle.nv_base.proofs.Sets.{within-left, within-right}
 use Rattle.flow_ir.specs.Tree.{Tree, Let, Read, Write, If, Jump, Halt, Label}
 use Rattle.flow_ir.specs.Meaning as flow
 use Rattle.flow_ir.specs.Formed.{defined, is_formed, is_label}
 use Rattle.ssu_make.specs.inner.Uses.{Counts, occurs, operands, outside, uses, all_uses}
-use Rattle.ssu_make.specs.inner.Made.{value, names, literals, clones, prim_step, spent, most, made, made_label, Laid, variables, IsMade, AllMade}
+use Rattle.ssu_make.specs.inner.Made.{value, names, clones, prim_step, spent, most, made, Laid, variables, IsMade, AllMade}
 use Rattle.ssu_ir.specs.Tree as ssu
 use Rattle.ssu_ir.specs.Meaning.{Next, does, enter, run, blank, ssu_meaning}
 use Rattle.ssu_make.proofs.Literals.{Agrees, literals_env, literals-do, names-words, agrees-behind}
-use Rattle.ssu_make.proofs.Clones.{Place, clones_env, clones-do, values-agree}
+use Rattle.ssu_make.proofs.Clones.{clones_env, clones-do, values-agree}
 use Rattle.ssu_make.proofs.Fitting.{Fits, fits-let, fits-read, fits-write, fits-first, fits-second, place-of, outside-least}
 
 -- ---- accesses with the same that follows

@@ -1,6 +1,6 @@
 -- Which values are held in a form that was made: those of the variables that are live in the flow, and new ones.
-use Rattle.std.proofs.Common.{◌≡◌, ℕ, zero, suc, ◌+◌, ◌<◌, ◌≤◌, max, Bool, true, false, not, nat_eq, nat_lt, ◌&&◌, ◌||◌, List, [], ◌∷◌, ◌++◌, map, filter, refl, sym, ap, subst, ◌∙◌, ◌⊎◌, inl, inr, ⊎_elim, if◌then◌else◌, length, slice_index, drop, arith}
-use Rattle.std.proofs.lemmas.Bool.{false≢true, and_parts, and_from, or_cases, or_left, or_right, or_parts, or_from, cases_lt, cases_eq, cases_Bool, not-true, not_from_false, eq-eqb}
+use Rattle.std.proofs.Common.{◌≡◌, ℕ, ◌+◌, ◌<◌, ◌≤◌, Bool, true, false, not, nat_eq, nat_lt, List, [], ◌∷◌, ◌++◌, map, filter, refl, sym, ap, subst, ◌∙◌, ◌⊎◌, inl, inr, ⊎_elim, if◌then◌else◌, length, slice_index, drop, arith}
+use Rattle.std.proofs.lemmas.Bool.{false≢true, and_from, or_cases, or_left, or_right, or_parts, not_from_false, eq-eqb}
 use Rattle.nv_base.specs.declared.term.Atom.{Atom}
 use Rattle.nv_base.specs.declared.term.Atom.TheVariants.{Var, Lit}
 use Rattle.nv_base.specs.declared.term.Primitive.{Primitive}
@@ -14,9 +14,9 @@ use Rattle.flow_ir.specs.Wide.{live}
 use Rattle.ssu_ir.specs.Tree as ssu
 use Rattle.ssu_ir.specs.Points.{Names, used}
 use Rattle.ssu_ir.specs.Single.{is_narrow}
-use Rattle.ssu_make.specs.inner.Uses.{Counts, here, occurs, operands, outside, uses, all_uses}
+use Rattle.ssu_make.specs.inner.Uses.{Counts, here, occurs, operands, outside, uses}
 use Rattle.ssu_make.specs.inner.Made.{literal, last_taken, names_taken, taken, all_taken, name, names, atom_literal, literals, value, clones, prim_step, spent, most, made, Laid}
-use Rattle.ssu_make.proofs.Assigned.{same-test, other-test}
+use Rattle.ssu_make.proofs.Assigned.{same-test}
 use Rattle.ssu_make.proofs.Clones.{Place, clone_env, clones_env, clone-outside, Cloned, clone-all, value-is}
 use Rattle.ssu_make.proofs.Counting.{times, times-append, times-in, times-not, different-from}
 use Rattle.ssu_make.proofs.Fitting.{Fits, fits-let, fits-read, fits-write, fits-first, fits-second, place-of, uses-all}

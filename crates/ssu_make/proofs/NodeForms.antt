@@ -1,18 +1,18 @@
 -- The nodes that are made of a node of a flow.
-use Rattle.std.proofs.Common.{◌≡◌, ℕ, zero, suc, ◌+◌, ◌<◌, ◌≤◌, max, Bool, true, false, nat_eq, nat_lt, List, [], ◌∷◌, ◌++◌, map, refl, sym, ap, subst, ◌∙◌, if◌then◌else◌, length, drop, slice_index, append_assoc, ◌||◌, ◌⊎◌, inl, inr, ⊎_elim, arith}
+use Rattle.std.proofs.Common.{◌≡◌, ℕ, ◌+◌, ◌<◌, true, false, nat_eq, nat_lt, List, [], ◌∷◌, ◌++◌, map, refl, sym, ap, subst, ◌∙◌, if◌then◌else◌, drop, slice_index, ◌||◌, ◌⊎◌, inl, inr, ⊎_elim, arith}
 use Rattle.std.specs.List.{range_with_len}
 use Rattle.std.proofs.lemmas.Bool.{false≢true, or_cases, cases_Bool}
 use Rattle.std.proofs.lemmas.List.{append-nil}
 use Rattle.nv_base.specs.Sets.{is_in}
 use Rattle.nv_base.proofs.Sets.{in-append, same-number}
 use Rattle.nv_base.specs.declared.term.Atom.{Atom}
-use Rattle.nv_base.specs.declared.term.Atom.TheVariants.{Var, Lit}
+use Rattle.nv_base.specs.declared.term.Atom.TheVariants.{Lit}
 use Rattle.nv_base.specs.declared.term.Bin.TheVariants.{Or}
 use Rattle.nv_base.specs.declared.term.Primitive.{Primitive}
 use Rattle.nv_base.specs.declared.term.Mem.{Mem}
 use Rattle.nv_base.specs.declared.term.Cmp.{Cmp}
 use Rattle.nv_base.specs.Words.{word}
-use Rattle.flow_ir.specs.Tree.{Tree, Label}
+use Rattle.flow_ir.specs.Tree.{Label}
 use Rattle.flow_ir.specs.Formed.{defined}
 use Rattle.ssu_ir.specs.declared.build.SsuBuild.{SsuBuild}
 use Rattle.ssu_ir.specs.declared.node.SsuLabel.{SsuLabel}
@@ -24,9 +24,9 @@ use Rattle.ssu_ir.specs.View.{with_bodies}
 use Rattle.ssu_ir.specs.Tree as ssu
 use Rattle.ssu_ir.proofs.Arranged.{brought}
 use Rattle.ssu_make.specs.declared.tree.Part.{Part}
-use Rattle.ssu_make.specs.inner.Uses.{Counts, here, occurs, operands, outside, uses, all_uses}
-use Rattle.ssu_make.specs.inner.Made.{name, names, taken, names_taken, all_taken, value, high, low, literal, literals, atom_literal, clone_step, clones, prim_step, most, spent, made, made_label, made_let, made_read, made_write, made_if, made_jump, made_halt, Laid, variables, IsMade, AllMade}
-use Rattle.ssu_make.specs.inner.Making.{counted, HasRoots, IsRoot, AreRoots, Becomes, Joined, Adds, MadeTo, LaidOut, LabelMade, LabelsMade}
+use Rattle.ssu_make.specs.inner.Uses.{Counts, operands, outside, uses, all_uses}
+use Rattle.ssu_make.specs.inner.Made.{names, taken, names_taken, value, high, low, literal, literals, atom_literal, clone_step, clones, prim_step, made, made_let, made_read, made_write, made_if, made_jump, made_halt, Laid, variables, IsMade, AllMade}
+use Rattle.ssu_make.specs.inner.Making.{counted, Becomes, Joined, Adds, MadeTo, LaidOut, LabelMade, LabelsMade}
 use Rattle.ssu_make.proofs.Along.{same-everywhere, AllMadeTo, LabelsOn}
 use Rattle.ssu_make.proofs.Turns.{becomes-node, joined-node, adds-node, becomes-trans, joined-becomes, adds-becomes}
 

@@ -1,8 +1,7 @@
 -- In a form that was made each name is defined once, and used at most once on each path.
-use Rattle.std.proofs.Common.{◌≡◌, ℕ, zero, suc, ◌+◌, ◌-◌, ◌<◌, ◌≤◌, max, min, Bool, true, false, not, nat_eq, nat_lt, ◌&&◌, ◌||◌, List, [], ◌∷◌, ◌++◌, map, refl, sym, ap, subst, ◌∙◌, ◌⊎◌, inl, inr, ⊎_elim, if◌then◌else◌, slice_index, drop, arith}
+use Rattle.std.proofs.Common.{◌≡◌, ℕ, ◌+◌, ◌-◌, ◌<◌, ◌≤◌, max, Bool, true, false, not, nat_eq, nat_lt, ◌&&◌, List, [], ◌∷◌, ◌++◌, map, refl, sym, ap, subst, ◌∙◌, ◌⊎◌, inl, inr, ⊎_elim, if◌then◌else◌, slice_index, drop, arith}
 use Rattle.std.specs.List.{list_all, range_with_len}
-use Rattle.std.proofs.lemmas.Bool.{false≢true, and_parts, and_from, or_cases, or_left, or_right, not_from_false, false_from_ne_true, cases_lt}
-use Rattle.std.proofs.lemmas.Bool.Decides.{nat_tests}
+use Rattle.std.proofs.lemmas.Bool.{and_parts, and_from, or_cases, or_left, or_right, not_from_false, false_from_ne_true, cases_lt}
 use Rattle.nv_base.specs.declared.term.Atom.{Atom}
 use Rattle.nv_base.specs.declared.term.Atom.TheVariants.{Var, Lit}
 use Rattle.nv_base.specs.declared.term.Primitive.{Primitive}
@@ -17,10 +16,10 @@ use Rattle.ssu_ir.specs.Tree as ssu
 use Rattle.ssu_ir.specs.Single.{is_narrow, step_names, are_new, uses_once, all_defined}
 use Rattle.ssu_ir.specs.Single as single
 use Rattle.ssu_make.specs.inner.Uses.{Counts, here, occurs, operands, outside, uses, all_uses}
-use Rattle.ssu_make.specs.inner.Made.{literal, names_taken, last_taken, taken, all_taken, name, names, atom_literal, literals, value, clone_step, clones, prim_step, spent, most, made, made_label, Laid, variables, IsMade, AllMade}
-use Rattle.ssu_make.proofs.Assigned.{same-test, other-test}
+use Rattle.ssu_make.specs.inner.Made.{literal, names_taken, last_taken, taken, all_taken, name, names, atom_literal, literals, value, clone_step, clones, prim_step, spent, most, made, Laid, variables, IsMade, AllMade}
+use Rattle.ssu_make.proofs.Assigned.{same-test}
 use Rattle.ssu_make.proofs.Fitting.{uses-all, operands-known, all-one, let-parts, read-parts, write-parts, if-parts, jump-parts, halt-parts}
-use Rattle.ssu_make.proofs.Counting.{from_on, lies, lies-more, lies-least, lies-out, times, times-append, times-in, times-not, different-from, different-times, times-stretch, lies_all, lies_all-append, lies_all-least, lies_all-none, lies_all-once, lies_all-more}
+use Rattle.ssu_make.proofs.Counting.{from_on, lies, lies-more, times, times-append, times-in, times-not, different-from, different-times, times-stretch, lies_all, lies_all-append, lies_all-least, lies_all-none, lies_all-once, lies_all-more}
 
 -- ---- how often a name is used at most on a path
 

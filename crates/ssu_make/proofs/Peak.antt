@@ -1,35 +1,35 @@
 -- At no point of a form that was made more values are held than the flow is wide.
-use Rattle.std.proofs.Common.{◌≡◌, ℕ, zero, suc, ◌+◌, ◌<◌, ◌≤◌, max, Bool, true, false, not, nat_eq, nat_lt, ◌&&◌, ◌||◌, List, [], ◌∷◌, ◌++◌, map, filter, refl, sym, ap, subst, ◌∙◌, ◌⊎◌, inl, inr, ⊎_elim, if◌then◌else◌, length, slice_index, drop, arith}
+use Rattle.std.proofs.Common.{◌≡◌, ℕ, suc, ◌+◌, ◌<◌, ◌≤◌, max, Bool, true, false, nat_eq, nat_lt, ◌||◌, List, [], ◌∷◌, ◌++◌, map, filter, refl, sym, ap, subst, ◌∙◌, ◌⊎◌, inl, inr, ⊎_elim, if◌then◌else◌, length, slice_index, drop, arith}
 use Rattle.std.specs.List.{list_all}
-use Rattle.std.proofs.lemmas.Bool.{false≢true, and_parts, or_cases, or_left, or_right, cases_lt, cases_eq, cases_Bool}
+use Rattle.std.proofs.lemmas.Bool.{false≢true, and_parts, or_cases, or_left, or_right, cases_lt, cases_Bool}
 use Rattle.std.proofs.lemmas.List.{append-nil}
 use Rattle.nv_base.specs.declared.term.Atom.{Atom}
 use Rattle.nv_base.specs.declared.term.Atom.TheVariants.{Var, Lit}
 use Rattle.nv_base.specs.declared.term.Primitive.{Primitive}
 use Rattle.nv_base.specs.declared.term.Primitive.TheVariants.{Same, Una as UnaOf, Bin as BinOf}
-use Rattle.nv_base.specs.Words.{word, atom_vars, prim_vars}
+use Rattle.nv_base.specs.Words.{word, atom_vars}
 use Rattle.nv_base.specs.Sets.{is_in, Within, without, all_vars, different, all_different}
-use Rattle.nv_base.specs.Measures.{operands_wide, let_wide, entry_wide}
+use Rattle.nv_base.specs.Measures.{operands_wide}
 use Rattle.nv_base.proofs.Sets.{in-append, same-number, within-left, within-right, within-both, within-behind, different-below, different-append, different-length}
 use Rattle.flow_ir.specs.Tree.{Tree, Let, Read, Write, If, Jump, Halt, Label}
 use Rattle.flow_ir.specs.Formed.{defined, is_formed, is_label}
 use Rattle.flow_ir.specs.Wide.{live, tree_wide, label_wide, wide}
 use Rattle.ssu_ir.specs.Tree as ssu
-use Rattle.ssu_ir.specs.Points.{Names, Point, own, used, held, tree_points, points_from, points}
+use Rattle.ssu_ir.specs.Points.{Names, Point, own, used, held, tree_points, points_from}
 use Rattle.ssu_ir.specs.Measures.{most_held, peak}
 use Rattle.ssu_ir.specs.Single.{is_narrow}
 use Rattle.ssu_make.specs.inner.Uses.{Counts, here, occurs, operands, outside, uses, all_uses}
 use Rattle.ssu_make.specs.inner.Made.{literal, last_taken, names_taken, taken, all_taken, name, names, atom_literal, literals, value, clone_step, clones, prim_step, spent, most, made, Laid, variables, IsMade, AllMade}
 use Rattle.ssu_make.proofs.Assigned.{same-test}
 use Rattle.ssu_make.proofs.Clones.{clone_env, clones_env, value-is}
-use Rattle.ssu_make.proofs.Counting.{lies, lies-more, lies-out, times, times-append, times-in, in-times, times-not, different-from, different-times, lies_all, lies_all-none, lies_all-once, lies_all-least}
+use Rattle.ssu_make.proofs.Counting.{lies, lies-out, times, times-append, times-in, in-times, times-not, different-from, different-times, lies_all, lies_all-none, lies_all-once, lies_all-least}
 use Rattle.ssu_make.proofs.Fitting.{Fits, fits-let, fits-read, fits-write, fits-first, fits-second, place-of, uses-all}
-use Rattle.ssu_make.proofs.Once.{Fresh, fresh-more, fresh-first, fresh-second, values-defined}
+use Rattle.ssu_make.proofs.Once.{Fresh, fresh-first, fresh-second, values-defined}
 use Rattle.ssu_make.proofs.Scoped.{param-at}
 use Rattle.ssu_make.proofs.Equal.{label-fits}
 use Rattle.ssu_make.proofs.Results.{clones-names, used-prim, live-used, vars-occur}
 use Rattle.ssu_make.proofs.Shape.{same-length, in-map}
-use Rattle.ssu_make.proofs.Held.{Sees, sees-weaker, sees-behind, valued, Behind, behind, used-of, IsOf, filter-fewer, filter-among, different-map, names-of, literals-of}
+use Rattle.ssu_make.proofs.Held.{Sees, sees-weaker, sees-behind, valued, behind, used-of, IsOf, filter-fewer, filter-among, different-map, names-of, literals-of}
 
 -- ---- one more value above
 
@@ -163,6 +163,7 @@ half-not-named base r n d val of (a ∷ as') v far small h g i j =
     half-least : (n : ℕ) (a : Atom) (v : ℕ) → is_in v (atom_halves n a) ≡ true → n ≤ v
     half-least n (Var x) v i = absurd (false≢true i)
     half-least n (Lit w) v i = (half-range (is_narrow (word w)) n v i).0
+
     named-low : (base s : Counts) (N d : ℕ) (val : ℕ → ℕ) (of : Names) (a : Atom) (v : ℕ) → d ≤ N → ((y : ℕ) → 0 < here a y + s y → val y < d) → ((y k : ℕ) → k < here a y + s y → of (base y + k) ≡ val y) → ((z : ℕ) → d ≤ z → of z ≡ z) → v < N → n ≤ v → v ≡ of (name base s N a) → d ≤ n → ⊥
     named-low base s N d val of (Var x) v far small h g up least e le =
         let one : here (Var x) x ≡ 1 = ap (λ b. if b then 1 else 0) (same-test x) in
@@ -230,11 +231,14 @@ literals-peak n d (a ∷ as') t of above h wide far g first room unhalved next =
     half-at : (n : ℕ) (a : Atom) (v : ℕ) → is_in v (atom_halves n a) ≡ true → n ≤ v
     half-at n (Var x) v i = absurd (false≢true i)
     half-at n (Lit w) v i = (half-range (is_narrow (word w)) n v i).0
+
     some-at : (as' : List Atom) → some as' ≤ 1
     some-at [] = omega arith
     some-at (a ∷ as') = omega arith
+
     room-left : (k : ℕ) → k ≤ 1 → h + (lit_count a + lits as') + 1 ≤ wide → h + lit_count a + lits as' + k ≤ wide
     room-left k le r = omega arith
+
     none : (v : ℕ) → n + all_taken as' ≤ v → is_in v (used of t) ≡ false → (is_in v (used of (literals n as' t)) ≡ true) ⊎ (is_in v (used of (literals n as' t)) ≡ false) → is_in v (used of (literals n as' t)) ≡ false
     none v le o (inl i) = ⊎_elim (λ (p : (n ≤ v) × (v < n + all_taken as')). let up = p.1 in absurd (omega arith)) (λ (p : is_in v (used of t) ≡ true). absurd (false≢true (sym o ∙ p))) (literals-of n d as' v t of far g i)
     none v le o (inr i) = i
@@ -386,10 +390,12 @@ module _ (base size : Counts) (c d : ℕ) (vs : List ℕ) (laid : Laid base size
         let q = image-of (value base r) xs v p in
         let x = q.0 in
         let low = value-low r x (le x) (w x q.1) in
-        let e : v ≡ value base r x = q.2 in
-        (inl (omega (arith, e, low.2)), λ y j.
-        let ne : x ≡ y → ⊥ = λ g. false≢true (sym (apart y j) ∙ subst (λ z. is_in z xs ≡ true) g q.1) in
-        ⊎_elim (λ (g : base x + size x < base y). inl (omega (arith, e, low.1))) (λ (g : base y + size y < base x). inr (omega (arith, e, low.0))) (laid.apart x y (w x q.1) (w' y j) ne)))
+        let e : v ≡ value base r x = q.2 in (
+          inl (omega (arith, e, low.2)),
+          λ y j.
+              let ne : x ≡ y → ⊥ = λ g. false≢true (sym (apart y j) ∙ subst (λ z. is_in z xs ≡ true) g q.1) in
+              ⊎_elim (λ (g : base x + size x < base y). inl (omega (arith, e, low.1))) (λ (g : base y + size y < base x). inr (omega (arith, e, low.0))) (laid.apart x y (w x q.1) (w' y j) ne),
+        ))
         (in-either v above' (map (value base r) xs) i);
   }
 
@@ -620,8 +626,10 @@ label-peak labels k c d l s f is =
   where
     fresh-from : (a b : List ℕ) → all_different (a ++ b) ≡ true → Fresh a b
     fresh-from a b h = λ y. let le = different-times (a ++ b) h y in omega (arith, times-append y a b)
+
     fresh-not : (xs rest : List ℕ) → Fresh xs rest → (y : ℕ) → is_in y rest ≡ true → is_in y xs ≡ false
     fresh-not xs rest f y i = let le = f y in let p = times-in y rest i in times-not y xs (omega arith)
+
     different-front : (a b : List ℕ) → all_different (a ++ b) ≡ true → all_different a ≡ true
     different-front a b h = different-from a (λ z. let le = different-times (a ++ b) h z in omega (arith, times-append z a b))
 

@@ -1,6 +1,5 @@
 -- In a form that was made some copy is used of every value of a literal or a primitive.
-use Rattle.std.proofs.Common.{◌≡◌, ℕ, zero, suc, ◌+◌, ◌<◌, ◌≤◌, max, Bool, true, false, not, nat_eq, nat_lt, ◌&&◌, ◌||◌, List, [], ◌∷◌, ◌++◌, map, refl, sym, ap, subst, ◌∙◌, ◌⊎◌, inl, inr, ⊎_elim, if◌then◌else◌, slice_index, drop, arith}
-use Rattle.std.specs.List.{list_all, range_with_len}
+use Rattle.std.proofs.Common.{◌≡◌, ℕ, ◌+◌, ◌<◌, ◌≤◌, Bool, true, false, not, nat_eq, nat_lt, ◌&&◌, List, [], ◌∷◌, ◌++◌, map, refl, sym, ap, subst, ◌∙◌, ◌⊎◌, inl, inr, ⊎_elim, if◌then◌else◌, slice_index, drop, arith}
 use Rattle.std.proofs.lemmas.Bool.{false≢true, and_parts, and_from, or_cases, or_left, or_right, cases_eq, cases_lt, not-true, or_parts, or_from, eq-eqb}
 use Rattle.nv_base.specs.declared.term.Atom.{Atom}
 use Rattle.nv_base.specs.declared.term.Atom.TheVariants.{Var, Lit}
@@ -8,16 +7,16 @@ use Rattle.nv_base.specs.declared.term.Primitive.{Primitive}
 use Rattle.nv_base.specs.declared.term.Primitive.TheVariants.{Same, Una as UnaOf, Bin as BinOf}
 use Rattle.nv_base.specs.Words.{word, atom_vars, prim_vars}
 use Rattle.nv_base.specs.Sets.{is_in, Within, without, all_vars, all_different}
-use Rattle.nv_base.proofs.Sets.{within-left, within-right, same-number, in-append, in-without}
+use Rattle.nv_base.proofs.Sets.{within-left, within-right, in-append, in-without}
 use Rattle.flow_ir.specs.Tree.{Tree, Let, Read, Write, If, Jump, Halt}
 use Rattle.flow_ir.specs.Formed.{defined}
 use Rattle.flow_ir.specs.Wide.{live}
 use Rattle.ssu_ir.specs.Tree as ssu
-use Rattle.ssu_ir.specs.Points.{Names, own, names_after, used}
-use Rattle.ssu_ir.specs.Single.{is_narrow, results_used, step_results}
+use Rattle.ssu_ir.specs.Points.{Names, own, used}
+use Rattle.ssu_ir.specs.Single.{is_narrow, results_used}
 use Rattle.ssu_make.specs.Used.{lets_used}
 use Rattle.ssu_make.specs.inner.Uses.{Counts, here, occurs, operands, outside, uses, all_uses}
-use Rattle.ssu_make.specs.inner.Made.{literal, last_taken, taken, all_taken, name, names, atom_literal, literals, value, clone_step, clones, prim_step, spent, most, made, Laid}
+use Rattle.ssu_make.specs.inner.Made.{literal, last_taken, all_taken, name, names, atom_literal, literals, value, clone_step, clones, prim_step, spent, most, made, Laid}
 use Rattle.ssu_make.proofs.Assigned.{same-test, other-test}
 use Rattle.ssu_make.proofs.Clones.{clone_env, clones_env, clone-outside, clone-inside}
 use Rattle.ssu_make.proofs.Shape.{in-map}

@@ -1,10 +1,10 @@
 -- The labels that are made of a flow are in single-use form.
-use Rattle.std.proofs.Common.{◌≡◌, ℕ, zero, suc, ◌+◌, ◌<◌, ◌≤◌, Bool, true, false, nat_le, ◌==◌, ◌&&◌, List, [], ◌∷◌, ◌++◌, map, Option, Some, None, refl, sym, ap, subst, ◌∙◌, length, slice_get, arith}
+use Rattle.std.proofs.Common.{◌≡◌, ℕ, zero, suc, true, nat_le, ◌==◌, List, [], ◌∷◌, map, refl, sym, ap, ◌∙◌, length, slice_get, arith}
 use Rattle.std.specs.List.{list_all}
-use Rattle.std.proofs.lemmas.Bool.{false≢true, and_parts, and_from}
+use Rattle.std.proofs.lemmas.Bool.{and_parts, and_from}
 use Rattle.nv_base.specs.Sets.{all_different}
 use Rattle.nv_base.proofs.Sets.{within-right}
-use Rattle.flow_ir.specs.Tree.{Tree, Label}
+use Rattle.flow_ir.specs.Tree.{Label}
 use Rattle.flow_ir.specs.Formed.{is_formed, is_label, is_flow, is_entry, takes_as_many, defined}
 use Rattle.flow_ir.specs.Meaning.{flow_params}
 use Rattle.ssu_ir.specs.Tree as ssu
@@ -12,8 +12,8 @@ use Rattle.ssu_ir.specs.Meaning.{ssu_params}
 use Rattle.ssu_ir.specs.Single.{are_nodes, uses_once, is_scoped, clones_early, results_used, are_addressed, unknown, is_single, single, all_defined}
 use Rattle.ssu_ir.specs.Single as rules
 use Rattle.ssu_make.specs.Used.{lets_used, all_lets_used}
-use Rattle.ssu_make.specs.inner.Uses.{Counts, uses, all_uses}
-use Rattle.ssu_make.specs.inner.Made.{value, clones, made, made_label, variables, IsMade, AllMade}
+use Rattle.ssu_make.specs.inner.Uses.{uses, all_uses}
+use Rattle.ssu_make.specs.inner.Made.{value, clones, made, variables, IsMade, AllMade}
 use Rattle.ssu_make.proofs.Shape.{AsMany, same-length, in-map, made-nodes, clones-nodes, made-early, clones-are-early, AddressedAnyway, made-addressed, clones-addressed}
 use Rattle.ssu_make.proofs.Once.{body-once, all-different}
 use Rattle.ssu_make.proofs.Scoped.{body-scoped}

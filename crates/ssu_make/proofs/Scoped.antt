@@ -1,7 +1,7 @@
 -- In a form that was made every name that is used is a parameter of its label or defined above.
-use Rattle.std.proofs.Common.{◌≡◌, ℕ, zero, suc, ◌+◌, ◌<◌, ◌≤◌, max, Bool, true, false, nat_eq, nat_lt, ◌&&◌, ◌||◌, List, [], ◌∷◌, ◌++◌, map, refl, sym, ap, subst, ◌∙◌, ⊎_elim, if◌then◌else◌, slice_index, drop, arith}
-use Rattle.std.specs.List.{list_all, range_with_len}
-use Rattle.std.proofs.lemmas.Bool.{false≢true, and_parts, and_from, or_cases, or_left, or_right, or_from}
+use Rattle.std.proofs.Common.{◌≡◌, ℕ, ◌+◌, ◌<◌, ◌≤◌, Bool, true, false, nat_eq, nat_lt, List, [], ◌∷◌, ◌++◌, map, refl, sym, ap, subst, ◌∙◌, ⊎_elim, if◌then◌else◌, slice_index, drop, arith}
+use Rattle.std.specs.List.{range_with_len}
+use Rattle.std.proofs.lemmas.Bool.{false≢true, and_parts, and_from, or_cases, or_left, or_right}
 use Rattle.std.proofs.lemmas.Bool.Decides.{nat_tests}
 use Rattle.nv_base.specs.declared.term.Atom.{Atom}
 use Rattle.nv_base.specs.declared.term.Atom.TheVariants.{Var, Lit}
@@ -13,9 +13,9 @@ use Rattle.nv_base.proofs.Sets.{within-left, within-right, same-number}
 use Rattle.flow_ir.specs.Tree.{Tree, Let, Read, Write, If, Jump, Halt, Label}
 use Rattle.flow_ir.specs.Formed.{is_formed}
 use Rattle.ssu_ir.specs.Tree as ssu
-use Rattle.ssu_ir.specs.Single.{is_narrow, step_names, all_known, is_scoped}
+use Rattle.ssu_ir.specs.Single.{is_narrow, all_known, is_scoped}
 use Rattle.ssu_make.specs.inner.Uses.{Counts, here, occurs, operands, outside, uses}
-use Rattle.ssu_make.specs.inner.Made.{literal, last_taken, taken, all_taken, name, names, atom_literal, literals, value, clone_step, clones, prim_step, spent, most, made}
+use Rattle.ssu_make.specs.inner.Made.{literal, last_taken, all_taken, name, names, atom_literal, literals, value, clone_step, clones, prim_step, spent, most, made}
 use Rattle.ssu_make.proofs.Assigned.{same-test, in-stretch}
 use Rattle.ssu_make.proofs.Fitting.{live-known}
 use Rattle.ssu_make.proofs.Shape.{in-map}

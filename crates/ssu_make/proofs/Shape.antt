@@ -1,8 +1,6 @@
 -- The nodes of a form that was made: literals are narrow, counts and accesses right, clones directly behind their values, scratch addressed by literals.
-use Rattle.std.proofs.Common.{◌≡◌, ℕ, zero, suc, ◌+◌, ◌*◌, ◌/◌, ◌%◌, ◌^◌, ◌<◌, ◌≤◌, Bool, true, false, nat_eq, nat_lt, nat_le, ◌&&◌, ◌||◌, List, [], ◌∷◌, ◌++◌, map, Option, Some, None, refl, sym, ap, subst, ◌∙◌, ◌⊎◌, inl, inr, ⊎_elim, if◌then◌else◌, length, slice_get, slice_index, drop, arith}
-use Rattle.std.specs.List.{range_with_len}
-use Rattle.std.proofs.lemmas.Bool.{false≢true, and_parts, and_from, or_cases, or_left, or_right, or_from, eq-eqb, lt-ltb, ltb-false, le-leb, leb-true}
-use Rattle.std.proofs.lemmas.Bool.Decides.{nat_tests}
+use Rattle.std.proofs.Common.{◌≡◌, ℕ, suc, ◌+◌, ◌/◌, ◌%◌, ◌^◌, ◌<◌, ◌≤◌, Bool, true, false, nat_eq, nat_lt, nat_le, ◌||◌, List, [], ◌∷◌, ◌++◌, map, Option, Some, None, refl, ap, ◌∙◌, ◌⊎◌, inl, inr, ⊎_elim, if◌then◌else◌, length, slice_get, slice_index, arith}
+use Rattle.std.proofs.lemmas.Bool.{false≢true, and_parts, and_from, or_cases, or_left, or_right, eq-eqb, lt-ltb, leb-true}
 use Rattle.nv_base.specs.declared.term.Atom.{Atom}
 use Rattle.nv_base.specs.declared.term.Atom.TheVariants.{Var, Lit}
 use Rattle.nv_base.specs.declared.term.Mem.{Mem}
@@ -19,7 +17,7 @@ use Rattle.flow_ir.specs.Formed.{is_formed, takes_as_many}
 use Rattle.ssu_ir.specs.Tree as ssu
 use Rattle.ssu_ir.specs.Single.{is_narrow, are_nodes, clones_early, are_addressed, Numbers, numbered, fits_scratch}
 use Rattle.ssu_ir.specs.Single as single
-use Rattle.ssu_make.specs.inner.Uses.{Counts, occurs, operands, outside, uses}
+use Rattle.ssu_make.specs.inner.Uses.{Counts, operands, outside, uses}
 use Rattle.ssu_make.specs.inner.Made.{high, low, literal, names_taken, last_taken, taken, all_taken, names, atom_literal, literals, value, clone_step, clones, prim_step, spent, made}
 use Rattle.ssu_make.proofs.Assigned.{same-test, other-test}
 use Rattle.ssu_make.proofs.Fitting.{let-parts, read-parts, write-parts, if-parts, jump-parts, halt-parts}

@@ -1,12 +1,12 @@
 -- How large a form that was made is, and how long its code.
-use Rattle.std.proofs.Common.{◌≡◌, ℕ, zero, suc, ◌+◌, ◌*◌, ◌<◌, ◌≤◌, max, Bool, true, false, nat_lt, ◌&&◌, List, [], ◌∷◌, ◌++◌, map, Option, Some, None, refl, sym, ap, subst, ◌∙◌, ⊎_elim, length, slice_get, slice_index, drop, arith}
+use Rattle.std.proofs.Common.{◌≡◌, ℕ, ◌+◌, ◌*◌, ◌≤◌, max, Bool, true, false, nat_lt, List, [], ◌∷◌, map, refl, ap, ◌∙◌, length, slice_get, slice_index, drop, arith}
 use Rattle.std.proofs.lemmas.Bool.{leb-true}
 use Rattle.nv_base.specs.declared.term.Atom.{Atom}
 use Rattle.nv_base.specs.declared.term.Atom.TheVariants.{Var, Lit}
 use Rattle.nv_base.specs.declared.term.Primitive.{Primitive}
 use Rattle.nv_base.specs.declared.term.Primitive.TheVariants.{Same, Una as UnaOf, Bin as BinOf}
 use Rattle.nv_base.specs.Words.{word}
-use Rattle.nv_base.specs.Measures.{operands_wide, entry_wide, Bulk, both}
+use Rattle.nv_base.specs.Measures.{operands_wide, entry_wide, Bulk}
 use Rattle.flow_ir.specs.Tree.{Tree, Let, Read, Write, If, Jump, Halt, Label}
 use Rattle.flow_ir.specs.Formed.{is_entry}
 use Rattle.flow_ir.specs.Wide.{tree_wide, wide}
@@ -16,7 +16,7 @@ use Rattle.ssu_ir.specs.Single.{is_narrow}
 use Rattle.ssu_ir.specs.Measures.{node_size, step_code, tree_size, tree_code, size, labels_code, entry_code, code_bound}
 use Rattle.ssu_make.specs.Bounds.{size_bound, length_bound}
 use Rattle.ssu_make.specs.inner.Uses.{Counts, operands, outside, uses}
-use Rattle.ssu_make.specs.inner.Made.{literal, taken, all_taken, names, atom_literal, literals, value, clone_step, clones, prim_step, spent, most, made, made_label, IsMade, AllMade}
+use Rattle.ssu_make.specs.inner.Made.{literal, all_taken, names, atom_literal, literals, value, clone_step, clones, prim_step, spent, most, made, made_label, AllMade}
 use Rattle.ssu_make.proofs.Shape.{same-length, names-length}
 
 two-sums : (a b k : ℕ) → (a + b) * k ≡ a * k + b * k

@@ -1,8 +1,8 @@
 -- One turn of each loop, and the nodes that are added.
-use Rattle.std.proofs.Common.{◌≡◌, ℕ, zero, suc, ◌+◌, ◌-◌, ◌<◌, ◌≤◌, max, Bool, true, false, nat_eq, nat_lt, List, [], ◌∷◌, ◌++◌, map, All, refl, sym, ap, subst, ◌∙◌, ◌⊎◌, inl, inr, ⊎_elim, if◌then◌else◌, length, get_or, drop, take, reverse, slice_index, append_assoc, arith}
+use Rattle.std.proofs.Common.{◌≡◌, ℕ, zero, suc, ◌+◌, ◌<◌, ◌≤◌, nat_lt, List, [], ◌∷◌, ◌++◌, map, refl, sym, ap, subst, ◌∙◌, length, get_or, drop, reverse, append_assoc, arith}
 use Rattle.std.specs.Borrow.{Bor}
 use Rattle.std.specs.List.{range_with_len}
-use Rattle.std.proofs.lemmas.List.{append-nil, at_drop_more, take_more, reverse-append}
+use Rattle.std.proofs.lemmas.List.{append-nil, at_drop_more, reverse-append}
 use Rattle.std.proofs.lemmas.List.Elements.{All-nil, All-cons, All-head, All-tail, All-append}
 use Rattle.nv_base.specs.declared.term.Atom.{Atom}
 use Rattle.nv_base.specs.declared.term.Primitive.{Primitive}
@@ -10,21 +10,19 @@ use Rattle.nv_base.specs.declared.term.Mem.{Mem}
 use Rattle.nv_base.specs.declared.term.Cmp.{Cmp}
 use Rattle.flow_ir.specs.declared.flow.Tree.{Tree as Boxed, size-Tree}
 use Rattle.flow_ir.specs.declared.flow.Tree.TheVariants as boxed
-use Rattle.flow_ir.specs.Tree.{Tree, Let, Read, Write, If, Jump, Halt, Label}
+use Rattle.flow_ir.specs.Tree.{Tree, Let, Read, Write, If, Jump, Halt}
 use Rattle.flow_ir.specs.View.{tree_view}
 use Rattle.flow_ir.specs.Formed.{defined}
 use Rattle.ssu_ir.specs.declared.build.SsuBuild.{SsuBuild}
-use Rattle.ssu_ir.specs.declared.node.SsuLabel.{SsuLabel}
 use Rattle.ssu_ir.specs.declared.node.SsuNode.{SsuNode}
-use Rattle.ssu_ir.specs.Build.{Rooted, Holds, CanTake, Grown, ids, trees_of}
-use Rattle.ssu_ir.specs.Slots.{bodies, over, node_of, kids_of}
-use Rattle.ssu_ir.specs.View.{with_bodies}
+use Rattle.ssu_ir.specs.Build.{Holds, CanTake, Grown}
+use Rattle.ssu_ir.specs.Slots.{over, node_of, kids_of}
 use Rattle.ssu_ir.specs.Tree as ssu
 use Rattle.ssu_make.specs.declared.tree.Part.{Part}
 use Rattle.ssu_make.specs.inner.Uses.{Counts, here, occurs, operands, outside, uses, all_uses}
-use Rattle.ssu_make.specs.inner.Made.{name, names, taken, all_taken, value, literals, atom_literal, clone_step, clones, prim_step, most, spent, made, made_let, made_read, made_write, made_if, made_jump, made_halt, Laid, IsMade, AllMade}
-use Rattle.ssu_make.specs.inner.Making.{counted, HasRoots, IsRoot, AreRoots, Becomes, Joined, Adds, MadeTo, Reaches, Leads, rest_of, made_node, node_uses, node_spent, tops, AreWithin, kids, node_operands, node_defined, LaidOut, LabelMade, LabelsMade}
-use Rattle.ssu_make.proofs.Along.{same-everywhere, Named, LiteralsOn, ClonesOn, Goes, OnWay, weight, weights, sum_uses, defined_in, Surveys, AllMadeTo, LabelsOn}
+use Rattle.ssu_make.specs.inner.Made.{name, names, taken, all_taken, literals, atom_literal, clone_step, clones, most, spent, made, made_let, made_read, made_write, made_if}
+use Rattle.ssu_make.specs.inner.Making.{counted, HasRoots, IsRoot, AreRoots, Becomes, Joined, Adds, MadeTo, Reaches, Leads, rest_of, tops, AreWithin, kids, node_operands, node_defined}
+use Rattle.ssu_make.proofs.Along.{same-everywhere, Named, LiteralsOn, ClonesOn, Goes, OnWay, weight, weights, sum_uses, defined_in, Surveys}
 
 -- ---- lists
 
@@ -48,12 +46,12 @@ can-take-none b n r e = record { taken = []; rest = r.roots; children = sym e; h
 
 pub becomes-node : (old new : SsuBuild) (n : SsuNode) (i id : ℕ) (s : ssu.Step) → Grown old new n id → node_of n ≡ ssu.Does s → kids_of n ≡ i ∷ [] → Becomes old new i id (ssu.Do s)
 becomes-node old new n i id s g e k = record {
-  by = λ t rest h. subst (λ m. Holds new ((id, over m (t ∷ [])) ∷ rest)) e (g ((i, t) ∷ []) rest (sym k) h)
+  by = λ t rest h. subst (λ m. Holds new ((id, over m (t ∷ [])) ∷ rest)) e (g ((i, t) ∷ []) rest (sym k) h);
 }
 
 pub joined-node : (old new : SsuBuild) (n : SsuNode) (i j id : ℕ) (c : Cmp) (x y : ℕ) → Grown old new n id → node_of n ≡ ssu.Forks c x y → kids_of n ≡ i ∷ j ∷ [] → Joined old new i j id (ssu.If c x y)
 joined-node old new n i j id c x y g e k = record {
-  by = λ t u rest h. subst (λ m. Holds new ((id, over m (t ∷ u ∷ [])) ∷ rest)) e (g ((i, t) ∷ (j, u) ∷ []) rest (sym k) h)
+  by = λ t u rest h. subst (λ m. Holds new ((id, over m (t ∷ u ∷ [])) ∷ rest)) e (g ((i, t) ∷ (j, u) ∷ []) rest (sym k) h);
 }
 
 pub adds-node : (old new : SsuBuild) (n : SsuNode) (id : ℕ) (l : ssu.Last) → Grown old new n id → node_of n ≡ ssu.Ends l → kids_of n ≡ [] → Adds old new id (ssu.End l)
@@ -151,6 +149,35 @@ clones-more old mid new from id id' base r i j xs dflt x h ei ea b =
       root = becomes-root mid new id id' f b h.root;
       becomes = subst (Becomes old new from id') whole (becomes-trans old mid new from id id' (clones base r (drop i xs)) f h.becomes b);
     }
+
+-- ---- a node of a flow before a tree
+
+-- the tree of a node before a tree, where so many uses of each variable follow and new names go on at n
+abbrev pub made_node : Counts → ℕ → Tree → Counts → ssu.Tree → ssu.Tree
+made_node base n (Let x p t) r u = made_let base n x p r u
+made_node base n (Read m xs a t) r u = made_read base n m xs a r u
+made_node base n (Write m a bs t) r u = made_write base n m a bs r u
+made_node base n (If c a b t s) r u = made_if base (n + spent t) c a b (most (uses t) r) (made base n t) u
+made_node base n (Jump l bs) r u = u
+made_node base n (Halt e bs) r u = u
+
+-- its uses and those that follow
+abbrev pub node_uses : Tree → Counts → Counts
+node_uses (Let x p t) r y = occurs (operands p) y + outside (x ∷ []) r y
+node_uses (Read m xs a t) r y = occurs (a ∷ []) y + outside xs r y
+node_uses (Write m a bs t) r y = occurs (a ∷ bs) y + r y
+node_uses (If c a b t u) r y = occurs (a ∷ b ∷ []) y + most (uses t) r y
+node_uses (Jump l bs) r y = r y
+node_uses (Halt e bs) r y = r y
+
+-- how many new names it takes, with a first arm
+abbrev pub node_spent : Tree → ℕ
+node_spent (Let x p t) = all_taken (operands p)
+node_spent (Read m xs a t) = all_taken (a ∷ [])
+node_spent (Write m a bs t) = all_taken (a ∷ bs)
+node_spent (If c a b t u) = spent t + all_taken (a ∷ b ∷ [])
+node_spent (Jump l bs) = 0
+node_spent (Halt e bs) = 0
 
 -- ---- along a tree
 

@@ -7,6 +7,8 @@ mod counts;
 mod naming;
 mod nodes;
 mod program;
+#[cfg(test)]
+mod tests;
 mod tree;
 
 pub use program::make;

@@ -35,13 +35,7 @@ pub fn taken(a: Atom) -> u32
 {
     match a {
         Atom::Var(_) => 0,
-        Atom::Lit(v) => {
-            if is_literal(v) {
-                1
-            } else {
-                3
-            }
-        }
+        Atom::Lit(v) => { if is_literal(v) { 1 } else { 3 } }
     }
 }
 

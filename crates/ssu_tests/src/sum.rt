@@ -5,7 +5,7 @@ ghost use Rattle.ssu_ir.specs.View.{labels_view};
 
 use nv_base::{Bin, NoMemory, Vars};
 use ssu_ir::walk::preorder;
-use ssu_ir::{Ssu, SsuBuild, SsuLabel, SsuNode, single};
+use ssu_ir::{Ssu, SsuBuild, SsuLabel, SsuNode, single, size};
 use std::alloc::Global;
 use std::test::Fail;
 
@@ -25,6 +25,7 @@ fn sum(alloc: Global) -> Result<Ssu, NoMemory>
 fn a_sum_is_built_and_read(rt: HostRuntime) -> Result<(), Fail> {
     let s = sum(rt.alloc())?;
     assert!(rt; single(&s));
+    assert_eq!(rt; size(rt.alloc(), &s)?, 9);
     let order = preorder(rt.alloc(), &s)?;
     assert_eq!(rt; order.len(), 2);
     assert_eq!(rt; order.first().copied(), s.labels.first().map(|l| l.body));

@@ -57,3 +57,9 @@ pub data Chain : Numbers → List Group → Numbers → Type 0 where
 -- no two values of a row have one number
 abbrev pub IsApart : Numbers → List ℕ → Type 0
 IsApart number row = (x y n : ℕ) → is_in x row ≡ true → is_in y row ≡ true → (x ≡ y → ⊥) → number x ≡ Some n → number y ≡ Some n → ⊥
+
+-- groups got their numbers, and nothing had one before
+pub record AreNumbered (gs : List Group) (number : Numbers) : Type 0 where
+  pub old : Numbers
+  pub none : (z : ℕ) → old z ≡ None
+  pub chain : Chain old gs number

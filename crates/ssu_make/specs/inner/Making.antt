@@ -14,8 +14,8 @@ use Rattle.ssu_ir.specs.View.{with_bodies}
 use Rattle.ssu_make.specs.declared.counts.Counts.{Counts}
 use Rattle.ssu_make.specs.declared.tree.Part.{Part}
 use Rattle.ssu_make.specs.inner.Uses as number
-use Rattle.ssu_make.specs.inner.Uses.{kept, occurs, operands, outside, uses}
-use Rattle.ssu_make.specs.inner.Made.{all_taken, most, spent, made, made_let, made_read, made_write, made_if, Laid, IsMade, AllMade}
+use Rattle.ssu_make.specs.inner.Uses.{kept, operands, uses}
+use Rattle.ssu_make.specs.inner.Made.{spent, made, Laid, IsMade, AllMade}
 
 -- the numbers
 abbrev pub counted : Counts → number.Counts
@@ -56,33 +56,6 @@ rest_of (Write m a bs t) = t
 rest_of (If c a b t u) = u
 rest_of (Jump l bs) = Jump l bs
 rest_of (Halt e bs) = Halt e bs
-
--- The tree of a node before a tree, where so many uses of each variable follow and new names go on at n.
-abbrev pub made_node : number.Counts → ℕ → Tree → number.Counts → ssu.Tree → ssu.Tree
-made_node base n (Let x p t) r u = made_let base n x p r u
-made_node base n (Read m xs a t) r u = made_read base n m xs a r u
-made_node base n (Write m a bs t) r u = made_write base n m a bs r u
-made_node base n (If c a b t s) r u = made_if base (n + spent t) c a b (most (uses t) r) (made base n t) u
-made_node base n (Jump l bs) r u = u
-made_node base n (Halt e bs) r u = u
-
--- its uses and those that follow
-abbrev pub node_uses : Tree → number.Counts → number.Counts
-node_uses (Let x p t) r y = occurs (operands p) y + outside (x ∷ []) r y
-node_uses (Read m xs a t) r y = occurs (a ∷ []) y + outside xs r y
-node_uses (Write m a bs t) r y = occurs (a ∷ bs) y + r y
-node_uses (If c a b t u) r y = occurs (a ∷ b ∷ []) y + most (uses t) r y
-node_uses (Jump l bs) r y = r y
-node_uses (Halt e bs) r y = r y
-
--- how many new names it takes, with a first arm
-abbrev pub node_spent : Tree → ℕ
-node_spent (Let x p t) = all_taken (operands p)
-node_spent (Read m xs a t) = all_taken (a ∷ [])
-node_spent (Write m a bs t) = all_taken (a ∷ bs)
-node_spent (If c a b t u) = spent t + all_taken (a ∷ b ∷ [])
-node_spent (Jump l bs) = 0
-node_spent (Halt e bs) = 0
 
 -- these trees, the last one first, go from the first tree to the second: each follows the one before
 abbrev pub Leads : List Tree → Tree → Tree → Type 0

@@ -23,6 +23,6 @@ returns-in_ok-add_values-in-Write c =
     let of = value_by (get nat_eq c.args.copies.now) in
     subst (λ (n : SsuNode). OnOk c.add_values-in-Write-2.result (c.add_values-in-Write-2.new.row.items ≡ add_all (map of (node_uses (node_of n))) c.args.row.now.items)) (sym c.in-Write.is)
     (on-ok c.add_values-in-Write-2.result (c.add_values-in-Write-2.new.row.items ≡ add_all (map of c.deref.result.now) c.add_values-in-Write.new.row.items)
-      (c.add_values-in-Write-2.new.row.items ≡ add_all (map of (c.in-Write.y ∷ c.in-Write.xs.items)) c.args.row.now.items)
-      (λ e. e ∙ ap (λ xs. add_all (map of xs) c.add_values-in-Write.new.row.items) c.deref.ensures ∙ ap (λ r. add_all (map of c.in-Write.xs.items) r) c.in_ok-add_values-in-Write.ensures)
-      c.add_values-in-Write-2.ensures)
+    (c.add_values-in-Write-2.new.row.items ≡ add_all (map of (c.in-Write.y ∷ c.in-Write.xs.items)) c.args.row.now.items)
+    (λ e. e ∙ ap (λ xs. add_all (map of xs) c.add_values-in-Write.new.row.items) c.deref.ensures ∙ ap (λ r. add_all (map of c.in-Write.xs.items) r) c.in_ok-add_values-in-Write.ensures)
+    c.add_values-in-Write-2.ensures)

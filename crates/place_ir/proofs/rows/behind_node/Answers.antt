@@ -16,8 +16,8 @@ returns-in_ok-add_each-in-If c =
     let n = Forked c.in-If.field-0 c.in-If.field-1 c.in-If.field-2 c.in-If.field-3 c.in-If.field-4 in
     subst (λ (m : SsuNode). Takes old new (λ rs. c.add_each.new.row.items ≡ behind (node_of m) rs) (arity (node_of m))) (sym c.in-If.is)
     (takes-as old new (λ rs. rs ≡ a ∷ b ∷ []) (λ rs. c.add_each.new.row.items ≡ behind (node_of n) rs) 2 2 refl
-      (λ rs e. c.in_ok-add_each-in-If.ensures ∙ ap (λ xs. add_all xs a) c.deref-in-If.ensures.value ∙ ap (λ r. behind (node_of n) r) (sym e))
-      (takes-two old c.take_row-first.new.rows.items new a b c.take_row-first.ensures c.take_row-in-If.ensures))
+    (λ rs e. c.in_ok-add_each-in-If.ensures ∙ ap (λ xs. add_all xs a) c.deref-in-If.ensures.value ∙ ap (λ r. behind (node_of n) r) (sym e))
+    (takes-two old c.take_row-first.new.rows.items new a b c.take_row-first.ensures c.take_row-in-If.ensures))
 
 pub returns-in-Clone : goal.returns-in-Clone
 returns-in-Clone c =
@@ -27,7 +27,7 @@ returns-in-Clone c =
     let n = Cloned c.in-Clone.field-0 c.in-Clone.field-1 c.in-Clone.field-2 in
     subst (λ (m : SsuNode). Takes old new (λ rs. a ≡ behind (node_of m) rs) (arity (node_of m))) (sym c.in-Clone.is)
     (takes-as old new (λ rs. rs ≡ a ∷ []) (λ rs. a ≡ behind (node_of n) rs) 1 1 refl
-      (λ rs e. sym (without-nothing a) ∙ ap (λ r. behind (node_of n) r) (sym e)) c.take_row-in-Clone.ensures)
+    (λ rs e. sym (without-nothing a) ∙ ap (λ r. behind (node_of n) r) (sym e)) c.take_row-in-Clone.ensures)
 
 pub returns-in-Write : goal.returns-in-Write
 returns-in-Write c =
@@ -37,4 +37,4 @@ returns-in-Write c =
     let n = Written c.in-Write.field-0 c.in-Write.field-1 c.in-Write.field-2 c.in-Write.field-3 in
     subst (λ (m : SsuNode). Takes old new (λ rs. a ≡ behind (node_of m) rs) (arity (node_of m))) (sym c.in-Write.is)
     (takes-as old new (λ rs. rs ≡ a ∷ []) (λ rs. a ≡ behind (node_of n) rs) 1 1 refl
-      (λ rs e. sym (without-nothing a) ∙ ap (λ r. behind (node_of n) r) (sym e)) c.take_row-in-Write.ensures)
+    (λ rs e. sym (without-nothing a) ∙ ap (λ r. behind (node_of n) r) (sym e)) c.take_row-in-Write.ensures)

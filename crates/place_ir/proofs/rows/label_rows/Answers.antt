@@ -31,7 +31,7 @@ walk-preserved c =
     let m = step_of slots c.walk.order.items c.pop.new.self.items c.in-Some.id c.walk.invariant.made (label_tree c.args.s.now c.args.k ∷ []) c.in-Some.ensures.items c.walk.invariant.left in
     let b = below_made slots c.in-Some.id.0 m.top c.node.result.now m.at_number m.stands c.node.ensures in
     let g = grown of m.top m.rest c.walk.invariant.made slots c.node.result.now c.walk.roots.items c.row_of.new.rows.items c.push-in-Some.new.self.items c.walk.rows.items c.push.new.self.items c.in_ok-row.row c.in_ok-copied.field-0 m.uses b
-      c.walk.invariant.roots c.walk.invariant.rows c.in_ok-row.ensures c.in_ok-push-2.ensures.items (c.in_ok-copied.ensures ∙ c.deref.ensures.value) c.in_ok-push.ensures.items in
+    c.walk.invariant.roots c.walk.invariant.rows c.in_ok-row.ensures c.in_ok-push-2.ensures.items (c.in_ok-copied.ensures ∙ c.deref.ensures.value) c.in_ok-push.ensures.items in
     record {
       made = m.top ∷ m.rest;
       left = m.later;

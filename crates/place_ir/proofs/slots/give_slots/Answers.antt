@@ -22,14 +22,14 @@ loop-x-preserved c =
     let out = not-earlier vs i (omega arith) c.requires.once in
     let unset = c.loop-x.invariant.kept x out ∙ c.requires.fresh x (is-among vs i (omega arith)) in
     elim c.if-is_in_row.branch [
-      then-is_in_row+in_ok-n+in_ok-give w ↦
-        let there = sym c.is_in_row.ensures ∙ w.if-is_in_row.true in
-        let d = numbered-more old new (get nat_eq w.give.new.slots) (take i vs) row x w.in_ok-n.n there out w.in_ok-n.ensures.free w.in_ok-n.ensures.below unset w.in_ok-give.ensures c.loop-x.invariant in
-        subst (λ (m : HashMap ℕ ℕ (BuildHasherDefault FoldHasher)). Numbered old (take (i + 1) vs) row (get nat_eq m)) (sym w.slots-is)
-        (subst (λ us. Numbered old us row (get nat_eq w.give.new.slots)) (take-values vs i x (omega arith) refl) d)
-    | else-is_in_row w ↦
-        let out-of-row = sym c.is_in_row.ensures ∙ w.if-is_in_row.false in
-        let d = numbered-skip old new (take i vs) row x out-of-row c.loop-x.invariant in
-        subst (λ (m : HashMap ℕ ℕ (BuildHasherDefault FoldHasher)). Numbered old (take (i + 1) vs) row (get nat_eq m)) (sym w.slots-is)
-        (subst (λ us. Numbered old us row new) (take-values vs i x (omega arith) refl) d)
+      | then-is_in_row+in_ok-n+in_ok-give w ↦
+          let there = sym c.is_in_row.ensures ∙ w.if-is_in_row.true in
+          let d = numbered-more old new (get nat_eq w.give.new.slots) (take i vs) row x w.in_ok-n.n there out w.in_ok-n.ensures.free w.in_ok-n.ensures.below unset w.in_ok-give.ensures c.loop-x.invariant in
+          subst (λ (m : HashMap ℕ ℕ (BuildHasherDefault FoldHasher)). Numbered old (take (i + 1) vs) row (get nat_eq m)) (sym w.slots-is)
+          (subst (λ us. Numbered old us row (get nat_eq w.give.new.slots)) (take-values vs i x (omega arith) refl) d)
+      | else-is_in_row w ↦
+          let out-of-row = sym c.is_in_row.ensures ∙ w.if-is_in_row.false in
+          let d = numbered-skip old new (take i vs) row x out-of-row c.loop-x.invariant in
+          subst (λ (m : HashMap ℕ ℕ (BuildHasherDefault FoldHasher)). Numbered old (take (i + 1) vs) row (get nat_eq m)) (sym w.slots-is)
+          (subst (λ us. Numbered old us row new) (take-values vs i x (omega arith) refl) d)
     ]

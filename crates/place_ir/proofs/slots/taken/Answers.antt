@@ -11,10 +11,10 @@ loop-y-preserved c =
     let i = c.loop-y.y-index in
     let x = get_or row i 0 in
     elim c.match-slot_of.branch [
-      in-Some w ↦
-        subst (λ (v : Vec Bool Global). Marked number row (i + 1) v.items) (sym w.marks-is)
-        (marked-more number row i x w.in-Some.n c.loop-y.marks.items w.mark.new.marks.items (omega arith) refl (sym c.slot_of.ensures ∙ w.in-Some.is) w.mark.ensures c.loop-y.invariant)
-    | in_default w ↦
-        subst (λ (v : Vec Bool Global). Marked number row (i + 1) v.items) (sym w.marks-is)
-        (marked-skip number row i x c.loop-y.marks.items (omega arith) refl (sym c.slot_of.ensures ∙ w.in_default.is) c.loop-y.invariant)
+      | in-Some w ↦
+          subst (λ (v : Vec Bool Global). Marked number row (i + 1) v.items) (sym w.marks-is)
+          (marked-more number row i x w.in-Some.n c.loop-y.marks.items w.mark.new.marks.items (omega arith) refl (sym c.slot_of.ensures ∙ w.in-Some.is) w.mark.ensures c.loop-y.invariant)
+      | in_default w ↦
+          subst (λ (v : Vec Bool Global). Marked number row (i + 1) v.items) (sym w.marks-is)
+          (marked-skip number row i x c.loop-y.marks.items (omega arith) refl (sym c.slot_of.ensures ∙ w.in_default.is) c.loop-y.invariant)
     ]

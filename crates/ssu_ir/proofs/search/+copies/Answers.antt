@@ -4,7 +4,7 @@ use Rattle.nv_base.specs.Sets.{is_in}
 use Rattle.ssu_ir.specs.inner.Checks.{copy_used}
 use Rattle.ssu_ir.specs.inner.Under.{tree_at}
 use Rattle.ssu_ir.proofs.Unders.{present_tree, one_kid, two_kids}
-use Rattle.ssu_ir.proofs.Searches.{copy_here, copy_none, copy_one, copy_two, by_first, by_second, gone_name, left_name}
+use Rattle.ssu_ir.proofs.Searches.{not-of_true, copy_here, copy_none, copy_one, copy_two, by_first, by_second, gone_name, left_name}
 use Rattle.ssu_ir.proofs.search.+copies.Goals as goal
 
 pub copy_used-node-n-requires : goal.copy_used-node-n-requires
@@ -20,25 +20,25 @@ pub copy_used-any_used-requires : goal.copy_used-any_used-requires
 copy_used-any_used-requires t c = let o = one_kid _ _ _ _ c.requires c.node-n.ensures c.in-One.ensures in (omega (arith, c.decreases, o.kid.lighter), o.kid.has)
 
 pub copy_used-returns-then-any_used : goal.copy_used-returns-then-any_used
-copy_used-returns-then-any_used t c = by_first _ _ _ (sym (c.any_used.ensures ∙ ap (λ l. list_any (λ z. copy_used z (tree_at c.args.s.now.nodes.slots c.in-One.k.0)) l) c.clones_from.ensures) ∙ c.if-any_used.true) (copy_one _ _ _ _ _ c.requires c.node-n.ensures c.in-One.ensures (sym c.is_use.ensures ∙ c.if-is_use.false))
+copy_used-returns-then-any_used t c = c.if-any_used.true ∙ (by_first _ _ _ (sym (c.any_used.ensures ∙ ap (λ l. list_any (λ z. copy_used z (tree_at c.args.s.now.nodes.slots c.in-One.k.0)) l) c.clones_from.ensures) ∙ c.if-any_used.true) (copy_one _ _ _ _ _ c.requires c.node-n.ensures c.in-One.ensures (sym c.is_use.ensures ∙ c.if-is_use.false)))
 
-pub copy_used-returns-then-has : goal.copy_used-returns-then-has
-copy_used-returns-then-has t c = gone_name _ _ _ _ (sym (c.any_used.ensures ∙ ap (λ l. list_any (λ z. copy_used z (tree_at c.args.s.now.nodes.slots c.in-One.k.0)) l) c.clones_from.ensures) ∙ c.if-any_used.false) (sym (c.has.ensures ∙ ap (is_in c.args.x) c.clones.ensures) ∙ c.if-has.true) (copy_one _ _ _ _ _ c.requires c.node-n.ensures c.in-One.ensures (sym c.is_use.ensures ∙ c.if-is_use.false))
+pub copy_used-returns-else-not-has : goal.copy_used-returns-else-not-has
+copy_used-returns-else-not-has t c = not-of_true _ c.if-not-has.false ∙ (gone_name _ _ _ _ (sym (c.any_used.ensures ∙ ap (λ l. list_any (λ z. copy_used z (tree_at c.args.s.now.nodes.slots c.in-One.k.0)) l) c.clones_from.ensures) ∙ c.if-any_used.false) (sym (c.has.ensures ∙ ap (is_in c.args.x) c.clones.ensures) ∙ c.if-not-has.false) (copy_one _ _ _ _ _ c.requires c.node-n.ensures c.in-One.ensures (sym c.is_use.ensures ∙ c.if-is_use.false)))
 
 pub copy_used-copy_used-requires : goal.copy_used-copy_used-requires
 copy_used-copy_used-requires t c = let o = one_kid _ _ _ _ c.requires c.node-n.ensures c.in-One.ensures in (omega (arith, c.decreases, o.kid.lighter), o.kid.has)
 
-pub copy_used-returns-else-has : goal.copy_used-returns-else-has
-copy_used-returns-else-has t c = left_name _ _ _ _ _ (sym (c.any_used.ensures ∙ ap (λ l. list_any (λ z. copy_used z (tree_at c.args.s.now.nodes.slots c.in-One.k.0)) l) c.clones_from.ensures) ∙ c.if-any_used.false) (sym (c.has.ensures ∙ ap (is_in c.args.x) c.clones.ensures) ∙ c.if-has.false) c.copy_used.ensures (copy_one _ _ _ _ _ c.requires c.node-n.ensures c.in-One.ensures (sym c.is_use.ensures ∙ c.if-is_use.false))
+pub copy_used-returns-then-not-has : goal.copy_used-returns-then-not-has
+copy_used-returns-then-not-has t c = left_name _ _ _ _ _ (sym (c.any_used.ensures ∙ ap (λ l. list_any (λ z. copy_used z (tree_at c.args.s.now.nodes.slots c.in-One.k.0)) l) c.clones_from.ensures) ∙ c.if-any_used.false) (sym (c.has.ensures ∙ ap (is_in c.args.x) c.clones.ensures) ∙ c.if-not-has.true) c.copy_used.ensures (copy_one _ _ _ _ _ c.requires c.node-n.ensures c.in-One.ensures (sym c.is_use.ensures ∙ c.if-is_use.false))
 
 pub copy_used-copy_used-requires-in-Two : goal.copy_used-copy_used-requires-in-Two
 copy_used-copy_used-requires-in-Two t c = let o = two_kids _ _ _ _ _ c.requires c.node-n.ensures c.in-Two.ensures in (omega (arith, c.decreases, o.first.lighter), o.first.has)
 
 pub copy_used-returns-then-copy_used : goal.copy_used-returns-then-copy_used
-copy_used-returns-then-copy_used t c = by_first _ _ _ (sym c.copy_used-in-Two.ensures ∙ c.if-copy_used.true) (copy_two _ _ _ _ _ _ c.requires c.node-n.ensures c.in-Two.ensures (sym c.is_use.ensures ∙ c.if-is_use.false))
+copy_used-returns-then-copy_used t c = c.if-copy_used.true ∙ (by_first _ _ _ (sym c.copy_used-in-Two.ensures ∙ c.if-copy_used.true) (copy_two _ _ _ _ _ _ c.requires c.node-n.ensures c.in-Two.ensures (sym c.is_use.ensures ∙ c.if-is_use.false)))
 
-pub copy_used-copy_used-requires-in-Two-2 : goal.copy_used-copy_used-requires-in-Two-2
-copy_used-copy_used-requires-in-Two-2 t c = let o = two_kids _ _ _ _ _ c.requires c.node-n.ensures c.in-Two.ensures in (omega (arith, c.decreases, o.second.lighter), o.second.has)
+pub copy_used-copy_used-requires-else-copy_used : goal.copy_used-copy_used-requires-else-copy_used
+copy_used-copy_used-requires-else-copy_used t c = let o = two_kids _ _ _ _ _ c.requires c.node-n.ensures c.in-Two.ensures in (omega (arith, c.decreases, o.second.lighter), o.second.has)
 
 pub copy_used-returns-else-copy_used : goal.copy_used-returns-else-copy_used
-copy_used-returns-else-copy_used t c = by_second _ _ _ _ (sym c.copy_used-in-Two.ensures ∙ c.if-copy_used.false) c.copy_used-in-Two-2.ensures (copy_two _ _ _ _ _ _ c.requires c.node-n.ensures c.in-Two.ensures (sym c.is_use.ensures ∙ c.if-is_use.false))
+copy_used-returns-else-copy_used t c = by_second _ _ _ _ (sym c.copy_used-in-Two.ensures ∙ c.if-copy_used.false) c.copy_used-else-copy_used.ensures (copy_two _ _ _ _ _ _ c.requires c.node-n.ensures c.in-Two.ensures (sym c.is_use.ensures ∙ c.if-is_use.false))

@@ -12,27 +12,25 @@ returns-then-is_operand t c = free_here _ _ _ _ c.requires c.node-n.ensures (sym
 pub returns-in-None : goal.returns-in-None
 returns-in-None t c = free_none _ _ _ _ c.requires c.node-n.ensures c.in-None.ensures (sym c.is_operand.ensures ∙ c.if-is_operand.false)
 
-pub returns-then-is_defined : goal.returns-then-is_defined
-returns-then-is_defined t c =
-    by_failing _ _ _ (not-of_true _ (sym c.is_defined.ensures ∙ c.if-is_defined.true)) (free_one _ _ _ _ _ c.requires c.node-n.ensures c.in-One.ensures (sym c.is_operand.ensures ∙ c.if-is_operand.false))
+pub returns-else-not-is_defined : goal.returns-else-not-is_defined
+returns-else-not-is_defined t c = not-of_true _ c.if-not-is_defined.false ∙ (by_failing _ _ _ (not-of_true _ (sym c.is_defined.ensures ∙ c.if-not-is_defined.false)) (free_one _ _ _ _ _ c.requires c.node-n.ensures c.in-One.ensures (sym c.is_operand.ensures ∙ c.if-is_operand.false)))
 
 pub is_free-requires : goal.is_free-requires
 is_free-requires t c = let o = one_kid _ _ _ _ c.requires c.node-n.ensures c.in-One.ensures in (omega (arith, c.decreases, o.kid.lighter), o.kid.has)
 
-pub returns-else-is_defined : goal.returns-else-is_defined
-returns-else-is_defined t c =
-    by_passing _ _ _ _ (not-of_false _ (sym c.is_defined.ensures ∙ c.if-is_defined.false)) c.is_free.ensures (free_one _ _ _ _ _ c.requires c.node-n.ensures c.in-One.ensures (sym c.is_operand.ensures ∙ c.if-is_operand.false))
+pub returns-then-not-is_defined : goal.returns-then-not-is_defined
+returns-then-not-is_defined t c =
+    by_passing _ _ _ _ (not-of_false _ (sym c.is_defined.ensures ∙ c.if-not-is_defined.true)) c.is_free.ensures (free_one _ _ _ _ _ c.requires c.node-n.ensures c.in-One.ensures (sym c.is_operand.ensures ∙ c.if-is_operand.false))
 
 pub is_free-requires-in-Two : goal.is_free-requires-in-Two
 is_free-requires-in-Two t c = let o = two_kids _ _ _ _ _ c.requires c.node-n.ensures c.in-Two.ensures in (omega (arith, c.decreases, o.first.lighter), o.first.has)
 
 pub returns-then-is_free : goal.returns-then-is_free
-returns-then-is_free t c =
-    by_first _ _ _ (sym c.is_free-in-Two.ensures ∙ c.if-is_free.true) (free_two _ _ _ _ _ _ c.requires c.node-n.ensures c.in-Two.ensures (sym c.is_operand.ensures ∙ c.if-is_operand.false))
+returns-then-is_free t c = c.if-is_free.true ∙ (by_first _ _ _ (sym c.is_free-in-Two.ensures ∙ c.if-is_free.true) (free_two _ _ _ _ _ _ c.requires c.node-n.ensures c.in-Two.ensures (sym c.is_operand.ensures ∙ c.if-is_operand.false)))
 
-pub is_free-requires-in-Two-2 : goal.is_free-requires-in-Two-2
-is_free-requires-in-Two-2 t c = let o = two_kids _ _ _ _ _ c.requires c.node-n.ensures c.in-Two.ensures in (omega (arith, c.decreases, o.second.lighter), o.second.has)
+pub is_free-requires-else-is_free : goal.is_free-requires-else-is_free
+is_free-requires-else-is_free t c = let o = two_kids _ _ _ _ _ c.requires c.node-n.ensures c.in-Two.ensures in (omega (arith, c.decreases, o.second.lighter), o.second.has)
 
 pub returns-else-is_free : goal.returns-else-is_free
 returns-else-is_free t c =
-    by_second _ _ _ _ (sym c.is_free-in-Two.ensures ∙ c.if-is_free.false) c.is_free-in-Two-2.ensures (free_two _ _ _ _ _ _ c.requires c.node-n.ensures c.in-Two.ensures (sym c.is_operand.ensures ∙ c.if-is_operand.false))
+    by_second _ _ _ _ (sym c.is_free-in-Two.ensures ∙ c.if-is_free.false) c.is_free-else-is_free.ensures (free_two _ _ _ _ _ _ c.requires c.node-n.ensures c.in-Two.ensures (sym c.is_operand.ensures ∙ c.if-is_operand.false))

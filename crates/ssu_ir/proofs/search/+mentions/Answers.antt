@@ -19,15 +19,14 @@ pub mentions-requires-in-Two : goal.mentions-requires-in-Two
 mentions-requires-in-Two t c = let o = two_kids _ _ _ _ _ c.requires c.node-n.ensures c.in-Two.ensures in (omega (arith, c.decreases, o.first.lighter), o.first.has)
 
 pub returns-then-mentions : goal.returns-then-mentions
-returns-then-mentions t c =
-    by_first _ _ _ (sym c.mentions-in-Two.ensures ∙ c.if-mentions.true) (mention_two _ _ _ _ _ _ c.requires c.node-n.ensures c.in-Two.ensures (sym c.is_operand.ensures ∙ c.if-is_operand.false))
+returns-then-mentions t c = c.if-mentions.true ∙ (by_first _ _ _ (sym c.mentions-in-Two.ensures ∙ c.if-mentions.true) (mention_two _ _ _ _ _ _ c.requires c.node-n.ensures c.in-Two.ensures (sym c.is_operand.ensures ∙ c.if-is_operand.false)))
 
-pub mentions-requires-in-Two-2 : goal.mentions-requires-in-Two-2
-mentions-requires-in-Two-2 t c = let o = two_kids _ _ _ _ _ c.requires c.node-n.ensures c.in-Two.ensures in (omega (arith, c.decreases, o.second.lighter), o.second.has)
+pub mentions-requires-else-mentions : goal.mentions-requires-else-mentions
+mentions-requires-else-mentions t c = let o = two_kids _ _ _ _ _ c.requires c.node-n.ensures c.in-Two.ensures in (omega (arith, c.decreases, o.second.lighter), o.second.has)
 
 pub returns-in-One : goal.returns-in-One
 returns-in-One t c = c.mentions.ensures ∙ mention_one _ _ _ _ _ c.requires c.node-n.ensures c.in-One.ensures (sym c.is_operand.ensures ∙ c.if-is_operand.false)
 
 pub returns-else-mentions : goal.returns-else-mentions
 returns-else-mentions t c =
-    by_second _ _ _ _ (sym c.mentions-in-Two.ensures ∙ c.if-mentions.false) c.mentions-in-Two-2.ensures (mention_two _ _ _ _ _ _ c.requires c.node-n.ensures c.in-Two.ensures (sym c.is_operand.ensures ∙ c.if-is_operand.false))
+    by_second _ _ _ _ (sym c.mentions-in-Two.ensures ∙ c.if-mentions.false) c.mentions-else-mentions.ensures (mention_two _ _ _ _ _ _ c.requires c.node-n.ensures c.in-Two.ensures (sym c.is_operand.ensures ∙ c.if-is_operand.false))

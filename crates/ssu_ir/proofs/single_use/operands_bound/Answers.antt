@@ -9,11 +9,11 @@ use Rattle.ssu_ir.proofs.single_use.operands_bound.Goals as goal
 pub all_bound-requires : goal.all_bound-requires
 all_bound-requires c = c.requires
 
-pub returns-then-not-all_bound : goal.returns-then-not-all_bound
-returns-then-not-all_bound c = by_failing _ _ _ (sym c.all_bound.ensures ∙ c.if-not-all_bound.true) (sym (list_all-append (is_bound c.args.l.now.params.items (tree_at c.args.s.now.nodes.slots c.args.l.now.body.0)) c.operands.result.0.now c.operands.result.1.now) ∙ ap (list_all (is_bound c.args.l.now.params.items (tree_at c.args.s.now.nodes.slots c.args.l.now.body.0))) c.operands.ensures)
+pub returns-else-all_bound : goal.returns-else-all_bound
+returns-else-all_bound c = c.if-all_bound.false ∙ (by_failing _ _ _ (sym c.all_bound.ensures ∙ c.if-all_bound.false) (sym (list_all-append (is_bound c.args.l.now.params.items (tree_at c.args.s.now.nodes.slots c.args.l.now.body.0)) c.operands.result.0.now c.operands.result.1.now) ∙ ap (list_all (is_bound c.args.l.now.params.items (tree_at c.args.s.now.nodes.slots c.args.l.now.body.0))) c.operands.ensures))
 
-pub all_bound-requires-2 : goal.all_bound-requires-2
-all_bound-requires-2 c = c.requires
+pub all_bound-requires-then-all_bound : goal.all_bound-requires-then-all_bound
+all_bound-requires-then-all_bound c = c.requires
 
-pub returns : goal.returns
-returns c = by_passing _ _ _ _ (sym c.all_bound.ensures ∙ c.if-not-all_bound.false) c.all_bound-2.ensures (sym (list_all-append (is_bound c.args.l.now.params.items (tree_at c.args.s.now.nodes.slots c.args.l.now.body.0)) c.operands.result.0.now c.operands.result.1.now) ∙ ap (list_all (is_bound c.args.l.now.params.items (tree_at c.args.s.now.nodes.slots c.args.l.now.body.0))) c.operands.ensures)
+pub returns-then-all_bound : goal.returns-then-all_bound
+returns-then-all_bound c = by_passing _ _ _ _ (sym c.all_bound.ensures ∙ c.if-all_bound.true) c.all_bound-then-all_bound.ensures (sym (list_all-append (is_bound c.args.l.now.params.items (tree_at c.args.s.now.nodes.slots c.args.l.now.body.0)) c.operands.result.0.now c.operands.result.1.now) ∙ ap (list_all (is_bound c.args.l.now.params.items (tree_at c.args.s.now.nodes.slots c.args.l.now.body.0))) c.operands.ensures)

@@ -1,4 +1,4 @@
-use Rattle.std.proofs.Common.{◌+◌, get_or, take, subst, sym, arith}
+use Rattle.std.proofs.Common.{get_or, take, subst, sym, arith}
 use Rattle.std.proofs.lemmas.List.{take_more}
 use Rattle.ssu_make.specs.inner.Making.{counted, LaidOut}
 use Rattle.ssu_make.proofs.NodeForms.{laid-more}

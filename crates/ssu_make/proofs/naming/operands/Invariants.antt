@@ -1,4 +1,3 @@
-use Rattle.std.proofs.Common.{drop, length}
 use Rattle.ssu_make.specs.inner.Making.{counted}
 use Rattle.ssu_make.proofs.Along.{Named}
 use Rattle.ssu_make.proofs.naming.operands.Given as goal

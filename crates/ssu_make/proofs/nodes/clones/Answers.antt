@@ -1,4 +1,4 @@
-use Rattle.std.proofs.Common.{◌≡◌, ◌+◌, ◌-◌, nat_lt, get_or, drop, refl, ap, subst, sym, ◌∙◌, arith}
+use Rattle.std.proofs.Common.{◌≡◌, ◌-◌, nat_lt, get_or, drop, refl, subst, arith}
 use Rattle.ssu_make.specs.inner.Making.{counted, Becomes}
 use Rattle.ssu_make.specs.inner.Made.{clones, clone_step}
 use Rattle.ssu_make.proofs.Along.{clones-start}

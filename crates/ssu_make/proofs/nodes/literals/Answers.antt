@@ -1,4 +1,4 @@
-use Rattle.std.proofs.Common.{◌≡◌, ◌+◌, ◌-◌, zero, get_or, drop, refl, ap, subst, ◌∙◌, arith}
+use Rattle.std.proofs.Common.{◌≡◌, ◌+◌, ◌-◌, get_or, drop, refl, ap, subst, ◌∙◌, arith}
 use Rattle.nv_base.specs.declared.term.Atom.TheVariants.{Var}
 use Rattle.ssu_make.specs.inner.Making.{Becomes}
 use Rattle.ssu_make.specs.inner.Made.{literals}

@@ -1,4 +1,4 @@
-use Rattle.std.proofs.Common.{◌≡◌, ◌++◌, map, ap, subst, ◌∙◌}
+use Rattle.std.proofs.Common.{◌++◌, map, ap, subst, ◌∙◌}
 use Rattle.flow_ir.specs.Formed.{defined}
 use Rattle.flow_ir.specs.View.{tree_view, label_view}
 use Rattle.ssu_make.specs.inner.Making.{counted, Becomes}

@@ -1,7 +1,5 @@
-use Rattle.std.proofs.Common.{[], ◌≡◌, sym, ◌∙◌}
-use Rattle.std.proofs.lemmas.List.{nil_from_length}
 use Rattle.ssu_make.specs.inner.Making.{counted}
-use Rattle.ssu_make.proofs.Turns.{way-start, way-end, way-let, way-read, way-write, way-if, way-jump, way-halt, beside-root, root-roots}
+use Rattle.ssu_make.proofs.Turns.{way-start, way-let, way-read, way-write, way-if, way-jump, way-halt, beside-root}
 use Rattle.ssu_make.proofs.tree.+make_tree.Goals as goal
 
 pub loop-s-init : goal.loop-s-init

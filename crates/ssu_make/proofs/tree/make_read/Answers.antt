@@ -1,10 +1,8 @@
-use Rattle.std.proofs.Common.{◌≡◌, ◌<◌, [], ◌∷◌, length, slice_index, refl, ap, subst, ◌∙◌, arith}
+use Rattle.std.proofs.Common.{length, refl, ap, ◌∙◌, arith}
 use Rattle.std.proofs.lemmas.List.{get_or_read}
 use Rattle.ssu_ir.specs.declared.node.SsuNode.TheVariants.{Read}
 use Rattle.ssu_ir.specs.Tree as ssu
-use Rattle.ssu_make.specs.inner.Making.{counted, Becomes}
-use Rattle.ssu_make.specs.inner.Made.{value}
-use Rattle.std.proofs.Common.{map}
+use Rattle.ssu_make.specs.inner.Making.{counted}
 use Rattle.ssu_make.proofs.Turns.{can-take-one, becomes-node, becomes-root}
 use Rattle.ssu_make.proofs.NodeForms.{read-made}
 use Rattle.ssu_make.proofs.tree.make_read.Goals as goal
