@@ -1,13 +1,12 @@
 -- What is pending and what is done still come to all the moves, behind each step.
-use Rattle.std.proofs.Common.{◌≡◌, ◌≢◌, ℕ, zero, suc, ◌+◌, ◌*◌, ◌<◌, ◌≤◌, ◌-◌, Bool, true, false, nat_eq, cond, ◌⊎◌, Option, Some, None, is_some, List, [], ◌∷◌, ◌++◌, length, get_or, set, slice_index, slice_set, replicate, IfSome, refl, sym, ap, subst, ◌∙◌, inl, inr, ⊎_elim, append_assoc, arith}
+use Rattle.std.proofs.Common.{◌≡◌, ◌≢◌, ℕ, zero, suc, ◌+◌, ◌<◌, ◌-◌, true, nat_eq, ◌⊎◌, Option, Some, None, is_some, List, [], ◌∷◌, ◌++◌, length, get_or, set, slice_index, replicate, IfSome, refl, sym, ap, subst, ◌∙◌, inl, inr, ⊎_elim, append_assoc, arith}
 use Rattle.std.proofs.lemmas.Bool.{eq-eqb, ne_eqb, false≢true, cases_eq}
-use Rattle.std.proofs.lemmas.List.{get_or-set_same, get_or-set_other, length-set, length_push, length-replicate, get_or-replicate}
+use Rattle.std.proofs.lemmas.List.{get_or-set_same, get_or-set_other, length-set, length-replicate, get_or-replicate}
 use Rattle.place_ir.specs.declared.place.Place.{Place}
-use Rattle.par_move.specs.Moves.{Move, Words, temporary, put, one_by_one, all_at_once, StandFor}
-use Rattle.par_move.specs.inner.Pending.{number, numbers, Table, source_at, reads, readings, pending_count, IsPending, HasTarget, AreApart, word_from, left_by, StandForRest, Counted, Stands, GoTo, FreeGoTo, Ran, Turned}
-use Rattle.par_move.proofs.Numbers.{number-injective}
-use Rattle.par_move.proofs.Counts.{one_if, count-cons, count-set, read-by-one, within-table, nothing-else-read}
-use Rattle.par_move.proofs.Steps.{one_by_one-push, put-same, put-other, cases_place, entry-same, entry-other, other-number, none-is-no-some, pending-some, some-pending, some-injective, rest-run, rest-save, rest-none}
+use Rattle.par_move.specs.Moves.{Move, Words, temporary, put, one_by_one, StandFor}
+use Rattle.par_move.specs.inner.Pending.{number, numbers, Table, source_at, reads, readings, pending_count, AreApart, word_from, Counted, Stands}
+use Rattle.par_move.proofs.Counts.{one_if, count-cons, count-set, read-by-one, within-table}
+use Rattle.par_move.proofs.Steps.{one_by_one-push, put-same, put-other, cases_place, entry-same, entry-other, other-number, none-is-no-some, pending-some, some-injective, rest-run, rest-save}
 
 -- ---- counts behind a change
 

@@ -1,16 +1,15 @@
 -- What the loops keep.
-use Rattle.std.proofs.Common.{◌≡◌, ◌≢◌, ℕ, ◌+◌, ◌*◌, ◌<◌, ◌≤◌, ◌⊎◌, Bool, true, false, Option, Some, None, is_some, List, [], ◌∷◌, ◌++◌, length, get_or, set, drop, refl, sym, ap, subst, ◌∙◌, inl, inr, ⊎_elim, arith}
-use Rattle.std.proofs.lemmas.Bool.{false≢true, cases_eq}
-use Rattle.std.proofs.lemmas.List.{drop_more, drop_all, get_or_default}
+use Rattle.std.proofs.Common.{◌≡◌, ℕ, ◌+◌, ◌*◌, ◌<◌, ◌≤◌, true, Option, Some, None, is_some, List, [], ◌∷◌, ◌++◌, length, get_or, set, drop, refl, sym, ap, subst, ◌∙◌, inl, inr, arith}
+use Rattle.std.proofs.lemmas.Bool.{false≢true}
+use Rattle.std.proofs.lemmas.List.{drop_more, drop_all}
 use Rattle.place_ir.specs.declared.place.Place.{Place}
 use Rattle.par_move.specs.declared.pending.Pending.{Pending}
 use Rattle.par_move.specs.Moves.{Move, HaveOwnTargets, SpareTemporary, temporary}
-use Rattle.par_move.specs.inner.Pending.{number, Table, source_at, readings, pending_count, IsPending, HasTarget, AreApart, Counted, Stands, GoTo, FreeGoTo, Ran, Turned, Begun}
+use Rattle.par_move.specs.inner.Pending.{number, Table, source_at, readings, pending_count, HasTarget, Counted, Stands, GoTo, FreeGoTo, Ran, Turned, Begun}
 use Rattle.par_move.proofs.Numbers.{number-injective}
 use Rattle.par_move.proofs.Keeping.{count-added, pending-before}
-use Rattle.par_move.proofs.Steps.{none-is-no-some}
 use Rattle.par_move.proofs.Runs.{ran-more, free-more}
-use Rattle.par_move.proofs.Starts.{begun-more, begun-same, not-yet, apart-from, target-at, not-among}
+use Rattle.par_move.proofs.Starts.{begun-more, begun-same, not-yet, apart-from, not-among}
 
 -- ---- moves are added
 

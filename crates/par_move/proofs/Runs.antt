@@ -1,14 +1,14 @@
 -- Chains of moves, and turns by way of the compiler's own register.
-use Rattle.std.proofs.Common.{◌≡◌, ◌≢◌, ℕ, zero, suc, ◌+◌, ◌*◌, ◌<◌, ◌≤◌, Bool, true, false, nat_eq, ◌⊎◌, Option, Some, None, is_some, Result, Ok, Err, IfOk, List, [], ◌∷◌, ◌++◌, length, set, refl, sym, ap, subst, ◌∙◌, inl, inr, ⊎_elim, arith}
-use Rattle.std.proofs.lemmas.Bool.{false≢true, cases_eq, cases_lt, cases_Bool, true_from_ne_false, false_from_ne_true}
+use Rattle.std.proofs.Common.{◌≡◌, ◌≢◌, ℕ, ◌+◌, ◌<◌, ◌≤◌, ◌⊎◌, Option, Some, None, is_some, Result, Ok, Err, IfOk, List, [], ◌∷◌, ◌++◌, set, refl, sym, ap, subst, ◌∙◌, inl, inr, ⊎_elim, arith}
+use Rattle.std.proofs.lemmas.Bool.{false≢true, cases_eq, cases_lt}
 use Rattle.std.proofs.lemmas.List.{length_push}
 use Rattle.place_ir.specs.declared.place.Place.{Place}
 use Rattle.par_move.specs.Moves.{Move, temporary}
-use Rattle.par_move.specs.inner.Pending.{number, numbers, Table, source_at, readings, pending_count, IsPending, HasTarget, AreApart, Counted, Stands, GoTo, FreeGoTo, Ran, Turned}
+use Rattle.par_move.specs.inner.Pending.{number, Table, source_at, readings, pending_count, IsPending, HasTarget, FreeGoTo, Ran, Turned}
 use Rattle.par_move.proofs.Numbers.{number-injective}
-use Rattle.par_move.proofs.Counts.{one_if, read-by-one, within-table, nothing-else-read}
-use Rattle.par_move.proofs.Steps.{entry-same, entry-other, none-is-no-some, pending-some, some-pending}
-use Rattle.par_move.proofs.Keeping.{count-gone, count-saved, readings-gone, readings-saved, one-at, none-at, pending-before, not-read, stands-run, stands-save}
+use Rattle.par_move.proofs.Counts.{within-table, nothing-else-read}
+use Rattle.par_move.proofs.Steps.{entry-same, entry-other, pending-some}
+use Rattle.par_move.proofs.Keeping.{count-gone, count-saved, readings-gone, readings-saved, none-at, not-read, stands-run, stands-save}
 
 pub ran-none : (src : Table) (done : List Move) → Ran src done src done
 ran-none src done = record {

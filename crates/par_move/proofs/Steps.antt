@@ -1,16 +1,15 @@
 -- What a move that is done, and a source that is put aside, leave of what is pending.
-use Rattle.std.proofs.Common.{◌≡◌, ◌≢◌, ℕ, zero, suc, ◌+◌, ◌*◌, ◌<◌, ◌≤◌, Bool, true, false, not, nat_eq, cond, if◌then◌else◌, ◌⊎◌, Option, Some, None, is_some, List, [], ◌∷◌, ◌++◌, length, get_or, set, take, count_by, slice_index, slice_set, AllPairs, refl, sym, ap, subst, ◌∙◌, inl, inr, ⊎_elim, append_assoc, arith}
-use Rattle.std.proofs.lemmas.Bool.{eqb-true, eqb-false, eq-eqb, ne_eqb, false≢true, cases_Bool, cases_eq, false_from_ne_true}
-use Rattle.std.proofs.lemmas.List.{get_or-set_same, get_or-set_other, length-set, length_push, append-nil, get_or_past}
+use Rattle.std.proofs.Common.{◌≡◌, ◌≢◌, ℕ, ◌<◌, Bool, true, false, if◌then◌else◌, ◌⊎◌, Option, Some, None, is_some, List, [], ◌∷◌, ◌++◌, length, set, refl, sym, ap, subst, ◌∙◌, inl, inr}
+use Rattle.std.proofs.lemmas.Bool.{false≢true}
+use Rattle.std.proofs.lemmas.List.{get_or-set_same, get_or-set_other}
 use Rattle.place_ir.specs.declared.place.Place.{Place}
 use Rattle.place_ir.specs.Places.{same_place}
-use Rattle.place_ir.proofs.Places.{same_place-true, same_place-itself, same_place-from, same_place-false}
-use Rattle.par_move.specs.Moves.{Move, Words, temporary, put, one_by_one, all_at_once, StandFor}
-use Rattle.par_move.specs.Moves as moves
+use Rattle.place_ir.proofs.Places.{same_place-true, same_place-from, same_place-false}
+use Rattle.par_move.specs.Moves.{Move, Words, temporary, put, one_by_one}
 use Rattle.par_move.specs.inner.Pending.{number, numbers, Table, source_at, reads, readings, pending_count, IsPending, HasTarget, AreApart, word_from, left_by, StandForRest, Counted, Stands, GoTo, FreeGoTo, Ran}
 use Rattle.par_move.specs.inner.Pending as inner
 use Rattle.par_move.proofs.Numbers.{number-injective}
-use Rattle.par_move.proofs.Counts.{one_if, count-set, read-by-one, within-table, nothing-else-read}
+use Rattle.par_move.proofs.Counts.{within-table}
 
 -- ---- words
 

@@ -1,5 +1,5 @@
 -- The rows of a whole in single-use form are those of its points.
-use Rattle.std.proofs.Common.{◌≡◌, ℕ, zero, suc, ◌+◌, ◌<◌, ◌≤◌, max, Bool, true, false, not, nat_eq, ◌||◌, ◌&&◌, ◌⊎◌, inl, inr, ⊎_elim, Option, Some, None, Result, Ok, Err, IfOk, List, [], ◌∷◌, ◌++◌, length, map, filter, get_or, drop, unwrap_or, refl, sym, ap, subst, ◌∙◌, append_assoc, arith}
+use Rattle.std.proofs.Common.{◌≡◌, ℕ, suc, ◌+◌, ◌<◌, ◌≤◌, max, Bool, true, false, not, ◌&&◌, ⊎_elim, Option, None, Result, Ok, Err, IfOk, List, [], ◌∷◌, ◌++◌, length, map, get_or, drop, unwrap_or, refl, sym, ap, subst, ◌∙◌, append_assoc, arith}
 use Rattle.std.specs.Prelude.{slice_get}
 use Rattle.std.specs.List.{list_all, AllZip}
 use Rattle.std.proofs.lemmas.Bool.{or_parts, and_parts, and_from, not-true, not_from_false, false≢true, false_from_ne_true}
@@ -9,7 +9,7 @@ use Rattle.nv_base.proofs.Sets.{in-append, in-without}
 use Rattle.ssu_ir.specs.declared.ssu.Ssu.{Ssu}
 use Rattle.ssu_ir.specs.declared.node.SsuLabel.{SsuLabel}
 use Rattle.ssu_ir.specs.Tree.{Step, Lit, Una, Bin, Clone, Read, Write, Tree, Do, If, End, Label, step_values, step_clones, step_uses, last_uses}
-use Rattle.ssu_ir.specs.Points.{Names, own, names_after, used, held, Point, tree_points, label_points, points_from, points}
+use Rattle.ssu_ir.specs.Points.{Names, own, names_after, used, held, Point, tree_points, points_from, points}
 use Rattle.ssu_ir.specs.Single.{defined, all_defined, step_names, all_known, are_nodes, uses_once, is_scoped, clones_early, results_used, are_addressed, unknown, is_single, is_entry, single, fresh_after}
 use Rattle.ssu_ir.specs.Slots.{Placed, bare, bare_all, roots_of, bodies}
 use Rattle.ssu_ir.specs.View.{placed_of, with_bodies, labels_view}
@@ -255,6 +255,20 @@ rows-of-whole s source rows h e f =
     let same = trees-with s.labels.items (placed_of s) (read_in s.nodes.slots (bodies s.labels.items) s.formed).at_numbers in
     subst (λ r. AllZip IsRow r (points view)) (sym f)
     (rows-of-labels view (value_by source) 0 view b.1 b.0 (λ z w. ap (λ o. unwrap_or o z) (e z ∙ ap (λ t. source_among t z) (sym same))))
+
+-- what single says of the whole, with the values that its clones give
+pub record WholeParts (s : Ssu) (source : ℕ → Option ℕ) : Type 0 where
+  pub singles : list_all (is_single (labels_view s)) (labels_view s) ≡ true
+  pub different : all_different (all_defined (labels_view s)) ≡ true
+  pub sourced : Sourced (value_by source) (labels_view s)
+
+pub whole-parts : (s : Ssu) (source : ℕ → Option ℕ) → single (labels_view s) ≡ true → ((z : ℕ) → source z ≡ source_among (bare_all (placed_of s)) z) → WholeParts s source
+whole-parts s source h e =
+    let view = labels_view s in
+    let a = and_parts (is_entry (slice_get view 0)) (all_different (all_defined view) && list_all (is_single view) view) h in
+    let b = and_parts (all_different (all_defined view)) (list_all (is_single view) view) a.1 in
+    let same = trees-with s.labels.items (placed_of s) (read_in s.nodes.slots (bodies s.labels.items) s.formed).at_numbers in
+    record { singles = b.1; different = b.0; sourced = λ z w. ap (λ o. unwrap_or o z) (e z ∙ ap (λ t. source_among t z) (sym same)) }
 
 -- one label more
 pub label-more : (s : Ssu) (of : Names) (k : ℕ) (d : SsuLabel) (out mine goal : List (List ℕ)) → k < length s.labels.items → mine ≡ tree_rows of (bare (label_tree s k)) → out ++ labels_rows of (drop k (labels_view s)) ≡ goal

@@ -1,13 +1,12 @@
 -- The trees of labels, as they lie in the slots.
-use Rattle.std.proofs.Common.{◌≡◌, ℕ, zero, suc, ◌+◌, ◌<◌, ◌≤◌, List, [], ◌∷◌, ◌++◌, length, map, get_or, Option, Some, None, refl, sym, ap, subst, ◌∙◌, append_assoc, arith}
-use Rattle.std.specs.Prelude.{slice_get, slice_index_or}
+use Rattle.std.proofs.Common.{◌≡◌, ℕ, zero, suc, ◌<◌, List, [], ◌∷◌, ◌++◌, length, refl, sym, ap, ◌∙◌, append_assoc, arith}
+use Rattle.std.specs.Prelude.{slice_index_or}
 use Rattle.std.proofs.lemmas.List.{append-nil}
-use Rattle.ssu_ir.specs.declared.node.NodeId.{NodeId}
 use Rattle.ssu_ir.specs.declared.node.SsuLabel.{SsuLabel}
 use Rattle.ssu_ir.specs.declared.node.SsuNode.{SsuNode}
 use Rattle.ssu_ir.specs.declared.ssu.Ssu.{Ssu}
-use Rattle.ssu_ir.specs.Tree.{Tree, Label, Node, Does, Forks, Ends, Halt}
-use Rattle.ssu_ir.specs.Slots.{Placed, DoAt, IfAt, EndAt, root, roots_of, kids, bare, bare_all, Slots, Stands, AllStand, slot, bodies, node_of, over}
+use Rattle.ssu_ir.specs.Tree.{Label, Node, Does, Forks, Ends, Halt}
+use Rattle.ssu_ir.specs.Slots.{Placed, DoAt, IfAt, EndAt, root, roots_of, kids, bare, bare_all, Slots, Stands, AllStand, bodies, node_of, over}
 use Rattle.ssu_ir.specs.View.{placed_of, with_bodies, labels_view}
 use Rattle.ssu_ir.proofs.Reading.{read_in, Below}
 use Rattle.ssu_ir.proofs.Trees.{arity}

@@ -1,12 +1,12 @@
 -- Marks, and numbers that are free.
-use Rattle.std.proofs.Common.{◌≡◌, ◌≢◌, ℕ, zero, suc, ◌+◌, ◌<◌, ◌≤◌, Bool, true, false, not, nat_eq, cond, if◌then◌else◌, ◌⊎◌, inl, inr, ⊎_elim, Option, Some, None, is_some, List, [], ◌∷◌, ◌++◌, length, get_or, set, take, drop, replicate, count_by, refl, sym, ap, subst, ◌∙◌, arith}
-use Rattle.std.proofs.lemmas.Bool.{and_parts, not-true, or_cases, or_left, or_right, or_from, or_parts, eq-eqb, false≢true, cases_eq, cases_lt, cases_Bool, false_from_ne_true}
-use Rattle.std.proofs.lemmas.List.{get_or-set_same, get_or-set_other, length-set, set_past, take_more, take_all, get_or_past, length-replicate}
-use Rattle.std.proofs.lemmas.List.Sums.{sum_by-cons, sum_by-set, sum_by_push, count_by-le-length, count_by_more_yes, count_by_more_no}
+use Rattle.std.proofs.Common.{◌≡◌, ◌≢◌, ℕ, zero, suc, ◌+◌, ◌<◌, ◌≤◌, Bool, true, false, not, nat_eq, cond, if◌then◌else◌, ⊎_elim, Some, None, is_some, List, [], ◌∷◌, ◌++◌, length, get_or, set, take, replicate, count_by, refl, sym, ap, subst, ◌∙◌, arith}
+use Rattle.std.proofs.lemmas.Bool.{and_parts, not-true, or_cases, or_left, or_right, or_from, or_parts, eq-eqb, false≢true, cases_eq, cases_lt, false_from_ne_true}
+use Rattle.std.proofs.lemmas.List.{get_or-set_same, get_or-set_other, length-set, set_past, take_more, take_all, length-replicate}
+use Rattle.std.proofs.lemmas.List.Sums.{sum_by-cons, sum_by-set, sum_by_push, count_by-le-length}
 use Rattle.nv_base.specs.Sets.{is_in, all_different}
-use Rattle.nv_base.proofs.Sets.{in-append, same-number, other-number}
-use Rattle.place_ir.specs.inner.Numbers.{Numbers, has_number, HasBelow, Numbered}
-use Rattle.place_ir.proofs.Scoped.{in-itself, in-last, in-either, in-left, in-right}
+use Rattle.nv_base.proofs.Sets.{same-number}
+use Rattle.place_ir.specs.inner.Numbers.{Numbers, has_number, Numbered}
+use Rattle.place_ir.proofs.Scoped.{in-itself, in-last}
 
 abbrev one_if : Bool → ℕ
 one_if b = cond b 1 0

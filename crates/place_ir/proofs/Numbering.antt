@@ -1,24 +1,25 @@
 -- Along the points of a form in single use, values get numbers that differ wherever two are held.
-use Rattle.std.proofs.Common.{◌≡◌, ◌≢◌, ℕ, zero, suc, ◌+◌, ◌<◌, ◌≤◌, Bool, true, false, not, nat_eq, ◌&&◌, ◌⊎◌, inl, inr, ⊎_elim, Option, Some, None, List, [], ◌∷◌, ◌++◌, length, get_or, drop, refl, sym, ap, subst, ◌∙◌, append_assoc, arith}
+use Rattle.std.proofs.Common.{◌≡◌, ℕ, zero, suc, ◌+◌, ◌<◌, ◌≤◌, true, false, ⊎_elim, Option, Some, None, List, [], ◌∷◌, ◌++◌, length, get_or, drop, refl, sym, ap, subst, ◌∙◌, append_assoc, arith}
 use Rattle.std.specs.Prelude.{slice_get, map}
-use Rattle.std.specs.List.{list_all}
+use Rattle.std.specs.List.{list_all, AllZip}
 use Rattle.std.proofs.lemmas.List.{map-append, drop_more, drop_all}
 use Rattle.std.proofs.lemmas.Bool.{and_parts, false≢true, false_from_ne_true, cases_Bool}
 use Rattle.nv_base.specs.Sets.{is_in, all_different}
-use Rattle.nv_base.specs.declared.term.Cmp.{Cmp}
-use Rattle.ssu_ir.specs.Tree.{Step, Tree, Do, If, End, Label, Does, Forks, Ends, step_values, step_clones, step_uses}
-use Rattle.ssu_ir.specs.Points.{Names, own, names_after, used, Place, Entry, At, place_values, label_points, points_from}
-use Rattle.ssu_ir.specs.Single.{defined, all_defined, is_single, fresh_after}
-use Rattle.place_ir.specs.inner.Live.{root_row, tree_rows, labels_rows}
+use Rattle.ssu_ir.specs.Tree.{Tree, Do, If, End, Label, step_values, step_clones, step_uses}
+use Rattle.ssu_ir.specs.Points.{Names, own, names_after, used, Place, Entry, place_values, label_points, points_from, points, Point}
+use Rattle.ssu_ir.specs.Single.{defined, all_defined, is_single, fresh_after, single}
+use Rattle.place_ir.specs.inner.Live.{root_row, tree_rows, labels_rows, value_by, source_among}
+use Rattle.ssu_ir.specs.Slots.{bare_all}
+use Rattle.ssu_ir.specs.View.{placed_of, labels_view}
 use Rattle.place_ir.specs.inner.Spots.{tree_places, spot_place}
 use Rattle.place_ir.specs.declared.spots.Spot.{Spot}
 use Rattle.ssu_ir.specs.declared.ssu.Ssu.{Ssu}
-use Rattle.place_ir.specs.Held.{Kept, items_of}
+use Rattle.place_ir.specs.Held.{IsRow, Kept, items_of}
 use Rattle.place_ir.specs.inner.Numbers.{Numbers, HasBelow, Numbered, Group, row_at, group_row, groups, values_among, Chain, IsApart}
 use Rattle.place_ir.specs.inner.Numbers as inner
 use Rattle.place_ir.proofs.Scoped.{Scope, scope-do, scope-first, scope-second, in-left, in-right, in-either, split-different, join-different}
 use Rattle.place_ir.proofs.SpotSteps.{places-of-points}
-use Rattle.place_ir.proofs.Kept.{row-from, row-to, Sourced, scope-of-label, sourced-tail}
+use Rattle.place_ir.proofs.Kept.{row-from, row-to, Sourced, scope-of-label, sourced-tail, rows-of-whole, whole-parts}
 
 -- every value of a row has a number
 pub record Covers (number : Numbers) (row : List ℕ) : Type 0 where
@@ -355,3 +356,27 @@ different-labels k (l ∷ ls) h =
     (λ (a : is_in z (values_among (tree_places l.body)) ≡ true). in-left z (defined l.body) (all_defined ls) (defined-value l.body z a))
     (λ (b : is_in z (values_among (labels_places (suc k) ls)) ≡ true). in-right z (defined l.body) (all_defined ls) (labels-value (suc k) ls z b))
     (in-either z (values_among (tree_places l.body)) (values_among (labels_places (suc k) ls)) (ap (λ m. is_in z m) (sym rest) ∙ f))))
+
+-- ---- what the numbers of all points are good for
+
+zip-get : (rows : List (List ℕ)) (ps : List Point) (k : ℕ) (q : Point) → AllZip IsRow rows ps → slice_get ps k ≡ Some q → (row : List ℕ) × (slice_get rows k ≡ Some row) × IsRow row q
+zip-get [] [] k q h e = absurd (cc)
+zip-get [] (p ∷ ps) k q h e = absurd h
+zip-get (r ∷ rows) [] k q h e = absurd h
+zip-get (r ∷ rows) (p ∷ ps) zero q h e = let same : p ≡ q = cc in (r, refl, subst (λ (w : Point). IsRow r w) same h.0)
+zip-get (r ∷ rows) (p ∷ ps) (suc k) q h e = zip-get rows ps k q h.1 e
+
+-- no two values that are held at a point have one number
+pub numbers-apart : (s : Ssu) (source : ℕ → Option ℕ) (number : Numbers) → single (labels_view s) ≡ true → ((z : ℕ) → source z ≡ source_among (bare_all (placed_of s)) z)
+    → inner.AreNumbered (groups (map (λ p. p.place) (points (labels_view s))) (labels_rows (value_by source) (labels_view s))) number
+    → (k : ℕ) (q : Point) → slice_get (points (labels_view s)) k ≡ Some q → IsApart number q.before
+numbers-apart s source number h e a k q f =
+    let view = labels_view s in
+    let value = value_by source in
+    let zip = rows-of-whole s source (labels_rows value view) h e refl in
+    let w = whole-parts s source h e in
+    let chain : Chain a.old (groups (labels_places 0 view) (labels_rows value view)) number =
+    subst (λ (ps : List Place). Chain a.old (groups ps (labels_rows value view)) number) (places-of-labels 0 view) a.chain in
+    let all' = numbers-of-labels view value 0 view a.old number w.singles w.different w.sourced (λ z d. a.none z) chain in
+    let at = zip-get (labels_rows value view) (points view) k q zip f in
+    apart-within number at.0 q.before (λ y d. at.2.members y ∙ d) (all'.each at.0 k at.1)

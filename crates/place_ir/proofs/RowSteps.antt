@@ -1,14 +1,13 @@
 -- Rows and clones, step by step.
-use Rattle.std.proofs.Common.{◌≡◌, ℕ, zero, suc, ◌+◌, ◌<◌, ◌≤◌, Bool, true, false, not, nat_eq, if◌then◌else◌, ◌||◌, ◌&&◌, Option, Some, None, Result, Ok, Err, OnOk, List, [], ◌∷◌, ◌++◌, length, map, get_or, drop, refl, sym, ap, subst, ◌∙◌, append_assoc, arith}
-use Rattle.std.specs.Prelude.{IsSome, reverse}
+use Rattle.std.proofs.Common.{◌≡◌, ℕ, zero, suc, ◌+◌, ◌<◌, ◌≤◌, Bool, true, false, not, nat_eq, if◌then◌else◌, ◌||◌, Option, Some, None, Result, Ok, Err, OnOk, List, [], ◌∷◌, ◌++◌, length, map, get_or, drop, refl, sym, ap, ◌∙◌, append_assoc, arith}
+use Rattle.std.specs.Prelude.{IsSome}
 use Rattle.std.proofs.lemmas.List.{drop_more, drop_all, append-nil, reverse-append}
 use Rattle.nv_base.specs.Sets.{is_in, without}
 use Rattle.ssu_ir.specs.declared.node.NodeId.{NodeId}
 use Rattle.ssu_ir.specs.declared.node.SsuNode.{SsuNode}
 use Rattle.ssu_ir.specs.Work.{nums}
 use Rattle.ssu_ir.proofs.Walks.{is_some_from}
-use Rattle.ssu_ir.specs.Tree.{Tree, Node, Does, Forks, Ends}
-use Rattle.ssu_ir.specs.Slots.{Placed, DoAt, IfAt, EndAt, bare, bare_all, preorder, preorder_all, Slots, slot, Stands, AllStand, node_of, root}
+use Rattle.ssu_ir.specs.Slots.{Placed, DoAt, IfAt, EndAt, bare, bare_all, preorder, preorder_all, Slots, slot, Stands, AllStand, node_of}
 use Rattle.place_ir.specs.inner.Live.{first_of, node_source, step_source, source_in, source_among, slot_source, sources_at, add_all, on_stack, Takes}
 use Rattle.place_ir.specs.Held.{Kept, items_of}
 

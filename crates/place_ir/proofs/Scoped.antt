@@ -1,16 +1,13 @@
 -- The rows of a tree in single-use form have the values that are held.
-use Rattle.std.proofs.Common.{◌≡◌, ℕ, zero, suc, ◌+◌, ◌<◌, ◌≤◌, Bool, true, false, not, nat_eq, if◌then◌else◌, ◌||◌, ◌&&◌, ◌⊎◌, inl, inr, ⊎_elim, Option, Some, None, List, [], ◌∷◌, ◌++◌, length, map, filter, unwrap_or, refl, sym, ap, subst, ◌∙◌, append_assoc, arith}
-use Rattle.std.specs.List.{list_all, list_any, AllZip}
-use Rattle.std.proofs.lemmas.Bool.{and_parts, and_from, or_cases, or_parts, or_left, or_right, or_from, not-true, not_from_false, not_from_true, false≢true, eqb-true, eq-eqb, false_from_ne_true, cases_Bool}
-use Rattle.std.proofs.lemmas.List.{append-nil}
-use Rattle.nv_base.specs.Sets.{is_in, all_different, different, without, Within}
+use Rattle.std.proofs.Common.{◌≡◌, ℕ, Bool, true, false, not, nat_eq, if◌then◌else◌, ◌||◌, ◌&&◌, ◌⊎◌, inl, inr, ⊎_elim, Option, Some, None, List, [], ◌∷◌, ◌++◌, length, map, filter, unwrap_or, refl, sym, ap, ◌∙◌, arith}
+use Rattle.std.proofs.lemmas.Bool.{and_parts, and_from, or_cases, or_parts, or_left, or_right, or_from, not-true, not_from_false, false≢true, eq-eqb, false_from_ne_true}
+use Rattle.nv_base.specs.Sets.{is_in, all_different, without}
 use Rattle.nv_base.proofs.Sets.{in-append, in-without, different-below, different-all, same-number, other-number}
 use Rattle.nv_base.specs.declared.term.Cmp.{Cmp}
-use Rattle.ssu_ir.specs.Tree.{Step, Lit, Una, Bin, Clone, Read, Write, Tree, Do, If, End, Label, Node, Does, Forks, Ends, step_values, step_clones, step_uses, last_uses, node_uses}
-use Rattle.ssu_ir.specs.Points.{Names, own, names_after, used, held, Point, tree_points}
+use Rattle.ssu_ir.specs.Tree.{Step, Lit, Una, Bin, Clone, Read, Write, Tree, Do, If, End, step_values, step_clones, step_uses, last_uses}
+use Rattle.ssu_ir.specs.Points.{Names, names_after}
 use Rattle.ssu_ir.specs.Single.{defined, step_names, all_known, is_scoped, fresh_after, clones_fresh, clones_early}
-use Rattle.place_ir.specs.Held.{IsRow}
-use Rattle.place_ir.specs.inner.Live.{first_of, step_source, source_in, value_by, add_all, behind, row_over, root_row, tree_rows}
+use Rattle.place_ir.specs.inner.Live.{first_of, step_source, source_in, value_by, add_all, root_row}
 
 -- ---- lists
 

@@ -1,13 +1,13 @@
 -- Points one by one.
-use Rattle.std.proofs.Common.{◌≡◌, ℕ, zero, suc, ◌+◌, ◌<◌, ◌≤◌, List, [], ◌∷◌, ◌++◌, Option, Some, None, length, map, get_or, drop, refl, sym, ap, subst, ◌∙◌, append_assoc, arith}
+use Rattle.std.proofs.Common.{◌≡◌, ℕ, zero, suc, ◌+◌, ◌<◌, ◌≤◌, List, [], ◌∷◌, ◌++◌, Some, length, map, get_or, drop, refl, sym, ap, ◌∙◌, append_assoc, arith}
 use Rattle.std.specs.Prelude.{slice_get}
 use Rattle.std.proofs.lemmas.List.{drop_more, drop_all, append-nil, map-append}
 use Rattle.ssu_ir.specs.declared.node.NodeId.{NodeId}
 use Rattle.ssu_ir.specs.declared.node.SsuLabel.{SsuLabel}
 use Rattle.ssu_ir.specs.declared.ssu.Ssu.{Ssu}
-use Rattle.ssu_ir.specs.Tree.{Tree, Do, If, End, Label, Does, Forks, Ends, step_values}
-use Rattle.ssu_ir.specs.Points.{Names, own, names_after, Place, Entry, At, Point, tree_points, label_points, points_from, points}
-use Rattle.ssu_ir.specs.Slots.{Slots, slot, node_of, Placed, DoAt, IfAt, EndAt, bare, preorder, Stands}
+use Rattle.ssu_ir.specs.Tree.{Tree, Do, If, End, Label, Does, Forks, step_values}
+use Rattle.ssu_ir.specs.Points.{Names, own, names_after, Place, Entry, At, tree_points, label_points, points_from}
+use Rattle.ssu_ir.specs.Slots.{Slots, slot, Placed, DoAt, IfAt, EndAt, bare, preorder, Stands}
 use Rattle.ssu_ir.specs.View.{labels_view}
 use Rattle.ssu_ir.specs.Work.{nums}
 use Rattle.place_ir.specs.declared.spots.Spot.{Spot}

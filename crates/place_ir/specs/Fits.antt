@@ -1,10 +1,10 @@
 -- When a placement fits a form: each value has a home, each access its registers, each use is served from a home of its value, and no
 -- register or slot is wanted twice at a point.
-use Rattle.std.specs.Prelude.{◌≡◌, ◌≢◌, ℕ, zero, suc, ◌+◌, ◌*◌, ◌≤◌, ◌<◌, ◌⊎◌, nat_eq, nat_lt, nat_le, ◌==◌, Bool, true, false, not, is_some, ◌&&◌, ◌||◌, List, [], ◌∷◌, ◌++◌, map, filter, length, Option, Some, None, All, ⊤, slice_get}
+use Rattle.std.specs.Prelude.{◌≡◌, ◌≢◌, ℕ, zero, suc, ◌+◌, ◌*◌, ◌≤◌, ◌<◌, ◌⊎◌, nat_eq, nat_lt, nat_le, Bool, true, false, not, is_some, ◌&&◌, ◌||◌, List, [], ◌∷◌, ◌++◌, map, filter, length, Option, Some, None, All, ⊤, slice_get}
 use Rattle.std.specs.List.{list_any}
 use Rattle.nv_base.specs.declared.term.Mem.{Mem}
 use Rattle.nv_base.specs.declared.term.Mem.TheVariants.{Sram, Sdram, Scratch}
-use Rattle.nv_base.specs.Sets.{is_in, Within, without}
+use Rattle.nv_base.specs.Sets.{is_in, Within}
 use Rattle.ssu_ir.specs.Tree.{Label}
 use Rattle.ssu_ir.specs.Points.{Point, points}
 use Rattle.place_ir.specs.declared.place.Place.{Place}

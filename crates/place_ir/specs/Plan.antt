@@ -1,5 +1,5 @@
 -- Placements as pure data, and what they say of a value, an access, a use and a point.
-use Rattle.std.specs.Prelude.{ℕ, nat_eq, Bool, true, false, ◌&&◌, List, [], ◌∷◌, None, map, if◌then◌else◌}
+use Rattle.std.specs.Prelude.{ℕ, nat_eq, ◌&&◌, List, [], ◌∷◌, None, map, if◌then◌else◌}
 use Rattle.place_ir.specs.declared.place.Place.{Place}
 use Rattle.place_ir.specs.declared.place.Place.TheVariants.{Slot}
 use Rattle.place_ir.specs.declared.place.Home.{Home as KeptHome}

@@ -1,5 +1,5 @@
 -- The accesses, values and uses of a form, by points: what a placement is for.
-use Rattle.std.specs.Prelude.{ℕ, suc, nat_eq, Bool, true, false, List, [], ◌∷◌, ◌++◌, map, filter, length}
+use Rattle.std.specs.Prelude.{ℕ, suc, nat_eq, Bool, List, [], ◌∷◌, ◌++◌, map, filter, length}
 use Rattle.nv_base.specs.declared.term.Mem.{Mem}
 use Rattle.nv_base.specs.Sets.{is_in}
 use Rattle.ssu_ir.specs.Tree.{Step, Lit, Una, Bin, Clone, Read, Write, Last, Jump, Halt, Label, Node, Does, Forks, Ends}

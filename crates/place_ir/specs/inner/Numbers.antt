@@ -1,9 +1,7 @@
 -- Numbers for values: no two values of a row have one.
 use Rattle.std.specs.Prelude.{◌≡◌, ℕ, ◌<◌, Bool, true, false, Option, Some, None, is_some, List, [], ◌∷◌, ◌++◌, length}
 use Rattle.nv_base.specs.Sets.{is_in}
-use Rattle.ssu_ir.specs.Points.{Names, Place, Entry, At, place_values}
-use Rattle.ssu_ir.specs.Tree.{Tree, Do, If, End, Label, node_values, step_values}
-use Rattle.place_ir.specs.inner.Live.{root_row}
+use Rattle.ssu_ir.specs.Points.{Place, Entry, At, place_values}
 
 -- the number of each value, where it has one
 abbrev pub Numbers : Type 0

@@ -1,12 +1,11 @@
-use Rattle.std.proofs.Common.{◌≡◌, List, None, nat_eq, get_or, sym, ap, subst, ◌∙◌, arith, rules}
+use Rattle.std.proofs.Common.{◌≡◌, None, nat_eq, get_or, sym, ap, subst, ◌∙◌, arith, rules}
 use Rattle.std.specs.HashMap.{get}
 use Rattle.std.proofs.lemmas.List.{get_or_default}
-use Rattle.ssu_ir.specs.declared.node.NodeId.{NodeId}
 use Rattle.ssu_ir.proofs.Reading.{read_in}
 use Rattle.ssu_ir.specs.Slots.{bodies}
 use Rattle.ssu_ir.specs.View.{placed_of}
 use Rattle.ssu_ir.specs.Work.{nums}
-use Rattle.place_ir.specs.inner.Live.{first_of, source_among, sources_at}
+use Rattle.place_ir.specs.inner.Live.{first_of, sources_at}
 use Rattle.place_ir.proofs.RowSteps.{AllThere, there-all, there-at, sources-at, sourced-more, sourced-all}
 use Rattle.place_ir.proofs.copies.copies_of.Goals as goal
 

@@ -1,8 +1,8 @@
-use Rattle.std.proofs.Common.{◌≡◌, ◌∷◌, ◌++◌, [], nat_eq, sym, ap, subst, ◌∙◌, arith}
+use Rattle.std.proofs.Common.{nat_eq, ◌∙◌, arith}
 use Rattle.std.specs.HashMap.{get}
 use Rattle.ssu_ir.specs.View.{labels_view}
 use Rattle.place_ir.specs.Held.{items_of}
-use Rattle.place_ir.specs.inner.Live.{value_by, labels_rows, on_stack}
+use Rattle.place_ir.specs.inner.Live.{value_by, labels_rows}
 use Rattle.place_ir.proofs.Kept.{kept-more, labels-end}
 use Rattle.place_ir.proofs.rows.all_rows.Goals as goal
 

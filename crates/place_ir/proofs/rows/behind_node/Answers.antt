@@ -4,7 +4,7 @@ use Rattle.ssu_ir.specs.declared.node.SsuNode.TheVariants.{If as Forked, Clone a
 use Rattle.ssu_ir.specs.Slots.{node_of}
 use Rattle.ssu_ir.proofs.Trees.{arity}
 use Rattle.place_ir.specs.inner.Live.{add_all, behind, Takes}
-use Rattle.place_ir.proofs.RowSteps.{takes-one, takes-two, takes-as, without-nothing}
+use Rattle.place_ir.proofs.RowSteps.{takes-two, takes-as, without-nothing}
 use Rattle.place_ir.proofs.rows.behind_node.Goals as goal
 
 pub returns-in_ok-add_each-in-If : goal.returns-in_ok-add_each-in-If

@@ -1,4 +1,4 @@
-use Rattle.std.proofs.Common.{◌≡◌, nat_eq, Vec, Global, ℕ}
+use Rattle.std.proofs.Common.{◌≡◌, nat_eq, Vec, Global}
 use Rattle.std.specs.HashMap.{get}
 use Rattle.std.specs.List.{AllZip}
 use Rattle.ssu_ir.specs.Points.{points}

@@ -1,9 +1,9 @@
-use Rattle.std.proofs.Common.{◌≡◌, ◌++◌, [], ◌∷◌, refl, sym, ap, ◌∙◌, rules}
+use Rattle.std.proofs.Common.{◌≡◌, ◌++◌, [], ◌∷◌, sym, ap, ◌∙◌}
 use Rattle.std.proofs.lemmas.List.{nil_from_length, append-nil}
 use Rattle.ssu_ir.specs.declared.node.SsuLabel.{SsuLabel}
 use Rattle.ssu_ir.specs.Slots.{preorder, preorder_all}
 use Rattle.ssu_ir.specs.Work.{nums, tops}
-use Rattle.ssu_ir.proofs.Walks.{present, order_step, order_smaller, none_left, tops_push}
+use Rattle.ssu_ir.proofs.Walks.{present, order_step, order_smaller, none_left}
 use Rattle.place_ir.specs.inner.Live.{label_tree}
 use Rattle.place_ir.proofs.Labels.{tree-at}
 use Rattle.place_ir.proofs.rows.label_order.Goals as goal

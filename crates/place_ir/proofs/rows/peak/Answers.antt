@@ -1,4 +1,4 @@
-use Rattle.std.proofs.Common.{◌∙◌, ap, rules}
+use Rattle.std.proofs.Common.{◌∙◌, ap}
 use Rattle.place_ir.specs.Held.{items_of}
 use Rattle.place_ir.specs.inner.Live.{longest}
 use Rattle.place_ir.proofs.Kept.{longest-is-peak}

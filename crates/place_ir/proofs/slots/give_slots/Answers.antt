@@ -1,4 +1,4 @@
-use Rattle.std.proofs.Common.{◌≡◌, ◌+◌, ℕ, HashMap, BuildHasherDefault, FoldHasher, nat_eq, get_or, take, refl, sym, ap, subst, ◌∙◌, arith}
+use Rattle.std.proofs.Common.{◌+◌, ℕ, HashMap, BuildHasherDefault, FoldHasher, nat_eq, get_or, take, refl, sym, subst, ◌∙◌, arith}
 use Rattle.std.specs.HashMap.{get}
 use Rattle.place_ir.specs.inner.Numbers.{Numbered}
 use Rattle.place_ir.proofs.Marks.{numbered-skip, numbered-more, is-among, not-earlier, take-values}

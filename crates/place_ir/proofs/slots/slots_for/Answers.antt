@@ -1,8 +1,8 @@
-use Rattle.std.proofs.Common.{◌≡◌, None, nat_eq, get_or, rules, arith}
+use Rattle.std.proofs.Common.{nat_eq, get_or, rules, arith}
 use Rattle.std.specs.HashMap.{get}
 use Rattle.std.proofs.lemmas.List.{get_or_default}
 use Rattle.place_ir.specs.declared.spots.Spot.TheVariants.{Entry}
-use Rattle.place_ir.proofs.Numbering.{Giving, giving-none, giving-more, giving-all, giving-once, giving-fresh}
+use Rattle.place_ir.proofs.Numbering.{giving-none, giving-more, giving-all, giving-once, giving-fresh}
 use Rattle.place_ir.proofs.slots.slots_for.Goals as goal
 
 pub spot_slots-requires-clause-once : goal.spot_slots-requires-clause-once

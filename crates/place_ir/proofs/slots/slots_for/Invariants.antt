@@ -1,4 +1,4 @@
-use Rattle.std.proofs.Common.{nat_eq, drop}
+use Rattle.std.proofs.Common.{nat_eq}
 use Rattle.std.specs.HashMap.{get}
 use Rattle.place_ir.proofs.Numbering.{Giving}
 use Rattle.place_ir.proofs.slots.slots_for.Given as goal

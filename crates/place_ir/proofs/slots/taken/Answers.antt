@@ -1,4 +1,4 @@
-use Rattle.std.proofs.Common.{◌≡◌, ◌+◌, Vec, Bool, Global, nat_eq, get_or, refl, sym, subst, ◌∙◌, arith}
+use Rattle.std.proofs.Common.{◌+◌, Vec, Bool, Global, nat_eq, get_or, refl, sym, subst, ◌∙◌, arith}
 use Rattle.std.specs.HashMap.{get}
 use Rattle.place_ir.proofs.Marks.{Marked, marked-skip, marked-more}
 use Rattle.place_ir.proofs.slots.taken.Goals as goal

@@ -1,8 +1,7 @@
-use Rattle.std.proofs.Common.{◌∙◌, ◌++◌, map, drop, ap, arith}
+use Rattle.std.proofs.Common.{◌∙◌, map, ap, arith}
 use Rattle.ssu_ir.specs.Points.{points}
 use Rattle.ssu_ir.specs.View.{labels_view}
 use Rattle.ssu_ir.specs.Work.{nums}
-use Rattle.place_ir.specs.inner.Spots.{spot_place}
 use Rattle.place_ir.proofs.SpotSteps.{some-label, label-behind, labels-behind}
 use Rattle.place_ir.proofs.spots.spots_of.Goals as goal
 

@@ -1,4 +1,4 @@
-use Rattle.std.proofs.Common.{◌+◌, ◌∙◌, get_or, length, subst, sym, arith}
+use Rattle.std.proofs.Common.{◌+◌, ◌∙◌, get_or, subst, sym, arith}
 use Rattle.std.proofs.lemmas.List.{get_or_default}
 use Rattle.place_ir.specs.declared.place.Place.TheVariants.{A}
 use Rattle.par_move.specs.declared.pending.Pending.{Pending}
