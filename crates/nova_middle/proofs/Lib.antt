@@ -2,3 +2,4 @@ pub mod Sound
 pub mod Rest
 pub mod Whole
 pub mod Single
+pub mod SourceBounds

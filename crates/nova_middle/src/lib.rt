@@ -1,6 +1,7 @@
 //! The middle of the compiler: from flat programs to flows, and to the single-use form.
 #![tactic(auto)]
 
+pub mod laws;
 mod program;
 mod rules;
 #[cfg(test)]
