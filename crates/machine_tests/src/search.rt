@@ -1,7 +1,10 @@
+ghost use Rattle.std.specs.Prelude.{◌≡◌, length};
+ghost use Rattle.zo_model.specs.Program.{IsValid, columns};
+
 use std::alloc::{AllocError, Global};
 use zo_cert::{Cert, CertNode, Verdict};
 use zo_model::{Assignment, Row, ZeroOne, cost, is_valid};
-use zo_solve::{Pick, Solved, first_choice, report_of, solve};
+use zo_solve::{Fixed, Order, Pick, Solved, Sums, first_choice, report_of, solve};
 
 type Terms<'a> = &'a [(u32, i32)];
 
@@ -96,5 +99,49 @@ fn two_of_three_cover_a_triangle(rt: HostRuntime) {
             Err(_) => assert!(rt; false),
         },
         Err(_) => assert!(rt; false),
+    }
+}
+
+#[test]
+fn a_reach_goes_with_what_is_fixed(rt: HostRuntime) {
+    let alloc = rt.alloc();
+    let terms: Terms = &[(0, 2), (1, 2), (2, -3)];
+    let z = program(alloc, &[0, 0, 0], &[(terms, 1)]).expect(&rt, "memory");
+    assert!(rt; is_valid(&z) && z.costs.len() == 3 && z.rows.len() == 1);
+    let mut sums = Sums::new(alloc, &z).expect(&rt, "memory");
+    assert_eq!(rt; sums.reach(0), 4);
+    sums.fix(2, true);
+    assert_eq!(rt; sums.reach(0), 1);
+    sums.fix(0, false);
+    assert_eq!(rt; sums.reach(0), -1);
+    sums.unfix(2);
+    assert_eq!(rt; sums.reach(0), 2);
+}
+
+#[test]
+fn a_cycle_of_five_is_closed_at_the_root(rt: HostRuntime) {
+    let alloc = rt.alloc();
+    let rows: &[(Terms, i32)] = &[
+        (&[(0, 1), (1, 1)], 1),
+        (&[(1, 1), (2, 1)], 1),
+        (&[(2, 1), (3, 1)], 1),
+        (&[(3, 1), (4, 1)], 1),
+        (&[(0, 1), (4, 1)], 1),
+    ];
+    let z = program(alloc, &[1, 1, 1, 1, 1], rows).expect(&rt, "memory");
+    assert!(rt; is_valid(&z));
+    let order = Order::new(alloc, &z).expect(&rt, "memory");
+    let pick = Pick::new(
+        |z: &ZeroOne, fixed: &Fixed| -> u32
+            requires valid { IsValid z.now }
+            requires places { length fixed.now.at.items ≡ columns z.now }
+        { order.choice(z, fixed) },
+    );
+    match solve(alloc, &z, None, 15, &pick) {
+        Ok(Solved::Optimal(x, tree)) => {
+            assert_eq!(rt; cost(&z, &x), 3);
+            assert_eq!(rt; counts(&tree), (0, 0));
+        }
+        _ => assert!(rt; false),
     }
 }

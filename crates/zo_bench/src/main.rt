@@ -1,8 +1,7 @@
 //! Solves a 0-1 program and writes the report: `zo_bench PROGRAM REPORT`.
 //!
 //! Ends with 0 where the report was written, 2 where the words are no command, 3 where the program can't be read, 4 where the
-//! report can't be written, 5 for want of memory, 6 where the file isn't a program's text, 7 where the report isn't true, which
-//! the contract of the search excludes.
+//! report can't be written, 5 for want of memory, 6 where the file isn't a program's text.
 #![tactic(auto)]
 
 mod solved;

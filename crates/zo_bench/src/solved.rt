@@ -1,18 +1,18 @@
 //! From the text of a program to the text of a true report.
 
-ghost use Rattle.std.specs.Prelude.{◌≡◌, ℕ, List, Some, IfOk};
-ghost use Rattle.nv_outside.specs.Holding.{Replaced};
-ghost use Rattle.zo_cert.specs.Contents.{report_contents};
-ghost use Rattle.zo_cert.specs.Report.{IsTrueReport, IsValidReport};
-ghost use Rattle.zo_cert.specs.ReportText.{report_text};
+ghost use Rattle.std.specs.Prelude.{◌≡◌, ◌≢◌, ◌⊎◌, ◌^◌, ℕ, List, Some, Err, IfOk, IfErr, length};
+ghost use Rattle.nv_outside.specs.Causes.{Rose};
+ghost use Rattle.nv_outside.specs.Holding.{IsLonger, Replaced};
+ghost use Rattle.zo_model.specs.Program.{IsValid, columns};
 ghost use Rattle.zo_bench.specs.Exit.{exit_code};
-ghost use Rattle.zo_bench.specs.Written.{IsTrueText};
+ghost use Rattle.zo_bench.specs.Written.{IsReportText, IsTextRefusal, IsTrueText};
+ghost use Rattle.zo_bench.specs.declared.solved.Failure.TheVariants.{Read, Text, Words, Write};
 
 use nv_outside::{Files, Loaded, Saved};
-use std::alloc::{AllocError, Global};
-use zo_cert::{Report, Verdict, Work, check_report, is_valid_report, print_report};
-use zo_model::{Assignment, NoMemory, ZeroOne, ZoError, read_program};
-use zo_solve::{Pick, Solved, first_choice, solve};
+use std::alloc::Global;
+use zo_cert::print_report;
+use zo_model::{NoMemory, ZeroOne, ZoError, read_program};
+use zo_solve::{Fixed, Order, Pick, report_of, solve};
 
 /// The greatest size of a program's text.
 const LIMIT: u64 = 1 << 26;
@@ -33,8 +33,6 @@ pub enum Failure {
     Memory,
     /// The file isn't the text of a program.
     Text,
-    /// The report isn't true.
-    Untrue,
 }
 
 impl Failure {
@@ -48,70 +46,31 @@ impl Failure {
             Failure::Write => 4,
             Failure::Memory => 5,
             Failure::Text => 6,
-            Failure::Untrue => 7,
         }
     }
 }
 
-impl From<NoMemory> for Failure {
-    fn from(_error: NoMemory) -> Failure {
-        Failure::Memory
-    }
-}
-
-impl From<AllocError> for Failure {
-    fn from(_error: AllocError) -> Failure {
-        Failure::Memory
-    }
-}
-
-/// The vector of so many columns that is all 0.
-fn zeros(alloc: Global, columns: usize) -> Result<Assignment, AllocError> {
-    Ok(Assignment {
-        on: vec![in alloc; false; columns]?,
-    })
-}
-
-/// The report of an answer.
-fn report_of(alloc: Global, z: ZeroOne, solved: Solved) -> Result<Report, AllocError>
-    ensures { IfOk result (λ r. r.z ≡ z) }
+/// The text of a true report on a program.
+fn report_on(alloc: Global, z: ZeroOne) -> Result<Vec<u8>, NoMemory>
+    requires valid { IsValid z }
+    ensures { IfOk result (λ text. IsReportText z text.items) }
 {
-    let columns = z.costs.len();
-    let (verdict, x, tree) = match solved {
-        Solved::Optimal(x, tree) => (Verdict::Optimal, x, tree),
-        Solved::Feasible(x, tree) => (Verdict::Feasible, x, tree),
-        Solved::Infeasible(tree) => (Verdict::Infeasible, zeros(alloc, columns)?, tree),
-        Solved::Spent(tree) => (Verdict::Spent, zeros(alloc, columns)?, tree),
-    };
-    Ok(Report {
-        slots: 0,
-        budget: BUDGET,
-        z,
-        verdict,
-        x,
-        tree,
-    })
-}
-
-/// The text of a report that is valid and true.
-fn true_text(alloc: Global, r: &Report) -> Result<Vec<u8>, Failure>
-    ensures valid { IfOk result (λ _. IsValidReport r.now) }
-    ensures holds { IfOk result (λ _. IsTrueReport r.now) }
-    ensures text { IfOk result (λ text. text.items ≡ report_text (report_contents r.now)) }
-{
-    if !is_valid_report(r) {
-        return Err(Failure::Untrue);
-    }
-    let mut work = Work::new(alloc, &r.z)?;
-    if !check_report(r, &mut work) {
-        return Err(Failure::Untrue);
-    }
-    Ok(print_report(alloc, r)?)
+    let order = Order::new(alloc, &z)?;
+    let pick = Pick::new(
+        |z: &ZeroOne, fixed: &Fixed| -> u32
+            requires valid { IsValid z.now }
+            requires places { length fixed.now.at.items ≡ columns z.now }
+        { order.choice(z, fixed) },
+    );
+    let solved = solve(alloc, &z, None, BUDGET, &pick)?;
+    let report = report_of(alloc, z, solved, 0, BUDGET)?;
+    print_report(alloc, &report)
 }
 
 /// The text of a true report on the program of a text.
 pub fn solve_text(alloc: Global, bytes: &[u8]) -> Result<Vec<u8>, Failure>
-    ensures { IfOk result (λ text. IsTrueText bytes.now text.items) }
+    ensures text { IfOk result (λ text. IsTrueText bytes.now text.items) }
+    ensures cause { IfErr result (IsTextRefusal bytes.now) }
 {
     if bytes.len() as u64 > LIMIT {
         return Err(Failure::Text);
@@ -121,11 +80,10 @@ pub fn solve_text(alloc: Global, bytes: &[u8]) -> Result<Vec<u8>, Failure>
         Err(ZoError::NoMemory) => return Err(Failure::Memory),
         Err(ZoError::Bad(_)) => return Err(Failure::Text),
     };
-    let pick = Pick::new(first_choice);
-    let solved = solve(alloc, &z, None, BUDGET, &pick)?;
-    let report = report_of(alloc, z, solved)?;
-    let text = true_text(alloc, &report)?;
-    Ok(text)
+    match report_on(alloc, z) {
+        Ok(text) => Ok(text),
+        Err(NoMemory) => Err(Failure::Memory),
+    }
 }
 
 /// Reads the program of one file, and writes a true report on it to another.
@@ -135,7 +93,11 @@ pub fn solve_file<F: Files>(
     program: &str,
     report: &str,
 ) -> Result<(), Failure>
-    ensures { F.tells → IfOk result (λ _. (bytes : List ℕ) × (text : List ℕ) × (F.held files.old program.now ≡ Some bytes) × IsTrueText bytes text × Replaced (F.held files.old) (F.held files.new) report.now text) }
+    ensures written { F.tells → IfOk result (λ _. (bytes : List ℕ) × (text : List ℕ) × (F.held files.old program.now ≡ Some bytes) × IsTrueText bytes text × Replaced (F.held files.old) (F.held files.new) report.now text) }
+    ensures text { F.tells → result ≡ Err Text → (IsLonger (F.held files.old) program.now (2 ^ 26) ⊎ ((bytes : List ℕ) × (F.held files.old program.now ≡ Some bytes) × IsTextRefusal bytes Text)) }
+    ensures read { result ≡ Err Read → Rose (F.load_faults files.old program.now) (F.load_faults files.new program.now) }
+    ensures write { result ≡ Err Write → Rose (F.save_faults files.old report.now) (F.save_faults files.new report.now) }
+    ensures words { result ≢ Err Words }
 {
     let mut bytes = Vec::new(alloc);
     match files.load(program, LIMIT, &mut bytes) {

@@ -1,5 +1,5 @@
 -- the least unfixed column of a row that isn't met
-use Rattle.std.proofs.Common.{◌≡◌, ℕ, zero, suc, ◌+◌, ◌<◌, ◌≤◌, List, [], ◌∷◌, length, take, get_or, Bool, false, true, Option, Some, None, slice_get, ℤ, pos, refl, sym, subst, ◌⊎◌, inl, inr, arith, add-one, min}
+use Rattle.std.proofs.Common.{◌≡◌, ℕ, zero, suc, ◌+◌, ◌<◌, ◌≤◌, List, [], ◌∷◌, length, take, get_or, Bool, false, true, Option, Some, None, ℤ, pos, refl, sym, subst, ◌⊎◌, inl, inr, arith, add-one, min}
 use Rattle.std.specs.Option.{is_some}
 use Rattle.std.proofs.lemmas.Bool.{cases_lt}
 use Rattle.std.proofs.lemmas.List.{take_all}

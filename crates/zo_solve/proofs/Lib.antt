@@ -5,3 +5,6 @@ pub mod Rows
 pub mod Steps
 pub mod Choice
 pub mod Reports
+pub mod Along
+pub mod Spread
+pub mod Placed

@@ -2,7 +2,7 @@
 use Rattle.std.specs.Prelude.{◌≡◌, ℕ, ◌≤◌, List, Bool, Option, Some, None}
 use Rattle.zo_model.specs.declared.program.Assignment.{Assignment}
 use Rattle.zo_model.specs.declared.program.ZeroOne.{ZeroOne}
-use Rattle.zo_cert.specs.Certificate.{IsTreeWith, Proves, EachNode, HasLeft, unfixed}
+use Rattle.zo_cert.specs.Certificate.{IsTreeWith, Proves, EachNode, unfixed}
 use Rattle.zo_cert.specs.Report.{IsSpent}
 use Rattle.zo_cert.specs.declared.cert.Cert.{Cert}
 use Rattle.zo_cert.specs.declared.cert.Claim.{Claim}

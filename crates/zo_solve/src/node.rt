@@ -13,8 +13,9 @@ ghost use Rattle.zo_solve.specs.inner.Search.{CostsAsMuch, IsBest, IsClashOf, Is
 ghost use Rattle.zo_solve.specs.Vector.{IsVector, start_cost};
 
 use crate::pick::Pick;
-use crate::reach::{is_met, ones_vector, out_of_reach};
+use crate::reach::ones_vector;
 use crate::rounds::Rounds;
+use crate::sums::Sums;
 use std::alloc::{AllocError, Global};
 use zo_cert::path::Path;
 use zo_cert::{CertNode, Claim, Fixed};
@@ -53,8 +54,8 @@ impl Best {
         }
     }
 
-    /// Takes the vector where it is better.
-    pub fn replace(&mut self, z: &ZeroOne, x: Assignment)
+    /// Takes the vector where it is better. Whether it was taken.
+    pub fn replace(&mut self, z: &ZeroOne, x: Assignment) -> bool
         requires valid { IsValid z.now }
         requires vector { IsVector z.now x }
         requires best { IsBest z.now self.old }
@@ -62,10 +63,12 @@ impl Best {
         ensures start { self.new.start ≡ self.old.start }
     {
         let cost = cost(z, &x);
-        if !costs_as_much(&self.claim, cost) {
-            self.x = Some(x);
-            self.claim = Claim::Least(cost);
+        if costs_as_much(&self.claim, cost) {
+            return false;
         }
+        self.x = Some(x);
+        self.claim = Claim::Least(cost);
+        true
     }
 
     /// Takes the vector in which the columns fixed at 1 are 1, where it is better.
@@ -96,7 +99,7 @@ impl Best {
 }
 
 /// Whether a vector of this cost is no better.
-fn costs_as_much(claim: &Claim, spent: u64) -> bool
+pub fn costs_as_much(claim: &Claim, spent: u64) -> bool
     ensures { IsTrue result ↔ CostsAsMuch claim.now spent }
 {
     match claim {
@@ -190,6 +193,7 @@ pub fn step<F: Fn(&ZeroOne, &Fixed) -> u32>(
     pick: &Pick<F>,
     left: u32,
     best: &mut Best,
+    sums: &mut Sums,
     rounds: &mut Rounds,
     weights: &mut [i128],
     path: &mut Path,
@@ -201,19 +205,24 @@ pub fn step<F: Fn(&ZeroOne, &Fixed) -> u32>(
     requires more { path.old.fixings ≢ [] }
     requires clear { IsClear (columns z.now) weights.old }
     requires best { IsBest z.now best.old }
+    requires program { sums.old.program ≡ z.now }
+    requires places { length sums.old.fixed ≡ columns z.now }
     ensures clear { IsClear (columns z.now) weights.new }
     ensures costs { IfOk result (λ _. path.new.costs ≡ path.old.costs) }
+    ensures program { sums.new.program ≡ z.now }
+    ensures places { length sums.new.fixed ≡ columns z.now }
     ensures best { IfOk result (λ _. IsBest z.now best.new) }
     ensures start { IfOk result (λ _. best.new.start ≡ best.old.start) }
     ensures weaker { IfOk result (λ _. IsWeaker best.old.claim best.new.claim) }
     ensures steps { IfOk result (λ rest. Steps (IsGood z.now best.new.start (Answers (F.post pick.now.choose) z.now) best.new.claim) path.old.fixings path.new.fixings nodes.old.items nodes.new.items left rest) }
 {
-    if is_met(z, &path.fixed().at) {
+    sums.follow(&path.fixed().at);
+    if sums.is_met() {
         best.improve(alloc, z, &path.fixed().at, path.spent())?;
         put(met_leaf(alloc), path, nodes)?;
         return Ok(left);
     }
-    if let Some(row) = out_of_reach(z, &path.fixed().at) {
+    if let Some(row) = sums.out_of_reach() {
         put(clash_leaf(alloc, row)?, path, nodes)?;
         return Ok(left);
     }

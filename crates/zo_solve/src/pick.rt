@@ -79,7 +79,7 @@ fn lesser(a: Option<u32>, b: Option<u32>) -> Option<u32>
 }
 
 /// The least unfixed column.
-fn least_free(fixed: &[Option<bool>]) -> u32
+pub fn least_free(fixed: &[Option<bool>]) -> u32
     requires few { length fixed.now ≤ 2 ^ 26 }
     ensures { HasFree fixed.now → IsLeast (IsFree fixed.now) result }
 {

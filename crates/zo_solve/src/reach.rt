@@ -1,11 +1,11 @@
-//! Whether a node is met, and whether a row is out of reach.
+//! Sums of a row by the places of its columns, and the vector of a node that is met.
 
-ghost use Rattle.std.specs.Prelude.{◌≡◌, ◌<◌, length, IfSome, IfNone, IsTrue, ◌↔◌, All, slice_get, IfOk, map};
-ghost use Rattle.zo_model.specs.Program.{AreSmallTerms, AreTerms, Feasible, IsValid, cost_of, columns, vector};
+ghost use Rattle.std.specs.Prelude.{◌≡◌, length, IsTrue, ◌↔◌, IfOk, map};
+ghost use Rattle.zo_model.specs.Program.{AreSmallTerms, AreTerms, cost_of, columns};
 ghost use Rattle.zo_model.specs.Program as program;
 ghost use Rattle.zo_cert.specs.Fixing.{ones};
 ghost use Rattle.zo_cert.specs.Fixing as fixing;
-ghost use Rattle.zo_cert.specs.Searched.{IsInReach, IsMet};
+ghost use Rattle.zo_cert.specs.Searched.{IsMet};
 ghost use Rattle.zo_cert.specs.Searched as searched;
 ghost use Rattle.zo_solve.specs.Vector.{IsVector, cost_at};
 
@@ -23,7 +23,7 @@ fn one_part(place: Option<bool>, a: i32) -> i32
 }
 
 /// The most that a column adds to its row.
-fn reach_part(place: Option<bool>, a: i32) -> i32
+pub fn reach_part(place: Option<bool>, a: i32) -> i32
     ensures { result ≡ searched.reach_part place a }
 {
     match place {
@@ -34,7 +34,7 @@ fn reach_part(place: Option<bool>, a: i32) -> i32
 }
 
 /// The sum of the coefficients of the columns that are fixed at 1.
-fn ones_total(terms: &[(u32, i32)], fixed: &[Option<bool>]) -> i64
+pub fn ones_total(terms: &[(u32, i32)], fixed: &[Option<bool>]) -> i64
     requires terms { AreSmallTerms (length fixed.now) terms.now }
     ensures { result ≡ program.terms_sum terms.now (ones fixed.now) }
 {
@@ -46,7 +46,7 @@ fn ones_total(terms: &[(u32, i32)], fixed: &[Option<bool>]) -> i64
 }
 
 /// The most that the row's sum can still be.
-fn reach(terms: &[(u32, i32)], fixed: &[Option<bool>]) -> i64
+pub fn reach(terms: &[(u32, i32)], fixed: &[Option<bool>]) -> i64
     requires terms { AreSmallTerms (length fixed.now) terms.now }
     ensures { result ≡ searched.reach fixed.now terms.now }
 {
@@ -64,40 +64,6 @@ pub fn is_row_met(row: &Row, fixed: &[Option<bool>]) -> bool
     ensures { IsTrue result ↔ program.Meets (ones fixed.now) row.now }
 {
     ones_total(&row.terms, fixed) >= i64::from(row.least)
-}
-
-/// Whether the row can still hold.
-#[tactic(auto, using(zo_model::proofs::Rows::terms_small))]
-fn is_in_reach(row: &Row, fixed: &[Option<bool>]) -> bool
-    requires terms { AreTerms (length fixed.now) row.now.terms.items }
-    ensures { IsTrue result ↔ IsInReach fixed.now row.now }
-{
-    reach(&row.terms, fixed) >= i64::from(row.least)
-}
-
-/// Whether every row holds with 0 for all unfixed columns.
-pub fn is_met(z: &ZeroOne, fixed: &[Option<bool>]) -> bool
-    requires valid { IsValid z.now }
-    requires places { length fixed.now ≡ columns z.now }
-    ensures { IsTrue result ↔ IsMet z.now fixed.now }
-{
-    z.rows.iter().all(|row| is_row_met(row, fixed))
-}
-
-/// The first row that can't hold any more, if there is one.
-pub fn out_of_reach(z: &ZeroOne, fixed: &[Option<bool>]) -> Option<u32>
-    requires valid { IsValid z.now }
-    requires places { length fixed.now ≡ columns z.now }
-    ensures some { IfSome result (λ i. IfSome (slice_get z.now.rows.items i) (λ row. IsInReach fixed.now row → ⊥)) }
-    ensures there { IfSome result (λ i. i < length z.now.rows.items) }
-    ensures none { IfNone result (All (IsInReach fixed.now) z.now.rows.items) }
-{
-    for i in 0..z.rows.len() {
-        if !is_in_reach(&z.rows[i], fixed) {
-            return Some(i as u32);
-        }
-    }
-    None
 }
 
 /// Whether the column is fixed at 1.

@@ -29,14 +29,13 @@ const ROOT_ROUNDS: u32 = 200;
 const NODE_ROUNDS: u32 = 20;
 /// A leaf is tried after so many rounds each.
 const TRY_EVERY: u32 = 10;
+
 /// A column, as a fraction.
 #[derive(Clone, Copy, Drop)]
 struct Column {
     value: i64,
-    // where it would be after as large a step again
-    ahead: i64,
-    // what the multipliers say of it
-    pull: i64,
+    // in units of the costs' divisor
+    cost: i64,
     // the sum of its coefficients' sizes, over the rows that can fail
     size: i64,
 }
@@ -55,13 +54,18 @@ struct Dual {
 #[derive(Drop)]
 pub struct Rounds {
     columns: Vec<Column>,
+    // of each column where it would be after as large a step again
+    aheads: Vec<i64>,
+    // of each column what the multipliers say of it
+    pulls: Vec<i64>,
     duals: Vec<Dual>,
     // the greatest common divisor of the costs
     divisor: i64,
     // how much columns move, against multipliers, in sixteenths
     weight: i64,
     rounds: i64,
-    nonzeros: u64,
+    // how many terms, columns and rows there are: what a pass over the program costs
+    terms: u64,
     work: u64,
     is_root: bool,
 }
@@ -97,6 +101,19 @@ fn size_of(row: &Row) -> i64 {
     }
 }
 
+/// A column each, at 0, with its cost in units of their divisor.
+fn columns_of(alloc: Global, costs: &[u32], divisor: i64) -> Result<Vec<Column>, AllocError> {
+    let mut columns = Vec::new(alloc);
+    for cost in costs {
+        columns.push(Column {
+            value: 0,
+            cost: quotient(i64::from(*cost), divisor),
+            size: 0,
+        })?;
+    }
+    Ok(columns)
+}
+
 /// Adds the sizes of the row's coefficients to the sizes of its columns.
 fn add_sizes(columns: &mut [Column], terms: &[(u32, i32)]) {
     for (j, a) in terms {
@@ -107,20 +124,20 @@ fn add_sizes(columns: &mut [Column], terms: &[(u32, i32)]) {
 }
 
 /// Adds the multiplied row to what the multipliers say.
-fn pull(columns: &mut [Column], terms: &[(u32, i32)], dual: i64) {
+fn pull(pulls: &mut [i64], terms: &[(u32, i32)], dual: i64) {
     for (j, a) in terms {
-        if let Some(column) = columns.get_mut(*j as usize) {
-            column.pull = column.pull.wrapping_add(dual.wrapping_mul(i64::from(*a)));
+        if let Some(pull) = pulls.get_mut(*j as usize) {
+            *pull = pull.wrapping_add(dual.wrapping_mul(i64::from(*a)));
         }
     }
 }
 
 /// The row's sum at where the columns are going.
-fn sum_ahead(columns: &[Column], terms: &[(u32, i32)]) -> i64 {
+fn sum_ahead(aheads: &[i64], terms: &[(u32, i32)]) -> i64 {
     let mut sum: i64 = 0;
     for (j, a) in terms {
-        if let Some(column) = columns.get(*j as usize) {
-            sum = sum.wrapping_add(column.ahead.wrapping_mul(i64::from(*a)));
+        if let Some(ahead) = aheads.get(*j as usize) {
+            sum = sum.wrapping_add(ahead.wrapping_mul(i64::from(*a)));
         }
     }
     sum
@@ -132,35 +149,32 @@ fn quotient(a: i64, b: i64) -> i64 {
 }
 
 impl Column {
-    /// One step, towards 0 or 1 by what the column is worth beyond its cost.
-    fn step(&mut self, place: Option<bool>, cost: i64, weight: i64) {
+    /// Where a step leads by what the column is worth beyond its cost, towards 0 or 1.
+    fn next(&self, place: Option<bool>, against: i64, weight: i64) -> i64 {
         match place {
-            Some(one) => {
-                let value = if one { ONE } else { 0 };
-                self.value = value;
-                self.ahead = value;
-            }
+            Some(true) => ONE,
+            Some(false) => 0,
+            None if against >= 0 && self.value == 0 => 0,
+            None if against <= 0 && self.value == ONE => ONE,
             None => {
-                let against = cost.wrapping_sub(self.pull).wrapping_mul(16);
-                let step = quotient(against, weight.wrapping_mul(self.size));
-                let value = self.value.wrapping_sub(step).max(0).min(ONE);
-                self.ahead = value.wrapping_mul(2).wrapping_sub(self.value);
-                self.value = value;
+                let step = quotient(against.wrapping_mul(16), weight.wrapping_mul(self.size));
+                self.value.wrapping_sub(step).max(0).min(ONE)
             }
         }
-        self.pull = 0;
     }
 }
 
 impl Dual {
-    /// One step, by what the row lacks.
-    fn step(&mut self, lack: i64, weight: i64) {
-        if self.size == 0 {
-            return;
+    /// One step, by what the row lacks. Whether it moved.
+    fn step(&mut self, lack: i64, weight: i64) -> bool {
+        if self.size == 0 || (self.now == 0 && lack <= 0) {
+            return false;
         }
+        let was = self.now;
         let step = quotient(lack.wrapping_mul(weight), self.size.wrapping_mul(16));
         self.now = self.now.wrapping_add(step).max(0).min(DUAL_LIMIT);
         self.total = self.total.wrapping_add(self.now);
+        self.now != was
     }
 
     /// The multiplier now, or its mean over so many rounds, times `d`, rounded.
@@ -177,39 +191,85 @@ impl Dual {
 impl Rounds {
     /// No multiplier yet. The rounds may visit so many terms of rows.
     pub fn new(alloc: Global, z: &ZeroOne, work: u64) -> Result<Rounds, AllocError> {
-        let blank = Column {
-            value: 0,
-            ahead: 0,
-            pull: 0,
-            size: 0,
-        };
-        let mut columns = vec![in alloc; blank; z.costs.len()]?;
+        let divisor = z.costs.iter().fold(0, |d, cost| divisor_of(d, *cost));
+        let divisor = i64::from(divisor.max(1));
+        let mut columns = columns_of(alloc, &z.costs, divisor)?;
         let mut duals = Vec::new(alloc);
-        let mut nonzeros: u64 = 1;
+        let mut terms = z.costs.len() as u64;
         for row in &z.rows {
             let size = size_of(row);
             if size != 0 {
                 add_sizes(&mut columns, &row.terms);
             }
-            nonzeros = nonzeros.saturating_add(row.terms.len() as u64);
+            terms = terms
+                .saturating_add(row.terms.len() as u64)
+                .saturating_add(1);
             duals.push(Dual {
                 now: 0,
                 total: 0,
                 size,
             })?;
         }
-        let divisor = z.costs.iter().fold(0, |d, cost| divisor_of(d, *cost));
-        let divisor = i64::from(divisor.max(1));
         Ok(Rounds {
             columns,
+            aheads: vec![in alloc; 0; z.costs.len()]?,
+            pulls: vec![in alloc; 0; z.costs.len()]?,
             duals,
             divisor,
             weight: weight_of(&z.costs, divisor),
             rounds: 0,
-            nonzeros,
+            terms,
             work,
             is_root: true,
         })
+    }
+
+    /// Begins again at 0. The rounds may visit so many terms of rows.
+    pub fn restart(&mut self, work: u64) {
+        self.work = work;
+        self.reset();
+    }
+
+    /// Begins again at 0.
+    pub fn reset(&mut self) {
+        for column in self.columns.iter_mut() {
+            column.value = 0;
+        }
+        for dual in self.duals.iter_mut() {
+            dual.now = 0;
+            dual.total = 0;
+        }
+        let terms = self.terms;
+        self.spend(terms);
+    }
+
+    /// So many terms of rows were visited elsewhere.
+    pub fn spend(&mut self, terms: u64) {
+        self.work = self.work.saturating_sub(terms);
+    }
+
+    /// How many terms may still be visited.
+    pub fn left(&self) -> u64 {
+        self.work
+    }
+
+    /// Whether no more terms may be visited.
+    pub fn is_spent(&self) -> bool {
+        self.work == 0
+    }
+
+    /// Whether the row is there and can fail.
+    pub fn is_live(&self, row: u32) -> bool {
+        match self.duals.get(row as usize) {
+            Some(dual) => dual.size != 0,
+            None => false,
+        }
+    }
+
+    /// By how much a column is neither 0 nor 1, in units of 1 / 65536.
+    pub fn doubt(&self, column: u32) -> i64 {
+        let value = self.value(column);
+        value.min(ONE.wrapping_sub(value))
     }
 
     /// What the rounds say of a column, in units of 1 / 65536.
@@ -220,41 +280,103 @@ impl Rounds {
         }
     }
 
-    /// So many rounds more, by the costs, with these columns fixed.
+    /// So many rounds more, by the costs, with these columns fixed; fewer where nothing moves any more.
     pub fn run(&mut self, z: &ZeroOne, fixed: &[Option<bool>], rounds: u32) {
         for _ in 0..rounds {
-            if self.work == 0 {
+            if self.work == 0 || !self.round(z, &Claim::Least(0), fixed) {
                 return;
             }
-            self.round(z, &Claim::Least(0), fixed);
         }
     }
 
-    /// One move of all columns and all multipliers.
-    fn round(&mut self, z: &ZeroOne, claim: &Claim, fixed: &[Option<bool>]) {
+    /// Adds the multiplied rows to what the multipliers say, over `FINE`. The sum of the multiplied leasts.
+    fn pull_rounded(&mut self, z: &ZeroOne) -> i128 {
+        let mut sum: i128 = 0;
+        for (row, dual) in z.rows.iter().zip(&self.duals) {
+            let m = dual.rounded(i64::from(FINE), 1, false);
+            pull(&mut self.pulls, &row.terms, m);
+            sum = sum.wrapping_add(i128::from(m).wrapping_mul(i128::from(row.least)));
+        }
+        sum
+    }
+
+    /// What the columns cost less than what the multipliers say of them, over `FINE`.
+    fn shortfall(&mut self) -> i128 {
+        let mut sum: i128 = 0;
+        for (column, pull) in self.columns.iter().zip(&mut self.pulls) {
+            let over = column
+                .cost
+                .wrapping_mul(i64::from(FINE))
+                .wrapping_sub(*pull);
+            sum = sum.wrapping_add(i128::from(over.min(0)));
+            *pull = 0;
+        }
+        sum
+    }
+
+    /// What every vector costs at least, as far as the multipliers tell with no column fixed.
+    pub fn bound(&mut self, z: &ZeroOne) -> u64 {
+        let fine = i128::from(FINE);
+        let bound = self.pull_rounded(z).wrapping_add(self.shortfall());
+        let units = bound.wrapping_add(fine - 1).checked_div(fine).unwrap_or(0);
+        let divisor = u64::try_from(self.divisor).unwrap_or(1);
+        u64::try_from(units).unwrap_or(0).saturating_mul(divisor)
+    }
+
+    /// Adds the multiplied rows to what the multipliers say.
+    fn pull_rows(&mut self, z: &ZeroOne) {
         for (row, dual) in z.rows.iter().zip(&self.duals) {
             if dual.now != 0 {
-                pull(&mut self.columns, &row.terms, dual.now);
+                pull(&mut self.pulls, &row.terms, dual.now);
             }
         }
-        for (j, column) in self.columns.iter_mut().enumerate() {
-            let place = fixed.get(j).copied().unwrap_or(None);
-            let cost = match claim {
-                Claim::Least(_) => i64::from(z.costs.get(j).copied().unwrap_or(0)),
-                Claim::Nothing => 0,
+    }
+
+    /// One move of all columns. Whether any moved.
+    fn move_columns(&mut self, claim: &Claim, fixed: &[Option<bool>]) -> bool {
+        let has_costs = matches!(claim, Claim::Least(_));
+        let mut is_moved = false;
+        let places = self.aheads.iter_mut().zip(&mut self.pulls).zip(fixed);
+        for (column, ((ahead, pull), place)) in self.columns.iter_mut().zip(places) {
+            let cost = if has_costs {
+                column.cost.wrapping_mul(ONE)
+            } else {
+                0
             };
-            let cost = quotient(cost, self.divisor).wrapping_mul(ONE);
-            column.step(place, cost, self.weight);
+            let value = column.next(*place, cost.wrapping_sub(*pull), self.weight);
+            is_moved |= value != column.value;
+            *ahead = match place {
+                Some(_) => value,
+                None => value.wrapping_mul(2).wrapping_sub(column.value),
+            };
+            column.value = value;
+            *pull = 0;
         }
+        is_moved
+    }
+
+    /// One move of all multipliers. Whether any moved.
+    fn move_duals(&mut self, z: &ZeroOne) -> bool {
+        let mut is_moved = false;
         for (row, dual) in z.rows.iter().zip(&mut self.duals) {
             if dual.size != 0 {
-                let sum = sum_ahead(&self.columns, &row.terms);
+                let sum = sum_ahead(&self.aheads, &row.terms);
                 let lack = i64::from(row.least).wrapping_mul(ONE).wrapping_sub(sum);
-                dual.step(lack, self.weight);
+                is_moved |= dual.step(lack, self.weight);
             }
         }
+        is_moved
+    }
+
+    /// One move of all columns, then of all multipliers. Whether any moved.
+    fn round(&mut self, z: &ZeroOne, claim: &Claim, fixed: &[Option<bool>]) -> bool {
+        self.pull_rows(z);
+        let columns_moved = self.move_columns(claim, fixed);
+        let duals_moved = self.move_duals(z);
         self.rounds = self.rounds.wrapping_add(1);
-        self.work = self.work.saturating_sub(self.nonzeros.saturating_mul(2));
+        let terms = self.terms.saturating_mul(2);
+        self.spend(terms);
+        columns_moved || duals_moved
     }
 
     /// The multipliers over `d`, each at least 1.
@@ -290,11 +412,70 @@ impl Rounds {
                 let list = self.multipliers(alloc, i64::from(d), self.divisor, mean)?;
                 Ok(CertNode::Bound(d, list))
             }
-            Claim::Nothing => Ok(CertNode::Clash(self.multipliers(alloc, 1024, 1, mean)?)),
+            Claim::Nothing => {
+                let list = self.multipliers(alloc, i64::from(FINE), 1, mean)?;
+                Ok(CertNode::Clash(list))
+            }
         }
     }
 
-    /// A leaf that closes the claim, by the multipliers now or their mean, over the least of some denominators that does.
+    /// The leaf of the multipliers over `d`, where it closes the claim.
+    fn tried(
+        &mut self,
+        alloc: Global,
+        z: &ZeroOne,
+        claim: &Claim,
+        path: &Path,
+        weights: &mut [i128],
+        d: u32,
+        mean: bool,
+    ) -> Result<Option<CertNode>, AllocError>
+        requires valid { IsValid z.now }
+        requires path { path.now.costs ≡ z.now.costs.items }
+        requires more { path.now.fixings ≢ [] }
+        requires clear { IsClear (columns z.now) weights.old }
+        ensures clear { IsClear (columns z.now) weights.new }
+        ensures closes { IfOk result (λ leaf. IfSome leaf (λ n. Closes z.now claim.now (current path.now.fixings) n)) }
+        ensures within { IfOk result (λ leaf. IfSome leaf IsNode) }
+    {
+        let node = self.candidate(alloc, claim, d, mean)?;
+        let terms = self.terms.saturating_mul(4);
+        self.spend(terms);
+        if is_node(&node) {
+            if closes(z, claim, path, weights, &node) {
+                return Ok(Some(node));
+            }
+        }
+        Ok(None)
+    }
+
+    /// A leaf that closes the claim over the least of some denominators for which there is one.
+    fn coarser(
+        &mut self,
+        alloc: Global,
+        z: &ZeroOne,
+        claim: &Claim,
+        path: &Path,
+        weights: &mut [i128],
+    ) -> Result<Option<CertNode>, AllocError>
+        requires valid { IsValid z.now }
+        requires path { path.now.costs ≡ z.now.costs.items }
+        requires more { path.now.fixings ≢ [] }
+        requires clear { IsClear (columns z.now) weights.old }
+        ensures clear { IsClear (columns z.now) weights.new }
+        ensures closes { IfOk result (λ leaf. IfSome leaf (λ n. Closes z.now claim.now (current path.now.fixings) n)) }
+        ensures within { IfOk result (λ leaf. IfSome leaf IsNode) }
+    {
+        for (d, mean) in COARSE {
+            if let Some(node) = self.tried(alloc, z, claim, path, weights, d, mean)? {
+                return Ok(Some(node));
+            }
+        }
+        Ok(None)
+    }
+
+    /// A leaf that closes the claim, by the multipliers now or their mean. Where a fine denominator gives one, the coarse ones
+    /// are tried too, since their leaves are shorter.
     fn closing(
         &mut self,
         alloc: Global,
@@ -311,13 +492,15 @@ impl Rounds {
         ensures closes { IfOk result (λ leaf. IfSome leaf (λ n. Closes z.now claim.now (current path.now.fixings) n)) }
         ensures within { IfOk result (λ leaf. IfSome leaf IsNode) }
     {
-        for (d, mean) in TRIES {
-            let node = self.candidate(alloc, claim, d, mean)?;
-            self.work = self.work.saturating_sub(self.nonzeros.saturating_mul(4));
-            if is_node(&node) {
-                if closes(z, claim, path, weights, &node) {
+        for mean in [false, true] {
+            if let Some(node) = self.tried(alloc, z, claim, path, weights, FINE, mean)? {
+                if let Claim::Nothing = claim {
                     return Ok(Some(node));
                 }
+                return match self.coarser(alloc, z, claim, path, weights)? {
+                    Some(shorter) => Ok(Some(shorter)),
+                    None => Ok(Some(node)),
+                };
             }
         }
         Ok(None)
@@ -365,16 +548,17 @@ impl Rounds {
     }
 }
 
-/// The denominators that are tried, with the multipliers now and with their mean.
-const TRIES: [(u32, bool); 8] = [
+/// The denominator that is tried first.
+const FINE: u32 = 1_024;
+
+/// The denominators that are tried where it closes a leaf, with the multipliers now and with their mean.
+const COARSE: [(u32, bool); 6] = [
     (1, false),
     (1, true),
     (2, false),
     (2, true),
     (4, false),
     (4, true),
-    (1024, false),
-    (1024, true),
 ];
 
 /// The mean of the positive costs, in units of their divisor, as whole sixteens and at least one.

@@ -11,18 +11,19 @@ ghost use Rattle.zo_solve.specs.inner.Search.{IsAnswerOf, IsBest, IsFound};
 ghost use Rattle.zo_solve.specs.Solved.{CostsAtMost, EachIn, HadNoStart, IsCutOff, IsDecided, IsProved, OfVector, claim_of, tree_of};
 ghost use Rattle.zo_solve.specs.Vector.{IsVector, cost_at, start_cost};
 
-use crate::dive::begin;
+use crate::begin::begin;
 use crate::node::{Best, step};
 use crate::pick::Pick;
 use crate::rounds::Rounds;
-use std::alloc::{AllocError, Global};
+use crate::sums::Sums;
+use std::alloc::Global;
 use zo_cert::path::Path;
 use zo_cert::report::has_left;
 use zo_cert::{Cert, CertNode, Fixed};
 use zo_model::{Assignment, NoMemory, ZeroOne};
 
 /// So many terms of rows are visited in the rounds of one search; after that nodes are closed without multipliers.
-const WORK_LIMIT: u64 = 500_000_000;
+const WORK_LIMIT: u64 = 600_000_000;
 
 /// What a search found, with its tree.
 #[derive(Debug, Drop)]
@@ -51,7 +52,7 @@ fn search<F: Fn(&ZeroOne, &Fixed) -> u32>(
     first: Best,
     budget: u32,
     pick: &Pick<F>,
-) -> Result<Found, AllocError>
+) -> Result<Found, NoMemory>
     requires valid { IsValid z.now }
     requires can_pick { CanPick (F.pre pick.now.choose) (F.post pick.now.choose) }
     requires best { IsBest z.now first }
@@ -61,6 +62,7 @@ fn search<F: Fn(&ZeroOne, &Fixed) -> u32>(
     let mut path = Path::new(alloc, z)?;
     let mut weights = vec![in alloc; 0i128; z.costs.len()]?;
     let mut rounds = Rounds::new(alloc, z, WORK_LIMIT)?;
+    let mut sums = Sums::new(alloc, z)?;
     let mut nodes = Vec::new(alloc);
     let mut left = budget;
     'nodes: while !path.is_done() {
@@ -70,6 +72,7 @@ fn search<F: Fn(&ZeroOne, &Fixed) -> u32>(
             pick,
             left,
             &mut best,
+            &mut sums,
             &mut rounds,
             &mut weights,
             &mut path,

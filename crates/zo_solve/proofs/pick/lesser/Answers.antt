@@ -1,1 +1,0 @@
-use Rattle.zo_solve.proofs.pick.lesser.Goals as goal

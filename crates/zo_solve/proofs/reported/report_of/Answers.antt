@@ -1,6 +1,6 @@
 use Rattle.std.proofs.Common.{◌≡◌, ◌∙◌, ap, replicate, false, arith}
 use Rattle.zo_model.specs.Program.{columns}
-use Rattle.zo_solve.proofs.Reports.{feasible_right, infeasible_right, optimal_right, spent_right}
+use Rattle.zo_solve.proofs.Reports.{infeasible_right, optimal_right}
 use Rattle.zo_solve.proofs.reported.report_of.Goals as goal
 
 pub returns-in-Optimal-clause-valid : goal.returns-in-Optimal-clause-valid

@@ -1,4 +1,4 @@
-use Rattle.std.proofs.Common.{◌≡◌, ◌≢◌, [], ◌∷◌, length, take, drop, ◌++◌, replicate, pos, refl, sym, ◌∙◌, ap, subst, arith, rules}
+use Rattle.std.proofs.Common.{◌≡◌, ◌≢◌, [], ◌∷◌, length, take, drop, ◌++◌, replicate, None, pos, refl, sym, ◌∙◌, ap, subst, arith, rules}
 use Rattle.std.proofs.lemmas.List.{length-replicate}
 use Rattle.std.proofs.lemmas.List.Elements.{All-replicate}
 use Rattle.std.specs.List.{All}
@@ -7,6 +7,7 @@ use Rattle.zo_cert.specs.Certificate.{branches, HasLeft, unfixed}
 use Rattle.zo_cert.specs.inner.Leaf.{IsClear}
 use Rattle.zo_cert.specs.inner.Path.{Pending}
 use Rattle.zo_cert.proofs.Paths.{whole_back}
+use Rattle.zo_solve.specs.Sums.{SumsOf}
 use Rattle.zo_solve.specs.inner.Search.{LeftsLast}
 use Rattle.zo_solve.proofs.Grow.{left_falls, left_spent, lefts_last_more, measure_falls}
 use Rattle.zo_solve.proofs.Steps.{begun_first, begun_step, found}
@@ -19,6 +20,8 @@ nodes-init g c =
     let none : c.new-nodes.result.items ≡ [] = c.new-nodes.ensures.items in
     let w : c.in_ok-weights.weights.items ≡ replicate (columns c.args.z.now) (pos 0) = search rules in
     record {
+      program = ap (λ (s : SumsOf). s.program) c.in_ok-sums.ensures;
+      places = ap (λ (s : SumsOf). length s.fixed) c.in_ok-sums.ensures ∙ length-replicate (columns c.args.z.now) None;
       same_costs = costs;
       clear = record {
         one_a_column = ap length w ∙ length-replicate (columns c.args.z.now) (pos 0);
@@ -40,6 +43,8 @@ nodes-preserved g c =
     let w : take c.nodes.weights.len (c.step.new.weights ++ drop (length c.step.new.weights) c.nodes.weights.items) ≡ c.step.new.weights = whole_back c.nodes.weights.len c.step.new.weights c.nodes.weights.items same (search rules) in
     let start : c.step.new.best.start ≡ c.args.first.start = s.start ∙ i.same_start in
     record {
+      program = s.program;
+      places = s.places;
       same_costs = s.costs ∙ i.same_costs;
       clear = subst (IsClear (columns c.args.z.now)) (sym w) s.clear;
       is_best = s.best;

@@ -9,6 +9,8 @@ use Rattle.zo_solve.proofs.search.search.Given as goal
 
 abbrev pub invariant-nodes : goal.invariant-nodes
 invariant-nodes g l = record {
+  program : l.sums.program ≡ l.z;
+  places : length l.sums.fixed ≡ columns l.z;
   same_costs : l.path.costs ≡ l.z.costs.items;
   clear : IsClear (columns l.z) l.weights.items;
   is_best : IsBest l.z l.best;

@@ -1,0 +1,7 @@
+use Rattle.cps_ir.specs.View.{term_view}
+use Rattle.cps_close.specs.inner.Closed.{defines}
+use Rattle.cps_close.proofs.Along.{Adds}
+use Rattle.cps_close.proofs.uses.+push_defined.Given as goal
+
+abbrev pub invariant-spine : goal.invariant-spine
+invariant-spine l = Adds (λ u. defines (term_view u)) l.t l.cur l.initial.v.items l.v.items

@@ -1,0 +1,17 @@
+pub mod Moved
+pub mod Lookup
+pub mod Simulates
+pub mod Jumping
+pub mod Bulks
+pub mod Outcomes
+pub mod Names
+pub mod Told
+pub mod Formed
+pub mod WholeProgram
+pub mod Wants
+pub mod Widths
+pub mod Wide
+pub mod Seen
+pub mod Adding
+pub mod Along
+pub mod Inlining

@@ -1,0 +1,12 @@
+pub mod Members
+pub mod Marking
+pub mod Renaming
+pub mod Scopes
+pub mod Way
+pub mod WayFormed
+pub mod WayMeasures
+pub mod Means
+pub mod Back
+pub mod Down
+pub mod Along
+pub mod Flows

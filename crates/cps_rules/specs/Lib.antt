@@ -1,0 +1,4 @@
+pub mod Rules
+pub mod Substitution
+pub mod Simplified
+pub mod inner

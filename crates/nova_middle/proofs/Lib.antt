@@ -1,0 +1,4 @@
+pub mod Sound
+pub mod Rest
+pub mod Whole
+pub mod Single

@@ -1,0 +1,62 @@
+// Whole programs.
+
+ghost use Rattle.std.specs.Prelude.{◌≡◌, ◌≤◌, true, All, IfOk, map};
+ghost use Rattle.nv_base.specs.Meanings.{KeepsOutcomes};
+ghost use Rattle.nv_base.specs.Measures.{IsAtMost};
+ghost use Rattle.flat_ir.specs.Bulk.{bulk as flat_bulk};
+ghost use Rattle.flat_ir.specs.Meaning.{flat_meaning};
+ghost use Rattle.flat_ir.specs.Reached.{params_in as flat_params};
+ghost use Rattle.flat_ir.specs.Wide.{wide as flat_wide};
+ghost use Rattle.flow_ir.specs.Bulk.{bulk};
+ghost use Rattle.flow_ir.specs.Meaning.{flow_meaning, flow_params};
+ghost use Rattle.flow_ir.specs.View.{label_view};
+ghost use Rattle.flow_ir.specs.Wide.{wide};
+ghost use Rattle.cps_rules.specs.Simplified.{AreTidy};
+ghost use Rattle.nova_middle.specs.Rules.{IsAtRest};
+ghost use Rattle.ssu_ir.specs.Meaning.{ssu_meaning, ssu_params};
+ghost use Rattle.ssu_ir.specs.Measures.{peak, size, code_bound};
+ghost use Rattle.ssu_ir.specs.Single.{single};
+ghost use Rattle.ssu_ir.specs.View.{labels_view};
+ghost use Rattle.ssu_make.specs.Bounds.{size_bound, length_bound};
+
+use crate::rules::simplified;
+use cps_close::close;
+use cps_inline::inline;
+use cps_lower::lower;
+use flat_ir::FlatProgram;
+use flow_ir::Flow;
+use nv_base::NoMemory;
+use ssu_ir::Ssu;
+use ssu_make::make;
+use std::alloc::Global;
+
+/// The flow of a flat program, which has its outcomes and is neither wider nor larger: in continuation form, in
+/// one function, in labels without free variables, and simplified by the rules. No `Let` is left that a rule
+/// answers, that is just another operand, or whose variable nothing uses. Want of memory is also the answer
+/// where a form would need 2^32 labels or variables.
+pub fn to_flow(alloc: Global, f: &FlatProgram) -> Result<Flow, NoMemory>
+    ensures kept { IfOk result (λ g. KeepsOutcomes (flat_params f.now.funs.items f.now.main) (flow_params (map label_view g.labels.items)) (flat_meaning f.now.funs.items f.now.main) (flow_meaning (map label_view g.labels.items))) }
+    ensures rules { IfOk result (λ g. All IsAtRest (map label_view g.labels.items)) }
+    ensures tidy { IfOk result (λ g. AreTidy (map label_view g.labels.items)) }
+    ensures wide { IfOk result (λ g. wide (map label_view g.labels.items) ≤ flat_wide f.now.funs.items f.now.main) }
+    ensures bulk { IfOk result (λ g. IsAtMost (bulk (map label_view g.labels.items)) (flat_bulk f.now.funs.items f.now.main)) }
+{
+    let lowered = lower(alloc, f)?;
+    let inlined = inline(alloc, lowered)?;
+    let closed = close(alloc, inlined)?;
+    simplified(alloc, closed)
+}
+
+/// The single-use form of a flat program, which has its outcomes. It holds no more values at once than the
+/// program is wide, and its size and the length of its code are bounded by the program's width and bulk. Want
+/// of memory is also the answer where a form would need 2^32 labels or variables.
+pub fn middle(alloc: Global, f: &FlatProgram) -> Result<Ssu, NoMemory>
+    ensures kept { IfOk result (λ s. KeepsOutcomes (flat_params f.now.funs.items f.now.main) (ssu_params (labels_view s)) (flat_meaning f.now.funs.items f.now.main) (ssu_meaning (labels_view s))) }
+    ensures single { IfOk result (λ s. single (labels_view s) ≡ true) }
+    ensures peak { IfOk result (λ s. peak (labels_view s) ≤ flat_wide f.now.funs.items f.now.main) }
+    ensures size { IfOk result (λ s. size (labels_view s) ≤ size_bound (flat_wide f.now.funs.items f.now.main) (flat_bulk f.now.funs.items f.now.main)) }
+    ensures code { IfOk result (λ s. code_bound (labels_view s) ≤ length_bound (flat_wide f.now.funs.items f.now.main) (flat_bulk f.now.funs.items f.now.main)) }
+{
+    let flow = to_flow(alloc, f)?;
+    make(alloc, &flow)
+}

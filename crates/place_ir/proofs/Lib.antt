@@ -1,0 +1,8 @@
+pub mod Places
+pub mod RowSteps
+pub mod Labels
+pub mod Scoped
+pub mod Kept
+pub mod SpotSteps
+pub mod Marks
+pub mod Numbering

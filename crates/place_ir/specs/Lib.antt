@@ -1,0 +1,6 @@
+pub mod Places
+pub mod Plan
+pub mod Uses
+pub mod Fits
+pub mod Held
+pub mod inner

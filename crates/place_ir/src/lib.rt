@@ -1,0 +1,12 @@
+//! Where the values of a program in single-use form stand while its code runs.
+#![tactic(auto)]
+
+mod copies;
+mod place;
+mod row;
+mod rows;
+mod slots;
+mod spots;
+
+pub use place::{First, Home, Pass, Place, PlaceError, Placement, Serve};
+pub use rows::{held, peak};

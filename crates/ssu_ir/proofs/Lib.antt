@@ -1,0 +1,17 @@
+pub mod Trees
+pub mod Reading
+pub mod Arranged
+pub mod Walks
+pub mod Turns
+pub mod Growth
+pub mod PointLemmas
+pub mod Narrow
+pub mod Lists
+pub mod Scopes
+pub mod Addresses
+pub mod Rules
+pub mod Unders
+pub mod Searches
+pub mod Keeps
+pub mod Sizes
+pub mod Held

@@ -1,0 +1,8 @@
+use Rattle.std.proofs.Common.{◌≡◌, true, take}
+use Rattle.std.specs.List.{list_all}
+use Rattle.ssu_ir.specs.inner.Checks.{is_bound}
+use Rattle.ssu_ir.specs.inner.Under.{tree_at}
+use Rattle.ssu_ir.proofs.single_use.all_bound.Given as goal
+
+abbrev pub invariant-loop-x : goal.invariant-loop-x
+invariant-loop-x l = list_all (is_bound l.l.params.items (tree_at l.s.nodes.slots l.l.body.0)) (take l.x-index l.xs) ≡ true

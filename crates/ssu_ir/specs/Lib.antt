@@ -1,0 +1,11 @@
+pub mod Tree
+pub mod Slots
+pub mod View
+pub mod Meaning
+pub mod Points
+pub mod Measures
+pub mod Single
+pub mod Build
+pub mod Examples
+pub mod Work
+pub mod inner

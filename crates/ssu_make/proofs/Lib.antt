@@ -1,0 +1,17 @@
+pub mod Assigned
+pub mod Literals
+pub mod Clones
+pub mod Fitting
+pub mod Equal
+pub mod Shape
+pub mod Sizes
+pub mod Counting
+pub mod Once
+pub mod Scoped
+pub mod Results
+pub mod Rules
+pub mod Along
+pub mod Turns
+pub mod NodeForms
+pub mod Held
+pub mod Peak

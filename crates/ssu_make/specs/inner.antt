@@ -1,0 +1,3 @@
+pub mod Uses
+pub mod Made
+pub mod Making

@@ -1,0 +1,134 @@
+-- What the steps of making a form say of builders, counts and trees.
+use Rattle.std.specs.Prelude.{◌≡◌, ℕ, ◌+◌, ◌≤◌, List, [], ◌∷◌, map, reverse, All}
+use Rattle.std.specs.Borrow.{Bor}
+use Rattle.nv_base.specs.declared.term.Atom.{Atom}
+use Rattle.flow_ir.specs.declared.flow.Tree.{Tree as Boxed, size-Tree}
+use Rattle.flow_ir.specs.Tree.{Tree, Let, Read, Write, If, Jump, Halt, Label}
+use Rattle.flow_ir.specs.View.{tree_view}
+use Rattle.ssu_ir.specs.declared.build.SsuBuild.{SsuBuild}
+use Rattle.ssu_ir.specs.declared.node.SsuLabel.{SsuLabel}
+use Rattle.ssu_ir.specs.Build.{Rooted, Holds, ids, trees_of}
+use Rattle.ssu_ir.specs.Slots.{bodies}
+use Rattle.ssu_ir.specs.Tree as ssu
+use Rattle.ssu_ir.specs.View.{with_bodies}
+use Rattle.ssu_make.specs.declared.counts.Counts.{Counts}
+use Rattle.ssu_make.specs.declared.tree.Part.{Part}
+use Rattle.ssu_make.specs.inner.Uses as number
+use Rattle.ssu_make.specs.inner.Uses.{kept, operands, uses}
+use Rattle.ssu_make.specs.inner.Made.{spent, made, Laid, IsMade, AllMade}
+
+-- the numbers
+abbrev pub counted : Counts → number.Counts
+counted c = kept c.map
+
+-- ---- builders
+
+-- it has some roots
+pub record HasRoots (b : SsuBuild) : Type 0 where
+  pub roots : List Rooted
+  pub holds : Holds b roots
+
+-- this number is a root's
+pub record IsRoot (b : SsuBuild) (i : ℕ) : Type 0 where
+  pub tree : ssu.Tree
+  pub rest : List Rooted
+  pub holds : Holds b ((i, tree) ∷ rest)
+
+-- a root has become another, whose tree is that of the first with something before it; all others are as they were
+pub record Becomes (old new : SsuBuild) (i j : ℕ) (f : ssu.Tree → ssu.Tree) : Type 0 where
+  pub by : (t : ssu.Tree) (rest : List Rooted) → Holds old ((i, t) ∷ rest) → Holds new ((j, f t) ∷ rest)
+
+-- two roots have become one
+pub record Joined (old new : SsuBuild) (i j k : ℕ) (f : ssu.Tree → ssu.Tree → ssu.Tree) : Type 0 where
+  pub by : (t u : ssu.Tree) (rest : List Rooted) → Holds old ((i, t) ∷ (j, u) ∷ rest) → Holds new ((k, f t u) ∷ rest)
+
+-- one more root, with this tree
+pub record Adds (old new : SsuBuild) (i : ℕ) (t : ssu.Tree) : Type 0 where
+  pub by : (rest : List Rooted) → Holds old rest → Holds new ((i, t) ∷ rest)
+
+-- ---- trees of a flow, along what follows
+
+-- what follows a node, the second arm of an `If`
+abbrev pub rest_of : Tree → Tree
+rest_of (Let x p t) = t
+rest_of (Read m xs a t) = t
+rest_of (Write m a bs t) = t
+rest_of (If c a b t u) = u
+rest_of (Jump l bs) = Jump l bs
+rest_of (Halt e bs) = Halt e bs
+
+-- these trees, the last one first, go from the first tree to the second: each follows the one before
+abbrev pub Leads : List Tree → Tree → Tree → Type 0
+Leads [] from to = from ≡ to
+Leads (t ∷ ts) from to = (rest_of t ≡ to) × Leads ts from t
+
+-- the two numbers are roots'
+pub record AreRoots (b : SsuBuild) (i j : ℕ) : Type 0 where
+  pub first : ssu.Tree
+  pub second : ssu.Tree
+  pub rest : List Rooted
+  pub holds : Holds b ((i, first) ∷ (j, second) ∷ rest)
+
+-- a tree of a flow was made: one root more, with the uses of its variables
+pub record MadeTo (base : number.Counts) (n : ℕ) (t : Tree) (old new : SsuBuild) (d : ℕ) (part : Part) : Type 0 where
+  pub adds : Adds old new part.root.0 (made base n t)
+  pub counts : (y : ℕ) → counted part.counts y ≡ uses t y
+  pub fresh : d ≡ n + spent t
+
+-- the trees that references point to, the last one first
+abbrev pub tops : List (Bor Boxed) → List Tree
+tops ts = reverse (map (λ t. tree_view t.now) ts)
+
+-- none of these is larger
+abbrev pub AreWithin : ℕ → List (Bor Boxed) → Type 0
+AreWithin n ts = All (λ t. size-Tree t.now ≤ n) ts
+
+-- these nodes lead from a tree to one that was made
+pub record Reaches (base : number.Counts) (n : ℕ) (t : Boxed) (steps : List (Bor Boxed)) (old new : SsuBuild) (d : ℕ) (part : Part) : Type 0 where
+  pub last : Tree
+  pub leads : Leads (tops steps) (tree_view t) last
+  pub sizes : AreWithin (size-Tree t) steps
+  pub made : MadeTo base n last old new d part
+
+-- ---- what a label has
+
+abbrev pub kids : Tree → List Tree
+kids (Let x p t) = t ∷ []
+kids (Read m xs a t) = t ∷ []
+kids (Write m a bs t) = t ∷ []
+kids (If c a b t u) = t ∷ u ∷ []
+kids (Jump l bs) = []
+kids (Halt e bs) = []
+
+abbrev pub node_operands : Tree → List Atom
+node_operands (Let x p t) = operands p
+node_operands (Read m xs a t) = a ∷ []
+node_operands (Write m a bs t) = a ∷ bs
+node_operands (If c a b t u) = a ∷ b ∷ []
+node_operands (Jump l bs) = bs
+node_operands (Halt e bs) = bs
+
+abbrev pub node_defined : Tree → List ℕ
+node_defined (Let x p t) = x ∷ []
+node_defined (Read m xs a t) = xs
+node_defined (Write m a bs t) = []
+node_defined (If c a b t u) = []
+node_defined (Jump l bs) = []
+node_defined (Halt e bs) = []
+
+pub record LaidOut (base size : number.Counts) (c d : ℕ) (xs : List ℕ) : Type 0 where
+  pub after : c ≤ d
+  pub laid : Laid base size c d xs
+
+-- ---- labels
+
+pub record LabelMade (l : Label) (s : SsuLabel) (c d : ℕ) (old new : SsuBuild) : Type 0 where
+  pub tree : ssu.Tree
+  pub adds : Adds old new s.body.0 tree
+  pub made : IsMade c d l (record { params = s.params.items; body = tree })
+
+pub record LabelsMade (ls : List Label) (ss : List SsuLabel) (b : SsuBuild) : Type 0 where
+  pub roots : List Rooted
+  pub holds : Holds b roots
+  pub at_bodies : ids roots ≡ bodies ss
+  pub made : AllMade 0 ls (with_bodies ss (trees_of roots))
