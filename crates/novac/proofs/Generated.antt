@@ -2,7 +2,6 @@
 use Rattle.std.proofs.Common.{◌≡◌, ◌⊎◌, ℕ, ◌≤◌, List, inl, inr, length, ap, sym, ◌∙◌, subst}
 use Rattle.nv_ast.specs.Tree.{ProgramTree}
 use Rattle.nv_base.specs.Memories.{Memories}
-use Rattle.nv_base.specs.declared.outcome.Outcome.TheVariants as outcome
 use Rattle.nova_front.specs.Sources.{IsTypedSource}
 use Rattle.nova_front.proofs.OneSource.{source-program}
 use Rattle.made_source.specs.Laws.{HasProgram}

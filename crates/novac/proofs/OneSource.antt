@@ -17,7 +17,7 @@ use Rattle.novac.specs.inner.Telling.{IsFaulty, IsToldAs, IsPassedAs}
 use Rattle.novac.specs.declared.build.FirstError.{FirstError}
 use Rattle.novac.specs.declared.build.FirstError.TheVariants as first
 use Rattle.novac.specs.declared.refusal.Refusal.{Refusal}
-use Rattle.novac.specs.declared.refusal.Refusal.TheVariants.{NoMemory, SourceChar, SourceNumber, SourceName, SourceSyntax, SourceDeep, SourceType, SourceLarge, Unbuilt}
+use Rattle.novac.specs.declared.refusal.Refusal.TheVariants.{NoMemory, SourceChar, SourceNumber, SourceName, SourceSyntax, SourceDeep, SourceType, SourceLarge}
 
 -- how a refusal of the front end is told
 refusal-of : TextError → Refusal

@@ -1,4 +1,4 @@
-use Rattle.std.proofs.Common.{List, ◌⊎◌, inr, subst, sym}
+use Rattle.std.proofs.Common.{List, inr, subst, sym}
 use Rattle.std.proofs.lemmas.Result.{err_from_is_err_and}
 use Rattle.std.specs.Prelude.{All, ◌≤◌, length}
 use Rattle.nv_ast.specs.ProgramView.{program_of}

@@ -1,4 +1,4 @@
-use Rattle.std.proofs.Common.{◌≡◌, ◌⊎◌, List, IfErr, ap, sym, subst}
+use Rattle.std.proofs.Common.{◌⊎◌, List, IfErr, ap, sym, subst}
 use Rattle.nv_outside.specs.Causes.{Rose}
 use Rattle.novac.specs.inner.Words.{command_as}
 use Rattle.novac.specs.Lines.{IsUncaused}

@@ -1,4 +1,3 @@
-use Rattle.std.proofs.Common.{refl}
 use Rattle.novac.proofs.OneReport.{true-shown}
 use Rattle.novac.proofs.report.check_truth.Goals as goal
 
