@@ -1,0 +1,214 @@
+-- The run of a tree: down its steps, through its forks, to a jump or an end.
+use Rattle.std.proofs.Common.{◌≡◌, ℕ, zero, suc, ◌+◌, ◌≤◌, nat_eq, nat_le, Bool, true, false, ◌&&◌, List, [], ◌∷◌, ◌++◌, map, length, Option, Some, None, All, if◌then◌else◌, refl, sym, ap, ◌∙◌, subst, arith, slice_get, slice_index_or}
+use Rattle.std.proofs.lemmas.Bool.{and_parts, or_right, false≢true, leb-true}
+use Rattle.nv_base.specs.declared.term.Cmp.{Cmp}
+use Rattle.nv_base.specs.declared.term.Bin.TheVariants.{Sub}
+use Rattle.nv_base.specs.Meanings.{FullOutcome}
+use Rattle.nv_base.specs.Memories.{HasSizes}
+use Rattle.nv_base.specs.Sets.{is_in}
+use Rattle.nv_base.specs.Words.{Env, IsWord, compares, assigned_all}
+use Rattle.nv_base.specs.World.{World, over, ended}
+use Rattle.nv_base.proofs.Sets.{within-left, within-right}
+use Rattle.uc_isa.specs.declared.instruction.Instr.TheVariants as instr
+use Rattle.uc_isa.specs.declared.instruction.Dst.TheVariants as dst
+use Rattle.uc_isa.specs.declared.instruction.Cond.TheVariants.{Always}
+use Rattle.uc_isa.specs.Registers.{failing}
+use Rattle.uc_isa.specs.Straight.{Stands as InCode}
+use Rattle.uc_isa.specs.Pieces.{Moment, Leads}
+use Rattle.ssu_ir.specs.Tree.{Last, Jump, Halt, Tree, Do, If, End, Label, step_values, step_clones}
+use Rattle.ssu_ir.specs.Points.{Names, names_after, nodes}
+use Rattle.ssu_ir.specs.Meaning.{Next, does, last_does, blank}
+use Rattle.ssu_ir.specs.Single.{Numbers, numbers_after, all_known, is_scoped, are_nodes, takes_as_many, are_addressed, defined}
+use Rattle.place_ir.specs.declared.place.Place.TheVariants.{A}
+use Rattle.place_ir.specs.Plan.{Plan, pass}
+use Rattle.par_move.specs.Moves.{Words, one_by_one}
+use Rattle.ucode_emit.specs.inner.Pieces.{Plain, Branch, moved, operands, operand_at, source, single_moves, last_moves, step_items, fork_items, tree_items, entry_point, sequence_at, parallel_moves}
+use Rattle.ucode_emit.specs.inner.Ready.{Ready, Entered, IsSequence}
+use Rattle.ucode_emit.specs.inner.Machine.{IsReadable, Stands}
+use Rattle.ucode_emit.specs.inner.Layers.{root_point}
+use Rattle.ucode_emit.proofs.PointsTree.{in_head, different_left, different_right}
+use Rattle.ucode_emit.proofs.PointsUses.{at_in}
+use Rattle.ucode_emit.proofs.Entries.{params_differ}
+use Rattle.ucode_emit.proofs.Placing.{as_many, long_both, items_long, items_left, index_there, there_by_length, part_head, root_begins, tree_rest, tree_first, tree_second}
+use Rattle.ucode_emit.proofs.RunsWords.{all_known_at, each_its_word, mapped_there, each_mapped, words_mapped}
+use Rattle.ucode_emit.proofs.RunsResults.{Setting, code_in, places_in, AtTree, Result, after_steps, run_front, run_end}
+use Rattle.ucode_emit.proofs.RunsSteps.{Rules, State, rules_rest, step_runs}
+
+-- what a jump leads to: a label's entry, whose parameters have these words, one step behind a moment
+abbrev pub Jumps : Setting → ℕ → ℕ → Next → Type 0
+Jumps g base n next =
+    (l : ℕ) (to : Label) (ws : List ℕ) (e : Words) (w : World) (a b : Moment) → slice_get g.labels (suc l) ≡ Some to → All IsWord ws → HasSizes w.packet
+    → Entered g.plan to.params (assigned_all blank to.params ws) e → Stands base (slice_index_or (places_in g) (entry_point g.labels (suc l)) 0) e w b
+    → Leads (code_in g) base 1 a b → Result (code_in g) base n a (next (suc l) ws w)
+
+-- ---- forks
+
+fork_sum : (at l j whole r : ℕ) → whole ≡ j + r → r ≡ 2 → j ≡ l → at + l + 2 ≡ at + whole
+fork_sum at l j whole r e f i = omega (arith, e, f, i)
+
+fork_end : (p : Plan) (k at : ℕ) (c : Cmp) → at + length (operands p k 2) + 2 ≡ at + length (fork_items p k (failing c) 0)
+fork_end p k at c =
+    let test = Plain (instr.Alu dst.Nowhere Sub (source (operand_at p k 0)) (source (operand_at p k 1))) in
+    let two = test ∷ Branch (failing c) 0 ∷ [] in
+    fork_sum at (length (operands p k 2)) (length (moved (operands p k 2))) (length (moved (operands p k 2) ++ two)) (length two) (long_both (moved (operands p k 2)) two) refl (items_long (operands p k 2))
+
+abbrev GoesInto : Setting → (base n k to : ℕ) → Names → (known above : List ℕ) → Numbers → Tree → Env → Env → World → FullOutcome → Type 0
+GoesInto g base n k to of known above number t env vals w f =
+    (e : Words) (b : Moment) → State g.labels g.plan k of known above number t env vals e w → Stands base to e w b → Result (code_in g) base n b f
+
+-- the front of a fork: its operands are fetched, and its two instructions follow
+fork_front : (g : Setting) (base n k at : ℕ) (of : Names) (known above : List ℕ) (number : Numbers) (c : Cmp) (x y : ℕ) (t u : Tree) (env vals : Env) (e : Words) (w : World) (m : Moment) (f : FullOutcome)
+    → AtTree g k at of above (If c x y t u) → Rules g.labels of known above number (If c x y t u)
+    → State g.labels g.plan k of known above number (If c x y t u) env vals e w → Stands base at e w m
+    → ((e1 : Words) (b : Moment) → IsReadable (operand_at g.plan k 0) → IsReadable (operand_at g.plan k 1)
+    → InCode (code_in g) (at + length (operands g.plan k 2))
+    (instr.Alu dst.Nowhere Sub (source (operand_at g.plan k 0)) (source (operand_at g.plan k 1)) ∷ instr.Br (failing c) (slice_index_or (places_in g) (suc k + nodes t) 0) ∷ [])
+    → Stands base (at + length (operands g.plan k 2)) e1 w b → compares c (e1 (operand_at g.plan k 0)) (e1 (operand_at g.plan k 1)) ≡ compares c (env x) (env y)
+    → Ready g.labels g.plan k (root_point of above (If c x y t u)) vals e1 → Result (code_in g) base n b f)
+    → Result (code_in g) base n m f
+fork_front g base n k at of known above number c x y t u env vals e w m f tree rules st s next =
+    let left = operand_at g.plan k 0 in
+    let right = operand_at g.plan k 1 in
+    let a = g.layer.compared k of above c x y t u vals e tree.points_ st.ready in
+    let e1 = one_by_one (operands g.plan k 2) e in
+    let names = (and_parts (all_known known (x ∷ y ∷ [])) (is_scoped known t && is_scoped known u) rules.scope.scoped).0 in
+    let same : e1 left ≡ env x = a.0.1.values.0 ∙ sym (st.copied.each x (all_known_at known (x ∷ y ∷ []) x names (in_head x (y ∷ [])))) in
+    let other : e1 right ≡ env y = a.0.1.values.1.0 ∙ sym (st.copied.each y (all_known_at known (x ∷ y ∷ []) y names (or_right (nat_eq y x) (is_in y (y ∷ [])) (in_head y [])))) in
+    let two = Plain (instr.Alu dst.Nowhere Sub (source left) (source right)) ∷ Branch (failing c) (suc k + nodes t) ∷ [] in
+    run_front g base at n (operands g.plan k 2) two e w m f
+    (items_left (code_in g) (places_in g) at (fork_items g.plan k (failing c) (suc k + nodes t)) (tree_items g.labels g.plan g.mss (suc k) t ++ tree_items g.labels g.plan g.mss (suc k + nodes t) u) tree.in_code)
+    a.0.0 s
+    (λ b rest there. next e1 b a.1 a.2 rest there (ap (λ i. compares c i (e1 right)) same ∙ ap (compares c (env x)) other) a.0.1.ready)
+
+fork_runs : (g : Setting) (base n k at : ℕ) (of : Names) (known above : List ℕ) (number : Numbers) (c : Cmp) (x y : ℕ) (t u : Tree) (env vals : Env) (e : Words) (w : World) (m : Moment) (f h : FullOutcome) (b : Bool)
+    → compares c (env x) (env y) ≡ b → AtTree g k at of above (If c x y t u) → Rules g.labels of known above number (If c x y t u)
+    → State g.labels g.plan k of known above number (If c x y t u) env vals e w → Stands base at e w m
+    → GoesInto g base n (suc k) (at + length (fork_items g.plan k (failing c) 0)) of known above number t env vals w f
+    → GoesInto g base n (suc k + nodes t) (slice_index_or (places_in g) (suc k + nodes t) 0) of known above number u env vals w h
+    → Result (code_in g) base n m (if b then f else h)
+fork_runs g base n k at of known above number c x y t u env vals e w m f h true test tree rules st s first second =
+    fork_front g base n k at of known above number c x y t u env vals e w m f tree rules st s
+    (λ e1 b left right rest there same ready.
+    let to = slice_index_or (places_in g) (suc k + nodes t) 0 in
+    let l = g.machine.holds (code_in g) base (at + length (operands g.plan k 2)) to c (operand_at g.plan k 0) (operand_at g.plan k 1) e1 w b left right rest there (same ∙ test) in
+    after_steps (code_in g) base 2 n b l.later f l.leads
+    (first e1 l.later
+    (record { fits = st.fits; copied = st.copied; numbers = st.numbers; sizes = st.sizes; ready = g.layer.first_arm k of above c x y t u vals e1 tree.points_ ready })
+    (subst (λ j. Stands base j e1 w l.later) (fork_end g.plan k at c) l.stands)))
+fork_runs g base n k at of known above number c x y t u env vals e w m f h false test tree rules st s first second =
+    fork_front g base n k at of known above number c x y t u env vals e w m h tree rules st s
+    (λ e1 b left right rest there same ready.
+    let to = slice_index_or (places_in g) (suc k + nodes t) 0 in
+    let l = g.machine.fails (code_in g) base (at + length (operands g.plan k 2)) to c (operand_at g.plan k 0) (operand_at g.plan k 1) e1 w b left right rest there (same ∙ test) in
+    after_steps (code_in g) base 2 n b l.later h l.leads
+    (second e1 l.later
+    (record { fits = st.fits; copied = st.copied; numbers = st.numbers; sizes = st.sizes; ready = g.layer.second_arm k of above c x y t u vals e1 tree.points_ ready })
+    l.stands))
+
+rules_first : (labels : List Label) (of : Names) (known above : List ℕ) (number : Numbers) (c : Cmp) (x y : ℕ) (t u : Tree) → Rules labels of known above number (If c x y t u) → Rules labels of known above number t
+rules_first labels of known above number c x y t u h =
+    let q = and_parts (is_scoped known t) (is_scoped known u) (and_parts (all_known known (x ∷ y ∷ [])) (is_scoped known t && is_scoped known u) h.scope.scoped).1 in
+    record {
+      scope = record {
+        scoped = q.0;
+        named = h.scope.named;
+        own_name = h.scope.own_name;
+        apart = λ z i j. h.scope.apart z i (within-left (defined t) (defined u) z j);
+        different = different_left (defined t) (defined u) h.scope.different;
+      };
+      within = h.within;
+      fit = (and_parts (are_nodes labels t) (are_nodes labels u) h.fit).0;
+      addressed = (and_parts (are_addressed number t) (are_addressed number u) h.addressed).0;
+    }
+
+rules_second : (labels : List Label) (of : Names) (known above : List ℕ) (number : Numbers) (c : Cmp) (x y : ℕ) (t u : Tree) → Rules labels of known above number (If c x y t u) → Rules labels of known above number u
+rules_second labels of known above number c x y t u h =
+    let q = and_parts (is_scoped known t) (is_scoped known u) (and_parts (all_known known (x ∷ y ∷ [])) (is_scoped known t && is_scoped known u) h.scope.scoped).1 in
+    record {
+      scope = record {
+        scoped = q.1;
+        named = h.scope.named;
+        own_name = h.scope.own_name;
+        apart = λ z i j. h.scope.apart z i (within-right (defined t) (defined u) z j);
+        different = different_right (defined t) (defined u) h.scope.different;
+      };
+      within = h.within;
+      fit = (and_parts (are_nodes labels t) (are_nodes labels u) h.fit).1;
+      addressed = (and_parts (are_addressed number t) (are_addressed number u) h.addressed).1;
+    }
+
+-- ---- jumps and ends
+
+-- the label that a jump names
+record Target (n : ℕ) (o : Option Label) : Type 0 where
+  to : Label
+  there : o ≡ Some to
+
+target_of : (n : ℕ) (o : Option Label) → takes_as_many n o ≡ true → Target n o
+target_of n (Some l) h = record { to = l; there = refl }
+target_of n None h = absurd (false≢true h)
+
+-- the parallel move of a jump or an end, in sequence
+last_sequence : (g : Setting) (k at : ℕ) (of : Names) (above : List ℕ) (l : Last) → AtTree g k at of above (End l) → IsSequence (last_moves g.plan k l) (sequence_at g.mss k)
+last_sequence g k at of above l tree =
+    let there = part_head k (last_moves g.plan k l) [] (parallel_moves g.plan g.labels) tree.moves in
+    g.sequences.each k (last_moves g.plan k l) (sequence_at g.mss k) there
+    (there_by_length (parallel_moves g.plan g.labels) g.mss k (last_moves g.plan k l) [] g.sequences.as_many there)
+
+last_runs : (g : Setting) (base n : ℕ) (next : Next) → Jumps g base n next → (l : Last) (k at : ℕ) (of : Names) (known above : List ℕ) (number : Numbers) (env vals : Env) (e : Words) (w : World) (m : Moment)
+    → AtTree g k at of above (End l) → Rules g.labels of known above number (End l) → State g.labels g.plan k of known above number (End l) env vals e w → Stands base at e w m
+    → Result (code_in g) base n m (last_does next l env w)
+last_runs g base n next jumps (Jump zero xs) k at of known above number env vals e w m tree rules st s = absurd (false≢true (and_parts false (takes_as_many (length xs) (slice_get g.labels 0)) rules.fit).0)
+last_runs g base n next jumps (Jump (suc l) xs) k at of known above number env vals e w m tree rules st s =
+    let ms = sequence_at g.mss k in
+    let front = single_moves (pass g.plan k).l ms in
+    let target = target_of (length xs) (slice_get g.labels (suc l)) (and_parts (nat_le 1 (suc l)) (takes_as_many (length xs) (slice_get g.labels (suc l))) rules.fit).1 in
+    let to = target.to in
+    let ws = map env xs in
+    let new = assigned_all blank to.params ws in
+    let have : (i x y : ℕ) → slice_get xs i ≡ Some x → slice_get to.params i ≡ Some y → new y ≡ vals (of x) =
+    λ i x y a b. each_its_word blank to.params ws i y (env x) (params_differ g.labels g.plan (suc l) to g.placed target.there) b (mapped_there env xs i x a)
+    ∙ st.copied.each x (all_known_at known xs x rules.scope.scoped (at_in x xs i a)) in
+    let r = g.layer.jump k of above (suc l) xs to ms vals new e tree.points_ target.there have (last_sequence g k at of above (Jump (suc l) xs) tree) st.ready in
+    let e1 = one_by_one front e in
+    run_front g base at n front (Branch Always (entry_point g.labels (suc l)) ∷ []) e w m (next (suc l) ws w) tree.in_code r.0 s
+    (λ b rest there.
+    let j = g.machine.jump (code_in g) base (at + length front) (slice_index_or (places_in g) (entry_point g.labels (suc l)) 0) e1 w b rest there in
+    jumps l to ws e1 w b j.later target.there (words_mapped env xs st.fits) st.sizes r.1 j.stands j.leads)
+last_runs g base n next jumps (Halt c xs) k at of known above number env vals e w m tree rules st s =
+    let ms = sequence_at g.mss k in
+    let front = single_moves (pass g.plan k).l ms in
+    let ws = map env xs in
+    let e1 = one_by_one front e in
+    let long : length xs ≡ length ws = sym (as_many env xs) in
+    let few : length xs ≤ 8 = leb-true (length xs) 8 rules.fit in
+    let r = g.layer.halt k of above c xs ms vals e tree.points_ (last_sequence g k at of above (Halt c xs) tree) st.ready in
+    let have : (i v : ℕ) → slice_get ws i ≡ Some v → e1 (A i) ≡ v = each_mapped (λ i. e1 (A i)) env xs (λ i x h. r.1 i x h ∙ sym (st.copied.each x (all_known_at known xs x rules.scope.scoped (at_in x xs i h)))) in
+    run_end g base at n front (Plain (instr.Halt c (length xs))) [] e w m (over (ended c ws) w) tree.in_code r.0 s
+    (λ to b one there.
+    g.machine.halt (code_in g) base to c ws e1 w b (subst (λ j. j ≤ 8) long few) (subst (λ j. InCode (code_in g) to (instr.Halt c j ∷ [])) long one) there have)
+
+-- ---- trees
+
+pub tree_runs : (g : Setting) (base n : ℕ) (next : Next) → Jumps g base n next → (t : Tree) (k at : ℕ) (of : Names) (known above : List ℕ) (number : Numbers) (env vals : Env) (e : Words) (w : World) (m : Moment)
+    → AtTree g k at of above t → Rules g.labels of known above number t → State g.labels g.plan k of known above number t env vals e w → Stands base at e w m
+    → Result (code_in g) base n m (does next t env w)
+tree_runs g base n next jumps (Do s t) k at of known above number env vals e w m tree rules st there =
+    step_runs g base n k at of known above number s t (does next t) env vals e w m tree rules st there
+    (λ env1 vals1 e1 w1 b st1 there1.
+    tree_runs g base n next jumps t (suc k) (at + length (step_items g.plan k s)) (names_after of s) (known ++ (step_values s ++ step_clones s)) (above ++ step_values s) (numbers_after number s) env1 vals1 e1 w1 b
+    (tree_rest g.labels g.plan g.mss (code_in g) (places_in g) k at of above s t tree) (rules_rest g.labels of known above number s t rules) st1 there1)
+tree_runs g base n next jumps (If c x y t u) k at of known above number env vals e w m tree rules st there =
+    let first = at + length (fork_items g.plan k (failing c) 0) in
+    let second = first + length (tree_items g.labels g.plan g.mss (suc k) t) in
+    let arm = tree_second g.labels g.plan g.mss (code_in g) (places_in g) k at of above c x y t u tree in
+    fork_runs g base n k at of known above number c x y t u env vals e w m (does next t env w) (does next u env w) (compares c (env x) (env y)) refl tree rules st there
+    (λ e1 b st1 there1.
+    tree_runs g base n next jumps t (suc k) first of known above number env vals e1 w b (tree_first g.labels g.plan g.mss (code_in g) (places_in g) k at of above c x y t u tree)
+    (rules_first g.labels of known above number c x y t u rules) st1 there1)
+    (λ e1 b st1 there1.
+    tree_runs g base n next jumps u (suc k + nodes t) second of known above number env vals e1 w b arm (rules_second g.labels of known above number c x y t u rules) st1
+    (subst (λ j. Stands base j e1 w b)
+    (index_there (places_in g) (suc k + nodes t) second 0 (root_begins g.labels g.plan g.mss (places_in g) second (suc k + nodes t) (suc k + nodes t) u arm.begins))
+    there1))
+tree_runs g base n next jumps (End l) k at of known above number env vals e w m tree rules st there = last_runs g base n next jumps l k at of known above number env vals e w m tree rules st there

@@ -1,0 +1,4 @@
+pub mod Pieces
+pub mod Ready
+pub mod Machine
+pub mod Layers
