@@ -304,7 +304,7 @@ giving-all s spots rows k old now l none g = record {
 
 -- ---- the values of a form in single use are different
 
-values_among-append : (a b : List Place) → values_among (a ++ b) ≡ values_among a ++ values_among b
+pub values_among-append : (a b : List Place) → values_among (a ++ b) ≡ values_among a ++ values_among b
 values_among-append [] b = refl
 values_among-append (q ∷ a) b = ap (λ l. place_values q ++ l) (values_among-append a b) ∙ sym (append_assoc (place_values q) (values_among a) (values_among b))
 

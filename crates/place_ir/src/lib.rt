@@ -2,6 +2,7 @@
 #![tactic(auto)]
 
 mod copies;
+mod laws;
 mod place;
 mod row;
 mod rows;
