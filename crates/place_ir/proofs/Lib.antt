@@ -10,3 +10,4 @@ pub mod Sound
 pub mod Spilled
 pub mod Fitting
 pub mod Slotted
+pub mod Covering

@@ -7,6 +7,7 @@ mod place;
 mod row;
 mod rows;
 mod slots;
+mod spill;
 mod spots;
 
 pub use place::{First, Home, Pass, Place, PlaceError, Placement, Serve};
