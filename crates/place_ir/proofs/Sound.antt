@@ -1,20 +1,18 @@
 -- What single use says of each point of a form.
-use Rattle.std.proofs.Common.{◌≡◌, ℕ, zero, suc, ◌+◌, ◌<◌, ◌≤◌, Bool, true, false, nat_eq, if◌then◌else◌, ◌||◌, ◌&&◌, ◌⊎◌, inl, inr, ⊎_elim, Option, Some, None, List, [], ◌∷◌, ◌++◌, length, map, filter, refl, sym, ap, subst, ◌∙◌, append_assoc, arith}
+use Rattle.std.proofs.Common.{◌≡◌, ℕ, suc, Bool, true, false, nat_eq, if◌then◌else◌, ◌||◌, ◌&&◌, ◌⊎◌, inl, inr, ⊎_elim, List, [], ◌∷◌, ◌++◌, length, map, refl, sym, ap, ◌∙◌, arith}
 use Rattle.std.specs.Prelude.{slice_get}
 use Rattle.std.specs.List.{list_all}
-use Rattle.std.proofs.lemmas.List.{map-append}
 use Rattle.std.proofs.lemmas.Bool.{and_parts, and_from, or_cases, false≢true}
 use Rattle.nv_base.specs.Sets.{is_in, all_different, Within}
 use Rattle.nv_base.proofs.Sets.{same-number}
-use Rattle.nv_base.specs.declared.term.Mem.{Mem}
 use Rattle.ssu_ir.specs.Tree.{Step, Lit, Una, Bin, Clone, Read, Write, Last, Jump, Halt, Tree, Do, If, End, Label, Does, Forks, Ends, step_values, step_clones, step_uses, last_uses}
-use Rattle.ssu_ir.specs.Points.{Names, own, names_after, used, held, Place, Entry, At, Point, tree_points, label_points, points_from, points}
+use Rattle.ssu_ir.specs.Points.{Names, own, names_after, used, held, Place, Entry, At, Point, tree_points, points_from, points}
 use Rattle.ssu_ir.specs.Single.{defined, all_defined, step_names, all_known, is_scoped, fresh_after, is_step, is_last, are_nodes, uses_once, clones_early, step_results, results_used, are_addressed, unknown, is_entry, is_single, single}
 use Rattle.place_ir.specs.Uses.{Role, Argument, Ending, Written, roles, step_roles, last_roles, place_roles}
 use Rattle.place_ir.specs.inner.Live.{value_by, source_among}
 use Rattle.place_ir.specs.inner.Spots.{tree_places}
 use Rattle.place_ir.specs.inner.Numbers.{values_among}
-use Rattle.place_ir.proofs.Scoped.{in-itself, Scope, scope-do, scope-first, scope-second, in-filter, in-left, in-right, in-either, all-in, in-map, split-different}
+use Rattle.place_ir.proofs.Scoped.{in-itself, Scope, scope-do, scope-first, scope-second, in-filter, in-left, in-right, in-either, all-in, split-different}
 use Rattle.place_ir.proofs.Kept.{use-name, named-above, trees, Sourced, sourced-tail, scope-of-label}
 use Rattle.place_ir.proofs.Numbering.{values_among-append, labels_places, places-of-labels}
 

@@ -1,26 +1,24 @@
 -- The placement that has every value in a slot: what it says of values, uses and points.
-use Rattle.std.proofs.Common.{◌≡◌, ℕ, zero, suc, ◌+◌, ◌*◌, ◌<◌, ◌≤◌, Bool, true, false, not, nat_eq, if◌then◌else◌, ◌||◌, ◌&&◌, ◌⊎◌, inl, inr, ⊎_elim, Option, Some, None, List, [], ◌∷◌, ◌++◌, length, map, filter, unwrap_or, refl, sym, ap, subst, ◌∙◌, arith}
-use Rattle.std.specs.Prelude.{slice_get, All, is_some, nat_lt, nat_le, ⊤}
+use Rattle.std.proofs.Common.{◌≡◌, ℕ, zero, suc, ◌+◌, ◌<◌, ◌≤◌, Bool, true, false, not, nat_eq, if◌then◌else◌, ◌||◌, ◌&&◌, ⊎_elim, Some, List, [], ◌∷◌, ◌++◌, length, map, filter, unwrap_or, refl, sym, ap, subst, ◌∙◌, arith}
+use Rattle.std.specs.Prelude.{slice_get, All}
 use Rattle.std.specs.List.{list_any}
 use Rattle.std.proofs.lemmas.List.Elements.{All-nil, All-cons, All-head, All-tail}
-use Rattle.std.proofs.lemmas.Bool.{and_parts, and_from, or_cases, or_left, or_right, or_from, false≢true, eq-eqb, false_from_ne_true, cases_Bool, not_from_false, eqb-true}
-use Rattle.nv_base.specs.Sets.{is_in, Within}
+use Rattle.std.proofs.lemmas.Bool.{and_parts, and_from, or_cases, or_left, or_right, or_from, false≢true, eq-eqb, false_from_ne_true}
+use Rattle.nv_base.specs.Sets.{is_in}
 use Rattle.nv_base.proofs.Sets.{same-number}
-use Rattle.nv_base.specs.declared.term.Mem.{Mem}
 use Rattle.nv_base.specs.declared.term.Mem.TheVariants.{Sram, Sdram, Scratch}
 use Rattle.ssu_ir.specs.Tree.{Label}
-use Rattle.ssu_ir.specs.Points.{Point, points}
+use Rattle.ssu_ir.specs.Points.{Point}
 use Rattle.place_ir.specs.declared.place.Place.{Place}
 use Rattle.place_ir.specs.declared.place.Place.TheVariants.{A, B, L, LD, S, SD, Slot}
 use Rattle.place_ir.specs.declared.place.Serve.{Serve}
-use Rattle.place_ir.specs.declared.place.Pass.{Pass}
 use Rattle.place_ir.specs.Places.{same_place}
-use Rattle.place_ir.specs.Plan.{Home, Plan, home_in, home, first_in, first, serve_in, serve, pass_in, pass}
-use Rattle.place_ir.specs.Uses.{Access, accesses, Sort, Parameter, Result, Fetched, Value, values, Role, Operand, Address, Written, Argument, Ending, Use, uses, uses_at, uses_of, is_used}
-use Rattle.place_ir.specs.Fits.{read_place, is_general, is_slot, is_write_register, is_read_register, served, is_early, early_uses, word_register, is_sort_homed, wants_home, Rises, is_home, stays, general_places, kept_register, read_places, has_place, none_shared, is_waiting, Waits, KeepsWaiting, KeepsHeld, maybe, same_use, at_operand, use_operand}
-use Rattle.place_ir.specs.inner.Numbers.{Numbers, HasBelow, IsApart}
-use Rattle.place_ir.specs.inner.Spilled.{slot_number, sort_home, value_home, IsAtHome, operand_at, role_at, use_serve, access_first, read_pass, write_pass, point_pass, passes_from, spilled, Covered, IsNumbered}
-use Rattle.place_ir.proofs.Scoped.{in-itself, in-left, in-right, in-either}
+use Rattle.place_ir.specs.Plan.{Home, home_in, first_in, serve_in, pass_in, pass}
+use Rattle.place_ir.specs.Uses.{Access, Sort, Parameter, Result, Fetched, Value, Use, uses, uses_of, is_used}
+use Rattle.place_ir.specs.Fits.{is_general, is_slot, is_write_register, is_read_register, served, is_early, early_uses, is_sort_homed, wants_home, Rises, is_home, general_places, kept_register, read_places, none_shared, Waits, KeepsWaiting, KeepsHeld, maybe, same_use, at_operand, use_operand}
+use Rattle.place_ir.specs.inner.Numbers.{Numbers, HasBelow}
+use Rattle.place_ir.specs.inner.Spilled.{slot_number, sort_home, IsAtHome, use_serve, access_first, point_pass, passes_from, spilled, IsNumbered}
+use Rattle.place_ir.proofs.Scoped.{in-itself, in-either}
 use Rattle.place_ir.proofs.Sound.{Each}
 
 -- ---- lists

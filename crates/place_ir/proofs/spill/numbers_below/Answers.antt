@@ -1,4 +1,4 @@
-use Rattle.std.proofs.Common.{◌≡◌, ◌≤◌, ◌<◌, ℕ, nat_eq, map, length, sym, ap, ◌∙◌, arith}
+use Rattle.std.proofs.Common.{◌≡◌, nat_eq, map, length, sym, ap, ◌∙◌, arith}
 use Rattle.std.specs.HashMap.{get}
 use Rattle.nv_base.specs.Sets.{all_different}
 use Rattle.ssu_ir.specs.Measures as measures
