@@ -11,3 +11,4 @@ pub mod Spilled
 pub mod Fitting
 pub mod Slotted
 pub mod Covering
+pub mod Homes
