@@ -1,31 +1,25 @@
 -- The placement that has every value in a slot fits a form in single use.
-use Rattle.std.proofs.Common.{◌≡◌, ℕ, zero, suc, ◌+◌, ◌*◌, ◌<◌, ◌≤◌, Bool, true, false, not, nat_eq, if◌then◌else◌, ◌||◌, ◌&&◌, ◌⊎◌, inl, inr, ⊎_elim, Option, Some, None, List, [], ◌∷◌, ◌++◌, length, map, filter, unwrap_or, refl, sym, ap, subst, ◌∙◌, arith}
-use Rattle.std.specs.Prelude.{slice_get, All, is_some, nat_lt, nat_le, ⊤}
-use Rattle.std.specs.List.{list_any}
+use Rattle.std.proofs.Common.{◌≡◌, ℕ, zero, suc, ◌+◌, ◌<◌, ◌≤◌, true, false, nat_eq, ◌&&◌, inl, ⊎_elim, Option, Some, None, List, [], ◌∷◌, ◌++◌, length, map, refl, sym, ap, subst, ◌∙◌, arith}
+use Rattle.std.specs.Prelude.{slice_get, nat_le}
 use Rattle.std.proofs.lemmas.List.{map-append}
-use Rattle.std.proofs.lemmas.List.Elements.{All-nil}
-use Rattle.std.proofs.lemmas.Bool.{and_parts, and_from, and_left, and_right, or_cases, or_left, or_right, false≢true, false_from_ne_true, leb-true}
-use Rattle.nv_base.specs.Access.{can_move}
+use Rattle.std.proofs.lemmas.Bool.{and_parts, and_left, and_right, or_left, or_right, false≢true, false_from_ne_true}
 use Rattle.nv_base.specs.Sets.{is_in, Within}
 use Rattle.nv_base.proofs.Sets.{same-number}
 use Rattle.nv_base.specs.declared.term.Mem.{Mem}
-use Rattle.nv_base.specs.declared.term.Mem.TheVariants.{Sram, Sdram, Scratch}
-use Rattle.ssu_ir.specs.Tree.{Step, Lit, Una, Bin, Clone, Read, Write, Last, Jump, Halt, Label, Does, Forks, Ends}
+use Rattle.ssu_ir.specs.Tree.{Lit, Una, Bin, Clone, Read, Write, Jump, Halt, Label, Does, Forks, Ends}
 use Rattle.ssu_ir.specs.Points.{Place as Spot, Entry, At, Point, points_from, points}
 use Rattle.ssu_ir.specs.Points as pure
-use Rattle.ssu_ir.specs.Single.{single, takes_as_many}
-use Rattle.place_ir.specs.declared.place.Place.{Place}
-use Rattle.place_ir.specs.declared.place.Place.TheVariants.{A, B, L, LD, S, SD, Slot}
+use Rattle.ssu_ir.specs.Single.{takes_as_many}
+use Rattle.place_ir.specs.declared.place.Place.TheVariants.{L, Slot}
 use Rattle.place_ir.specs.declared.place.Serve.{Serve}
-use Rattle.place_ir.specs.declared.place.Pass.{Pass}
-use Rattle.place_ir.specs.Plan.{Home, Plan, home_in, home, first_in, first, serve_in, serve, pass_in, pass}
-use Rattle.place_ir.specs.Uses.{Access, place_accesses, reads_at, writes_at, accesses_from, accesses, Sort, Parameter, Result, Fetched, Value, numbered, step_values, node_values, place_values, values_from, values, Role, Operand, Address, Written, Argument, Ending, Use, roles, place_roles, uses_at, uses_from, uses, is_used}
-use Rattle.place_ir.specs.Fits.{read_place, write_place, IsFirst, served, is_early, word_register, AreFills, AreCopies, IsHome, IsHoused, wants_home, AreHomes, IsOperandAt, IsAddressAt, param_at, label_param, parameter, IsServedAt, IsServed, IsEighth, different_groups, AreApart, is_slot, comes_to_slot, PassesSlots, KeepsRead, FitsAt, ArePasses, Fits, same_use}
-use Rattle.place_ir.specs.inner.Numbers.{Numbers, HasBelow, values_among}
-use Rattle.place_ir.specs.inner.Spilled.{slot_number, sort_home, value_home, IsAtHome, AreSpilled, operand_at, role_at, use_serve, access_first, read_pass, write_pass, point_pass, passes_from, spilled, Covered, IsNumbered}
+use Rattle.place_ir.specs.Plan.{Home, home_in, first, serve, pass}
+use Rattle.place_ir.specs.Uses.{accesses, Sort, Parameter, Fetched, Value, numbered, place_values, values_from, Role, Operand, Address, Written, Argument, Ending, Use, roles, place_roles, uses_at, uses_from, uses}
+use Rattle.place_ir.specs.Fits.{write_place, IsOperandAt, IsAddressAt, param_at, label_param, parameter, IsServedAt, IsServed, different_groups, AreApart, same_use}
+use Rattle.place_ir.specs.inner.Numbers.{Numbers, values_among}
+use Rattle.place_ir.specs.inner.Spilled.{slot_number, operand_at, use_serve, read_pass, spilled}
 use Rattle.place_ir.proofs.Scoped.{in-itself, in-left, in-right, in-either}
-use Rattle.place_ir.proofs.Sound.{Each, each-append, entry_params, place_results, place_ok, Sound, uses_among, sound-points}
-use Rattle.place_ir.proofs.Spilled.{each-all, all-each, each-left, each-right, each-weaker, each-apply, each-at, first-zero, firsts-points, serves-operands, none-early-of, Apart, apart-append, IsFound, serves-found, pass-at, passes-rise, passes-below, Found, found, homed, used-wanted, sort_param, param_vars, params-wanted, param-home, home-found, keeps-held, keeps-waiting, shares-nothing}
+use Rattle.place_ir.proofs.Sound.{Each, each-append, entry_params, place_ok, Sound, uses_among}
+use Rattle.place_ir.proofs.Spilled.{each-left, each-right, each-weaker, first-zero, Apart, apart-append, IsFound, Found, sort_param, param_vars, home-found}
 
 -- ---- uses, point by point
 

@@ -1,5 +1,5 @@
 -- The placement that has every value in a slot fits: values, accesses and points, and the whole.
-use Rattle.std.proofs.Common.{◌≡◌, ℕ, zero, suc, ◌+◌, ◌*◌, ◌<◌, ◌≤◌, Bool, true, false, nat_eq, ◌||◌, ◌&&◌, ◌⊎◌, inl, inr, ⊎_elim, Option, Some, None, List, [], ◌∷◌, ◌++◌, length, map, filter, unwrap_or, refl, sym, ap, subst, ◌∙◌, arith}
+use Rattle.std.proofs.Common.{◌≡◌, ℕ, suc, ◌+◌, ◌<◌, ◌≤◌, Bool, true, false, nat_eq, ◌||◌, inl, ⊎_elim, Some, None, List, [], ◌∷◌, length, map, unwrap_or, refl, sym, ap, subst, ◌∙◌, arith}
 use Rattle.std.specs.Prelude.{◌==◌, slice_get, All, is_some, nat_le}
 use Rattle.std.specs.List.{list_any}
 use Rattle.std.proofs.lemmas.List.Elements.{All-nil, All-cons}
@@ -9,15 +9,14 @@ use Rattle.nv_base.specs.Sets.{is_in, Within}
 use Rattle.nv_base.proofs.Sets.{same-number}
 use Rattle.nv_base.specs.declared.term.Mem.{Mem}
 use Rattle.nv_base.specs.declared.term.Mem.TheVariants.{Sram, Sdram, Scratch}
-use Rattle.ssu_ir.specs.Tree.{Step, Lit, Una, Bin, Clone, Read, Write, Label, Does, Forks, Ends}
+use Rattle.ssu_ir.specs.Tree.{Lit, Una, Bin, Clone, Read, Write, Label, Does, Forks, Ends}
 use Rattle.ssu_ir.specs.Points.{Place as Spot, Entry, At, Point, points}
 use Rattle.ssu_ir.specs.Single.{single}
-use Rattle.place_ir.specs.declared.place.Place.{Place}
-use Rattle.place_ir.specs.declared.place.Place.TheVariants.{A, B, L, LD, S, SD, Slot}
+use Rattle.place_ir.specs.declared.place.Place.TheVariants.{Slot}
 use Rattle.place_ir.specs.declared.place.Pass.{Pass}
-use Rattle.place_ir.specs.Plan.{Home, Plan, home_in, home, first, pass}
-use Rattle.place_ir.specs.Uses.{Access, place_accesses, reads_at, accesses_from, accesses, Sort, Parameter, Result, Fetched, Value, numbered, place_values, values_from, values, Role, place_roles, Use, uses_at, uses_from, uses, is_used}
-use Rattle.place_ir.specs.Fits.{read_place, IsGeneral, is_slot, same_bank, IsFirst, served, word_register, AreFills, AreCopies, IsHome, IsHoused, is_sort_homed, wants_home, IsServed, IsEighth, comes_to_slot, PassesSlots, KeepsRead, FitsAt, Fits}
+use Rattle.place_ir.specs.Plan.{Home, Plan, home_in, first, pass}
+use Rattle.place_ir.specs.Uses.{Access, place_accesses, reads_at, accesses_from, accesses, Sort, Parameter, Result, Fetched, Value, numbered, place_values, values_from, values, Role, place_roles, Use, uses_at, uses, is_used}
+use Rattle.place_ir.specs.Fits.{read_place, IsGeneral, is_slot, same_bank, IsFirst, served, word_register, AreCopies, IsHome, IsHoused, is_sort_homed, wants_home, IsServed, IsEighth, comes_to_slot, PassesSlots, KeepsRead, Fits}
 use Rattle.place_ir.specs.inner.Numbers.{Numbers, HasBelow, values_among}
 use Rattle.place_ir.specs.inner.Spilled.{slot_number, sort_home, IsAtHome, AreSpilled, read_pass, write_pass, point_pass, spilled, Covered, IsNumbered}
 use Rattle.place_ir.proofs.Scoped.{in-itself, in-either}
