@@ -23,7 +23,7 @@ use Rattle.place_ir.proofs.Labels.{tree-at}
 
 -- ---- what is in the row of a root
 
-use-name : (s : Step) (y : ℕ) → is_in y (step_uses s) ≡ true → is_in y (step_names s) ≡ true
+pub use-name : (s : Step) (y : ℕ) → is_in y (step_uses s) ≡ true → is_in y (step_names s) ≡ true
 use-name (Lit x v) y e = e
 use-name (Una x op z) y e = e
 use-name (Bin x op z w) y e = e
@@ -40,7 +40,7 @@ same-values : (of value : Names) (known xs : List ℕ) → ((y : ℕ) → is_in 
 same-values of value known xs h k = map-same value of xs (λ y e. sym (h y (k y e)))
 
 -- the value of a name that is known stands above
-named-above : (of : Names) (above known xs : List ℕ) (x : ℕ) → ((y : ℕ) → is_in y known ≡ true → is_in (of y) above ≡ true) → ((y : ℕ) → is_in y xs ≡ true → is_in y known ≡ true) → is_in x (map of xs) ≡ true → is_in x above ≡ true
+pub named-above : (of : Names) (above known xs : List ℕ) (x : ℕ) → ((y : ℕ) → is_in y known ≡ true → is_in (of y) above ≡ true) → ((y : ℕ) → is_in y xs ≡ true → is_in y known ≡ true) → is_in x (map of xs) ≡ true → is_in x above ≡ true
 named-above of above known xs x h k e = let w = in-map of xs x e in ap (λ z. is_in z above) w.2 ∙ h w.0 (k w.0 w.1)
 
 pub row-from : (of value : Names) (above known fresh : List ℕ) (t : Tree) (x : ℕ) → Scope of value above known fresh t → is_in x (root_row value t) ≡ true → HeldThere of above t x

@@ -6,3 +6,9 @@ pub mod Kept
 pub mod SpotSteps
 pub mod Marks
 pub mod Numbering
+pub mod Sound
+pub mod Spilled
+pub mod Fitting
+pub mod Slotted
+pub mod Covering
+pub mod Homes

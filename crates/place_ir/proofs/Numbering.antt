@@ -66,7 +66,7 @@ first-of o w hs h rest e (inner.next {old} {new} mid {g} {gs} d c) =
     let b : gs ≡ rest = cc in
     record { mid = mid; numbered = subst (λ (q : Group). Numbered old q.0 q.1 mid) a d; rest = subst (λ (q : List Group). Chain mid q new) b c }
 
-row-at-tree : (of : Names) (t : Tree) (rs : List (List ℕ)) → row_at (tree_rows of t ++ rs) ≡ root_row of t
+pub row-at-tree : (of : Names) (t : Tree) (rs : List (List ℕ)) → row_at (tree_rows of t ++ rs) ≡ root_row of t
 row-at-tree of (Do s t) rs = refl
 row-at-tree of (If c x y t u) rs = refl
 row-at-tree of (End l) rs = refl
@@ -304,7 +304,7 @@ giving-all s spots rows k old now l none g = record {
 
 -- ---- the values of a form in single use are different
 
-values_among-append : (a b : List Place) → values_among (a ++ b) ≡ values_among a ++ values_among b
+pub values_among-append : (a b : List Place) → values_among (a ++ b) ≡ values_among a ++ values_among b
 values_among-append [] b = refl
 values_among-append (q ∷ a) b = ap (λ l. place_values q ++ l) (values_among-append a b) ∙ sym (append_assoc (place_values q) (values_among a) (values_among b))
 

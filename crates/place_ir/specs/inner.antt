@@ -1,3 +1,4 @@
 pub mod Live
 pub mod Spots
 pub mod Numbers
+pub mod Spilled

@@ -2,10 +2,12 @@
 #![tactic(auto)]
 
 mod copies;
+mod laws;
 mod place;
 mod row;
 mod rows;
 mod slots;
+mod spill;
 mod spots;
 
 pub use place::{First, Home, Pass, Place, PlaceError, Placement, Serve};

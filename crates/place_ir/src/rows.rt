@@ -179,7 +179,7 @@ pub fn peak(alloc: Global, s: &Ssu) -> Result<u32, NoMemory>
 }
 
 /// The length of the longest row.
-fn longest_row(rows: &[Vec<u32>]) -> usize
+pub fn longest_row(rows: &[Vec<u32>]) -> usize
     ensures { result ≡ longest (items_of rows.now) }
 {
     let mut most = 0;

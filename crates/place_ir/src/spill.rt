@@ -1,0 +1,45 @@
+//! Slots for all values of a program.
+
+ghost use Rattle.std.specs.Prelude.{◌≡◌, ◌≤◌, ◌<◌, ℕ, true, nat_eq, All, Err, IfOk};
+ghost use Rattle.std.specs.HashMap.{get};
+ghost use Rattle.ssu_ir.specs.Measures as measures;
+ghost use Rattle.ssu_ir.specs.Points.{points};
+ghost use Rattle.ssu_ir.specs.Single.{single};
+ghost use Rattle.ssu_ir.specs.View.{labels_view};
+ghost use Rattle.place_ir.specs.declared.place.PlaceError.TheVariants.{TooFew as WantsSlots};
+ghost use Rattle.place_ir.specs.inner.Spilled.{IsNumbered};
+
+use crate::copies::copies_of;
+use crate::place::PlaceError;
+use crate::rows::{all_rows, longest_row};
+use crate::slots::{Slots, slots_for};
+use crate::spots::spots_of;
+use ssu_ir::Ssu;
+use std::alloc::Global;
+
+/// The error that so many slots are wanted.
+fn too_few(wanted: usize) -> PlaceError
+    ensures { (n : ℕ) → result ≡ WantsSlots n → n ≡ wanted }
+{
+    match u32::try_from(wanted) {
+        Ok(n) => PlaceError::TooFew(n),
+        Err(_) => PlaceError::NoMemory,
+    }
+}
+
+/// Numbers of slots for all values, below this bound.
+pub fn numbers_below(alloc: Global, s: &Ssu, slots: u32) -> Result<Slots, PlaceError>
+    requires { single (labels_view s.now) ≡ true }
+    ensures numbered { IfOk result (λ m. All (IsNumbered (get nat_eq m) slots) (points (labels_view s.now))) }
+    ensures enough { IfOk result (λ m. measures.peak (labels_view s.now) ≤ slots) }
+    ensures few { (n : ℕ) → result ≡ Err (WantsSlots n) → (n ≡ measures.peak (labels_view s.now)) × (slots < n) }
+{
+    let copies = copies_of(alloc, s)?;
+    let rows = all_rows(alloc, s, &copies)?;
+    let wanted = longest_row(&rows);
+    if wanted > slots as usize {
+        return Err(too_few(wanted));
+    }
+    let spots = spots_of(alloc, s)?;
+    Ok(slots_for(alloc, s, &spots, &rows)?)
+}
