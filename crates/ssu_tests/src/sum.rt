@@ -4,6 +4,7 @@ ghost use Rattle.ssu_ir.specs.Examples.{sum_of_two};
 ghost use Rattle.ssu_ir.specs.View.{labels_view};
 
 use nv_base::{Bin, NoMemory, Vars};
+use place_ir::{held, peak};
 use ssu_ir::walk::preorder;
 use ssu_ir::{Ssu, SsuBuild, SsuLabel, SsuNode, single, size};
 use std::alloc::Global;
@@ -29,5 +30,15 @@ fn a_sum_is_built_and_read(rt: HostRuntime) -> Result<(), Fail> {
     let order = preorder(rt.alloc(), &s)?;
     assert_eq!(rt; order.len(), 2);
     assert_eq!(rt; order.first().copied(), s.labels.first().map(|l| l.body));
+    Ok(())
+}
+
+#[test]
+fn both_words_of_a_sum_are_held(rt: HostRuntime) -> Result<(), Fail> {
+    let s = sum(rt.alloc())?;
+    assert!(rt; single(&s));
+    assert_eq!(rt; peak(rt.alloc(), &s)?, 2);
+    let rows = held(rt.alloc(), &s)?;
+    assert_eq!(rt; rows.len(), 3);
     Ok(())
 }
