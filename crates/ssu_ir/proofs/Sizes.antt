@@ -47,8 +47,5 @@ entries_more ls its i r s l e =
     subst (λ (k : List SsuLabel). entries_size (take (i + 1) k) ≡ entries_size (take i k) + (1 + length r.params.items)) s v
 
 -- what is added stays within the whole
-pub entries_within : (ls its : List SsuLabel) (i total n : ℕ) (r : SsuLabel) → its ≡ ls → i < length its → r ≡ get_or its i r → total ≡ entries_size (take i ls) → n ≡ length r.params.items → total + (1 + n) ≤ entries_size ls
-entries_within ls its i total n r s l e t k = omega (arith, entries_more ls its i r s l e, entries-take (i + 1) ls)
-
 pub entries_all : (ls its : List SsuLabel) (i total : ℕ) → its ≡ ls → length its ≤ i → total ≡ entries_size (take i ls) → total ≡ entries_size ls
 entries_all ls its i total s l t = t ∙ ap entries_size (take_all i ls (subst (λ (k : List SsuLabel). length k ≤ i) s l))

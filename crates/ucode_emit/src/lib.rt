@@ -1,4 +1,7 @@
 //! Code of a form in single use under a placement.
 #![tactic(auto)]
 
+mod emit;
 pub mod laws;
+
+pub use emit::emit;
