@@ -37,3 +37,4 @@ pub mod LawfulPieces
 pub mod LawfulCode
 pub mod LawfulCopies
 pub mod LawfulLength
+pub mod Marked
