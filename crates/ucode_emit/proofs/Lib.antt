@@ -37,3 +37,7 @@ pub mod LawfulPieces
 pub mod LawfulCode
 pub mod LawfulCopies
 pub mod LawfulLength
+pub mod Turns
+pub mod Fetching
+pub mod Settling
+pub mod Moving

@@ -2,3 +2,4 @@ pub mod Pieces
 pub mod Ready
 pub mod Machine
 pub mod Layers
+pub mod Emitted

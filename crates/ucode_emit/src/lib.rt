@@ -2,6 +2,11 @@
 #![tactic(auto)]
 
 mod code;
+mod draft;
+mod fetch;
 pub mod laws;
+mod moves;
+mod registers;
+mod settle;
 
 pub use code::emit;
