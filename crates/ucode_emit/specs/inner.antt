@@ -3,3 +3,4 @@ pub mod Ready
 pub mod Machine
 pub mod Layers
 pub mod Emitted
+pub mod Here

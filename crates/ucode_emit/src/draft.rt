@@ -1,4 +1,4 @@
-//! The instructions of moves.
+//! Code whose branches name points: places of points come last.
 
 ghost use Rattle.std.specs.Prelude.{◌≡◌, ◌++◌, [], ◌∷◌, map, All, OnOk};
 ghost use Rattle.uc_isa.specs.declared.instruction.Instr.TheVariants as instr;
@@ -11,7 +11,56 @@ use crate::moves::Move;
 use crate::registers::{source, target};
 use nv_base::{Mem, NoMemory};
 use place_ir::Place;
+use std::alloc::Global;
+use std::marker::Model;
 use uc_isa::{Dst, Gpr, Instr, RegB, Src, UnOp};
+
+/// Instructions, where the target of a branch is a point in place of a place. Contracts see it as their
+/// list.
+#[derive(Drop)]
+pub struct Draft {
+    list: Vec<Instr>,
+}
+
+impl Model for Draft {
+    ghost use Rattle.std.specs.Prelude.{List};
+    ghost use Rattle.uc_isa.specs.declared.instruction.Instr.{Instr};
+
+    ghost Value = { List Instr };
+
+    ghost view = { λ d. d.list.items };
+}
+
+impl Draft {
+    /// No instructions yet.
+    pub fn new(alloc: Global) -> Draft
+        ensures { result ≡ [] }
+    {
+        Draft {
+            list: Vec::new(alloc),
+        }
+    }
+
+    /// The instructions.
+    pub fn list(&self) -> &[Instr]
+        ensures { result.now ≡ self.now }
+    {
+        &self.list
+    }
+
+    /// One instruction more.
+    pub fn push(&mut self, i: Instr) -> Result<(), NoMemory>
+        ensures { OnOk result (self.new ≡ self.old ++ i ∷ []) }
+    {
+        // The check has to be told of each type that an instruction may hold.
+        let _dst: Option<Dst> = None;
+        let _gpr: Option<Gpr> = None;
+        let _src: Option<Src> = None;
+        let _op: Option<UnOp> = None;
+        self.list.push(i)?;
+        Ok(())
+    }
+}
 
 // A move between registers.
 fn copy(from: Place, at: Place) -> Instr
@@ -51,29 +100,18 @@ fn move_instr(from: Place, at: Place) -> Instr
 }
 
 // Adds the instruction of a move.
-fn push_move(code: &mut Vec<Instr>, from: Place, at: Place) -> Result<(), NoMemory>
+fn push_move(code: &mut Draft, from: Place, at: Place) -> Result<(), NoMemory>
     requires { CanMove from at }
-    ensures { OnOk result (code.new.items ≡ code.old.items ++ pieces.move_instr from at ∷ []) }
+    ensures { OnOk result (code.new ≡ code.old ++ pieces.move_instr from at ∷ []) }
 {
-    // The check has to be told of each type that an instruction may hold.
-    let _dst: Option<Dst> = None;
-    let _gpr: Option<Gpr> = None;
-    let _src: Option<Src> = None;
-    let _op: Option<UnOp> = None;
-    code.push(move_instr(from, at))?;
-    Ok(())
+    code.push(move_instr(from, at))
 }
 
 /// Adds the instructions of moves.
-pub fn push_moves(code: &mut Vec<Instr>, moves: &[Move]) -> Result<(), NoMemory>
+pub fn push_moves(code: &mut Draft, moves: &[Move]) -> Result<(), NoMemory>
     requires { All (λ m. CanMove m.0 m.1) moves.now }
-    ensures { OnOk result (code.new.items ≡ code.old.items ++ map draft (pieces.moved moves.now)) }
+    ensures { OnOk result (code.new ≡ code.old ++ map draft (pieces.moved moves.now)) }
 {
-    // The check has to be told of each type that an instruction may hold.
-    let _dst: Option<Dst> = None;
-    let _gpr: Option<Gpr> = None;
-    let _src: Option<Src> = None;
-    let _op: Option<UnOp> = None;
     for m in moves {
         push_move(code, m.0, m.1)?;
     }

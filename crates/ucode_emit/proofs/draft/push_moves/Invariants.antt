@@ -4,4 +4,4 @@ use Rattle.ucode_emit.specs.inner.Emitted.{draft}
 use Rattle.ucode_emit.proofs.draft.push_moves.Given as goal
 
 abbrev pub invariant-loop-m : goal.invariant-loop-m
-invariant-loop-m l = l.code.items ≡ l.initial.code.items ++ map draft (moved (take l.m-index l.moves))
+invariant-loop-m l = l.code ≡ l.initial.code ++ map draft (moved (take l.m-index l.moves))
