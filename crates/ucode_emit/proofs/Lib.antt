@@ -38,3 +38,7 @@ pub mod LawfulCode
 pub mod LawfulCopies
 pub mod LawfulLength
 pub mod Marked
+pub mod Turns
+pub mod Fetching
+pub mod Settling
+pub mod Moving

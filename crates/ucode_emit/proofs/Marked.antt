@@ -8,7 +8,7 @@ use Rattle.ssu_ir.specs.Points.{At, nodes}
 use Rattle.place_ir.specs.Plan.{Plan}
 use Rattle.par_move.specs.Moves.{Move}
 use Rattle.ucode_emit.specs.inner.Pieces.{Item, moved, all_copies, entry_point, entry_moves, step_items, fork_items, Sequences, sequence_at, tree_items, label_items, items_from, items, tree_starts, starts_from, starts, tree_moves, moves_from, parallel_moves}
-use Rattle.ucode_emit.specs.inner.Marks.{Mark, mark, tree_marks, marks_from, marks, pieces, point_items, joined, begins, place_moves, marks_moves, entries_from}
+use Rattle.ucode_emit.specs.inner.Marks.{Mark, mark, tree_marks, marks_from, marks, pieces, point_piece, joined, begins, place_moves, marks_moves, entries_from}
 use Rattle.ucode_emit.proofs.Placing.{long_both, items_long, forks_long}
 use Rattle.ucode_emit.proofs.LawfulPieces.{front_moves}
 
@@ -23,7 +23,7 @@ pieces_both : (labels : List Label) (p : Plan) (mss : Sequences) (k n : ℕ) (a 
 pieces_both labels p mss k n [] b e = let z : k ≡ n = omega (arith, e) in ap (λ j. pieces labels p mss j b) z
 pieces_both labels p mss k n (q ∷ a) b e =
     let z : n ≡ suc k + length a = omega (arith, e) in
-    ap (λ l. point_items labels p k q (sequence_at mss k) ∷ l) (pieces_both labels p mss (suc k) n a b z)
+    ap (λ l. point_piece labels p k q (sequence_at mss k) ∷ l) (pieces_both labels p mss (suc k) n a b z)
 
 pub joined_both : (a b : List (List Item)) → joined (a ++ b) ≡ joined a ++ joined b
 joined_both [] b = refl
@@ -48,7 +48,7 @@ tree_joined labels p mss k (If c x y t u) =
     ap (λ l. fork_items p k (failing c) (suc k + nodes t) ++ joined l) (pieces_both labels p mss (suc k) (suc k + nodes t) (tree_marks t) (tree_marks u) z)
     ∙ ap (λ l. fork_items p k (failing c) (suc k + nodes t) ++ l)
     (joined_both ts us ∙ ap (λ l. l ++ joined us) (tree_joined labels p mss (suc k) t) ∙ ap (λ l. tree_items labels p mss (suc k) t ++ l) (tree_joined labels p mss (suc k + nodes t) u))
-tree_joined labels p mss k (End l) = append-nil (point_items labels p k (mark (At (Ends l)) 0) (sequence_at mss k))
+tree_joined labels p mss k (End l) = append-nil (point_piece labels p k (mark (At (Ends l)) 0) (sequence_at mss k))
 
 pub tree_begins : (labels : List Label) (p : Plan) (mss : Sequences) (at k : ℕ) (t : Tree) → begins at (pieces labels p mss k (tree_marks t)) ≡ tree_starts labels p mss at k t
 tree_begins labels p mss at k (Do s t) = ap (λ l. at ∷ l) (tree_begins labels p mss (at + length (step_items p k s)) (suc k) t)

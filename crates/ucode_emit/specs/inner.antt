@@ -3,3 +3,5 @@ pub mod Ready
 pub mod Machine
 pub mod Layers
 pub mod Marks
+pub mod Emitted
+pub mod Here

@@ -2,6 +2,14 @@
 #![tactic(auto)]
 
 mod code;
+mod draft;
+mod fetch;
+mod here;
 pub mod laws;
+mod moves;
+mod piece;
+mod registers;
+mod settle;
+mod together;
 
 pub use code::emit;

@@ -34,22 +34,22 @@ entries_from k [] = []
 entries_from k (x ∷ ls) = k ∷ entries_from (suc k + nodes x.body) ls
 
 -- the piece of a point, where ms are the single moves of its parallel move
-abbrev pub node_items : List Label → Plan → ℕ → Node → ℕ → List Move → List Item
-node_items labels p k (Does s) n ms = step_items p k s
-node_items labels p k (Forks c x y) n ms = fork_items p k (failing c) (suc k + n)
-node_items labels p k (Ends l) n ms = last_items labels p k l ms
+abbrev pub node_piece : List Label → Plan → ℕ → Node → ℕ → List Move → List Item
+node_piece labels p k (Does s) n ms = step_items p k s
+node_piece labels p k (Forks c x y) n ms = fork_items p k (failing c) (suc k + n)
+node_piece labels p k (Ends l) n ms = last_items labels p k l ms
 
-abbrev pub place_items : List Label → Plan → ℕ → Place → ℕ → List Move → List Item
-place_items labels p k (Entry l params) n ms = moved (single_moves None ms ++ all_copies p k params)
-place_items labels p k (At it) n ms = node_items labels p k it n ms
+abbrev pub place_piece : List Label → Plan → ℕ → Place → ℕ → List Move → List Item
+place_piece labels p k (Entry l params) n ms = moved (single_moves None ms ++ all_copies p k params)
+place_piece labels p k (At it) n ms = node_piece labels p k it n ms
 
-abbrev pub point_items : List Label → Plan → ℕ → Mark → List Move → List Item
-point_items labels p k q ms = place_items labels p k q.place q.first_arm ms
+abbrev pub point_piece : List Label → Plan → ℕ → Mark → List Move → List Item
+point_piece labels p k q ms = place_piece labels p k q.place q.first_arm ms
 
 -- the pieces of points, the first of them at k
 abbrev pub pieces : List Label → Plan → Sequences → ℕ → List Mark → List (List Item)
 pieces labels p mss k [] = []
-pieces labels p mss k (q ∷ qs) = point_items labels p k q (sequence_at mss k) ∷ pieces labels p mss (suc k) qs
+pieces labels p mss k (q ∷ qs) = point_piece labels p k q (sequence_at mss k) ∷ pieces labels p mss (suc k) qs
 
 abbrev pub joined : List (List Item) → List Item
 joined [] = []
