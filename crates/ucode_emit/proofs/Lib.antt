@@ -42,3 +42,4 @@ pub mod Turns
 pub mod Fetching
 pub mod Settling
 pub mod Moving
+pub mod Spotted

@@ -5,3 +5,4 @@ pub mod Layers
 pub mod Marks
 pub mod Emitted
 pub mod Here
+pub mod Spots

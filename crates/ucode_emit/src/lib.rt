@@ -10,6 +10,7 @@ mod moves;
 mod piece;
 mod registers;
 mod settle;
+mod spots;
 mod together;
 
 pub use code::emit;
