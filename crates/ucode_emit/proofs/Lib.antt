@@ -43,3 +43,4 @@ pub mod Fetching
 pub mod Settling
 pub mod Moving
 pub mod Spotted
+pub mod Cursored

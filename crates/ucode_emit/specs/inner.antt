@@ -6,3 +6,4 @@ pub mod Marks
 pub mod Emitted
 pub mod Here
 pub mod Spots
+pub mod Cursors

@@ -2,6 +2,7 @@
 #![tactic(auto)]
 
 mod code;
+mod cursor;
 mod draft;
 mod fetch;
 mod here;
