@@ -41,3 +41,4 @@ pub mod Turns
 pub mod Fetching
 pub mod Settling
 pub mod Moving
+pub mod CanPieces
