@@ -42,3 +42,5 @@ pub mod Fetching
 pub mod Settling
 pub mod Moving
 pub mod CanPieces
+pub mod HomesFound
+pub mod Serving

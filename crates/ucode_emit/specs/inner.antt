@@ -4,3 +4,4 @@ pub mod Machine
 pub mod Layers
 pub mod Emitted
 pub mod Here
+pub mod Given
