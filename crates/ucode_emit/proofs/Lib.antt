@@ -44,3 +44,6 @@ pub mod Settling
 pub mod Moving
 pub mod Spotted
 pub mod Cursored
+pub mod CanPieces
+pub mod HomesFound
+pub mod Serving

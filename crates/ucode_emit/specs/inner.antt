@@ -7,3 +7,4 @@ pub mod Emitted
 pub mod Here
 pub mod Spots
 pub mod Cursors
+pub mod Given

@@ -1,12 +1,17 @@
 //! The moves that fetch a point's operands.
 
-ghost use Rattle.std.specs.Prelude.{◌≡◌, ◌++◌, OnOk};
+ghost use Rattle.std.specs.Prelude.{◌≡◌, ◌++◌, map, OnOk};
 ghost use Rattle.place_ir.specs.Fits as fits;
 ghost use Rattle.ucode_emit.specs.inner.Emitted as emitted;
+ghost use Rattle.ucode_emit.specs.inner.Given as given;
+ghost use Rattle.ucode_emit.specs.inner.Here.{CanAll};
+ghost use Rattle.ucode_emit.specs.inner.Pieces.{moved};
 
+use crate::draft::{Draft, push_moves};
 use crate::moves::{Move, brought, is_slot, same_place};
 use nv_base::NoMemory;
 use place_ir::{Place, Serve};
+use std::alloc::Global;
 
 /// Whether a place is a register that is read into.
 fn is_read_register(p: Place) -> bool
@@ -69,6 +74,31 @@ pub fn fetches(moves: &mut Vec<Move>, l: Option<u8>, serves: &[Serve]) -> Result
 {
     own_fetches(moves, l, serves)?;
     slot_fetches(moves, serves)
+}
+
+/// Adds the moves that fetch the operands of an instruction.
+pub fn push_fetches(
+    alloc: Global,
+    code: &mut Draft,
+    l: Option<u8>,
+    serves: &[Serve],
+) -> Result<(), NoMemory>
+    requires { CanAll (emitted.fetches l serves.now) }
+    ensures { OnOk result (code.new ≡ code.old ++ map emitted.draft (moved (emitted.fetches l serves.now))) }
+{
+    let mut moves = Vec::new(alloc);
+    fetches(&mut moves, l, serves)?;
+    push_moves(code, &moves)
+}
+
+/// Where the operand of a number is wanted.
+pub fn served_at(serves: &[Serve], i: usize) -> Place
+    ensures { result ≡ given.at_of serves.now i }
+{
+    match serves.get(i) {
+        Some(serve) => serve.at,
+        None => Place::Slot(0),
+    }
 }
 
 /// Brings words to their places; those that are there stay.
