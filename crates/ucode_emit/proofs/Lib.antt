@@ -47,3 +47,5 @@ pub mod Cursored
 pub mod CanPieces
 pub mod HomesFound
 pub mod Serving
+pub mod Stood
+pub mod Sequenced

@@ -7,6 +7,7 @@ ghost use Rattle.ucode_emit.specs.inner.Cursors.{IsCut, of_point};
 use place_ir::{First, Pass, Serve};
 
 /// How far the lists of a placement are done.
+#[derive(Drop)]
 pub struct Cursor {
     pub serves: usize,
     pub firsts: usize,

@@ -14,8 +14,10 @@ mod moves;
 mod operation;
 mod piece;
 mod registers;
+mod sequences;
 mod settle;
 mod spots;
 mod together;
+mod walk;
 
 pub use code::emit;
