@@ -49,3 +49,4 @@ pub mod HomesFound
 pub mod Serving
 pub mod Stood
 pub mod Sequenced
+pub mod Walked

@@ -75,7 +75,7 @@ few_at labels p k n (At it) h s = tt
 
 -- ---- a point as the walk comes to it
 
-got_map : {X Y : Type 0} (f : X → Y) (xs : List X) (k : ℕ) (x : X) (d : Y) → slice_get xs k ≡ Some x → f x ≡ get_or (map f xs) k d
+pub got_map : {X Y : Type 0} (f : X → Y) (xs : List X) (k : ℕ) (x : X) (d : Y) → slice_get xs k ≡ Some x → f x ≡ get_or (map f xs) k d
 got_map f [] k x d e = absurd (none-some x e)
 got_map f (y ∷ xs) zero x d e = ap f (sym (same_Some y x e))
 got_map f (y ∷ xs) (suc k) x d e = got_map f xs k x d e
