@@ -37,10 +37,13 @@ pub mod LawfulPieces
 pub mod LawfulCode
 pub mod LawfulCopies
 pub mod LawfulLength
+pub mod Marked
 pub mod Turns
 pub mod Fetching
 pub mod Settling
 pub mod Moving
+pub mod Spotted
+pub mod Cursored
 pub mod CanPieces
 pub mod HomesFound
 pub mod Serving

@@ -3,6 +3,7 @@
 
 mod access;
 mod code;
+mod cursor;
 mod draft;
 mod fetch;
 mod here;
@@ -14,6 +15,7 @@ mod operation;
 mod piece;
 mod registers;
 mod settle;
+mod spots;
 mod together;
 
 pub use code::emit;
