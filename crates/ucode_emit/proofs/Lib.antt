@@ -47,3 +47,4 @@ pub mod Cursored
 pub mod CanPieces
 pub mod HomesFound
 pub mod Serving
+pub mod Whole

@@ -8,3 +8,4 @@ pub mod Here
 pub mod Spots
 pub mod Cursors
 pub mod Given
+pub mod Drafted

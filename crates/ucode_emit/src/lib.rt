@@ -17,5 +17,6 @@ mod registers;
 mod settle;
 mod spots;
 mod together;
+mod walk;
 
 pub use code::emit;
