@@ -48,3 +48,6 @@ pub mod CanPieces
 pub mod HomesFound
 pub mod Serving
 pub mod Whole
+pub mod Stood
+pub mod Sequenced
+pub mod Drafting

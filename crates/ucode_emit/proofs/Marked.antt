@@ -19,7 +19,7 @@ marks_many (Do s t) = let m = marks_many t in omega (arith, m)
 marks_many (If c x y t u) = let b = long_both (tree_marks t) (tree_marks u) in let m = marks_many t in let n = marks_many u in omega (arith, b, m, n)
 marks_many (End l) = refl
 
-pieces_both : (labels : List Label) (p : Plan) (mss : Sequences) (k n : ℕ) (a b : List Mark) → n ≡ k + length a → pieces labels p mss k (a ++ b) ≡ pieces labels p mss k a ++ pieces labels p mss n b
+pub pieces_both : (labels : List Label) (p : Plan) (mss : Sequences) (k n : ℕ) (a b : List Mark) → n ≡ k + length a → pieces labels p mss k (a ++ b) ≡ pieces labels p mss k a ++ pieces labels p mss n b
 pieces_both labels p mss k n [] b e = let z : k ≡ n = omega (arith, e) in ap (λ j. pieces labels p mss j b) z
 pieces_both labels p mss k n (q ∷ a) b e =
     let z : n ≡ suc k + length a = omega (arith, e) in

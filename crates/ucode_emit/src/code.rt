@@ -10,8 +10,8 @@ ghost use Rattle.place_ir.specs.Fits.{Fits};
 ghost use Rattle.place_ir.specs.Plan.{plan_view};
 ghost use Rattle.ucode_emit.specs.inner.Drafted.{AreEmitted};
 
+use crate::drafted::draft_of;
 use crate::settle::settle;
-use crate::walk::draft_of;
 use nv_base::NoMemory;
 use place_ir::Placement;
 use ssu_ir::Ssu;

@@ -7,6 +7,7 @@ ghost use Rattle.ucode_emit.specs.inner.Cursors.{IsCut, of_point};
 use place_ir::{First, Pass, Serve};
 
 /// How far the lists of a placement are done.
+#[derive(Drop)]
 pub struct Cursor {
     pub serves: usize,
     pub firsts: usize,
@@ -18,7 +19,13 @@ fn next_first(firsts: &[First], at: usize, point: u32) -> Option<First>
     ensures { result ≡ of_point (λ f. f.point) point (slice_get firsts.now at) }
 {
     match firsts.get(at) {
-        Some(f) => { if f.point == point { Some(*f) } else { None } }
+        Some(f) => {
+            if f.point == point {
+                Some(*f)
+            } else {
+                None
+            }
+        }
         None => None,
     }
 }
@@ -28,7 +35,13 @@ fn next_pass(passes: &[Pass], at: usize, point: u32) -> Option<Pass>
     ensures { result ≡ of_point (λ q. q.point) point (slice_get passes.now at) }
 {
     match passes.get(at) {
-        Some(q) => { if q.point == point { Some(*q) } else { None } }
+        Some(q) => {
+            if q.point == point {
+                Some(*q)
+            } else {
+                None
+            }
+        }
         None => None,
     }
 }
