@@ -51,3 +51,4 @@ pub mod Whole
 pub mod Stood
 pub mod Sequenced
 pub mod Drafting
+pub mod Walked

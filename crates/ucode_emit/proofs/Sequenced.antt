@@ -10,8 +10,9 @@ use Rattle.ssu_ir.specs.Points.{Place, Entry, At}
 use Rattle.ssu_ir.specs.View.{labels_view}
 use Rattle.place_ir.specs.declared.place.Serve.{Serve}
 use Rattle.place_ir.specs.Plan.{Plan, serve, serve_in}
-use Rattle.par_move.specs.Moves.{Move, HaveOwnTargets, SpareTemporary}
+use Rattle.par_move.specs.Moves.{Move, HaveOwnTargets, SpareTemporary, none}
 use Rattle.ucode_emit.specs.declared.spots.Spot.{Spot}
+use Rattle.ucode_emit.specs.declared.spots.Spot.TheVariants.{Entry as EntrySpot}
 use Rattle.ucode_emit.specs.inner.Pieces.{Sequences, parallel_moves, last_moves, served_moves}
 use Rattle.ucode_emit.specs.inner.Ready.{IsSequence, AreSequences}
 use Rattle.ucode_emit.specs.inner.Layers.{Placed}
@@ -74,7 +75,7 @@ few_at labels p k n (At it) h s = tt
 
 -- ---- a point as the walk comes to it
 
-got_map : {X Y : Type 0} (f : X → Y) (xs : List X) (k : ℕ) (x : X) (d : Y) → slice_get xs k ≡ Some x → f x ≡ get_or (map f xs) k d
+pub got_map : {X Y : Type 0} (f : X → Y) (xs : List X) (k : ℕ) (x : X) (d : Y) → slice_get xs k ≡ Some x → f x ≡ get_or (map f xs) k d
 got_map f [] k x d e = absurd (none-some x e)
 got_map f (y ∷ xs) zero x d e = ap f (sym (same_Some y x e))
 got_map f (y ∷ xs) (suc k) x d e = got_map f xs k x d e
@@ -119,6 +120,34 @@ come labels p k at n ss h l c e f =
       next = subst (λ m. AreServed p.serves m (k + 1) (drop (k + 1) (marks labels))) (sym e)
           (subst (λ j. AreServed p.serves (at + place_operands q.place) j (drop (k + 1) (marks labels))) next x.further_);
     }
+
+-- the same, by the point that the walk has before it
+abbrev pub spot_at : List Spot → ℕ → Spot
+spot_at spots k = get_or spots k (EntrySpot 0)
+
+pub below_marks : (s : Ssu) (spots : List Spot) (k : ℕ) → map (spot_mark s) spots ≡ marks (labels_view s) → k < length spots → k < length (marks (labels_view s))
+below_marks s spots k e l = let m = as_many (spot_mark s) spots in let n = ap length e in omega (arith, m, n, l)
+
+pub mark_here : (s : Ssu) (spots : List Spot) (k : ℕ) → map (spot_mark s) spots ≡ marks (labels_view s) → k < length spots → spot_mark s (spot_at spots k) ≡ mark_at (labels_view s) k
+mark_here s spots k e l = mark_of s spots k (spot_at spots k) e (at_there spots k (EntrySpot 0) l)
+
+pub spot_within : (s : Ssu) (p : Plan) (spots : List Spot) (k at m : ℕ) (all : List Serve) → map (spot_mark s) spots ≡ marks (labels_view s) → k < length spots → AreServed p.serves at k (drop k (marks (labels_view s)))
+    → m ≡ place_operands (spot_mark s (spot_at spots k)).place → all ≡ p.serves → at + m ≤ length all
+spot_within s p spots k at m all e l c f g =
+    let x = come_within (labels_view s) p k at (below_marks s spots k e l) c in
+    let w = x.within in
+    let same : m ≡ place_operands (mark_at (labels_view s) k).place = f ∙ ap (λ (q : Mark). place_operands q.place) (mark_here s spots k e l) in
+    let long = ap length g in
+    omega (arith, w, same, long)
+
+pub spot_comes : (s : Ssu) (p : Plan) (spots : List Spot) (k at n m : ℕ) (ss all : List Serve) → Placed (labels_view s) p → map (spot_mark s) spots ≡ marks (labels_view s) → k < length spots
+    → AreServed p.serves at k (drop k (marks (labels_view s))) → m ≡ place_operands (spot_mark s (spot_at spots k)).place → n ≡ at + m → all ≡ p.serves → ss ≡ take m (drop at all)
+    → Come (labels_view s) p k at n ss (spot_mark s (spot_at spots k))
+spot_comes s p spots k at n m ss all h e l c f g a b =
+    let here = mark_here s spots k e l in
+    let same : m ≡ place_operands (mark_at (labels_view s) k).place = f ∙ ap (λ (q : Mark). place_operands q.place) here in
+    subst (λ q. Come (labels_view s) p k at n ss q) (sym here)
+    (come (labels_view s) p k at n ss h (below_marks s spots k e l) c (g ∙ ap (λ i. at + i) same) (b ∙ ap (λ r. take m (drop at r)) a ∙ ap (λ i. take i (drop at p.serves)) same))
 
 -- ---- the sequences of the points so far
 
@@ -169,3 +198,6 @@ so_far_all labels p k mss e h = record {
 
 pub moves_push : (vs vs' : List (Vec Move Global)) (v : Vec Move Global) → vs' ≡ vs ++ v ∷ [] → moves_of vs' ≡ moves_of vs ++ v.items ∷ []
 moves_push vs vs' v e = ap moves_of e ∙ map-append (λ (w : Vec Move Global). w.items) vs (v ∷ [])
+
+pub no_sequence : (ms : List Move) → ms ≡ [] → IsSequence [] ms
+no_sequence ms e = subst (λ m. IsSequence [] m) (sym e) (record { effect = λ e q h. refl; kinds = none })
