@@ -47,6 +47,8 @@ pub mod Cursored
 pub mod CanPieces
 pub mod HomesFound
 pub mod Serving
+pub mod Whole
 pub mod Stood
 pub mod Sequenced
+pub mod Drafting
 pub mod Walked

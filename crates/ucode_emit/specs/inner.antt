@@ -8,4 +8,5 @@ pub mod Here
 pub mod Spots
 pub mod Cursors
 pub mod Given
+pub mod Drafted
 pub mod Walk

@@ -5,6 +5,7 @@ mod access;
 mod code;
 mod cursor;
 mod draft;
+mod drafted;
 mod fetch;
 mod here;
 mod homes;

@@ -5,8 +5,9 @@ use Rattle.uc_isa.specs.declared.instruction.Instr.{Instr}
 use Rattle.uc_isa.specs.declared.instruction.Instr.TheVariants as instr
 use Rattle.uc_isa.specs.declared.instruction.Dst.{Dst}
 use Rattle.uc_isa.specs.declared.instruction.Dst.TheVariants as dst
+use Rattle.uc_isa.specs.declared.instruction.Cond.TheVariants.{Always}
 use Rattle.uc_isa.specs.Registers.{failing}
-use Rattle.ssu_ir.specs.Tree.{Step, Lit, Una, Bin, Clone, Read, Write, Node, Does, Forks, Ends}
+use Rattle.ssu_ir.specs.Tree.{Step, Lit, Una, Bin, Clone, Read, Write, Last, Jump, Halt, Node, Does, Forks, Ends}
 use Rattle.place_ir.specs.declared.place.Place.{Place}
 use Rattle.place_ir.specs.declared.place.Place.TheVariants.{S, Slot}
 use Rattle.place_ir.specs.declared.place.Serve.{Serve}
@@ -17,8 +18,8 @@ use Rattle.ucode_emit.specs.declared.here.Here.{Here}
 use Rattle.ucode_emit.specs.inner.Machine.{IsReadable, IsWritable}
 use Rattle.ucode_emit.specs.inner.Layers.{IsAddress}
 use Rattle.ucode_emit.specs.inner.Emitted.{fetches, each_fetch, word_fetch}
-use Rattle.ucode_emit.specs.inner.Here.{CanAll, CanLast, end_items}
-use Rattle.ucode_emit.specs.inner.Pieces.{Item, Plain, Branch, moved, named, all_copied, un_op, source, target, address_of, shift_of}
+use Rattle.ucode_emit.specs.inner.Here.{CanAll}
+use Rattle.ucode_emit.specs.inner.Pieces.{Item, Plain, Branch, moved, named, all_copied, single_moves, un_op, source, target, address_of, shift_of}
 
 -- what a value without a home has
 abbrev pub homeless : ℕ → Home
@@ -72,12 +73,16 @@ given_step p here (Read m xs y) =
     moved (fetches here.pass.l here.serves.now) ++ Plain (instr.Read m here.first (length xs) (address_of (at_of here.serves.now 0)) 0) ∷ moved (each_copied p here.pass.s xs)
 given_step p here (Write m y xs) = moved (write_moves here.pass.l here.serves.now) ++ Plain (instr.Write m here.first (length xs) (address_of (at_of here.serves.now 0)) 0) ∷ []
 
+abbrev pub given_last : Here → Last → List Item
+given_last here (Jump l xs) = moved (single_moves here.pass.l here.singles.now) ++ Branch Always here.to ∷ []
+given_last here (Halt e xs) = moved (single_moves here.pass.l here.singles.now) ++ Plain (instr.Halt e (length xs)) ∷ []
+
 abbrev pub given_node : Plan → Here → Node → List Item
 given_node p here (Does s) = given_step p here s
 given_node p here (Forks c x y) =
     moved (fetches here.pass.l here.serves.now)
     ++ Plain (instr.Alu dst.Nowhere Sub (source (at_of here.serves.now 0)) (source (at_of here.serves.now 1))) ∷ Branch (failing c) here.to ∷ []
-given_node p here (Ends l) = end_items p here.point here.to here.singles.now l
+given_node p here (Ends l) = given_last here l
 
 abbrev pub CanGivenStep : Plan → Here → Step → Type 0
 CanGivenStep p here (Lit x v) = (v / 2 ^ shift_of v < 2 ^ 16) × CanResult p here.pass.s x
@@ -89,7 +94,11 @@ CanGivenStep p here (Read m xs y) =
     CanAll (fetches here.pass.l here.serves.now) × IsAddress (at_of here.serves.now 0) × (length xs ≤ 8) × CanAll (each_copied p here.pass.s xs)
 CanGivenStep p here (Write m y xs) = CanAll (write_moves here.pass.l here.serves.now) × IsAddress (at_of here.serves.now 0) × (length xs ≤ 8)
 
+abbrev pub CanGivenLast : Here → Last → Type 0
+CanGivenLast here (Jump l xs) = CanAll (single_moves here.pass.l here.singles.now)
+CanGivenLast here (Halt e xs) = CanAll (single_moves here.pass.l here.singles.now) × (length xs ≤ 8)
+
 abbrev pub CanGiven : Plan → Here → Node → Type 0
 CanGiven p here (Does s) = CanGivenStep p here s
 CanGiven p here (Forks c x y) = CanAll (fetches here.pass.l here.serves.now) × IsReadable (at_of here.serves.now 0) × IsReadable (at_of here.serves.now 1)
-CanGiven p here (Ends l) = CanLast p here.point here.singles.now l
+CanGiven p here (Ends l) = CanGivenLast here l

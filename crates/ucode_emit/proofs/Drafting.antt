@@ -1,0 +1,48 @@
+-- The code of all points, one point after the other.
+use Rattle.std.proofs.Common.{◌≡◌, ℕ, zero, suc, ◌+◌, ◌<◌, ◌≤◌, List, [], ◌∷◌, ◌++◌, length, map, take, drop, get_or, refl, sym, ap, ◌∙◌, subst, arith}
+use Rattle.std.proofs.lemmas.List.{take_all}
+use Rattle.uc_isa.specs.declared.instruction.Instr.{Instr}
+use Rattle.ssu_ir.specs.Points.{Entry}
+use Rattle.ssu_ir.specs.Tree.{Label}
+use Rattle.ssu_ir.specs.View.{labels_view}
+use Rattle.ssu_ir.specs.declared.ssu.Ssu.{Ssu}
+use Rattle.place_ir.specs.Fits.{Rises}
+use Rattle.place_ir.specs.Plan.{Plan}
+use Rattle.ucode_emit.specs.declared.spots.Spot.{Spot}
+use Rattle.ucode_emit.specs.inner.Pieces.{Sequences, sequence_at, parallel_moves, items, starts}
+use Rattle.ucode_emit.specs.inner.Ready.{AreSequences}
+use Rattle.ucode_emit.specs.inner.Emitted.{draft}
+use Rattle.ucode_emit.specs.inner.Layers.{Placed}
+use Rattle.ucode_emit.specs.inner.Marks.{Mark, mark, marks, point_piece, pieces, joined, begins}
+use Rattle.ucode_emit.specs.inner.Spots.{spot_mark}
+use Rattle.ucode_emit.specs.inner.Walk.{mark_at, pieces_below, IsDrafted, IsAt}
+use Rattle.ucode_emit.specs.inner.Drafted.{AreDrafted}
+use Rattle.ucode_emit.proofs.Placing.{as_many}
+use Rattle.ucode_emit.proofs.Marked.{all_joined, all_begins}
+use Rattle.ucode_emit.proofs.Cursored.{cut_start, served_start, uses_by_marks, accesses_rise}
+
+-- ---- behind the last point
+
+pub drafted_all : (labels : List Label) (p : Plan) (mss : Sequences) (k : ℕ) (code : List Instr) (places : List ℕ) → AreSequences (parallel_moves p labels) mss → k ≡ length (marks labels)
+    → IsDrafted labels p mss k code places → AreDrafted labels p code places
+drafted_all labels p mss k code places s e h =
+    let all : pieces_below labels p mss k ≡ pieces labels p mss 0 (marks labels) = ap (pieces labels p mss 0) (take_all k (marks labels) (omega (arith, e))) in
+    record {
+      mss = mss;
+      sequences = s;
+      code_ = h.code_ ∙ ap (map draft) (ap joined all ∙ all_joined labels p mss);
+      places_ = h.places_ ∙ (ap (begins 0) all ∙ all_begins labels p mss);
+    }
+
+-- ---- before the first point
+
+pub at_start : (labels : List Label) (p : Plan) → Placed labels p → IsAt p 0 (marks labels) (record { serves = 0; firsts = 0; passes = 0 })
+at_start labels p h = record {
+  serves = served_start p.serves (marks labels) (h.fits.serves ∙ uses_by_marks labels);
+  firsts = cut_start (λ f. f.point) p.firsts (subst Rises (sym h.fits.firsts) (accesses_rise labels));
+  passes = cut_start (λ q. q.point) p.passes h.fits.passes.rise;
+}
+
+-- as many as there are points
+pub spots_many : (s : Ssu) (spots : List Spot) → map (spot_mark s) spots ≡ marks (labels_view s) → length spots ≡ length (marks (labels_view s))
+spots_many s spots e = sym (as_many (spot_mark s) spots) ∙ ap length e
