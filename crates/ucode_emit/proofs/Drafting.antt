@@ -34,15 +34,6 @@ drafted_all labels p mss k code places s e h =
       places_ = h.places_ ∙ (ap (begins 0) all ∙ all_begins labels p mss);
     }
 
--- ---- before the first point
-
-pub at_start : (labels : List Label) (p : Plan) → Placed labels p → IsAt p 0 (marks labels) (record { serves = 0; firsts = 0; passes = 0 })
-at_start labels p h = record {
-  serves = served_start p.serves (marks labels) (h.fits.serves ∙ uses_by_marks labels);
-  firsts = cut_start (λ f. f.point) p.firsts (subst Rises (sym h.fits.firsts) (accesses_rise labels));
-  passes = cut_start (λ q. q.point) p.passes h.fits.passes.rise;
-}
-
 -- as many as there are points
 pub spots_many : (s : Ssu) (spots : List Spot) → map (spot_mark s) spots ≡ marks (labels_view s) → length spots ≡ length (marks (labels_view s))
 spots_many s spots e = sym (as_many (spot_mark s) spots) ∙ ap length e
