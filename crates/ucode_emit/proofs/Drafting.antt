@@ -1,21 +1,20 @@
 -- The code of all points, one point after the other.
-use Rattle.std.proofs.Common.{◌≡◌, ℕ, zero, suc, ◌+◌, ◌<◌, ◌≤◌, List, [], ◌∷◌, ◌++◌, length, map, take, drop, get_or, refl, sym, ap, ◌∙◌, subst, arith}
+use Rattle.std.proofs.Common.{◌≡◌, ℕ, List, length, map, sym, ap, ◌∙◌, subst, arith}
 use Rattle.std.proofs.lemmas.List.{take_all}
 use Rattle.uc_isa.specs.declared.instruction.Instr.{Instr}
-use Rattle.ssu_ir.specs.Points.{Entry}
 use Rattle.ssu_ir.specs.Tree.{Label}
 use Rattle.ssu_ir.specs.View.{labels_view}
 use Rattle.ssu_ir.specs.declared.ssu.Ssu.{Ssu}
 use Rattle.place_ir.specs.Fits.{Rises}
 use Rattle.place_ir.specs.Plan.{Plan}
 use Rattle.ucode_emit.specs.declared.spots.Spot.{Spot}
-use Rattle.ucode_emit.specs.inner.Pieces.{Sequences, sequence_at, parallel_moves, items, starts}
+use Rattle.ucode_emit.specs.inner.Pieces.{Sequences, parallel_moves}
 use Rattle.ucode_emit.specs.inner.Ready.{AreSequences}
 use Rattle.ucode_emit.specs.inner.Emitted.{draft}
 use Rattle.ucode_emit.specs.inner.Layers.{Placed}
-use Rattle.ucode_emit.specs.inner.Marks.{Mark, mark, marks, point_piece, pieces, joined, begins}
+use Rattle.ucode_emit.specs.inner.Marks.{marks, pieces, joined, begins}
 use Rattle.ucode_emit.specs.inner.Spots.{spot_mark}
-use Rattle.ucode_emit.specs.inner.Walk.{mark_at, pieces_below, IsDrafted, IsAt}
+use Rattle.ucode_emit.specs.inner.Walk.{pieces_below, IsDrafted, IsAt}
 use Rattle.ucode_emit.specs.inner.Drafted.{AreDrafted}
 use Rattle.ucode_emit.proofs.Placing.{as_many}
 use Rattle.ucode_emit.proofs.Marked.{all_joined, all_begins}

@@ -1,13 +1,12 @@
 -- The code of a form is that of its points in order.
-use Rattle.std.proofs.Common.{◌≡◌, ℕ, zero, suc, ◌+◌, ◌<◌, ◌≤◌, List, [], ◌∷◌, ◌++◌, length, refl, sym, ap, ◌∙◌, arith, append_assoc}
+use Rattle.std.proofs.Common.{◌≡◌, ℕ, zero, suc, ◌+◌, ◌<◌, List, [], ◌∷◌, ◌++◌, length, refl, sym, ap, ◌∙◌, arith, append_assoc}
 use Rattle.std.specs.Prelude.{slice_index_or}
 use Rattle.std.proofs.lemmas.List.{append-nil}
 use Rattle.uc_isa.specs.Registers.{failing}
 use Rattle.ssu_ir.specs.Tree.{Tree, Do, If, End, Label, Ends}
 use Rattle.ssu_ir.specs.Points.{At, nodes}
 use Rattle.place_ir.specs.Plan.{Plan}
-use Rattle.par_move.specs.Moves.{Move}
-use Rattle.ucode_emit.specs.inner.Pieces.{Item, moved, all_copies, entry_point, entry_moves, step_items, fork_items, Sequences, sequence_at, tree_items, label_items, items_from, items, tree_starts, starts_from, starts, tree_moves, moves_from, parallel_moves}
+use Rattle.ucode_emit.specs.inner.Pieces.{Item, moved, all_copies, entry_point, entry_moves, step_items, fork_items, Sequences, sequence_at, tree_items, items_from, items, tree_starts, starts_from, starts, tree_moves, moves_from, parallel_moves}
 use Rattle.ucode_emit.specs.inner.Marks.{Mark, mark, tree_marks, marks_from, marks, pieces, point_piece, joined, begins, place_moves, marks_moves, entries_from}
 use Rattle.ucode_emit.proofs.Placing.{long_both, items_long, forks_long}
 use Rattle.ucode_emit.proofs.LawfulPieces.{front_moves}

@@ -1,5 +1,4 @@
 -- A move that is one instruction has the ends that are asked of it.
-use Rattle.std.proofs.Common.{ℕ}
 use Rattle.place_ir.specs.declared.place.Place.{Place}
 use Rattle.place_ir.specs.declared.place.Place.TheVariants.{A, B, L, LD, S, SD, Slot}
 use Rattle.ucode_emit.specs.inner.Machine.{IsReadable, IsWritable, IsDirect, read_slot, write_slot, copied}

@@ -1,30 +1,29 @@
 -- The single moves of points, one point after the other.
-use Rattle.std.proofs.Common.{◌≡◌, ◌≢◌, ℕ, zero, suc, ◌+◌, ◌<◌, ◌≤◌, List, [], ◌∷◌, ◌++◌, length, map, take, drop, get_or, Some, None, All, refl, sym, ap, ◌∙◌, subst, slice_get, arith}
+use Rattle.std.proofs.Common.{◌≡◌, ℕ, zero, suc, ◌+◌, ◌<◌, ◌≤◌, List, [], ◌∷◌, ◌++◌, length, map, take, drop, get_or, Some, refl, sym, ap, ◌∙◌, subst, slice_get, arith}
 use Rattle.std.specs.declared.vec.Vec.{Vec}
 use Rattle.std.specs.declared.alloc.Global.{Global}
 use Rattle.std.proofs.lemmas.List.{drop_more, map-append}
 use Rattle.std.proofs.lemmas.Option.{none-some, same_Some}
 use Rattle.ssu_ir.specs.declared.ssu.Ssu.{Ssu}
-use Rattle.ssu_ir.specs.Tree.{Last, Jump, Halt, Label, Node, Does, Forks, Ends, node_uses, last_uses}
+use Rattle.ssu_ir.specs.Tree.{Last, Jump, Halt, Label, Does, Forks, Ends, last_uses}
 use Rattle.ssu_ir.specs.Points.{Place, Entry, At}
 use Rattle.ssu_ir.specs.View.{labels_view}
 use Rattle.place_ir.specs.declared.place.Serve.{Serve}
-use Rattle.place_ir.specs.Plan.{Plan, serve, serve_in}
+use Rattle.place_ir.specs.Plan.{Plan, serve}
 use Rattle.par_move.specs.Moves.{Move, HaveOwnTargets, SpareTemporary, none}
 use Rattle.ucode_emit.specs.declared.spots.Spot.{Spot}
 use Rattle.ucode_emit.specs.declared.spots.Spot.TheVariants.{Entry as EntrySpot}
-use Rattle.ucode_emit.specs.inner.Pieces.{Sequences, parallel_moves, last_moves, served_moves}
+use Rattle.ucode_emit.specs.inner.Pieces.{Sequences, parallel_moves, last_moves}
 use Rattle.ucode_emit.specs.inner.Ready.{IsSequence, AreSequences}
 use Rattle.ucode_emit.specs.inner.Layers.{Placed}
 use Rattle.ucode_emit.specs.inner.Here.{ends}
-use Rattle.ucode_emit.specs.inner.Marks.{Mark, mark, marks, node_moves, place_moves, marks_moves}
+use Rattle.ucode_emit.specs.inner.Marks.{Mark, mark, marks, place_moves, marks_moves}
 use Rattle.ucode_emit.specs.inner.Spots.{spot_mark}
 use Rattle.ucode_emit.specs.inner.Cursors.{place_operands, AreServed}
-use Rattle.ucode_emit.specs.inner.Walk.{node_ends, place_ends, HasFew, moves_of, mark_at}
+use Rattle.ucode_emit.specs.inner.Walk.{place_ends, HasFew, moves_of, mark_at}
 use Rattle.ucode_emit.proofs.Entries.{few_params}
 use Rattle.ucode_emit.proofs.EntriesMoves.{sequenced}
 use Rattle.ucode_emit.proofs.Placing.{as_many, long_both}
-use Rattle.ucode_emit.proofs.PointsEach.{get_append}
 use Rattle.ucode_emit.proofs.CanPieces.{ends_served}
 use Rattle.ucode_emit.proofs.Marked.{all_moves}
 use Rattle.ucode_emit.proofs.Cursored.{Next, served_next}

@@ -7,7 +7,7 @@ use Rattle.ssu_ir.specs.declared.node.NodeId.{NodeId}
 use Rattle.ssu_ir.specs.declared.node.SsuLabel.{SsuLabel}
 use Rattle.ssu_ir.specs.declared.node.SsuNode.{SsuNode}
 use Rattle.ssu_ir.specs.declared.ssu.Ssu.{Ssu}
-use Rattle.ssu_ir.specs.Tree.{Tree, Label, Node, Does, Forks, Ends}
+use Rattle.ssu_ir.specs.Tree.{Label, Node, Does, Forks, Ends}
 use Rattle.ssu_ir.specs.Points.{Entry, At, nodes}
 use Rattle.ssu_ir.specs.Slots.{Placed, DoAt, IfAt, EndAt, bare, bare_all, kids, weight, over, node_of, slot}
 use Rattle.ssu_ir.specs.View.{labels_view}
@@ -19,9 +19,8 @@ use Rattle.place_ir.proofs.Labels.{tree-at}
 use Rattle.place_ir.proofs.Kept.{length-view}
 use Rattle.ucode_emit.specs.declared.spots.Spot.{Spot}
 use Rattle.ucode_emit.specs.declared.spots.Spot.TheVariants.{Entry as EntrySpot, Node as NodeSpot}
-use Rattle.ucode_emit.specs.inner.Marks.{Mark, mark, tree_marks, marks_from, marks, entries_from}
-use Rattle.ucode_emit.specs.inner.Spots.{spot_mark, IsSpot, on_stack, Pops, Counts, spot_entries}
-use Rattle.ucode_emit.proofs.Marked.{marks_many}
+use Rattle.ucode_emit.specs.inner.Marks.{Mark, mark, tree_marks, marks_from}
+use Rattle.ucode_emit.specs.inner.Spots.{spot_mark, on_stack, Pops, Counts, spot_entries}
 
 -- ---- stacks
 

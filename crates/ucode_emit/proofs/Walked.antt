@@ -1,5 +1,5 @@
 -- The code of the points, one point after the other.
-use Rattle.std.proofs.Common.{◌≡◌, ℕ, zero, suc, ◌+◌, ◌<◌, ◌≤◌, ◌&&◌, List, [], ◌∷◌, ◌++◌, length, map, take, drop, get_or, Some, None, All, Result, Ok, Err, OnOk, Bor, refl, sym, ap, ◌∙◌, subst, append_assoc, slice_get, arith}
+use Rattle.std.proofs.Common.{◌≡◌, ℕ, zero, suc, ◌+◌, ◌<◌, ◌≤◌, List, [], ◌∷◌, ◌++◌, length, map, take, drop, get_or, Some, None, Result, Ok, Err, OnOk, Bor, refl, sym, ap, ◌∙◌, subst, append_assoc, slice_get, arith}
 use Rattle.std.specs.Prelude.{slice_index_or, nat_le}
 use Rattle.std.specs.declared.vec.Vec.{Vec}
 use Rattle.std.specs.declared.alloc.Global.{Global}
@@ -8,7 +8,7 @@ use Rattle.std.proofs.lemmas.List.{take_more, length-take-le, append-nil, get_or
 use Rattle.std.proofs.lemmas.Option.{none-some}
 use Rattle.uc_isa.specs.declared.instruction.Instr.{Instr}
 use Rattle.ssu_ir.specs.declared.ssu.Ssu.{Ssu}
-use Rattle.ssu_ir.specs.Tree.{Last, Jump, Halt, Tree, Do, If, End, Label, Node, Does, Forks, Ends}
+use Rattle.ssu_ir.specs.Tree.{Jump, Halt, Tree, Do, If, End, Label, Node, Does, Forks, Ends}
 use Rattle.ssu_ir.specs.Points.{Names, Place, Entry, At, nodes}
 use Rattle.ssu_ir.specs.Single.{takes_as_many}
 use Rattle.ssu_ir.specs.View.{labels_view}
@@ -19,7 +19,7 @@ use Rattle.place_ir.specs.Plan.{Plan, serve, first_in, pass_in}
 use Rattle.par_move.specs.Moves.{Move}
 use Rattle.ucode_emit.specs.declared.spots.Spot.{Spot}
 use Rattle.ucode_emit.specs.declared.spots.Spot.TheVariants.{Entry as EntrySpot, Node as NodeSpot}
-use Rattle.ucode_emit.specs.inner.Pieces.{Item, single_moves, all_copies, entry_point, Sequences, sequence_at, parallel_moves}
+use Rattle.ucode_emit.specs.inner.Pieces.{single_moves, all_copies, entry_point, Sequences, sequence_at, parallel_moves}
 use Rattle.ucode_emit.specs.inner.Ready.{IsSequence, AreSequences}
 use Rattle.ucode_emit.specs.inner.Layers.{Placed, PointsAt}
 use Rattle.ucode_emit.specs.inner.Emitted.{draft}
@@ -31,8 +31,8 @@ use Rattle.ucode_emit.specs.inner.Spots.{spot_mark, spot_entries}
 use Rattle.ucode_emit.specs.inner.Walk.{AreKnown, mark_at, moves_of, place_branch, place_items, CanPlace, pieces_below, IsDrafted}
 use Rattle.ucode_emit.proofs.CanPieces.{can_step, can_fork, can_last, can_front}
 use Rattle.ucode_emit.proofs.LawfulPieces.{node_here, takes_some, sequence_here}
-use Rattle.ucode_emit.proofs.Placing.{map_both, as_many, long_both}
-use Rattle.ucode_emit.proofs.Marked.{marks_many, pieces_both, joined_both, begins_both, entry_there}
+use Rattle.ucode_emit.proofs.Placing.{map_both, as_many}
+use Rattle.ucode_emit.proofs.Marked.{pieces_both, joined_both, begins_both, entry_there}
 use Rattle.ucode_emit.proofs.Sequenced.{moves_at, as_many_moves, got_map, Come, spot_at, below_marks, mark_here, spot_within, spot_comes}
 use Rattle.ucode_emit.proofs.Stood.{root_node, StoodPlace, stood_at, at_there}
 

@@ -19,13 +19,7 @@ fn next_first(firsts: &[First], at: usize, point: u32) -> Option<First>
     ensures { result ≡ of_point (λ f. f.point) point (slice_get firsts.now at) }
 {
     match firsts.get(at) {
-        Some(f) => {
-            if f.point == point {
-                Some(*f)
-            } else {
-                None
-            }
-        }
+        Some(f) => { if f.point == point { Some(*f) } else { None } }
         None => None,
     }
 }
@@ -35,13 +29,7 @@ fn next_pass(passes: &[Pass], at: usize, point: u32) -> Option<Pass>
     ensures { result ≡ of_point (λ q. q.point) point (slice_get passes.now at) }
 {
     match passes.get(at) {
-        Some(q) => {
-            if q.point == point {
-                Some(*q)
-            } else {
-                None
-            }
-        }
+        Some(q) => { if q.point == point { Some(*q) } else { None } }
         None => None,
     }
 }

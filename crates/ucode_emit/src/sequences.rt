@@ -90,12 +90,7 @@ fn nothing(alloc: Global) -> Result<Vec<Move>, NoMemory>
 }
 
 // Of the entry of a label: only those of label 0 come in registers.
-fn sequence_front(
-    alloc: Global,
-    s: &Ssu,
-    p: &Placement,
-    l: usize,
-) -> Result<Vec<Move>, NoMemory>
+fn sequence_front(alloc: Global, s: &Ssu, p: &Placement, l: usize) -> Result<Vec<Move>, NoMemory>
     requires there { l < length s.now.labels.items }
     requires homes { Rises (map (λ h. h.var) (plan_view p.now).homes) }
     requires few { HasFew (Entry l (params_of (slice_get s.now.labels.items l))) }

@@ -1,7 +1,7 @@
 -- How far the emitter has come in the lists of a placement, which go by rising points as it goes over the points in order.
 use Rattle.std.specs.Prelude.{◌≡◌, ℕ, zero, suc, ◌<◌, ◌≤◌, nat_eq, List, [], ◌∷◌, ◌++◌, length, map, Option, Some, None, if◌then◌else◌}
 use Rattle.std.specs.List.{AllByRecursion}
-use Rattle.ssu_ir.specs.Tree.{Step, Lit, Una, Bin, Clone, Read, Write, Node, Does, Forks, Ends, node_uses}
+use Rattle.ssu_ir.specs.Tree.{Step, Lit, Una, Bin, Clone, Read, Write, Does, Forks, Ends, node_uses}
 use Rattle.ssu_ir.specs.Points.{Place, Entry, At}
 use Rattle.place_ir.specs.declared.place.Serve.{Serve}
 use Rattle.place_ir.specs.Fits.{Rises, at_operand}

@@ -1,8 +1,8 @@
 -- Points as the code goes over them.
-use Rattle.std.specs.Prelude.{◌≡◌, ℕ, suc, ◌+◌, ◌<◌, List, [], ◌∷◌, ◌++◌, length, reverse, map, slice_get, slice_index_or, IsSome}
+use Rattle.std.specs.Prelude.{◌≡◌, ℕ, suc, ◌+◌, ◌<◌, List, [], ◌∷◌, length, reverse, map, slice_get, IsSome}
 use Rattle.ssu_ir.specs.declared.ssu.Ssu.{Ssu}
-use Rattle.ssu_ir.specs.Tree.{Last, Jump, Halt, Node, Does, Forks, Ends}
-use Rattle.ssu_ir.specs.Points.{Place, Entry, At}
+use Rattle.ssu_ir.specs.Tree.{Node, Does, Forks, Ends}
+use Rattle.ssu_ir.specs.Points.{Entry, At}
 use Rattle.ssu_ir.specs.Slots.{slot}
 use Rattle.place_ir.specs.inner.Spots.{slot_node, params_of}
 use Rattle.ucode_emit.specs.declared.spots.Spot.{Spot}

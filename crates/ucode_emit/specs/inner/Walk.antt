@@ -1,10 +1,10 @@
 -- What the emitter knows of the points before it puts code down, and how far it has come.
-use Rattle.std.specs.Prelude.{◌≡◌, ℕ, zero, suc, ◌+◌, ◌≤◌, ⊤, All, List, [], ◌∷◌, ◌++◌, length, map, take, drop, None, slice_index_or}
+use Rattle.std.specs.Prelude.{◌≡◌, ℕ, zero, suc, ◌+◌, ◌≤◌, ⊤, All, List, [], ◌++◌, length, map, take, None, slice_index_or}
 use Rattle.std.specs.declared.vec.Vec.{Vec}
 use Rattle.std.specs.declared.alloc.Global.{Global}
 use Rattle.uc_isa.specs.declared.instruction.Instr.{Instr}
 use Rattle.ssu_ir.specs.declared.ssu.Ssu.{Ssu}
-use Rattle.ssu_ir.specs.Tree.{Label, Last, Jump, Halt, Node, Does, Forks, Ends}
+use Rattle.ssu_ir.specs.Tree.{Label, Jump, Halt, Node, Does, Forks, Ends}
 use Rattle.ssu_ir.specs.Points.{Place, Entry, At}
 use Rattle.ssu_ir.specs.View.{labels_view}
 use Rattle.place_ir.specs.declared.place.Serve.{Serve}

@@ -1,8 +1,7 @@
-use Rattle.std.proofs.Common.{◌≡◌, sym, ap, ◌∙◌, subst}
+use Rattle.std.proofs.Common.{sym, ◌∙◌, subst}
 use Rattle.uc_isa.specs.Lawful.{IsLawful}
 use Rattle.ssu_ir.specs.View.{labels_view}
-use Rattle.place_ir.specs.Plan.{Plan, plan_view}
-use Rattle.ssu_ir.specs.Tree.{Label}
+use Rattle.place_ir.specs.Plan.{plan_view}
 use Rattle.ucode_emit.specs.inner.Drafted.{AreEmitted}
 use Rattle.ucode_emit.proofs.Whole.{some_code, few_code, lawful_code, agreeing_code, placed}
 use Rattle.ucode_emit.proofs.code.emit.Goals as goal

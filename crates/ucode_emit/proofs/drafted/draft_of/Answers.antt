@@ -1,4 +1,3 @@
-use Rattle.std.proofs.Common.{◌≡◌, sym, ap, ◌∙◌, subst, length, arith}
 use Rattle.ssu_ir.specs.View.{labels_view}
 use Rattle.place_ir.specs.Plan.{plan_view}
 use Rattle.ucode_emit.specs.inner.Walk.{moves_of}

@@ -1,5 +1,4 @@
 use Rattle.std.proofs.Common.{◌≡◌, ◌++◌, take}
-use Rattle.ucode_emit.specs.inner.Pieces as pieces
 use Rattle.ucode_emit.specs.inner.Emitted as emitted
 use Rattle.ucode_emit.proofs.fetch.own_fetches.Given as goal
 

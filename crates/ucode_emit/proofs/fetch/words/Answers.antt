@@ -1,7 +1,6 @@
 use Rattle.std.proofs.Common.{arith}
-use Rattle.ucode_emit.specs.inner.Pieces as pieces
 use Rattle.ucode_emit.specs.inner.Emitted as emitted
-use Rattle.ucode_emit.proofs.Turns.{turn, copied_last, singles_last, fetches_last}
+use Rattle.ucode_emit.proofs.Turns.{turn, fetches_last}
 use Rattle.ucode_emit.proofs.fetch.words.Goals as goal
 
 pub loop-serve-preserved : goal.loop-serve-preserved

@@ -1,7 +1,6 @@
 use Rattle.std.proofs.Common.{arith}
 use Rattle.ucode_emit.specs.inner.Pieces as pieces
-use Rattle.ucode_emit.specs.inner.Emitted as emitted
-use Rattle.ucode_emit.proofs.Turns.{turn, copied_last, singles_last, fetches_last}
+use Rattle.ucode_emit.proofs.Turns.{turn, copied_last}
 use Rattle.ucode_emit.proofs.moves.all_copied.Goals as goal
 
 pub loop-at-preserved : goal.loop-at-preserved

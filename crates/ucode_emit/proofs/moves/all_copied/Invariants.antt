@@ -1,6 +1,5 @@
 use Rattle.std.proofs.Common.{◌≡◌, ◌++◌, take}
 use Rattle.ucode_emit.specs.inner.Pieces as pieces
-use Rattle.ucode_emit.specs.inner.Emitted as emitted
 use Rattle.ucode_emit.proofs.moves.all_copied.Given as goal
 
 abbrev pub invariant-loop-at : goal.invariant-loop-at

@@ -1,6 +1,5 @@
 use Rattle.std.proofs.Common.{◌≡◌, ◌++◌, take}
 use Rattle.ucode_emit.specs.inner.Pieces as pieces
-use Rattle.ucode_emit.specs.inner.Emitted as emitted
 use Rattle.ucode_emit.proofs.moves.single_moves.Given as goal
 
 abbrev pub invariant-loop-single : goal.invariant-loop-single

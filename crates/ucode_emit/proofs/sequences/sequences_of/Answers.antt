@@ -1,14 +1,13 @@
-use Rattle.std.proofs.Common.{◌≡◌, ◌∙◌, ap, sym, subst, length, map, arith}
+use Rattle.std.proofs.Common.{◌∙◌, ap, subst, length, arith}
 use Rattle.ssu_ir.specs.View.{labels_view}
 use Rattle.place_ir.specs.Plan.{plan_view}
-use Rattle.ucode_emit.specs.inner.Cursors.{AreServed}
 use Rattle.ucode_emit.specs.inner.Marks.{Mark, marks, place_moves}
 use Rattle.ucode_emit.specs.inner.Ready.{IsSequence}
 use Rattle.ucode_emit.specs.inner.Spots.{spot_mark}
 use Rattle.ucode_emit.specs.inner.Walk.{moves_of}
 use Rattle.ucode_emit.proofs.Cursored.{served_start, uses_by_marks}
 use Rattle.ucode_emit.proofs.Placing.{as_many}
-use Rattle.ucode_emit.proofs.Sequenced.{spot_at, spot_within, spot_comes, below_marks, mark_here, so_far_none, so_far_more, so_far_all, moves_push}
+use Rattle.ucode_emit.proofs.Sequenced.{spot_within, spot_comes, below_marks, mark_here, so_far_none, so_far_more, so_far_all, moves_push}
 use Rattle.ucode_emit.proofs.sequences.sequences_of.Goals as goal
 
 pub loop-k-init : goal.loop-k-init

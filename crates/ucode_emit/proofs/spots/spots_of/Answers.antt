@@ -1,4 +1,4 @@
-use Rattle.std.proofs.Common.{◌++◌, [], ◌∷◌, ap, sym, subst, ◌∙◌, All, arith}
+use Rattle.std.proofs.Common.{sym, subst, All, arith}
 use Rattle.std.specs.Prelude.{reverse}
 use Rattle.std.proofs.lemmas.List.Elements.{All-append, All-push}
 use Rattle.ssu_ir.specs.View.{labels_view}
