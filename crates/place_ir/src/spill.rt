@@ -12,10 +12,14 @@ ghost use Rattle.place_ir.specs.declared.place.PlaceError.TheVariants.{TooFew as
 ghost use Rattle.place_ir.specs.inner.Spilled.{IsNumbered};
 
 use crate::copies::copies_of;
+use crate::parts::{Given, spill_spots};
+use crate::parts_homes::by_variable;
 use crate::place::{PlaceError, Placement};
 use crate::rows::{all_rows, longest_row};
 use crate::slots::{Slots, slots_for};
 use crate::spots::spots_of;
+use crate::used::used_values;
+use nv_base::NoMemory;
 use ssu_ir::Ssu;
 use std::alloc::Global;
 
@@ -46,6 +50,34 @@ pub fn numbers_below(alloc: Global, s: &Ssu, slots: u32) -> Result<Slots, PlaceE
     Ok(slots_for(alloc, s, &spots, &rows)?)
 }
 
+/// The placement by these numbers.
+fn placed(alloc: Global, s: &Ssu, slots: u32, numbers: Slots) -> Result<Placement, NoMemory>
+    requires single { single (labels_view s.now) ≡ true }
+    requires slots { slots ≤ 128 }
+    requires numbered { All (IsNumbered (get nat_eq numbers) slots) (points (labels_view s.now)) }
+    requires enough { measures.peak (labels_view s.now) ≤ slots }
+    ensures fits { IfOk result (λ p. Fits (labels_view s.now) (plan_view p)) }
+    ensures slots { IfOk result (λ p. p.slots ≡ slots) }
+{
+    let spots = spots_of(alloc, s)?;
+    let copies = copies_of(alloc, s)?;
+    let used = used_values(alloc, s, &copies, &spots)?;
+    let given = Given {
+        slots: numbers,
+        copies,
+        used,
+    };
+    let parts = spill_spots(alloc, s, &given, &spots)?;
+    let homes = by_variable(parts.homes);
+    Ok(Placement {
+        slots,
+        homes,
+        firsts: parts.firsts,
+        serves: parts.serves,
+        passes: parts.passes,
+    })
+}
+
 /// Every value at home in a slot alone.
 ///
 /// # Errors
@@ -59,5 +91,6 @@ pub fn spill_all(alloc: Global, s: &Ssu, slots: u32) -> Result<Placement, PlaceE
     ensures enough { IfOk result (λ p. measures.peak (labels_view s.now) ≤ slots) }
     ensures few { (n : ℕ) → result ≡ Err (WantsSlots n) → (n ≡ measures.peak (labels_view s.now)) × (slots < n) }
 {
-    Err(PlaceError::NoMemory)
+    let numbers = numbers_below(alloc, s, slots)?;
+    Ok(placed(alloc, s, slots, numbers)?)
 }
