@@ -1,65 +1,67 @@
--- What a placement costs: the words that are moved between banks and slots, over its homes and its uses.
-use Rattle.std.specs.Prelude.{ℕ, zero, suc, ◌+◌, List, filter, sum_by, if◌then◌else◌}
+-- What a placement costs: the weights of the copies and the accesses to slots that it asks for.
+use Rattle.std.specs.Prelude.{ℕ, zero, suc, ◌+◌, nat_eq, List, [], ◌∷◌, if◌then◌else◌}
 use Rattle.ssu_ir.specs.Tree.{Label}
 use Rattle.place_ir.specs.declared.place.Place.{Place}
-use Rattle.place_ir.specs.declared.place.Place.TheVariants.{A, B, S, SD, Slot}
-use Rattle.place_ir.specs.declared.place.Serve.{Serve}
-use Rattle.place_ir.specs.Places.{same_place}
-use Rattle.place_ir.specs.Plan.{Home, Plan, home}
-use Rattle.place_ir.specs.Uses.{Sort, Parameter, Result, Fetched, values, Role, Operand, Address, Written, Argument, Ending, uses}
-use Rattle.place_ir.specs.Fits.{wants_home, served}
+use Rattle.place_ir.specs.declared.place.Place.TheVariants.{A, B, L, LD, S, SD, Slot}
+use Rattle.place_ir.specs.Plan.{Plan, Home, home, serve}
+use Rattle.place_ir.specs.Uses.{Sort, Parameter, Result, Fetched, Value, values, Use, uses}
 
--- a slot is read or written for 16
-abbrev pub slot_cost : Place → ℕ
-slot_cost (Slot k) = 16
-slot_cost _ = 0
+-- the first place of a parameter: those of label 0 come in the first bank, those of other labels where the jump puts them
+abbrev pub entry_cost : Place → ℕ
+entry_cost (A k) = 0
+entry_cost (Slot k) = 17
+entry_cost _ = 1
 
--- a word stays in its bank for nothing, or goes to another for 1
-abbrev pub carry_cost : Place → Place → ℕ
-carry_cost (A i) (A j) = 0
-carry_cost (B i) (B j) = 0
-carry_cost (S i) (S j) = 0
-carry_cost (SD i) (SD j) = 0
-carry_cost q r = slot_cost q + (1 + slot_cost r)
+-- an operation writes registers; to a slot it takes one access more
+abbrev pub result_cost : Place → ℕ
+result_cost (Slot k) = 16
+result_cost _ = 0
 
--- an operand is taken where it stands for nothing; a slot is read; any other register is copied for 1
-abbrev pub fetch_cost : Place → Place → ℕ
-fetch_cost (Slot k) r = 16
-fetch_cost q r = if same_place q r then 0 else 1
-
--- ---- homes
-
--- the parameters of label 0 come in registers of the first bank, those of other labels where the jumps put them; a result is put into its
--- place, and a read word is in its read register
 abbrev pub defined_cost : Sort → Place → ℕ
-defined_cost (Parameter zero i) q = carry_cost (A i) q
+defined_cost (Parameter zero i) q = entry_cost q
 defined_cost (Parameter (suc l) i) q = 0
-defined_cost Result q = slot_cost q
+defined_cost Result q = result_cost q
 defined_cost (Fetched m i) q = 0
 
--- each copy is made for 1, one into a slot for 16 more
-abbrev pub copy_cost : Place → ℕ
-copy_cost q = 1 + slot_cost q
+-- a copy directly behind the definition
+abbrev pub copied_cost : Place → ℕ
+copied_cost (Slot k) = 17
+copied_cost _ = 1
 
-abbrev pub home_cost : Sort → Home → ℕ
-home_cost sort h = defined_cost sort h.defined + sum_by copy_cost h.copied
+abbrev pub all_copied_cost : List Place → ℕ
+all_copied_cost [] = 0
+all_copied_cost (q ∷ qs) = copied_cost q + all_copied_cost qs
 
--- ---- uses
+-- the homes of a value
+abbrev pub value_cost : Plan → Value → ℕ
+value_cost p v = defined_cost v.sort (home p v.var).defined + all_copied_cost (home p v.var).copied
 
-abbrev pub serve_cost : Role → Serve → ℕ
-serve_cost Operand s = fetch_cost s.from s.at
-serve_cost Address s = fetch_cost s.from s.at
-serve_cost (Written m i) s = carry_cost s.from s.at
-serve_cost (Argument l i) s = carry_cost s.from s.at
-serve_cost (Ending i) s = carry_cost s.from s.at
+-- a word that is fetched: from a slot it is read into a read register, and from there copied, but into the compiler's own register at no
+-- weight; between banks of registers it is a copy
+abbrev pub served_cost : Place → Place → ℕ
+served_cost (Slot k) (L r) = 16
+served_cost (Slot k) (Slot r) = 33
+served_cost (Slot k) (A r) = if nat_eq r 15 then 16 else 17
+served_cost (Slot k) q = 17
+served_cost q (Slot k) = 17
+served_cost (A k) (A r) = 0
+served_cost (B k) (B r) = 0
+served_cost (L k) (L r) = 0
+served_cost (LD k) (LD r) = 0
+served_cost (S k) (S r) = 0
+served_cost (SD k) (SD r) = 0
+served_cost q r = 1
 
--- ---- the whole
+abbrev pub use_cost : Plan → Use → ℕ
+use_cost p u = let s = serve p u.point u.operand in served_cost s.from s.at
 
-abbrev pub homes_cost : List Label → Plan → ℕ
-homes_cost labels p = sum_by (λ v. home_cost v.sort (home p v.var)) (filter (wants_home labels) (values labels))
+abbrev pub values_cost : Plan → List Value → ℕ
+values_cost p [] = 0
+values_cost p (v ∷ vs) = value_cost p v + values_cost p vs
 
-abbrev pub uses_cost : List Label → Plan → ℕ
-uses_cost labels p = sum_by (λ u. serve_cost u.role (served p u)) (uses labels)
+abbrev pub uses_cost : Plan → List Use → ℕ
+uses_cost p [] = 0
+uses_cost p (u ∷ us) = use_cost p u + uses_cost p us
 
 abbrev pub cost : List Label → Plan → ℕ
-cost labels p = homes_cost labels p + uses_cost labels p
+cost labels p = values_cost p (values labels) + uses_cost p (uses labels)

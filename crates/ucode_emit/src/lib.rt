@@ -1,7 +1,7 @@
 //! Code of a form in single use under a placement.
 #![tactic(auto)]
 
-mod emit;
+mod code;
 pub mod laws;
 
-pub use emit::emit;
+pub use code::emit;
