@@ -4,5 +4,4 @@ pub mod Uses
 pub mod Fits
 pub mod Costs
 pub mod Held
-pub mod Costs
 pub mod inner
