@@ -5,7 +5,6 @@ use Rattle.uc_isa.specs.declared.instruction.Instr.{Instr}
 use Rattle.ssu_ir.specs.Tree.{Label}
 use Rattle.ssu_ir.specs.View.{labels_view}
 use Rattle.ssu_ir.specs.declared.ssu.Ssu.{Ssu}
-use Rattle.place_ir.specs.Fits.{Rises}
 use Rattle.place_ir.specs.Plan.{Plan}
 use Rattle.ucode_emit.specs.declared.spots.Spot.{Spot}
 use Rattle.ucode_emit.specs.inner.Pieces.{Sequences, parallel_moves}
@@ -18,7 +17,6 @@ use Rattle.ucode_emit.specs.inner.Walk.{pieces_below, IsDrafted, IsAt}
 use Rattle.ucode_emit.specs.inner.Drafted.{AreDrafted}
 use Rattle.ucode_emit.proofs.Placing.{as_many}
 use Rattle.ucode_emit.proofs.Marked.{all_joined, all_begins}
-use Rattle.ucode_emit.proofs.Cursored.{cut_start, served_start, uses_by_marks, accesses_rise}
 
 -- ---- behind the last point
 
@@ -32,15 +30,6 @@ drafted_all labels p mss k code places s e h =
       code_ = h.code_ ∙ ap (map draft) (ap joined all ∙ all_joined labels p mss);
       places_ = h.places_ ∙ (ap (begins 0) all ∙ all_begins labels p mss);
     }
-
--- ---- before the first point
-
-pub at_start : (labels : List Label) (p : Plan) → Placed labels p → IsAt p 0 (marks labels) (record { serves = 0; firsts = 0; passes = 0 })
-at_start labels p h = record {
-  serves = served_start p.serves (marks labels) (h.fits.serves ∙ uses_by_marks labels);
-  firsts = cut_start (λ f. f.point) p.firsts (subst Rises (sym h.fits.firsts) (accesses_rise labels));
-  passes = cut_start (λ q. q.point) p.passes h.fits.passes.rise;
-}
 
 -- as many as there are points
 pub spots_many : (s : Ssu) (spots : List Spot) → map (spot_mark s) spots ≡ marks (labels_view s) → length spots ≡ length (marks (labels_view s))

@@ -1,5 +1,5 @@
 //! The code of a form.
-ghost use Rattle.std.specs.Prelude.{◌≡◌, ◌≤◌, ◌^◌, true, length, IfOk};
+ghost use Rattle.std.specs.Prelude.{◌≡◌, ◌≤◌, ◌*◌, ◌^◌, true, length, IfOk};
 ghost use Rattle.uc_isa.specs.Agrees.{Agrees};
 ghost use Rattle.uc_isa.specs.Lawful.{IsLawful};
 ghost use Rattle.ssu_ir.specs.Measures as measures;
@@ -47,6 +47,7 @@ pub fn emit(alloc: Global, s: &Ssu, p: &Placement) -> Result<Code, NoMemory>
     requires few { measures.size (labels_view s.now) ≤ 2 ^ 26 }
     ensures lawful { IfOk result (λ c. IsLawful c.list) }
     ensures agrees { IfOk result (λ c. Agrees (ssu_params (labels_view s.now)) (ssu_meaning (labels_view s.now)) c) }
+    ensures short { IfOk result (λ c. length c.list ≤ 16 * measures.size (labels_view s.now)) }
 {
     let list = instructions(alloc, s, p)?;
     Ok(Code::new(params_of(s), list))

@@ -1,9 +1,10 @@
-use Rattle.std.proofs.Common.{sym, ◌∙◌, subst}
+use Rattle.std.proofs.Common.{◌*◌, ◌≤◌, length, sym, ◌∙◌, subst}
 use Rattle.uc_isa.specs.Lawful.{IsLawful}
+use Rattle.ssu_ir.specs.Measures.{size}
 use Rattle.ssu_ir.specs.View.{labels_view}
 use Rattle.place_ir.specs.Plan.{plan_view}
 use Rattle.ucode_emit.specs.inner.Drafted.{AreEmitted}
-use Rattle.ucode_emit.proofs.Whole.{some_code, few_code, lawful_code, agreeing_code, placed}
+use Rattle.ucode_emit.proofs.Whole.{some_code, few_code, short_code, lawful_code, agreeing_code, placed}
 use Rattle.ucode_emit.proofs.code.emit.Goals as goal
 
 pub new-requires-clause-some : goal.new-requires-clause-some
@@ -19,3 +20,7 @@ returns-clause-lawful c =
 pub returns-clause-agrees : goal.returns-clause-agrees
 returns-clause-agrees c =
     agreeing_code (labels_view c.args.s.now) (plan_view c.args.p.now) c.new.result (placed c.requires.single c.requires.fits) (subst (AreEmitted (labels_view c.args.s.now) (plan_view c.args.p.now)) (sym c.new.ensures.list) c.in_ok-list.ensures) (c.new.ensures.params ∙ c.params_of.ensures.params)
+
+pub returns-clause-short : goal.returns-clause-short
+returns-clause-short c =
+    subst (λ l. length l ≤ 16 * size (labels_view c.args.s.now)) (sym c.new.ensures.list) (short_code (labels_view c.args.s.now) (plan_view c.args.p.now) c.in_ok-list.list.items (placed c.requires.single c.requires.fits) c.in_ok-list.ensures)
