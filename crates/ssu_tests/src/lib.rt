@@ -5,4 +5,6 @@
 #[cfg(test)]
 mod emitted;
 #[cfg(test)]
+mod spill;
+#[cfg(test)]
 mod sum;

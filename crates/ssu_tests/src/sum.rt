@@ -10,6 +10,7 @@ use ssu_ir::{Ssu, SsuBuild, SsuLabel, SsuNode, single, size};
 use std::alloc::Global;
 use std::test::Fail;
 
+/// The sum of two parameters.
 pub fn sum(alloc: Global) -> Result<Ssu, NoMemory>
     ensures { IfOk result (λ s. labels_view s ≡ sum_of_two) }
 {

@@ -1,5 +1,5 @@
 -- The code of all points, one point after the other.
-use Rattle.std.proofs.Common.{◌≡◌, ℕ, List, length, map, sym, ap, ◌∙◌, subst, arith}
+use Rattle.std.proofs.Common.{◌≡◌, ℕ, List, length, map, sym, ap, ◌∙◌, arith}
 use Rattle.std.proofs.lemmas.List.{take_all}
 use Rattle.uc_isa.specs.declared.instruction.Instr.{Instr}
 use Rattle.ssu_ir.specs.Tree.{Label}
@@ -10,10 +10,9 @@ use Rattle.ucode_emit.specs.declared.spots.Spot.{Spot}
 use Rattle.ucode_emit.specs.inner.Pieces.{Sequences, parallel_moves}
 use Rattle.ucode_emit.specs.inner.Ready.{AreSequences}
 use Rattle.ucode_emit.specs.inner.Emitted.{draft}
-use Rattle.ucode_emit.specs.inner.Layers.{Placed}
 use Rattle.ucode_emit.specs.inner.Marks.{marks, pieces, joined, begins}
 use Rattle.ucode_emit.specs.inner.Spots.{spot_mark}
-use Rattle.ucode_emit.specs.inner.Walk.{pieces_below, IsDrafted, IsAt}
+use Rattle.ucode_emit.specs.inner.Walk.{pieces_below, IsDrafted}
 use Rattle.ucode_emit.specs.inner.Drafted.{AreDrafted}
 use Rattle.ucode_emit.proofs.Placing.{as_many}
 use Rattle.ucode_emit.proofs.Marked.{all_joined, all_begins}
