@@ -12,3 +12,11 @@ pub mod Fitting
 pub mod Slotted
 pub mod Covering
 pub mod Homes
+pub mod Named
+pub mod Walked
+pub mod Seen
+pub mod Valued
+pub mod Ruled
+pub mod Loops
+pub mod Pointed
+pub mod Decided
