@@ -1,8 +1,8 @@
 -- The tests of a placement tell whether it fits.
-use Rattle.std.proofs.Common.{◌≡◌, ℕ, zero, suc, ◌+◌, ◌<◌, ◌≤◌, Bool, true, false, not, ◌&&◌, ◌||◌, nat_eq, ◌⊎◌, inl, inr, ⊎_elim, List, [], ◌∷◌, ◌++◌, Option, Some, None, length, map, filter, All, refl, sym, ap, subst, ◌∙◌, arith}
-use Rattle.std.specs.Prelude.{slice_get, slice_index_or, nat_le, nat_lt}
+use Rattle.std.proofs.Common.{◌≡◌, ℕ, zero, suc, ◌+◌, ◌<◌, ◌≤◌, Bool, true, false, ◌&&◌, ◌||◌, nat_eq, ⊎_elim, List, [], ◌∷◌, Some, None, length, map, refl, sym, ap, ◌∙◌, arith}
+use Rattle.std.specs.Prelude.{slice_get, slice_index_or, nat_le}
 use Rattle.std.specs.List.{list_all}
-use Rattle.std.proofs.lemmas.Bool.{and_parts, and_from, and_left, and_right, or_cases, or_left, or_right, cases_lt, false≢true, lt-ltb, ltb-true, le-leb, leb-true, cases_Bool}
+use Rattle.std.proofs.lemmas.Bool.{and_parts, and_from, and_left, and_right, or_cases, or_left, or_right, cases_lt, false≢true, lt-ltb, ltb-true, le-leb, leb-true}
 use Rattle.nv_base.specs.Sets.{is_in, Within}
 use Rattle.nv_base.proofs.Sets.{same-number}
 use Rattle.ssu_ir.specs.Tree.{Label}
@@ -12,11 +12,11 @@ use Rattle.ssu_ir.specs.Single.{single}
 use Rattle.ssu_ir.proofs.Held.{points_held}
 use Rattle.place_ir.specs.declared.place.Pass.{Pass}
 use Rattle.place_ir.specs.Plan.{Home, Plan}
-use Rattle.place_ir.specs.Uses.{Access, accesses, Value, place_values, values_from, values, reads_at, place_accesses, place_roles, Use, uses, is_used}
-use Rattle.place_ir.specs.Fits.{IsHoused, wants_home, AreHomes, IsServed, KeepsRead, AreApart, FitsAt, ArePasses, at_operand, use_operand, Fits}
+use Rattle.place_ir.specs.Uses.{accesses, Value, place_values, values, reads_at, place_accesses, Use, uses}
+use Rattle.place_ir.specs.Fits.{IsHoused, wants_home, IsServed, KeepsRead, FitsAt, at_operand, use_operand, Fits}
 use Rattle.place_ir.specs.inner.Numbers.{values_among}
-use Rattle.place_ir.specs.inner.Found.{nowhere, point_at, place_at, place_node, value_in}
-use Rattle.place_ir.specs.inner.Checks.{all_below, has_home, param_fits, value_fits, access_fits, held_fits, keeps_read, word_fits, operands_fit, passes_fit, point_fits, rise, is_wanted, homes_fit, firsts_fit, serves_fit, is_there, lists_fit, use_fits, does_fit, found}
+use Rattle.place_ir.specs.inner.Found.{nowhere, place_at, place_node, value_in}
+use Rattle.place_ir.specs.inner.Checks.{all_below, has_home, param_fits, value_fits, access_fits, held_fits, keeps_read, word_fits, operands_fit, passes_fit, point_fits, rise, is_wanted, firsts_fit, serves_fit, is_there, lists_fit, use_fits, does_fit, found}
 use Rattle.place_ir.proofs.Scoped.{in-itself, in-either}
 use Rattle.place_ir.proofs.Sound.{Each, entry_params, Sound, uses_among, sound-points}
 use Rattle.place_ir.proofs.Spilled.{each-all, all-each, each-at, each-weaker, used-wanted, param_vars, params-wanted}

@@ -1,21 +1,21 @@
 -- What a point uses: the values of the names of its node, and the use that is made of each.
-use Rattle.std.proofs.Common.{◌≡◌, ℕ, zero, suc, ◌+◌, ◌<◌, ◌≤◌, Bool, true, false, ◌&&◌, nat_eq, List, [], ◌∷◌, ◌++◌, Option, Some, None, length, map, refl, sym, ap, subst, ◌∙◌, arith, take, drop}
+use Rattle.std.proofs.Common.{◌≡◌, ℕ, zero, suc, ◌+◌, ◌≤◌, true, ◌&&◌, nat_eq, List, [], ◌∷◌, ◌++◌, Some, length, map, refl, sym, ap, subst, ◌∙◌, arith, take, drop}
 use Rattle.std.specs.Prelude.{slice_get, slice_index_or, nat_le}
 use Rattle.std.specs.List.{list_all}
 use Rattle.std.proofs.lemmas.Bool.{and_parts, and_from, le-leb, leb-true}
 use Rattle.std.proofs.lemmas.List.{map-append}
 use Rattle.nv_base.specs.declared.term.Mem.{Mem}
-use Rattle.nv_base.specs.Sets.{is_in, all_different}
+use Rattle.nv_base.specs.Sets.{all_different}
 use Rattle.nv_base.proofs.Sets.{same-number}
-use Rattle.ssu_ir.specs.Tree.{Step, Lit, Una, Bin, Clone, Read, Write, Last, Jump, Halt, Tree, Do, If, End, Label, Node, Does, Forks, Ends, step_values, step_clones, step_uses, last_uses, node_uses}
+use Rattle.ssu_ir.specs.Tree.{Lit, Una, Bin, Clone, Read, Write, Jump, Halt, Tree, Do, If, End, Label, Does, Forks, Ends, step_values, step_clones, step_uses, last_uses, node_uses}
 use Rattle.ssu_ir.specs.Points.{Names, own, names_after, Place, Entry, At, Point, tree_points, points_from, points}
 use Rattle.ssu_ir.specs.Single.{defined, all_defined, step_names, all_known, is_scoped, fresh_after, is_entry, is_single, single}
 use Rattle.place_ir.specs.declared.place.Serve.{Serve}
-use Rattle.place_ir.specs.Uses.{Role, Operand, Address, Written, Argument, Ending, roles, place_roles, Use, uses_at, uses_from, uses}
+use Rattle.place_ir.specs.Uses.{Role, Address, Written, Argument, Ending, roles, place_roles, Use, uses_at, uses_from, uses}
 use Rattle.place_ir.specs.Fits.{at_operand, use_operand}
 use Rattle.place_ir.specs.Plan.{Plan}
 use Rattle.place_ir.specs.inner.Live.{value_by, source_among}
-use Rattle.place_ir.specs.inner.Found.{write_role, step_role, last_role, node_role, nowhere, point_at, place_at, place_node, value_in, operand_name, operand_role, found_use}
+use Rattle.place_ir.specs.inner.Found.{write_role, nowhere, point_at, place_at, place_node, value_in, operand_name, operand_role, found_use}
 use Rattle.place_ir.specs.inner.Checks.{found, uses_at as use_count, is_for, are_for, begins, serves_fit}
 use Rattle.place_ir.proofs.Scoped.{Scope, scope-do, scope-first, scope-second, all-in, map-same, split-different, in-itself}
 use Rattle.place_ir.proofs.Kept.{use-name, trees, Sourced, sourced-tail, scope-of-label}

@@ -1,8 +1,8 @@
 -- What is asked at one point, as it is tested and as the rules say it.
-use Rattle.std.proofs.Common.{◌≡◌, ◌≢◌, ℕ, zero, suc, ◌+◌, ◌-◌, ◌<◌, ◌≤◌, Bool, true, false, not, ◌&&◌, ◌||◌, nat_eq, ◌⊎◌, inl, inr, ⊎_elim, List, [], ◌∷◌, ◌++◌, Option, Some, None, length, map, filter, All, refl, sym, ap, subst, ◌∙◌, arith, if◌then◌else◌}
+use Rattle.std.proofs.Common.{◌≡◌, ◌≢◌, ℕ, zero, suc, ◌+◌, ◌-◌, ◌<◌, ◌≤◌, Bool, true, false, not, ◌&&◌, ◌||◌, nat_eq, ◌⊎◌, inl, inr, ⊎_elim, List, [], ◌∷◌, ◌++◌, Option, Some, None, length, map, filter, refl, sym, ap, subst, ◌∙◌, arith}
 use Rattle.std.specs.Prelude.{slice_get, is_some, nat_le, nat_lt}
 use Rattle.std.specs.List.{list_all, list_any}
-use Rattle.std.proofs.lemmas.Bool.{and_parts, and_from, or_cases, or_left, or_right, or_parts, and_cases, false≢true, false_from_ne_true, lt-ltb, ltb-true, le-ltb, le-leb, leb-true, lt-leb, eqb-false, not-true, not_from_false, cases_Bool}
+use Rattle.std.proofs.lemmas.Bool.{and_parts, and_from, or_cases, or_left, or_right, false≢true, false_from_ne_true, lt-ltb, ltb-true, le-ltb, le-leb, leb-true, eqb-false, not-true, not_from_false, cases_Bool}
 use Rattle.nv_base.specs.declared.term.Mem.{Mem}
 use Rattle.nv_base.specs.declared.term.Mem.TheVariants.{Sram, Sdram, Scratch}
 use Rattle.nv_base.specs.Sets.{is_in}
@@ -16,7 +16,7 @@ use Rattle.place_ir.specs.declared.place.Place.{Place}
 use Rattle.place_ir.specs.declared.place.Place.TheVariants.{A, B, L, LD, S, SD, Slot}
 use Rattle.place_ir.specs.Places.{same_place}
 use Rattle.place_ir.specs.Plan.{Home, Plan, home, first, serve, pass}
-use Rattle.place_ir.specs.Uses.{Access, Sort, Parameter, Result, Fetched, Value, numbered, place_values, reads_at, writes_at, Role, Operand, Argument, Ending, roles, place_roles, Use, uses_at, uses, uses_of, is_used}
+use Rattle.place_ir.specs.Uses.{Sort, Parameter, Fetched, Value, numbered, place_values, reads_at, writes_at, Role, Argument, Ending, roles, place_roles, Use, uses_at, uses, is_used}
 use Rattle.place_ir.specs.Fits as rules
 use Rattle.place_ir.specs.Fits.{read_place, write_place, is_general, is_slot, is_read_register, served, word_register, is_early, has_place, none_shared, general_places, read_places, kept_register, maybe, run_of, is_waiting, same_use, IsEighth, KeepsHeld, point_values, KeepsRead, Waits, KeepsWaiting, AreApart, comes_to_slot, PassesSlots, FitsAt}
 use Rattle.place_ir.specs.inner.Found.{place_at, below_at, place_node}
@@ -27,8 +27,8 @@ use Rattle.place_ir.proofs.Scoped.{in-itself}
 use Rattle.place_ir.proofs.Sound.{Each}
 use Rattle.place_ir.proofs.Spilled.{each-all, all-each}
 use Rattle.place_ir.proofs.Fitting.{vars-of-place}
-use Rattle.place_ir.proofs.Named.{Named, names_of, many-names, made, made-point, point-there, named-at, named-points, found-uses}
-use Rattle.place_ir.proofs.Seen.{same-order, and-true', or-nothing, and-nothing, before-is, after-is, known-is, Below, below-at, below-from}
+use Rattle.place_ir.proofs.Named.{Named, names_of, many-names, made, made-point, point-there, named-at, named-points}
+use Rattle.place_ir.proofs.Seen.{and-true', or-nothing, and-nothing, before-is, after-is, known-is, below-at, below-from}
 use Rattle.place_ir.proofs.Valued.{any-filter, used-is}
 
 -- ---- values that have homes

@@ -1,12 +1,11 @@
 -- The rules of lists, accesses and uses, as they are tested and as they are said.
-use Rattle.std.proofs.Common.{◌≡◌, ℕ, zero, suc, ◌+◌, ◌-◌, ◌*◌, ◌<◌, ◌≤◌, Bool, true, false, not, ◌&&◌, ◌||◌, nat_eq, ◌⊎◌, inl, inr, ⊎_elim, List, [], ◌∷◌, ◌++◌, Option, Some, None, length, map, filter, All, refl, sym, ap, subst, ◌∙◌, arith, if◌then◌else◌}
+use Rattle.std.proofs.Common.{◌≡◌, ℕ, zero, suc, ◌+◌, ◌*◌, Bool, true, false, not, ◌&&◌, ◌||◌, nat_eq, ◌⊎◌, inl, inr, ⊎_elim, List, [], ◌∷◌, ◌++◌, Option, Some, None, length, map, filter, refl, sym, ap, subst, ◌∙◌, arith, if◌then◌else◌}
 use Rattle.std.specs.Prelude.{slice_get, nat_le, nat_lt, ◌==◌, ◌%◌, ◌/◌}
-use Rattle.std.specs.List.{list_all, list_any}
 use Rattle.std.proofs.lemmas.Bool.{and_parts, and_from, or_cases, or_left, or_right, false≢true, lt-ltb, ltb-true, le-leb, leb-true, eq-eqb, cases_Bool}
 use Rattle.std.proofs.lemmas.Nat.{div-add-mod', mod-mul-add}
 use Rattle.nv_base.specs.declared.term.Mem.{Mem}
 use Rattle.nv_base.specs.declared.term.Mem.TheVariants.{Sram, Sdram, Scratch}
-use Rattle.nv_base.specs.Sets.{is_in, Within}
+use Rattle.nv_base.specs.Sets.{is_in}
 use Rattle.nv_base.proofs.Sets.{same-number, in-append}
 use Rattle.ssu_ir.specs.Tree.{Lit, Una, Bin, Clone, Read, Write, Label, Does, Forks, Ends}
 use Rattle.ssu_ir.specs.Points as pure
@@ -15,17 +14,17 @@ use Rattle.place_ir.specs.declared.place.Place.{Place}
 use Rattle.place_ir.specs.declared.place.Place.TheVariants.{A, B, L, LD, S, SD, Slot}
 use Rattle.place_ir.specs.declared.place.Serve.{Serve}
 use Rattle.place_ir.specs.Places.{same_place}
-use Rattle.place_ir.specs.Plan.{Home, Plan, home, first, pass}
-use Rattle.place_ir.specs.Uses.{Access, Sort, Parameter, Result, Fetched, Value, numbered, place_values, values_from, values, place_accesses, accesses_from, Role, Operand, Address, Written, Argument, Ending, Use, uses, is_used}
+use Rattle.place_ir.specs.Plan.{Plan, home, first, pass}
+use Rattle.place_ir.specs.Uses.{Access, Parameter, Fetched, Value, numbered, place_values, values_from, values, place_accesses, accesses_from, Role, Operand, Address, Written, Argument, Ending, Use, uses, is_used}
 use Rattle.place_ir.specs.Fits.{Rises, wants_home, IsFirst, is_home, IsOperandAt, IsAddressAt, parameter, IsServedAt, IsServed, served, word_register}
 use Rattle.place_ir.specs.inner.Found.{place_at, place_node}
-use Rattle.place_ir.specs.inner.Checks.{any_below, used, follows, rise, is_read, wants_at, is_wanted, is_access, next_is, firsts_fit, is_first, access_fits, is_read_through, is_operand_at, is_address_at, role_fits, use_fits, found}
+use Rattle.place_ir.specs.inner.Checks.{used, rise, is_read, wants_at, is_wanted, is_access, next_is, firsts_fit, is_first, access_fits, is_read_through, is_operand_at, is_address_at, role_fits, use_fits, found}
 use Rattle.place_ir.proofs.Places.{same_place-true, same_place-from}
 use Rattle.place_ir.proofs.Scoped.{in-itself}
 use Rattle.place_ir.proofs.Sound.{Each}
 use Rattle.place_ir.proofs.Named.{point-there}
 use Rattle.place_ir.proofs.Walked.{get-within, get-there}
-use Rattle.place_ir.proofs.Seen.{and-true', or-nothing, and-either, Below, below-at, below-from}
+use Rattle.place_ir.proofs.Seen.{below-at, below-from}
 use Rattle.place_ir.proofs.Valued.{used-is}
 use Rattle.place_ir.specs.inner.Found as numbers
 

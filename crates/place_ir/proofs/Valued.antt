@@ -1,9 +1,8 @@
 -- The homes that values want, as they are tested and as the rules say them.
-use Rattle.std.proofs.Common.{◌≡◌, ℕ, zero, suc, ◌+◌, ◌-◌, ◌<◌, ◌≤◌, Bool, true, false, not, ◌&&◌, ◌||◌, nat_eq, ◌⊎◌, inl, inr, ⊎_elim, List, [], ◌∷◌, ◌++◌, Option, Some, None, length, map, filter, count_by, All, refl, sym, ap, subst, ◌∙◌, arith, take, drop, if◌then◌else◌}
+use Rattle.std.proofs.Common.{◌≡◌, ℕ, zero, suc, ◌+◌, ◌-◌, ◌<◌, ◌≤◌, Bool, true, false, not, ◌&&◌, ◌||◌, nat_eq, inl, inr, ⊎_elim, List, [], ◌∷◌, ◌++◌, Option, Some, None, length, map, filter, count_by, refl, sym, ap, subst, ◌∙◌, arith, take, drop, if◌then◌else◌}
 use Rattle.std.specs.Prelude.{slice_get, nat_le, nat_lt, ◌==◌, cond}
 use Rattle.std.specs.List.{list_all, list_any}
-use Rattle.std.proofs.lemmas.Bool.{and_parts, and_from, or_cases, or_left, or_right, false≢true, false_from_ne_true, lt-ltb, ltb-true, le-leb, leb-true, eq-eqb, eqb-true, not-true, not_from_false, cases_Bool}
-use Rattle.std.proofs.lemmas.List.{map-append, append-nil}
+use Rattle.std.proofs.lemmas.Bool.{and_parts, and_from, or_cases, or_left, or_right, false≢true, lt-ltb, ltb-true, le-leb, eq-eqb, not-true, not_from_false}
 use Rattle.std.proofs.lemmas.List.Sums.{length-filter, sum_by-cons}
 use Rattle.nv_base.specs.declared.term.Mem.{Mem}
 use Rattle.nv_base.specs.Sets.{is_in}
@@ -13,15 +12,14 @@ use Rattle.ssu_ir.specs.Points.{Point}
 use Rattle.place_ir.specs.declared.place.Place.{Place}
 use Rattle.place_ir.specs.declared.place.Place.TheVariants.{A, B, L, LD, S, SD, Slot}
 use Rattle.place_ir.specs.Places.{same_place}
-use Rattle.place_ir.specs.Plan.{Home, Plan, home, first}
+use Rattle.place_ir.specs.Plan.{Plan, home, first}
 use Rattle.place_ir.specs.Uses.{Access, Sort, Parameter, Result, Fetched, Value, numbered, place_values, values_from, place_accesses, accesses_from, Use, uses, uses_of, is_used}
-use Rattle.place_ir.specs.Fits.{read_place, IsGeneral, is_slot, same_bank, word_register, is_early, early_uses, maybe, AreFills, AreCopies, IsPutEarly, IsHome, IsHoused, is_sort_homed, wants_home}
-use Rattle.place_ir.specs.inner.Checks.{can_be_home, rank, is_of, used, is_early_of, is_word_at, next_fits, words_fit, fill_fits, fills_fit, copies_match, copies_fit, is_put_early, is_general_home, has_home, param_fits, result_fits, fetched_fits, fetched_fit, sort_fits, value_fits}
+use Rattle.place_ir.specs.Fits.{read_place, IsGeneral, is_slot, same_bank, word_register, is_early, maybe, AreFills, AreCopies, IsPutEarly, IsHome, IsHoused, is_sort_homed, wants_home}
+use Rattle.place_ir.specs.inner.Checks.{can_be_home, rank, is_of, used, is_early_of, is_word_at, next_fits, words_fit, fill_fits, fills_fit, copies_match, copies_fit, is_put_early, is_general_home, has_home, param_fits, fetched_fits, fetched_fit, sort_fits, value_fits}
 use Rattle.place_ir.proofs.Places.{same_place-true, same_place-from}
-use Rattle.place_ir.proofs.Scoped.{in-itself}
 use Rattle.place_ir.proofs.Sound.{Each, each-append}
 use Rattle.place_ir.proofs.Spilled.{each-all, all-each, each-left, each-right}
-use Rattle.place_ir.proofs.Seen.{same-order, and-true', or-nothing}
+use Rattle.place_ir.proofs.Seen.{same-order, or-nothing}
 
 -- ---- values and accesses, point by point
 

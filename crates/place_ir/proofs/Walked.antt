@@ -1,14 +1,14 @@
 -- Points that are found by walks from the labels.
-use Rattle.std.proofs.Common.{◌≡◌, ℕ, zero, suc, ◌+◌, ◌-◌, ◌<◌, ◌≤◌, Bool, true, false, ◌⊎◌, ⊎_elim, List, [], ◌∷◌, ◌++◌, Option, Some, None, length, map, refl, sym, ap, subst, ◌∙◌, arith, take, drop, get_or}
-use Rattle.std.specs.Prelude.{slice_get, slice_index_or, nat_le, nat_lt, unwrap_or}
+use Rattle.std.proofs.Common.{◌≡◌, ℕ, zero, suc, ◌+◌, ◌<◌, ◌≤◌, ◌⊎◌, ⊎_elim, List, [], ◌∷◌, ◌++◌, Option, Some, None, length, map, refl, sym, ap, subst, ◌∙◌, arith, drop}
+use Rattle.std.specs.Prelude.{slice_get, slice_index_or}
 use Rattle.std.proofs.lemmas.List.{drop_more, drop_all}
 use Rattle.nv_base.specs.declared.term.Cmp.{Cmp}
 use Rattle.ssu_ir.specs.declared.node.NodeId.{NodeId}
 use Rattle.ssu_ir.specs.declared.node.SsuLabel.{SsuLabel}
 use Rattle.ssu_ir.specs.declared.node.SsuNode.{SsuNode}
 use Rattle.ssu_ir.specs.declared.ssu.Ssu.{Ssu}
-use Rattle.ssu_ir.specs.Tree.{Step, Last, Tree, Do, If, End, Label, Does, Forks, Ends, step_values}
-use Rattle.ssu_ir.specs.Points.{Names, own, names_after, Place, Entry, At, Point, nodes, tree_points, points_from, points}
+use Rattle.ssu_ir.specs.Tree.{Step, Tree, Do, If, Does, step_values}
+use Rattle.ssu_ir.specs.Points.{own, names_after, At, Point, nodes, tree_points, points_from, points}
 use Rattle.ssu_ir.specs.Slots.{Slots, slot, node_of, bodies, filled, Placed, DoAt, IfAt, EndAt, bare, bare_all, weight, weight_all, roots_of}
 use Rattle.ssu_ir.specs.View.{labels_view, placed_of, with_bodies}
 use Rattle.ssu_ir.specs.inner.Under.{HasTree, AllHave, tree_at, label_of}
@@ -20,7 +20,7 @@ use Rattle.place_ir.specs.declared.spots.Spot.{Spot}
 use Rattle.place_ir.specs.declared.spots.Spot.TheVariants.{Entry as EntrySpot, Node as NodeSpot}
 use Rattle.place_ir.specs.Fits.{param_at}
 use Rattle.place_ir.specs.inner.Live.{node_source, first_of, source_in, source_among, value_by}
-use Rattle.place_ir.specs.inner.Found.{IsNode, HasNode, IsNodeAt, IsEntry, IsSpotOf, IsSpotAt, nowhere, point_at, value_in}
+use Rattle.place_ir.specs.inner.Found.{IsNode, IsNodeAt, IsEntry, IsSpotAt, nowhere, point_at, value_in}
 
 -- ---- lists
 

@@ -1,6 +1,6 @@
 -- The rules of placements in the form in which they are tested: each value, access, use and point by itself, over the uses that the
 -- serves are for.
-use Rattle.std.specs.Prelude.{ℕ, zero, suc, ◌+◌, ◌-◌, ◌%◌, ◌==◌, nat_eq, nat_lt, nat_le, Bool, true, false, not, is_some, ◌&&◌, ◌||◌, List, [], ◌∷◌, Option, Some, None, map, filter, length, take, drop, count_by, if◌then◌else◌}
+use Rattle.std.specs.Prelude.{ℕ, zero, suc, ◌+◌, ◌-◌, ◌%◌, ◌==◌, nat_eq, nat_lt, nat_le, Bool, true, false, not, ◌&&◌, ◌||◌, List, [], ◌∷◌, Option, Some, None, map, length, take, drop, count_by, if◌then◌else◌}
 use Rattle.std.specs.List.{list_any, list_all}
 use Rattle.nv_base.specs.declared.term.Mem.{Mem}
 use Rattle.nv_base.specs.declared.term.Mem.TheVariants.{Sram, Sdram, Scratch}
@@ -15,10 +15,10 @@ use Rattle.place_ir.specs.declared.registers.Word.{Word}
 use Rattle.place_ir.specs.declared.registers.Word.TheVariants as kept
 use Rattle.place_ir.specs.declared.words.Use.{Use as KeptUse}
 use Rattle.place_ir.specs.Places.{same_place}
-use Rattle.place_ir.specs.Plan.{Home, Plan, home, first, serve, pass}
+use Rattle.place_ir.specs.Plan.{Plan, home, first, serve, pass}
 use Rattle.place_ir.specs.Uses.{Sort, Parameter, Result, Fetched, Value, Role, Operand, Address, Written, Argument, Ending, Use}
 use Rattle.place_ir.specs.Uses as all_uses
-use Rattle.place_ir.specs.Fits.{read_place, has_place, is_general, is_slot, is_read_register, is_write_register, same_bank, different_groups, maybe, served, word_register, is_early, is_home, parameter}
+use Rattle.place_ir.specs.Fits.{read_place, has_place, is_general, is_slot, is_read_register, same_bank, different_groups, maybe, served, word_register, is_early, is_home, parameter}
 use Rattle.place_ir.specs.inner.Found.{role_view, place_at, below_at, place_node, found_use}
 
 -- ---- quantifiers over numbers

@@ -3,8 +3,7 @@ use Rattle.ssu_ir.specs.View.{labels_view}
 use Rattle.place_ir.specs.Plan.{home_view, plan_view}
 use Rattle.place_ir.specs.inner.Checks as checks
 use Rattle.place_ir.specs.inner.Checks.{use_view}
-use Rattle.place_ir.specs.inner.Found.{found_use}
-use Rattle.place_ir.proofs.Loops.{any-hit, all-miss, all-more}
+use Rattle.place_ir.proofs.Loops.{all-miss, all-more}
 use Rattle.place_ir.proofs.keeps.is_apart.Goals as goal
 
 pub returns-then-not-may_meet : goal.returns-then-not-may_meet

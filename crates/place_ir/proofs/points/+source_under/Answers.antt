@@ -1,4 +1,4 @@
-use Rattle.std.proofs.Common.{◌≡◌, None, sym, ap, ◌∙◌, arith}
+use Rattle.std.proofs.Common.{◌∙◌, arith}
 use Rattle.ssu_ir.proofs.Unders.{one_kid, two_kids}
 use Rattle.place_ir.proofs.Walked.{none-of, source-one, source-first, source-second}
 use Rattle.place_ir.proofs.points.+source_under.Goals as goal

@@ -1,4 +1,4 @@
-use Rattle.std.proofs.Common.{sym, arith}
+use Rattle.std.proofs.Common.{arith}
 use Rattle.place_ir.proofs.Walked.{count-points}
 use Rattle.place_ir.proofs.points.count.Goals as goal
 

@@ -1,4 +1,4 @@
-use Rattle.std.proofs.Common.{◌∙◌, ◌&&◌, true, sym, ap}
+use Rattle.std.proofs.Common.{◌∙◌, sym, ap}
 use Rattle.std.specs.List.{list_all}
 use Rattle.ssu_ir.specs.Slots.{node_of}
 use Rattle.ssu_ir.specs.View.{labels_view}

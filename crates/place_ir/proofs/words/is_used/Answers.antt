@@ -1,10 +1,9 @@
-use Rattle.std.proofs.Common.{◌∙◌, sym, ap}
+use Rattle.std.proofs.Common.{◌∙◌, ap}
 use Rattle.ssu_ir.specs.View.{labels_view}
-use Rattle.place_ir.specs.Plan.{home_view, plan_view}
 use Rattle.place_ir.specs.inner.Checks as checks
 use Rattle.place_ir.specs.inner.Checks.{use_view}
 use Rattle.place_ir.specs.inner.Found.{found_use}
-use Rattle.place_ir.proofs.Loops.{any-hit, all-miss, all-more}
+use Rattle.place_ir.proofs.Loops.{any-hit}
 use Rattle.std.proofs.Common.{nat_eq}
 use Rattle.place_ir.proofs.Scoped.{in-itself}
 use Rattle.place_ir.proofs.words.is_used.Goals as goal

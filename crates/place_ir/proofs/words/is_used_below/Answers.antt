@@ -1,10 +1,9 @@
-use Rattle.std.proofs.Common.{◌∙◌, sym, ap}
+use Rattle.std.proofs.Common.{◌∙◌, sym}
 use Rattle.ssu_ir.specs.View.{labels_view}
-use Rattle.place_ir.specs.Plan.{home_view, plan_view}
 use Rattle.place_ir.specs.inner.Checks as checks
 use Rattle.place_ir.specs.inner.Checks.{use_view}
 use Rattle.place_ir.specs.inner.Found.{found_use}
-use Rattle.place_ir.proofs.Loops.{any-hit, all-miss, all-more}
+use Rattle.place_ir.proofs.Loops.{any-hit}
 use Rattle.place_ir.proofs.words.is_used_below.Goals as goal
 
 pub returns-then-is_of_below : goal.returns-then-is_of_below

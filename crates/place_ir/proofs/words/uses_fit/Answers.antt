@@ -1,10 +1,10 @@
-use Rattle.std.proofs.Common.{◌∙◌, sym, ap}
+use Rattle.std.proofs.Common.{◌∙◌, sym}
 use Rattle.ssu_ir.specs.View.{labels_view}
-use Rattle.place_ir.specs.Plan.{home_view, plan_view}
+use Rattle.place_ir.specs.Plan.{plan_view}
 use Rattle.place_ir.specs.inner.Checks as checks
 use Rattle.place_ir.specs.inner.Checks.{use_view}
 use Rattle.place_ir.specs.inner.Found.{found_use}
-use Rattle.place_ir.proofs.Loops.{any-hit, all-miss, all-more}
+use Rattle.place_ir.proofs.Loops.{all-miss}
 use Rattle.place_ir.proofs.words.uses_fit.Goals as goal
 
 pub returns-then-not-use_fits : goal.returns-then-not-use_fits
