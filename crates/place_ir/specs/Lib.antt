@@ -3,4 +3,5 @@ pub mod Plan
 pub mod Uses
 pub mod Fits
 pub mod Held
+pub mod Examples
 pub mod inner
