@@ -21,7 +21,7 @@ use Rattle.place_ir.proofs.Scoped.{in-itself, in-either}
 use Rattle.place_ir.proofs.Sound.{Each, entry_params, Sound, uses_among, sound-points}
 use Rattle.place_ir.proofs.Spilled.{each-all, all-each, each-at, each-weaker, used-wanted, param_vars, params-wanted}
 use Rattle.place_ir.proofs.Fitting.{uses-are, values-are, entries-in}
-use Rattle.place_ir.proofs.Named.{named-points, serves-listed, listed-serves, found-uses, point-there}
+use Rattle.place_ir.proofs.Recovered.{named-points, serves-listed, listed-serves, found-uses, point-there}
 use Rattle.place_ir.proofs.Walked.{get-within, get-there}
 use Rattle.place_ir.proofs.Valued.{each-values, values-part, each-accesses, accesses-part, each-of, of-each, IsPlaced, placed-from, placed-to, params-all}
 use Rattle.place_ir.proofs.Ruled.{rise-from, rise-to, wanting, wanted-from, wanted-to, firsts-from, firsts-to, HasFirst, access-from, access-to, served-from, served-to}

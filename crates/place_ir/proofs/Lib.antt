@@ -12,7 +12,7 @@ pub mod Fitting
 pub mod Slotted
 pub mod Covering
 pub mod Homes
-pub mod Named
+pub mod Recovered
 pub mod Walked
 pub mod Seen
 pub mod Valued

@@ -27,7 +27,7 @@ use Rattle.place_ir.proofs.Scoped.{in-itself}
 use Rattle.place_ir.proofs.Sound.{Each}
 use Rattle.place_ir.proofs.Spilled.{each-all, all-each}
 use Rattle.place_ir.proofs.Fitting.{vars-of-place}
-use Rattle.place_ir.proofs.Named.{Named, names_of, many-names, made, made-point, point-there, named-at, named-points}
+use Rattle.place_ir.proofs.Recovered.{Named, names_of, many-names, made, made-point, point-there, named-at, named-points}
 use Rattle.place_ir.proofs.Seen.{and-true', or-nothing, and-nothing, before-is, after-is, known-is, below-at, below-from}
 use Rattle.place_ir.proofs.Valued.{any-filter, used-is}
 

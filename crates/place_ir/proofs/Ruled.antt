@@ -22,7 +22,7 @@ use Rattle.place_ir.specs.inner.Checks.{used, rise, is_read, wants_at, is_wanted
 use Rattle.place_ir.proofs.Places.{same_place-true, same_place-from}
 use Rattle.place_ir.proofs.Scoped.{in-itself}
 use Rattle.place_ir.proofs.Sound.{Each}
-use Rattle.place_ir.proofs.Named.{point-there}
+use Rattle.place_ir.proofs.Recovered.{point-there}
 use Rattle.place_ir.proofs.Walked.{get-within, get-there}
 use Rattle.place_ir.proofs.Seen.{below-at, below-from}
 use Rattle.place_ir.proofs.Valued.{used-is}

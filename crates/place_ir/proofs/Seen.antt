@@ -19,7 +19,7 @@ use Rattle.place_ir.specs.inner.Found.{nowhere, point_at, place_at, below_at, pl
 use Rattle.place_ir.specs.inner.Checks.{any_below, found, is_of_below, covers, is_above, is_known, is_before_node, is_before, is_after}
 use Rattle.place_ir.proofs.Scoped.{in-filter, in-itself}
 use Rattle.place_ir.proofs.Sound.{Each, uses_among, Sound, sound-points}
-use Rattle.place_ir.proofs.Named.{point-there}
+use Rattle.place_ir.proofs.Recovered.{point-there}
 use Rattle.place_ir.proofs.Walked.{get-within, get-there}
 
 -- ---- what a point holds, by the points below it

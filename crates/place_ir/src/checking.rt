@@ -13,7 +13,7 @@ ghost use Rattle.place_ir.specs.inner.Checks.{found};
 ghost use Rattle.place_ir.specs.inner.Found.{place_at, place_node};
 
 use crate::keeps::{access_fits, keeps_held, keeps_read, keeps_waiting, operands_fit, passes_fit};
-use crate::parts::use_count;
+use crate::pieces::use_count;
 use crate::place::{Placement, Serve};
 use crate::points::{count, has, node_at, spot_at, values_at};
 use crate::values::values_fit;

@@ -13,7 +13,7 @@ ghost use Rattle.place_ir.specs.inner.Checks.{found, use_view, word_place};
 ghost use Rattle.place_ir.specs.inner.Found.{place_at, place_node};
 
 use crate::lookups::{copied_of, defined_of, first_of, pass_of, serve_of};
-use crate::parts::use_count;
+use crate::pieces::use_count;
 use crate::place::{Place, Placement};
 use crate::points::{has, node_at, reaches, values_at};
 use crate::registers::{

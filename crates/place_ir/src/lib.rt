@@ -6,7 +6,7 @@ mod copies;
 mod keeps;
 mod laws;
 mod lookups;
-mod parts;
+mod pieces;
 mod place;
 mod points;
 mod registers;

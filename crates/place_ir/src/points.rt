@@ -12,7 +12,7 @@ ghost use Rattle.place_ir.specs.declared.spots.Spot.{Spot as SpotView};
 ghost use Rattle.place_ir.specs.inner.Live.{node_source, source_in};
 ghost use Rattle.place_ir.specs.inner.Found.{place_at, below_at, place_node, value_in, IsNodeAt, IsSpotAt};
 
-use crate::parts::{Behind, node_values, nodes_behind};
+use crate::pieces::{Behind, node_values, nodes_behind};
 use crate::spots::Spot;
 use ssu_ir::{NodeId, Ssu, SsuNode};
 

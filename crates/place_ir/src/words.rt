@@ -11,7 +11,7 @@ ghost use Rattle.place_ir.specs.inner.Checks.{word_place, use_view, found};
 ghost use Rattle.place_ir.specs.inner.Found.{found_use, below_at};
 
 use crate::lookups::{copied_of, defined_of, first_of, pass_of, serve_of};
-use crate::parts::{Role, item, use_name, use_role};
+use crate::pieces::{Role, item, use_name, use_role};
 use crate::place::{Place, Placement, Serve};
 use crate::points::{node_at, reaches, value_of};
 use crate::registers::{

@@ -9,10 +9,10 @@ use Rattle.ssu_ir.specs.Points.{Names, Place, Entry, At, Point, tree_points, poi
 use Rattle.ssu_ir.specs.Slots.{Slots, slot, node_of}
 use Rattle.ssu_ir.specs.View.{labels_view}
 use Rattle.ssu_ir.specs.inner.Under.{HasTree, tree_at}
-use Rattle.place_ir.specs.declared.parts.Behind.{Behind}
-use Rattle.place_ir.specs.declared.parts.Behind.TheVariants.{None as NoneBehind, One, Two}
-use Rattle.place_ir.specs.declared.parts.Role.{Role as KeptRole}
-use Rattle.place_ir.specs.declared.parts.Role.TheVariants as kept
+use Rattle.place_ir.specs.declared.pieces.Behind.{Behind}
+use Rattle.place_ir.specs.declared.pieces.Behind.TheVariants.{None as NoneBehind, One, Two}
+use Rattle.place_ir.specs.declared.pieces.Role.{Role as KeptRole}
+use Rattle.place_ir.specs.declared.pieces.Role.TheVariants as kept
 use Rattle.place_ir.specs.declared.place.Serve.{Serve}
 use Rattle.place_ir.specs.declared.spots.Spot.{Spot}
 use Rattle.place_ir.specs.declared.spots.Spot.TheVariants.{Entry as EntrySpot, Node as NodeSpot}
