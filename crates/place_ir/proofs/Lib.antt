@@ -20,3 +20,8 @@ pub mod Ruled
 pub mod Loops
 pub mod Pointed
 pub mod Decided
+pub mod Gathering
+pub mod Named
+pub mod Short
+pub mod Joined
+pub mod PartSteps

@@ -4,3 +4,5 @@ pub mod Numbers
 pub mod Spilled
 pub mod Found
 pub mod Checks
+pub mod Parts
+pub mod Targets

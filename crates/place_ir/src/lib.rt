@@ -6,6 +6,10 @@ mod copies;
 mod keeps;
 mod laws;
 mod lookups;
+mod parts;
+mod parts_homes;
+mod parts_passes;
+mod parts_serves;
 mod pieces;
 mod place;
 mod points;
@@ -15,6 +19,7 @@ mod rows;
 mod slots;
 mod spill;
 mod spots;
+mod used;
 mod values;
 mod words;
 
