@@ -35,6 +35,7 @@ pub fn small_placements_fit()
     ensures banks { Fits sum_of_two (sum_in (A 0) (B 0) (A 1)) }
     ensures slot { Fits sum_of_two (sum_through 1 (pass_at 1 (Some 3) None ∷ [])) }
     ensures words { Fits copied_and_added (words_in 4 0 (A 1) (S 0 ∷ [])) }
+    ensures aside { Fits copied_and_added (record (words_in 4 0 (A 1) (S 0 ∷ [])) { passes = pass_at 5 None (Some 2) ∷ pass_at 7 (Some 6) None ∷ [] }) }
 {}
 
 /// What breaks a rule doesn't fit.
@@ -55,6 +56,10 @@ pub fn each_rule_refuses()
     ensures run_past { Fits copied_and_added (words_in 7 0 (A 1) (S 0 ∷ [])) → ⊥ }
     ensures not_put { Fits copied_and_added (words_in 4 0 (A 1) []) → ⊥ }
     ensures word_moved { Fits copied_and_added (words_in 4 1 (A 1) (S 0 ∷ [])) → ⊥ }
+    ensures word_waits { Fits copied_and_added (record (words_in 4 0 (A 1) (S 0 ∷ [])) { passes = pass_at 5 None (Some 0) ∷ [] }) → ⊥ }
+    ensures value_stays { Fits copied_and_added (record (words_in 4 0 (A 1) (S 0 ∷ [])) { passes = pass_at 7 (Some 4) None ∷ [] }) → ⊥ }
+{}
+
 /// What a fetch, a copy and a first place cost: 16 for each access to a slot, 1 for each copy between
 /// banks, and nothing for one to or from the compiler's own register.
 pub fn costs_of_moves()

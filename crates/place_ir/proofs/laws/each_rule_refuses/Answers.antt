@@ -50,3 +50,9 @@ returns-clause-not_put c = λ f. false≢true (fits-to _ _ refl f)
 
 pub returns-clause-word_moved : goal.returns-clause-word_moved
 returns-clause-word_moved c = λ f. false≢true (fits-to _ _ refl f)
+
+pub returns-clause-word_waits : goal.returns-clause-word_waits
+returns-clause-word_waits c = λ f. false≢true (fits-to _ _ refl f)
+
+pub returns-clause-value_stays : goal.returns-clause-value_stays
+returns-clause-value_stays c = λ f. false≢true (fits-to _ _ refl f)

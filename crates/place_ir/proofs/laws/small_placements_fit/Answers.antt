@@ -10,3 +10,6 @@ returns-clause-slot c = fits-from _ _ refl refl
 
 pub returns-clause-words : goal.returns-clause-words
 returns-clause-words c = fits-from _ _ refl refl
+
+pub returns-clause-aside : goal.returns-clause-aside
+returns-clause-aside c = fits-from _ _ refl refl
