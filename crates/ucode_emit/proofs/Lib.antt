@@ -52,3 +52,6 @@ pub mod Stood
 pub mod Sequenced
 pub mod Drafting
 pub mod Walked
+pub mod CostMoves
+pub mod CostPieces
+pub mod CostWhole

@@ -1,19 +1,22 @@
 -- The whole code from the draft of all points.
-use Rattle.std.proofs.Common.{◌≡◌, ℕ, ◌*◌, ◌<◌, ◌≤◌, ◌^◌, true, List, map, length, sym, ap, ◌∙◌, subst}
+use Rattle.std.proofs.Common.{◌≡◌, ℕ, ◌*◌, ◌<◌, ◌≤◌, ◌^◌, true, List, [], map, length, sym, ap, ◌∙◌, subst}
 use Rattle.uc_isa.specs.declared.instruction.Instr.{Instr}
 use Rattle.uc_isa.specs.Agrees.{Agrees}
 use Rattle.uc_isa.specs.Code.{CodeView}
 use Rattle.uc_isa.specs.Lawful.{IsLawful}
+use Rattle.uc_isa.specs.Moves.{moves}
 use Rattle.ssu_ir.specs.Tree.{Label}
 use Rattle.ssu_ir.specs.Measures.{size}
 use Rattle.ssu_ir.specs.Meaning.{ssu_meaning, ssu_params}
 use Rattle.ssu_ir.specs.Single.{single}
+use Rattle.place_ir.specs.Costs.{cost}
 use Rattle.place_ir.specs.Fits.{Fits}
 use Rattle.place_ir.specs.Plan.{Plan}
 use Rattle.ucode_emit.specs.inner.Pieces.{instr_of, items, starts}
 use Rattle.ucode_emit.specs.inner.Emitted.{settled}
 use Rattle.ucode_emit.specs.inner.Layers.{Placed}
 use Rattle.ucode_emit.specs.inner.Drafted.{AreDrafted, AreEmitted}
+use Rattle.ucode_emit.proofs.CostWhole.{code_light}
 use Rattle.ucode_emit.proofs.Agreeing.{code_agrees}
 use Rattle.ucode_emit.proofs.Layer.{ready_layer}
 use Rattle.ucode_emit.proofs.LawfulCode.{items_good, code_some, code_lawful}
@@ -39,6 +42,9 @@ few_code labels p list h e n = subst (λ l. length l < 2 ^ 31) (sym e.code_) (co
 
 pub short_code : (labels : List Label) (p : Plan) (list : List Instr) → Placed labels p → AreEmitted labels p list → length list ≤ 16 * size labels
 short_code labels p list h e = subst (λ l. length l ≤ 16 * size labels) (sym e.code_) (code_short labels p e.mss h e.sequences)
+
+pub light_code : (labels : List Label) (p : Plan) (list : List Instr) → Placed labels p → AreEmitted labels p list → moves list [] [] ≤ cost labels p
+light_code labels p list h e = subst (λ l. moves l [] [] ≤ cost labels p) (sym e.code_) (code_light labels p e.mss h e.sequences)
 
 pub lawful_code : (labels : List Label) (p : Plan) (list : List Instr) → Placed labels p → AreEmitted labels p list → IsLawful list
 lawful_code labels p list h e = subst IsLawful (sym e.code_) (code_lawful labels p e.mss h (ready_layer labels p h) e.sequences)
