@@ -112,9 +112,6 @@ pub fn pages<F: Files>(
         Loaded::Failed => return Err(Failure::Read),
         Loaded::NoMemory => return Err(Failure::Memory),
     }
-    if bytes.len() > 262_144 {
-        return Err(Failure::Source);
-    }
     match front(alloc, &bytes) {
         Ok((_typed, program)) => forms_of(alloc, &program, wanted),
         Err(FrontError::NoMemory) => Err(Failure::Memory),
