@@ -55,3 +55,6 @@ pub mod Walked
 pub mod CostMoves
 pub mod CostPieces
 pub mod CostWhole
+pub mod LengthMoves
+pub mod LengthPieces
+pub mod LengthWhole

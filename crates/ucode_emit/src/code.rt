@@ -1,5 +1,5 @@
 //! The code of a form.
-ghost use Rattle.std.specs.Prelude.{◌≡◌, ◌≤◌, ◌*◌, ◌^◌, [], true, length, IfOk};
+ghost use Rattle.std.specs.Prelude.{◌≡◌, ◌≤◌, ◌^◌, [], true, length, IfOk};
 ghost use Rattle.uc_isa.specs.Agrees.{Agrees};
 ghost use Rattle.uc_isa.specs.Lawful.{IsLawful};
 ghost use Rattle.uc_isa.specs.Moves.{moves};
@@ -50,7 +50,7 @@ pub fn emit(alloc: Global, s: &Ssu, p: &Placement) -> Result<Code, NoMemory>
     ensures lawful { IfOk result (λ c. IsLawful c.list) }
     ensures agrees { IfOk result (λ c. Agrees (ssu_params (labels_view s.now)) (ssu_meaning (labels_view s.now)) c) }
     ensures light { IfOk result (λ c. moves c.list [] [] ≤ cost (labels_view s.now) (plan_view p.now)) }
-    ensures short { IfOk result (λ c. length c.list ≤ 16 * measures.size (labels_view s.now)) }
+    ensures short { IfOk result (λ c. length c.list ≤ measures.code_bound (labels_view s.now)) }
 {
     let list = instructions(alloc, s, p)?;
     Ok(Code::new(params_of(s), list))

@@ -1,7 +1,7 @@
-use Rattle.std.proofs.Common.{◌*◌, ◌≤◌, [], length, sym, ◌∙◌, subst}
+use Rattle.std.proofs.Common.{◌≤◌, [], length, sym, ◌∙◌, subst}
 use Rattle.uc_isa.specs.Lawful.{IsLawful}
 use Rattle.uc_isa.specs.Moves.{moves}
-use Rattle.ssu_ir.specs.Measures.{size}
+use Rattle.ssu_ir.specs.Measures.{code_bound}
 use Rattle.ssu_ir.specs.View.{labels_view}
 use Rattle.place_ir.specs.Costs.{cost}
 use Rattle.place_ir.specs.Plan.{plan_view}
@@ -25,7 +25,7 @@ returns-clause-agrees c =
 
 pub returns-clause-short : goal.returns-clause-short
 returns-clause-short c =
-    subst (λ l. length l ≤ 16 * size (labels_view c.args.s.now)) (sym c.new.ensures.list) (short_code (labels_view c.args.s.now) (plan_view c.args.p.now) c.in_ok-list.list.items (placed c.requires.single c.requires.fits) c.in_ok-list.ensures)
+    subst (λ l. length l ≤ code_bound (labels_view c.args.s.now)) (sym c.new.ensures.list) (short_code (labels_view c.args.s.now) (plan_view c.args.p.now) c.in_ok-list.list.items (placed c.requires.single c.requires.fits) c.in_ok-list.ensures)
 
 pub returns-clause-light : goal.returns-clause-light
 returns-clause-light c =
