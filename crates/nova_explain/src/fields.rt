@@ -43,29 +43,27 @@ impl<'a> FieldLister<'a> {
         })
     }
 
-    /// Appends a layout: its bits and words, and each field with its word, its first bit there and its bits.
+    /// Appends a layout of so many bits: each field with its word, its first bit there and its bits.
     pub fn push_layout(
         &mut self,
         out: &mut Vec<u8>,
         name: &'a Name,
         text: &'a LayoutText,
+        bits: u64,
     ) -> Result<(), NoMemory> {
-        let mut lines = Vec::new(self.alloc);
+        push(out, "layout ")?;
+        push_quoted(out, name.bytes())?;
+        push(out, ": ")?;
+        push_counted(out, bits, "bit")?;
+        push(out, ", ")?;
+        push_counted(out, bits.div_ceil(32), "word")?;
+        push_line(out, "")?;
         self.fronts.clear();
         self.fronts.push(Vec::new(self.alloc))?;
         self.at = 0;
         self.work.push(Part::Layout(text, 0))?;
-        self.push_parts(&mut lines)?;
-        self.known.add(name, text)?;
-        push(out, "layout ")?;
-        push_quoted(out, name.bytes())?;
-        push(out, ": ")?;
-        push_counted(out, self.at, "bit")?;
-        push(out, ", ")?;
-        push_counted(out, self.at.div_ceil(32), "word")?;
-        push_line(out, "")?;
-        out.extend_from_slice(&lines)?;
-        Ok(())
+        self.push_parts(out)?;
+        self.known.add(name, text)
     }
 
     fn push_parts(&mut self, out: &mut Vec<u8>) -> Result<(), NoMemory> {

@@ -4,7 +4,7 @@ use crate::cost::Cost;
 use crate::fields::FieldLister;
 use crate::text::{push, push_counted, push_line, push_number, push_quoted};
 use crate::walk::Walk;
-use nv_ast::{Decl, Fun, Name, Program, Span, Typed};
+use nv_ast::{Decl, Fun, LayoutText, Name, Program, Span, Typed};
 use nv_base::NoMemory;
 use std::alloc::Global;
 
@@ -92,12 +92,25 @@ impl<'a, 'w> Teller<'a, 'w> {
     fn push_all(&mut self, out: &mut Vec<u8>, program: &'a Program) -> Result<(), NoMemory> {
         for decl in program.decls.iter() {
             match decl {
-                Decl::Layout(name, text, _) => self.fields.push_layout(out, name, text)?,
+                Decl::Layout(name, text, _) => self.push_layout(out, name, text)?,
                 Decl::Exception(name, _, _) => self.push_exception(out, name)?,
                 Decl::Group(funs) => self.push_group(out, funs)?,
             }
         }
         Ok(())
+    }
+
+    fn push_layout(
+        &mut self,
+        out: &mut Vec<u8>,
+        name: &'a Name,
+        text: &'a LayoutText,
+    ) -> Result<(), NoMemory> {
+        let bits = match self.walk.layouts.get(name) {
+            Some(shape) => shape.bits,
+            None => 0,
+        };
+        self.fields.push_layout(out, name, text, bits)
     }
 
     // An exception, with the number that an outcome has for it.

@@ -5,7 +5,7 @@ use crate::nearest::push_nearest;
 use crate::text::{push, push_counted, push_line, push_number, push_quoted};
 use crate::types::{BOOL, Part};
 use crate::walk::{Shape, Walk};
-use crate::wanted::{Wanted, Why};
+use crate::wanted::Wanted;
 use nv_ast::{Expr, Fun, Kind, Name, Pat, Span};
 use nv_base::{Mem, NoMemory};
 
@@ -45,12 +45,17 @@ impl<'a> Walk<'a> {
             Wanted::Typed(t, why) => {
                 self.note_type("wanted", t)?;
                 why.push(&mut self.note)?;
-                self.advise(why, t);
+                self.advise(why.advice(t == BOOL));
             }
-            Wanted::Stored => push_line(
-                &mut self.note,
-                "wanted: word or a tuple of words, to be stored",
-            )?,
+            Wanted::Stored => {
+                push_line(
+                    &mut self.note,
+                    "wanted: word or a tuple of words, to be stored",
+                )?;
+                self.advise(
+                    "A store takes words alone: write each word of the value into one tuple.",
+                );
+            }
             Wanted::Value | Wanted::Anything => push_line(&mut self.note, "wanted: a value")?,
         }
         match value {
@@ -63,9 +68,9 @@ impl<'a> Walk<'a> {
     }
 
     // What helps against another type than is wanted.
-    fn advise(&mut self, why: Why<'a>, wanted: usize) {
+    fn advise(&mut self, text: &'static str) {
         if self.kind == 14 {
-            self.advice = Some(why.advice(wanted == BOOL));
+            self.advice = Some(text);
         }
     }
 
