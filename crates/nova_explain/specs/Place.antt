@@ -1,5 +1,5 @@
 -- Where a byte of a text stands, for a person: its line and its column, both counted from 1.
-use Rattle.std.specs.Prelude.{◌+◌, ◌==◌, ℕ, Bool, List, take, reverse, count_by, take_while, not, length}
+use Rattle.std.specs.Prelude.{◌+◌, ◌==◌, ℕ, List, take, reverse, count_by, take_while, not, length}
 
 -- one more than the line feeds before the byte at a place
 abbrev pub line_at : List ℕ → ℕ → ℕ
