@@ -75,6 +75,22 @@ def compiled(where, source, status, output, made=False):
     return row
 
 
+def explained(row, answer):
+    """The row with a call of nova_explain, whose output has to begin with the line and the column of the answer's first byte,
+    or to give the size, or to say that the program has no fault."""
+    source = row.files["s.nova"]
+    place = re.search(r" at ([0-9]+)", answer)
+    if place:
+        before = source[: int(place[1])].split(b"\n")
+        front = f"s.nova:{len(before)}:{len(before[-1]) + 1}: .."
+    elif answer.startswith("too large"):
+        front = f"s.nova: the expanded size is {answer.split()[-1]}, .."
+    else:
+        front = "s.nova: a program without a fault"
+    row.calls.append(Call(["nova_explain", "s.nova"], 0, f"{front}\n..\n".encode()))
+    return row
+
+
 def language(top):
     """docs/LANGUAGE.md: each source in a line of a table, with what stands behind it: an outcome by `exec`, a fault of types, a
     fault of the text such as `Char(21)`, or a status with a colon, semicolon or comma."""
@@ -171,7 +187,8 @@ def worked(top, name):
         elif kind == "nova" and word in STATUSES:
             found.append(executed(where, answer[1], text, memory, 100, status_of(word), answer[1] + "\n..\n"))
         elif kind == "nova":
-            found.append(compiled(where, text, REFUSALS[word], answer[1].encode() + b"\n"))
+            row = compiled(where, text, REFUSALS[word], answer[1].encode() + b"\n")
+            found.append(explained(row, answer[1]))
     return found
 
 

@@ -64,6 +64,16 @@ def is_like(wanted, found):
     return re.fullmatch(pattern, found) is not None
 
 
+# Programs beside novac that a call may name as its first word: where they are.
+BESIDE = {"nova_explain": "nova_explain"}
+
+
+def command(novac, words):
+    """The command line of a call's words."""
+    beside = BESIDE.get(words[0]) if words else None
+    return [beside, *words[1:]] if beside else [novac, *words]
+
+
 class Call:
     """One run of the program and what has to come of it."""
 
@@ -85,11 +95,11 @@ class Row:
         for call in self.calls:
             found = self.of_call(call, novac, folder, wanted)
             if found:
-                return [shlex.join(["novac", *call.words]), *found]
+                return [shlex.join(command("novac", call.words)), *found]
         return []
 
     def of_call(self, call, novac, folder, wanted):
-        ran = subprocess.run([novac, *call.words], cwd=folder, stdin=subprocess.DEVNULL, capture_output=True, timeout=SECONDS)
+        ran = subprocess.run(command(novac, call.words), cwd=folder, stdin=subprocess.DEVNULL, capture_output=True, timeout=SECONDS)
         found = []
         if ran.returncode != call.status:
             found.append(f"status {ran.returncode}, wanted {call.status}")

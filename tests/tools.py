@@ -7,6 +7,8 @@ import subprocess
 import sys
 import types
 
+import pages
+
 
 class ToolRow:
     where = "tests/tools.py"
@@ -61,6 +63,12 @@ def as_made(top):
     return [f"{name} is to be written again by editors/make" for name, text in files.items() if read(top, f"editors/{name}") != text]
 
 
+def pages_as_made(top):
+    """The pages of nova_explain are those of docs/FAULTS.md."""
+    made = pages.files(top).items()
+    return [f"{name} is to be written again by tests/pages.py" for name, text in made if read(top, f"crates/nova_explain/src/{name}") != text]
+
+
 def there_and_back(top):
     """Each example with a packet: its bytes become a dump, and that the same lines of SDRAM."""
     found, packet = [], module(top, "examples/packet")
@@ -94,5 +102,6 @@ def dumps(top):
 
 def all_rows(top):
     rows = [("each keyword is coloured by both editors' files", highlighting), ("the editors' files are as made", as_made)]
+    rows += [("the pages of nova_explain are those of docs/FAULTS.md", pages_as_made)]
     rows += [("a packet's hex dump and back", there_and_back), ("forms of hex dumps", dumps)]
     return [ToolRow(name, body, top) for name, body in rows]

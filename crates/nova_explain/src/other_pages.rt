@@ -1,0 +1,566 @@
+//! Pages of docs/FAULTS.md, written by tests/pages.py.
+
+use crate::pages::Page;
+
+/// The text faults, the statuses and the other lines.
+pub const OTHER_PAGES: [Page; 30] = [
+    Page {
+        name: "syntax char",
+        text: r#"syntax char
+
+The byte begins no token. Printable bytes that begin none are `"`, `'`, `$`, `%`, `*`, `?`, `@`, `\`, the backquote, and `/` and `#` alone.
+No byte above 127 begins one.
+
+    fun main[]: word { 3 * 2 }
+
+`syntax char at 21`. There is no `*`, `/` or `%`. Multiply by shifts and sums:
+
+    fun main[]: word { (3 << 1) }
+
+`ended 00000006`. A comment `/* .. */` is refused at its `/`, and a byte order mark at byte 0.
+Only `// ..` is a comment, and in it any byte but LF may stand.
+"#,
+    },
+    Page {
+        name: "syntax number",
+        text: r#"syntax number
+
+The number is above 4,294,967,295.
+
+    fun main[]: word { 4294967296 }
+
+`syntax number at 19`. A word has 32 bits, so the largest number is
+
+    fun main[]: word { 4294967295 }
+
+`ended ffffffff`.
+"#,
+    },
+    Page {
+        name: "syntax name",
+        text: r#"syntax name
+
+The word has more than 64 bytes.
+
+    fun main[]: word { aaaaaaaaaaaaaaaaaaaaaaaaaaaaaaaaaaaaaaaaaaaaaaaaaaaaaaaaaaaaaaaaa }
+
+`syntax name at 19`. With 64 bytes it is a name:
+
+    fun main[]: word { let aaaaaaaaaaaaaaaaaaaaaaaaaaaaaaaaaaaaaaaaaaaaaaaaaaaaaaaaaaaaaaaa = 1; 1 }
+
+`ended 00000001`.
+"#,
+    },
+    Page {
+        name: "syntax syntax",
+        text: r#"syntax syntax
+
+With the token at this byte the text begins no program. Where only more is missing, it is the text's length.
+
+    fun
+
+`syntax syntax at 4`. The usual slips, each with its place:
+
+    fun main[x: word]: word { x << x }
+
+`syntax syntax at 31`: a shift takes a number, not a variable.
+
+    fun f(x: word): word { x }
+
+`syntax syntax at 5`: parameters and arguments stand in `[ ]`.
+
+    fun main[x: word]: bool { 1 < x < 3 }
+
+`syntax syntax at 32`: a comparison stands alone. Write `1 < x && x < 3`.
+
+    fun main[x: word]: word { main[x]; 1 }
+
+`syntax syntax at 33`: a call is no statement. Write `let _ = ..;`, or `let () = ..;` where it gives `()`.
+
+    fun main[x: word]: () { sram(0) <- x; }
+
+`syntax syntax at 38`: a block ends with a value. Write `()` behind the last statement.
+
+    fun main[x: word]: word { if (x == 0) { 1 } else { 2 } }
+
+`syntax syntax at 40`: the arms of an `if` have no braces. `{` begins a record.
+
+    fun main[x: word]: word { -x }
+
+`syntax syntax at 26`: there is no unary minus. Write `0 - x`.
+
+    exception E;
+
+`syntax syntax at 11`: an exception has a list of types, which may be empty, as in `E[]`.
+
+    exception E[]; fun main[x: word]: word { 1 + raise E[] }
+
+`syntax syntax at 45`: `if`, `raise` and `try` are no operands. Put them in a `let` or an arm.
+
+Corrected, in one:
+
+    exception E[];
+    fun shifted[x: word]: word { if (1 < x && x < 3) x << 2 else raise E[] }
+    fun stored[x: word]: () { sram(0) <- x; () }
+    fun main[]: word { let () = stored[0 - 1]; shifted[2] }
+
+`ended 00000008`.
+"#,
+    },
+    Page {
+        name: "syntax deep",
+        text: r#"syntax deep
+
+The tree of an expression, pattern, type or layout is certain to be higher than 100 at this byte. 100 brackets round a number are one too many:
+
+    fun main[]: word { ((((((((((((((((((((((((((((((((((((((((((((((((((((((((((((((((((((((((((((((((((((((((((((((((((((1
+
+`syntax deep at 119`. Give the inner parts names:
+
+    fun main[]: word { let x = (((1))); (((x))) }
+
+`ended 00000001`.
+"#,
+    },
+    Page {
+        name: "too large",
+        text: r#"too large: of a source
+
+With status 8, `too large N` says one of three things (README.md). Of a source that is read and typed, N is its expanded size, which is at most 4,096.
+
+    fun a[x: word]: word { x } fun b[x: word]: word { a[x] + a[x] }
+    fun c[x: word]: word { b[x] + b[x] } fun d[x: word]: word { c[x] + c[x] }
+    fun e[x: word]: word { d[x] + d[x] } fun f[x: word]: word { e[x] + e[x] }
+    fun g[x: word]: word { f[x] + f[x] } fun h[x: word]: word { g[x] + g[x] }
+    fun i[x: word]: word { h[x] + h[x] } fun main[x: word]: word { i[x] + i[x] }
+
+`too large 8180`. Each call of another group counts that group again, so make a loop of it:
+
+    fun twice[x: word, n: word]: word { if (n == 0) x else twice[x + x, n - 1] }
+    fun main[]: word { twice[1, 9] }
+
+`ended 00000200`.
+"#,
+    },
+    Page {
+        name: "status 20",
+        text: r#"status 20, unbuilt
+
+`unbuilt` with status 20 is said by `compile` alone. The source is a program and runs by `exec`.
+But it isn't of the form that `compile` takes so far (docs/LANGUAGE.md, The first form).
+
+    fun main[]: word { 70000 }
+
+`unbuilt`: a number of the first form is at most 65,535. `exec` runs it, and so does `compile` this one:
+
+    fun main[]: word { 65535 }
+
+`ended 0000ffff`.
+"#,
+    },
+    Page {
+        name: "unbuilt",
+        text: r#"status 20, unbuilt
+
+`unbuilt` with status 20 is said by `compile` alone. The source is a program and runs by `exec`.
+But it isn't of the form that `compile` takes so far (docs/LANGUAGE.md, The first form).
+
+    fun main[]: word { 70000 }
+
+`unbuilt`: a number of the first form is at most 65,535. `exec` runs it, and so does `compile` this one:
+
+    fun main[]: word { 65535 }
+
+`ended 0000ffff`.
+"#,
+    },
+    Page {
+        name: "syntax text",
+        text: r#"syntax text, syntax label, unlawful
+
+Of `asm`: the first line that isn't of the form; else a label that is missing or stands twice; else a line whose instruction breaks a rule of docs/MACHINE.md.
+
+    text:
+    | params 0
+    | immed A0 07 0
+    | halt 0 1
+    label:
+    | params 0
+    | br Z far
+    | halt 0 0
+    rule:
+    | params 2
+    | alu A0 ADD A0 A1
+    | halt 0 1
+    corrected:
+    | params 2
+    | un B0 COPY A1
+    | alu A0 ADD A0 B0
+    | br Z end
+    | end:
+    | halt 0 1
+    $ asm text o
+    6 syntax text line 2
+    $ asm label o
+    6 syntax label line 2
+    $ asm rule o
+    18 unlawful line 2 rule 1
+    $ asm corrected o
+    0 assembled 4
+    saved o: %any
+    $ lint o
+    0 lawful 4
+"#,
+    },
+    Page {
+        name: "syntax label",
+        text: r#"syntax text, syntax label, unlawful
+
+Of `asm`: the first line that isn't of the form; else a label that is missing or stands twice; else a line whose instruction breaks a rule of docs/MACHINE.md.
+
+    text:
+    | params 0
+    | immed A0 07 0
+    | halt 0 1
+    label:
+    | params 0
+    | br Z far
+    | halt 0 0
+    rule:
+    | params 2
+    | alu A0 ADD A0 A1
+    | halt 0 1
+    corrected:
+    | params 2
+    | un B0 COPY A1
+    | alu A0 ADD A0 B0
+    | br Z end
+    | end:
+    | halt 0 1
+    $ asm text o
+    6 syntax text line 2
+    $ asm label o
+    6 syntax label line 2
+    $ asm rule o
+    18 unlawful line 2 rule 1
+    $ asm corrected o
+    0 assembled 4
+    saved o: %any
+    $ lint o
+    0 lawful 4
+"#,
+    },
+    Page {
+        name: "unlawful",
+        text: r#"syntax text, syntax label, unlawful
+
+Of `asm`: the first line that isn't of the form; else a label that is missing or stands twice; else a line whose instruction breaks a rule of docs/MACHINE.md.
+
+    text:
+    | params 0
+    | immed A0 07 0
+    | halt 0 1
+    label:
+    | params 0
+    | br Z far
+    | halt 0 0
+    rule:
+    | params 2
+    | alu A0 ADD A0 A1
+    | halt 0 1
+    corrected:
+    | params 2
+    | un B0 COPY A1
+    | alu A0 ADD A0 B0
+    | br Z end
+    | end:
+    | halt 0 1
+    $ asm text o
+    6 syntax text line 2
+    $ asm label o
+    6 syntax label line 2
+    $ asm rule o
+    18 unlawful line 2 rule 1
+    $ asm corrected o
+    0 assembled 4
+    saved o: %any
+    $ lint o
+    0 lawful 4
+"#,
+    },
+    Page {
+        name: "object",
+        text: r#"object
+
+The bytes are no object: the first byte that can't be there, or the file's length where it only ends too early.
+`lint` and `run` then answer 18 with a place where the code breaks a rule; `dis` lists such code.
+
+    short: %hex 4e564f310000000001000000060000000000
+    kind: %hex 4e564f310000000001000000ff00000000000000
+    corrected: %hex 4e564f3100000000010000000600000000000000
+    unlawful: %hex 4e564f31020000000200000000000000010000000601000000000000
+    $ lint short
+    12 object 18
+    $ lint kind
+    12 object 12
+    $ lint corrected
+    0 lawful 1
+    $ lint unlawful
+    18 unlawful place 0 rule 1
+    $ dis unlawful
+    0
+    | params 2
+    | alu A0 ADD A0 A1
+    | halt 0 1
+"#,
+    },
+    Page {
+        name: "memory line",
+        text: r#"memory line
+
+The first line of a memory text that isn't of its form. The form is in docs/MACHINE.md.
+
+    s: fun main[a: word]: word { a }
+    few:
+    | memory 0 0
+    | args
+    short:
+    | memory 0 0
+    | args 7
+    past:
+    | memory 4 0
+    | args 00000007
+    | sram 3 00000001 00000002
+    scratch:
+    | memory 0 0
+    | args 00000007
+    | scratch 512 00000001
+    corrected:
+    | memory 4 0
+    | args 00000007
+    | sram 2 00000001 00000002
+    $ exec s few steps=1
+    13 memory line 2
+    $ exec s short steps=1
+    13 memory line 2
+    $ exec s past steps=1
+    13 memory line 3
+    $ exec s scratch steps=1
+    13 memory line 3
+    $ exec s corrected steps=1
+    0
+    | ended 00000007
+    | ..
+
+A size above 65,536 in the first line is `too large N` with status 8, whatever follows.
+"#,
+    },
+    Page {
+        name: "report line",
+        text: r#"report line, report refused
+
+A report isn't of its form at a line, or is and doesn't hold. The form is in docs/CERTIFICATES.md.
+In the refused one below, the node leaves out a row, so its bound falls short.
+
+    cut:
+    | novareport 1
+    refused:
+    | novareport 1
+    | slots 0
+    | budget 1
+    | columns 3
+    | rows 3
+    | c 1
+    | c 1
+    | c 1
+    | r 1 0:1 1:1
+    | r 1 1:1 2:1
+    | r 1 0:1 2:1
+    | verdict optimal 2
+    | x 0 1
+    | tree 1
+    | d 2 0:1 1:1
+    corrected:
+    | novareport 1
+    | slots 0
+    | budget 1
+    | columns 3
+    | rows 3
+    | c 1
+    | c 1
+    | c 1
+    | r 1 0:1 1:1
+    | r 1 1:1 2:1
+    | r 1 0:1 2:1
+    | verdict optimal 2
+    | x 0 1
+    | tree 1
+    | d 2 0:1 1:1 2:1
+    $ check cut
+    17 report line 2
+    $ check refused
+    17 report refused
+    $ check corrected
+    0 optimal 2
+"#,
+    },
+    Page {
+        name: "report refused",
+        text: r#"report line, report refused
+
+A report isn't of its form at a line, or is and doesn't hold. The form is in docs/CERTIFICATES.md.
+In the refused one below, the node leaves out a row, so its bound falls short.
+
+    cut:
+    | novareport 1
+    refused:
+    | novareport 1
+    | slots 0
+    | budget 1
+    | columns 3
+    | rows 3
+    | c 1
+    | c 1
+    | c 1
+    | r 1 0:1 1:1
+    | r 1 1:1 2:1
+    | r 1 0:1 2:1
+    | verdict optimal 2
+    | x 0 1
+    | tree 1
+    | d 2 0:1 1:1
+    corrected:
+    | novareport 1
+    | slots 0
+    | budget 1
+    | columns 3
+    | rows 3
+    | c 1
+    | c 1
+    | c 1
+    | r 1 0:1 1:1
+    | r 1 1:1 2:1
+    | r 1 0:1 2:1
+    | verdict optimal 2
+    | x 0 1
+    | tree 1
+    | d 2 0:1 1:1 2:1
+    $ check cut
+    17 report line 2
+    $ check refused
+    17 report refused
+    $ check corrected
+    0 optimal 2
+"#,
+    },
+    Page {
+        name: "status 0",
+        text: r#"status 0: done
+
+Of `run` the code ended, of `exec` the program, and of every other command what it is for is done.
+"#,
+    },
+    Page {
+        name: "status 2",
+        text: r#"status 2: usage
+
+`usage`: the words are no command. A number may be out of its range, a file's name empty, or two names the same.
+"#,
+    },
+    Page {
+        name: "status 3",
+        text: r#"status 3: cannot read
+
+`cannot read NAME`: an input isn't there, or can't be read.
+The words are looked at first, then all files are loaded in the order of the words, then what they hold.
+So an absent memory text beside a faulty source is status 3.
+"#,
+    },
+    Page {
+        name: "status 4",
+        text: r#"status 4: cannot write
+
+`cannot write NAME`: an output can't be written. Without a line the output itself failed; then what was saved stays.
+"#,
+    },
+    Page {
+        name: "status 5",
+        text: r#"status 5: want of memory
+
+Nothing is printed, and no file was changed.
+"#,
+    },
+    Page {
+        name: "status 6",
+        text: r#"status 6: a text
+
+`syntax WORD at BYTE` is said of a source (`syntax char`, `syntax number`, `syntax name`, `syntax syntax`, `syntax deep`).
+`syntax text line N` and `syntax label line N` are said of an assembly text.
+"#,
+    },
+    Page {
+        name: "status 7",
+        text: r#"status 7: a fault of the types
+
+`type KIND at FIRST AFTER` is said of a source, with KIND from 1 to 24: see `type 1` to `type 24`.
+"#,
+    },
+    Page {
+        name: "status 8",
+        text: r#"status 8: a size
+
+`too large N` says one of three things: a file has more bytes than its limit N, a source has an expanded size N of more than 4,096,
+or a memory text asks for a memory of size N, more than 65,536.
+"#,
+    },
+    Page {
+        name: "status 12",
+        text: r#"status 12: no object
+
+`object BYTE`: the bytes are no object, from this one on.
+"#,
+    },
+    Page {
+        name: "status 13",
+        text: r#"status 13: no memory text
+
+`memory line N`: this line isn't of its form.
+"#,
+    },
+    Page {
+        name: "status 14",
+        text: r#"status 14: an exception
+
+The outcome begins with `raised K` and the exception's words: no handler took it. Exceptions are numbered from 1 in the order of the declarations.
+"#,
+    },
+    Page {
+        name: "status 15",
+        text: r#"status 15: an address fault
+
+The outcome begins with `fault MEMORY ADDRESS`: an access reached past this memory, from this first address on.
+The memory's size stands in the first line of the memory text.
+"#,
+    },
+    Page {
+        name: "status 16",
+        text: r#"status 16: going
+
+The outcome begins with `going`: all steps or calls were taken. Give more by `steps=N`, or see whether the loop ends.
+"#,
+    },
+    Page {
+        name: "status 17",
+        text: r#"status 17: no true report
+
+`report line N` or `report refused`: the report isn't of its form, or doesn't hold.
+"#,
+    },
+    Page {
+        name: "status 18",
+        text: r#"status 18: code that breaks a rule
+
+`unlawful place P rule R` or `unlawful line N rule R`: docs/MACHINE.md has the rules by their numbers.
+"#,
+    },
+];

@@ -1,0 +1,46 @@
+//! Lines and columns.
+
+ghost use Rattle.std.specs.Prelude.{◌≡◌, ◌==◌, ◌≤◌, length, take, take_while, reverse, count_by, not};
+ghost use Rattle.nova_explain.specs.Place.{line_at, column_at};
+
+/// The line of the byte at a place, counted from 1: one more than the line feeds before it.
+pub fn line_of(bytes: &[u8], at: usize) -> usize
+    ensures { result ≡ line_at bytes.now at }
+{
+    line_ends(front(bytes, at)) + 1
+}
+
+/// The column of the byte at a place, counted from 1: the bytes since the last line feed before it, plus one.
+pub fn column_of(bytes: &[u8], at: usize) -> usize
+    ensures { result ≡ column_at bytes.now at }
+{
+    last_line(front(bytes, at)) + 1
+}
+
+#[tactic(auto, using(std::proofs::lemmas::List::take_min))]
+// The bytes before a place.
+fn front(bytes: &[u8], at: usize) -> &[u8]
+    ensures { result.now ≡ take at bytes.now }
+{
+    &bytes[..at.min(bytes.len())]
+}
+
+// How many line feeds there are.
+fn line_ends(bytes: &[u8]) -> usize
+    ensures counted { result ≡ count_by (λ byte. byte == 10) bytes.now }
+    ensures within { result ≤ length bytes.now }
+{
+    bytes.iter().filter(|byte| **byte == b'\n').count()
+}
+
+// How many bytes there are behind the last line feed.
+fn last_line(bytes: &[u8]) -> usize
+    ensures counted { result ≡ length (take_while (λ byte. not (byte == 10)) (reverse bytes.now)) }
+    ensures within { result ≤ length bytes.now }
+{
+    bytes
+        .iter()
+        .rev()
+        .take_while(|byte| **byte != b'\n')
+        .count()
+}

@@ -1,0 +1,162 @@
+//! The sizes of a program without a fault.
+
+use crate::cost::Cost;
+use crate::fields::FieldLister;
+use crate::text::{push, push_counted, push_line, push_number, push_quoted};
+use crate::walk::Walk;
+use nv_ast::{Decl, Fun, LayoutText, Name, Program, Span, Typed};
+use nv_base::NoMemory;
+use std::alloc::Global;
+
+/// Appends the sizes of a program: of the whole, and of each declaration.
+pub fn push_sizes(
+    alloc: Global,
+    out: &mut Vec<u8>,
+    name: &str,
+    typed: &Typed,
+) -> Result<(), NoMemory> {
+    push(out, name)?;
+    push_line(out, ": a program without a fault")?;
+    push(out, "expanded size ")?;
+    push_number(out, u64::from(typed.expanded()))?;
+    push_line(out, " of at most 4096")?;
+    push(out, "room ")?;
+    push_number(out, u64::from(typed.room()))?;
+    push_line(
+        out,
+        ": at most so many words are wanted at once, on 30 registers and up to 128 slots of scratch",
+    )?;
+    push_parts(
+        alloc,
+        out,
+        typed.program(),
+        typed.expanded(),
+        Some(typed.room()),
+    )
+}
+
+/// Appends the sizes of each declaration of a program of this expanded size and room.
+pub fn push_parts(
+    alloc: Global,
+    out: &mut Vec<u8>,
+    program: &Program,
+    expanded: u32,
+    room: Option<u32>,
+) -> Result<(), NoMemory> {
+    let nowhere = Span { first: 0, after: 0 };
+    let mut walk = Walk::new(alloc, 0, nowhere)?;
+    walk.program(program)?;
+    let mut teller = Teller {
+        walk: &walk,
+        fields: FieldLister::new(alloc)?,
+        exceptions: 0,
+        groups: 0,
+        has_costs: has_costs(&walk, expanded, room),
+    };
+    teller.push_all(out, program)
+}
+
+// Whether the walk found the sizes of the whole that `check` found.
+fn has_costs(walk: &Walk, expanded: u32, room: Option<u32>) -> bool {
+    let Some(cost) = main_cost(walk) else {
+        return false;
+    };
+    let same_room = match room {
+        Some(words) => cost.need.saturating_add(8) == u64::from(words),
+        None => true,
+    };
+    same_room && cost.size.min(u64::from(u32::MAX)) == u64::from(expanded)
+}
+
+// What the group of `main` costs.
+fn main_cost<'a>(walk: &Walk<'a>) -> Option<Cost> {
+    for name in walk.functions.names() {
+        if name.bytes() == b"main".as_slice() {
+            return walk.costs.get(*name);
+        }
+    }
+    None
+}
+
+// What was told so far, and what it is told from.
+#[derive(Drop)]
+struct Teller<'a, 'w> {
+    walk: &'w Walk<'a>,
+    fields: FieldLister<'a>,
+    exceptions: u64,
+    groups: u64,
+    has_costs: bool,
+}
+
+impl<'a, 'w> Teller<'a, 'w> {
+    fn push_all(&mut self, out: &mut Vec<u8>, program: &'a Program) -> Result<(), NoMemory> {
+        for decl in program.decls.iter() {
+            match decl {
+                Decl::Layout(name, text, _) => self.push_layout(out, name, text)?,
+                Decl::Exception(name, _, _) => self.push_exception(out, name)?,
+                Decl::Group(funs) => self.push_group(out, funs)?,
+            }
+        }
+        Ok(())
+    }
+
+    fn push_layout(
+        &mut self,
+        out: &mut Vec<u8>,
+        name: &'a Name,
+        text: &'a LayoutText,
+    ) -> Result<(), NoMemory> {
+        let bits = match self.walk.layouts.get(name) {
+            Some(shape) => shape.bits,
+            None => 0,
+        };
+        self.fields.push_layout(out, name, text, bits)
+    }
+
+    // An exception, with the number that an outcome has for it.
+    fn push_exception(&mut self, out: &mut Vec<u8>, name: &'a Name) -> Result<(), NoMemory> {
+        self.exceptions = self.exceptions.saturating_add(1);
+        let words = match self.walk.exceptions.get(name) {
+            Some(t) => self.walk.types.words_of(t),
+            None => 0,
+        };
+        push(out, "exception ")?;
+        push_quoted(out, name.bytes())?;
+        push(out, ": `raised ")?;
+        push_number(out, self.exceptions)?;
+        push(out, "`, ")?;
+        push_counted(out, words, "word")?;
+        push_line(out, "")
+    }
+
+    fn push_group(&mut self, out: &mut Vec<u8>, funs: &'a [Fun]) -> Result<(), NoMemory> {
+        self.groups = self.groups.saturating_add(1);
+        for fun in funs {
+            self.push_function(out, fun)?;
+        }
+        Ok(())
+    }
+
+    fn push_function(&mut self, out: &mut Vec<u8>, fun: &'a Fun) -> Result<(), NoMemory> {
+        push(out, "function ")?;
+        push_quoted(out, fun.name.bytes())?;
+        push(out, ": group ")?;
+        push_number(out, self.groups)?;
+        if let (true, Some(cost)) = (self.has_costs, self.walk.own.get(&fun.name)) {
+            push(out, ", size ")?;
+            push_number(out, cost.size)?;
+            push(out, ", need ")?;
+            push_number(out, cost.need)?;
+        }
+        push(out, ", ")?;
+        push_counted(out, self.words_of_parameters(fun), "word")?;
+        push_line(out, " of parameters")
+    }
+
+    fn words_of_parameters(&self, fun: &'a Fun) -> u64 {
+        match self.walk.functions.get(&fun.name) {
+            Some(function) => self.walk.types.words_of(function.params),
+            None => 0,
+        }
+    }
+}

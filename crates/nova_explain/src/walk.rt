@@ -1,0 +1,245 @@
+//! A walk over a program, up to a fault or over the whole of it. It finds the types and sizes that are told of both.
+//! What it finds goes into the text that is printed; where the fault lies, `check` has said before.
+
+use crate::cost::Cost;
+use crate::declared::{Declared, Scope};
+use crate::stop::Stop;
+use crate::types::{BOOL, Part, Types};
+use nv_ast::{Decl, Fun, Name, Program, Span, TyText};
+use nv_base::NoMemory;
+use std::alloc::Global;
+
+/// A function: the tuple of its parameters' types, and its result's type.
+#[derive(Clone, Copy)]
+pub struct Function {
+    pub params: usize,
+    pub result: usize,
+}
+
+/// A layout: its bits, how many bit fields it has, and the record of its unpacked fields.
+#[derive(Clone, Copy)]
+pub struct Shape {
+    pub bits: u64,
+    pub fields: u64,
+    pub record: usize,
+}
+
+impl Shape {
+    /// How many words a packed value has.
+    pub fn packed_words(self) -> u32 {
+        (self.bits.min(1024) as u32).div_ceil(32)
+    }
+}
+
+/// An expression: the type of its value, if it has one, and what it costs.
+#[derive(Clone, Copy)]
+pub struct Found {
+    pub value: Option<usize>,
+    pub cost: Cost,
+}
+
+/// The state of a walk: what is declared so far, the fault that is looked for, and what is told of it.
+#[derive(Drop)]
+pub struct Walk<'a> {
+    pub alloc: Global,
+    pub types: Types<'a>,
+    pub layouts: Declared<'a, Shape>,
+    pub exceptions: Declared<'a, usize>,
+    pub functions: Declared<'a, Function>,
+    /// What calls of the functions of groups that are behind cost.
+    pub costs: Declared<'a, Cost>,
+    /// What each function of these groups is by itself.
+    pub own: Declared<'a, Cost>,
+    pub scope: Scope<'a>,
+    /// The function whose body is walked.
+    pub current: Option<&'a Name>,
+    /// The variables that were written in it so far.
+    pub written: Vec<&'a Name>,
+    pub kind: u8,
+    pub span: Span,
+    /// The kind while the declaration that has the fault is walked, else 0.
+    pub inside: u8,
+    pub note: Vec<u8>,
+    /// What helps, where more is known than the kind.
+    pub advice: Option<&'static str>,
+}
+
+impl<'a> Walk<'a> {
+    /// At the start, with a fault that is looked for. Of kind 0 there is none.
+    pub fn new(alloc: Global, kind: u8, span: Span) -> Result<Walk<'a>, NoMemory> {
+        Ok(Walk {
+            alloc,
+            types: Types::new(alloc)?,
+            layouts: Declared::new(alloc),
+            exceptions: Declared::new(alloc),
+            functions: Declared::new(alloc),
+            costs: Declared::new(alloc),
+            own: Declared::new(alloc),
+            scope: Scope::new(alloc),
+            current: None,
+            written: Vec::new(alloc),
+            kind,
+            span,
+            inside: 0,
+            note: Vec::new(alloc),
+            advice: None,
+        })
+    }
+
+    /// Goes over a program, up to the fault.
+    pub fn program(&mut self, program: &'a Program) -> Result<(), NoMemory> {
+        match self.declarations(&program.decls) {
+            Err(Stop::NoMemory) => Err(NoMemory),
+            Err(Stop::There) | Ok(()) => Ok(()),
+        }
+    }
+
+    fn declarations(&mut self, decls: &'a [Decl]) -> Result<(), Stop> {
+        for decl in decls {
+            match decl {
+                Decl::Layout(name, text, span) => self.layout(name, text, *span)?,
+                Decl::Exception(name, types, span) => self.exception(name, types, *span)?,
+                Decl::Group(funs) => self.group(funs)?,
+            }
+        }
+        Ok(())
+    }
+
+    /// Whether the fault lies at a span.
+    pub fn is_at(&self, span: Span) -> bool {
+        self.kind != 0 && span.first == self.span.first && span.after == self.span.after
+    }
+
+    /// Begins a declaration, whose inner faults are told while it is walked.
+    pub fn enter(&mut self, span: Span) {
+        self.inside = if self.is_at(span) { self.kind } else { 0 };
+    }
+
+    /// Ends a declaration: where it has the fault, nothing behind it is walked.
+    pub fn leave(&mut self, span: Span) -> Result<(), Stop> {
+        self.inside = 0;
+        if self.is_at(span) {
+            return Err(Stop::There);
+        }
+        Ok(())
+    }
+
+    fn exception(&mut self, name: &'a Name, types: &'a [TyText], span: Span) -> Result<(), Stop> {
+        self.enter(span);
+        let parts = self.texts(types)?;
+        let t = self.types.tuple(&parts)?;
+        self.tell_declaration(t)?;
+        self.leave(span)?;
+        self.exceptions.add(name, t)?;
+        Ok(())
+    }
+
+    // The functions of a group: first the types of all, then the bodies.
+    fn group(&mut self, funs: &'a [Fun]) -> Result<(), Stop> {
+        for fun in funs {
+            self.signature(fun)?;
+        }
+        let mut whole = Cost::NONE;
+        for fun in funs {
+            let cost = self.body(fun)?;
+            self.own.add(&fun.name, cost)?;
+            whole = whole.beside(cost);
+        }
+        for fun in funs {
+            self.costs.add(&fun.name, whole)?;
+        }
+        Ok(())
+    }
+
+    fn signature(&mut self, fun: &'a Fun) -> Result<(), Stop> {
+        self.enter(fun.span);
+        let mut params = Vec::new(self.alloc);
+        for param in fun.params.iter() {
+            let kind = self.text(&param.1)?;
+            params.push(Part { name: None, kind })?;
+        }
+        let result = self.text(&fun.result)?;
+        let t = self.types.tuple(&params)?;
+        self.tell_function(fun, t, result)?;
+        self.leave(fun.span)?;
+        self.functions
+            .add(&fun.name, Function { params: t, result })?;
+        Ok(())
+    }
+
+    /// The types of some type texts.
+    #[cycle(texts)]
+    pub fn texts(&mut self, texts: &'a [TyText]) -> Result<Vec<Part<'a>>, NoMemory> {
+        let mut parts = Vec::new(self.alloc);
+        for text in texts {
+            let kind = self.text(text)?;
+            parts.push(Part { name: None, kind })?;
+        }
+        Ok(parts)
+    }
+
+    // The types of some named type texts.
+    #[cycle(texts)]
+    fn named_texts(&mut self, texts: &'a [(Name, TyText)]) -> Result<Vec<Part<'a>>, NoMemory> {
+        let mut parts = Vec::new(self.alloc);
+        for text in texts {
+            let kind = self.text(&text.1)?;
+            parts.push(Part {
+                name: Some(&text.0),
+                kind,
+            })?;
+        }
+        Ok(parts)
+    }
+
+    /// The type of a type text.
+    #[cycle(texts)]
+    pub fn text(&mut self, text: &'a TyText) -> Result<usize, NoMemory> {
+        let t = self.plain_text(text)?;
+        self.tell_large(t)?;
+        Ok(t)
+    }
+
+    #[cycle(texts)]
+    fn plain_text(&mut self, text: &'a TyText) -> Result<usize, NoMemory> {
+        match text {
+            TyText::Word(n) => {
+                self.tell_words(*n)?;
+                self.types.of_words(*n)
+            }
+            TyText::Bool => Ok(BOOL),
+            TyText::Packed(x) => {
+                let shape = self.shape_of(x)?;
+                self.types.of_words(shape.packed_words())
+            }
+            TyText::Unpacked(x) => {
+                let shape = self.shape_of(x)?;
+                Ok(shape.record)
+            }
+            TyText::Tuple(texts) => {
+                let parts = self.texts(texts)?;
+                self.types.tuple(&parts)
+            }
+            TyText::Fields(texts) => {
+                let parts = self.named_texts(texts)?;
+                self.tell_twice(8, &parts)?;
+                self.types.record(&parts)
+            }
+        }
+    }
+
+    // The layout of a name in a type.
+    fn shape_of(&mut self, name: &'a Name) -> Result<Shape, NoMemory> {
+        match self.layouts.get(name) {
+            Some(shape) => Ok(shape),
+            None => {
+                self.tell_layout_name(8, name)?;
+                Ok(Shape {
+                    bits: 32,
+                    fields: 0,
+                    record: 0,
+                })
+            }
+        }
+    }
+}
