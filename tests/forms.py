@@ -13,6 +13,11 @@ TRIES = (
     "exception Low[word]; exception Odd[]; fun low[x: word]: word { if (x < 10) raise Low[x] else x } "
     "fun main[x: word]: word { try { try { low[x] + 1 } handle Odd[] { 7 } } handle Low[y] { y + 100 } }"
 )
+GROUP = (
+    "fun first[x: word]: word { if (x == 0) 1 else second[x - 1] } and second[x: word]: word { third[x] } and third[x: word]: word { x + 1 } "
+    "fun main[x: word]: word { first[x] + third[x] }"
+)
+QUIET = "exception Odd[]; fun main[x: word]: word { try { x + 1 } handle Odd[] { 7 } }"
 FORTY = "fun main[]: word { " + "".join(
     f"let ({', '.join(f'{x}{i}' for i in range(8))}) = sram[8]({8 * k}); " for k, x in enumerate("abcde")
 ) + " + ".join(f"{x}{i}" for x in "abcde" for i in range(8)) + " }"
@@ -220,6 +225,22 @@ def loop(top):
     return differences
 
 
+def reached(top):
+    """A call gets a copy of each function of a group, and the flow has the labels that are reached: not the copies of functions that
+    the called one doesn't call, and no handler that nothing raises to."""
+
+    def differences(at):
+        found = []
+        for text, copied, left in [(GROUP, 9, 8), (QUIET, 2, 2)]:
+            labels = len(re.findall(r"^ label ", of_text(top, at, text, "inlined"), re.M))
+            flow = len(labels_of(of_text(top, at, text, "closed")))
+            if (labels, flow) != (copied, left):
+                found.append(f"{labels} labels, of which {flow} are left with the first one")
+        return found
+
+    return differences
+
+
 def handlers(top):
     def differences(at):
         text = of_text(top, at, TRIES, "lowered")
@@ -256,6 +277,7 @@ def all_rows(top):
     names = sorted(it[:-5] for it in os.listdir(os.path.join(top, "examples")) if it.endswith(".nova"))
     rows = [(f"forms of {it}", example(top, it)) for it in names]
     rows += [("each of eight words that are used twice has two clones", clones(top)), ("a loop has two labels, and no jump to the first", loop(top))]
+    rows += [("labels that nothing leads to are left out", reached(top))]
     rows += [("a call names its handlers, the nearest first", handlers(top)), ("forty values are held at once", forty(top))]
     rows += [("the forms in docs/ARCHITECTURE.md", worked(top))]
     rows += [("words, files and sources that are refused", refusals(top))]
