@@ -1,13 +1,15 @@
 -- Points that are found by walks from the labels.
-use Rattle.std.proofs.Common.{◌≡◌, ℕ, zero, suc, ◌+◌, ◌<◌, ◌≤◌, ◌⊎◌, ⊎_elim, List, [], ◌∷◌, ◌++◌, Option, Some, None, length, map, refl, sym, ap, subst, ◌∙◌, arith, drop}
+use Rattle.std.proofs.Common.{◌≡◌, ℕ, zero, suc, ◌+◌, ◌<◌, ◌≤◌, Bool, true, false, ◌||◌, ◌⊎◌, ⊎_elim, List, [], ◌∷◌, ◌++◌, Option, Some, None, length, map, refl, sym, ap, subst, ◌∙◌, arith, drop}
 use Rattle.std.specs.Prelude.{slice_get, slice_index_or}
 use Rattle.std.proofs.lemmas.List.{drop_more, drop_all}
 use Rattle.nv_base.specs.declared.term.Cmp.{Cmp}
+use Rattle.nv_base.specs.Sets.{is_in}
+use Rattle.nv_base.proofs.Sets.{in-append}
 use Rattle.ssu_ir.specs.declared.node.NodeId.{NodeId}
 use Rattle.ssu_ir.specs.declared.node.SsuLabel.{SsuLabel}
 use Rattle.ssu_ir.specs.declared.node.SsuNode.{SsuNode}
 use Rattle.ssu_ir.specs.declared.ssu.Ssu.{Ssu}
-use Rattle.ssu_ir.specs.Tree.{Step, Tree, Do, If, Does, step_values}
+use Rattle.ssu_ir.specs.Tree.{Step, Tree, Do, If, End, Does, step_values, node_values}
 use Rattle.ssu_ir.specs.Points.{own, names_after, At, Point, nodes, tree_points, points_from, points}
 use Rattle.ssu_ir.specs.Slots.{Slots, slot, node_of, bodies, filled, Placed, DoAt, IfAt, EndAt, bare, bare_all, weight, weight_all, roots_of}
 use Rattle.ssu_ir.specs.View.{labels_view, placed_of, with_bodies}
@@ -16,11 +18,12 @@ use Rattle.ssu_ir.proofs.Reading.{there_is, read_in}
 use Rattle.ssu_ir.proofs.Unders.{NoKids, OneKid, TwoKids, shape, bodies_have, labels-viewed}
 use Rattle.ssu_ir.proofs.PointLemmas.{length-tree_points}
 use Rattle.place_ir.specs.declared.points.Under.TheVariants.{Here as IsHere}
+use Rattle.place_ir.specs.declared.points.Way.TheVariants.{There as IsThere}
 use Rattle.place_ir.specs.declared.spots.Spot.{Spot}
 use Rattle.place_ir.specs.declared.spots.Spot.TheVariants.{Entry as EntrySpot, Node as NodeSpot}
 use Rattle.place_ir.specs.Fits.{param_at}
 use Rattle.place_ir.specs.inner.Live.{node_source, first_of, source_in, source_among, value_by}
-use Rattle.place_ir.specs.inner.Found.{IsNode, IsNodeAt, IsEntry, IsSpotAt, nowhere, point_at, value_in}
+use Rattle.place_ir.specs.inner.Found.{IsNode, IsNodeAt, IsAboveAt, IsEntry, IsSpotAt, nowhere, point_at, value_in}
 
 -- ---- lists
 
@@ -334,3 +337,111 @@ source-second slots i n j k z o e = sym (ap (λ t. source_in t z) o.tree ∙ ap 
 pub none-of : (o w : Option ℕ) → o ≡ w → ((y : ℕ) → o ≡ Some y → ⊥) → None ≡ w
 none-of None w e h = e
 none-of (Some y) w e h = absurd (h y refl)
+
+-- ---- values that are defined above a point
+
+or-none : (a : Bool) → a ≡ (a || false)
+or-none true = refl
+or-none false = refl
+
+pub above-here : (t : Tree) (x : ℕ) → IsAboveAt t 0 x false
+above-here (Do s t) x = record { within = omega arith; there = λ of above. record { point = _; found = refl; is = or-none (is_in x above) } }
+above-here (If c v w t u) x = record { within = omega arith; there = λ of above. record { point = _; found = refl; is = or-none (is_in x above) } }
+above-here (End l) x = record { within = omega arith; there = λ of above. record { point = _; found = refl; is = or-none (is_in x above) } }
+
+pub above-as : (t : Tree) (k x : ℕ) (test : Bool) → k ≡ 0 → IsThere false ≡ IsThere test → IsAboveAt t k x test
+above-as t k x test z e =
+    let same : false ≡ test = cc in
+    subst (λ n. IsAboveAt t n x test) (sym z) (subst (IsAboveAt t 0 x) same (above-here t x))
+
+or-regroup : (a b c : Bool) → ((a || b) || c) ≡ (a || (b || c))
+or-regroup true b c = refl
+or-regroup false b c = refl
+
+above-do : (s : Step) (t : Tree) (k m x : ℕ) (test : Bool) → k ≡ suc m → IsAboveAt t m x test → IsAboveAt (Do s t) k x (is_in x (step_values s) || test)
+above-do s t k m x test e w =
+    let P : ℕ → Type 0 = λ n. IsAboveAt (Do s t) n x (is_in x (step_values s) || test) in
+    subst P (sym e) (record {
+      within = let l = w.within in omega arith;
+      there = λ of above.
+          let h = w.there (names_after of s) (above ++ step_values s) in
+          record { point = h.point; found = h.found; is = h.is ∙ ap (λ b. b || test) (in-append x above (step_values s)) ∙ or-regroup (is_in x above) (is_in x (step_values s)) test };
+    })
+
+above-first : (c : Cmp) (v w : ℕ) (t u : Tree) (k m x : ℕ) (test : Bool) → k ≡ suc m → IsAboveAt t m x test → IsAboveAt (If c v w t u) k x test
+above-first c v w t u k m x test e a =
+    let P : ℕ → Type 0 = λ n. IsAboveAt (If c v w t u) n x test in
+    subst P (sym e) (record {
+      within = let l = a.within in omega arith;
+      there = λ of above. let h = a.there of above in record { point = h.point; found = get-left (tree_points of above t) (tree_points of above u) m h.point h.found; is = h.is };
+    })
+
+above-second : (c : Cmp) (v w : ℕ) (t u : Tree) (k m x : ℕ) (test : Bool) → k ≡ suc (nodes t + m) → IsAboveAt u m x test → IsAboveAt (If c v w t u) k x test
+above-second c v w t u k m x test e a =
+    let P : ℕ → Type 0 = λ n. IsAboveAt (If c v w t u) n x test in
+    subst P (sym e) (record {
+      within = let l = a.within in omega arith;
+      there = λ of above.
+          let h = a.there of above in
+          record {
+            point = h.point;
+            found = get-right (tree_points of above t) (tree_points of above u) (nodes t + m) m (ap (λ n. n + m) (sym (length-tree_points of above t))) ∙ h.found;
+            is = h.is;
+          };
+    })
+
+pub above-behind-one : (slots : Slots) (i : ℕ) (n : SsuNode) (j k m x : ℕ) (values : List ℕ) (below test : Bool) → OneKid slots i n j → k ≡ suc m → values ≡ node_values (node_of n) → (is_in x values || below) ≡ test
+    → IsAboveAt (tree_at slots j) m x below → IsAboveAt (tree_at slots i) k x test
+above-behind-one slots i n j k m x values below test o e v same w =
+    let from : (is_in x (step_values o.s) || below) ≡ test = ap (λ h. is_in x (node_values h) || below) (sym o.is) ∙ ap (λ vs. is_in x vs || below) (sym v) ∙ same in
+    let P : Tree → Type 0 = λ t. IsAboveAt t k x test in
+    subst P (sym o.tree) (subst (IsAboveAt (Do o.s (tree_at slots j)) k x) from (above-do o.s (tree_at slots j) k m x below e w))
+
+pub there-same : (a b : Bool) → IsThere a ≡ IsThere b → a ≡ b
+there-same a b e = cc
+
+pub or-then : (a b h : Bool) → h ≡ a → h ≡ true → h ≡ (a || b)
+or-then a b h e f = f ∙ ap (λ c. c || b) (sym f ∙ e)
+
+pub or-else : (a b h : Bool) → h ≡ a → h ≡ false → b ≡ (a || b)
+or-else a b h e f = ap (λ c. c || b) (sym f ∙ e)
+
+pub label-same : (s : Ssu) (l : ℕ) (a b : SsuLabel) → slice_get s.labels.items l ≡ Some a → slice_get s.labels.items l ≡ Some b → a ≡ b
+label-same s l a b e f = let g : Some a ≡ Some b = sym e ∙ f in cc
+
+pub above-behind-first : (slots : Slots) (i : ℕ) (n : SsuNode) (a b k m x : ℕ) (test : Bool) → TwoKids slots i n a b → k ≡ suc m → IsAboveAt (tree_at slots a) m x test → IsAboveAt (tree_at slots i) k x test
+above-behind-first slots i n a b k m x test o e w =
+    let P : Tree → Type 0 = λ t. IsAboveAt t k x test in
+    subst P (sym o.tree) (above-first o.c o.x o.y (tree_at slots a) (tree_at slots b) k m x test e w)
+
+pub above-behind-second : (slots : Slots) (i : ℕ) (n : SsuNode) (a b k m x : ℕ) (test : Bool) → TwoKids slots i n a b → k ≡ suc (nodes (tree_at slots a) + m) → IsAboveAt (tree_at slots b) m x test → IsAboveAt (tree_at slots i) k x test
+above-behind-second slots i n a b k m x test o e w =
+    let P : Tree → Type 0 = λ t. IsAboveAt t k x test in
+    subst P (sym o.tree) (above-second o.c o.x o.y (tree_at slots a) (tree_at slots b) k m x test e w)
+
+pub entry-above : (s : Ssu) (k l left x : ℕ) → l < length s.labels.items → left ≡ 0 → IsLeft s k l left → false ≡ is_in x (point_at (labels_view s) k).above
+entry-above s k l left x e z h =
+    let d = some-there s.labels.items l e in
+    let got = rest-of s k l left d.0 d.1 h ∙ ap (slice_get (points_from l (label_of s.nodes.slots d.0 ∷ drop (l + 1) (labels_view s)))) z in
+    sym (ap (λ (q : Point). is_in x q.above) (at-some s k _ got))
+
+pub node-above : (s : Ssu) (k l left m x : ℕ) (d : SsuLabel) (test : Bool) → slice_get s.labels.items l ≡ Some d → left ≡ suc m → IsAboveAt (tree_at s.nodes.slots d.body.0) m x test → IsLeft s k l left
+    → (is_in x d.params.items || test) ≡ is_in x (point_at (labels_view s) k).above
+node-above s k l left m x d test e z w h =
+    let lab = label_of s.nodes.slots d in
+    let rest = points_from (suc l) (drop (l + 1) (labels_view s)) in
+    let there = w.there own lab.params in
+    let got : slice_get (points (labels_view s)) k ≡ Some there.point =
+    rest-of s k l left d e h
+    ∙ ap (slice_get (points_from l (lab ∷ drop (l + 1) (labels_view s)))) z
+    ∙ get-left (tree_points own lab.params lab.body) rest m there.point there.found in
+    sym (ap (λ (q : Point). is_in x q.above) (at-some s k there.point got) ∙ there.is)
+
+past-last : (qs : List Point) (k : ℕ) → slice_get qs k ≡ None → slice_index_or qs k nowhere ≡ nowhere
+past-last [] k e = refl
+past-last (q ∷ qs) zero e = absurd (cc)
+past-last (q ∷ qs) (suc k) e = past-last qs k e
+
+pub none-above : (s : Ssu) (k l left x : ℕ) → length s.labels.items ≤ l → IsLeft s k l left → false ≡ is_in x (point_at (labels_view s) k).above
+none-above s k l left x e h =
+    sym (ap (λ (q : Point). is_in x q.above) (past-last (points (labels_view s)) k (h ∙ ap (λ v. slice_get (points_from l v) left) (drop_all l (labels_view s) (let g = length-labels s in omega arith)))))

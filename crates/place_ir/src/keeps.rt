@@ -1,6 +1,6 @@
 //! What is asked at one point: no register and no slot is wanted twice.
 
-ghost use Rattle.std.specs.Prelude.{◌≡◌, ◌<◌, not};
+ghost use Rattle.std.specs.Prelude.{◌≡◌, not};
 ghost use Rattle.std.specs.List.{list_all, list_any};
 ghost use Rattle.ssu_ir.specs.Slots.{node_of};
 ghost use Rattle.ssu_ir.specs.Points.{place_values};
@@ -15,7 +15,7 @@ ghost use Rattle.place_ir.specs.inner.Found.{place_at, place_node};
 use crate::lookups::{copied_of, defined_of, first_of, pass_of, serve_of};
 use crate::pieces::use_count;
 use crate::place::{Place, Placement};
-use crate::points::{has, node_at, reaches, values_at};
+use crate::points::{has, is_above, node_at, values_at};
 use crate::registers::{
     Word, among, different_groups, has_slot, in_read_run, in_write_run, is_first, is_general,
     is_slot, is_through, same, same_word,
@@ -25,26 +25,6 @@ use nv_base::Mem;
 use ssu_ir::{Ssu, SsuNode};
 
 // ---- values that are held
-
-/// Whether a value is defined at a point above another.
-fn is_above(s: &Ssu, k: u128, x: u32) -> bool
-    ensures { result ≡ checks.is_above (labels_view s.now) k x }
-{
-    for j in 0..k {
-        if covers(s, j, k, x) {
-            return true;
-        }
-    }
-    false
-}
-
-/// Whether a value is defined at a point `j` that has `k` below it, which follows.
-fn covers(s: &Ssu, j: u128, k: u128, x: u32) -> bool
-    requires { j < k }
-    ensures { result ≡ checks.covers (labels_view s.now) j k x }
-{
-    has(values_at(s, j), x) && reaches(s, j, k - j)
-}
 
 /// Whether a value is held at a point.
 fn is_before(s: &Ssu, p: &Placement, k: u128, x: u32) -> bool

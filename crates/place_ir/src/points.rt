@@ -1,16 +1,18 @@
 //! The points of a form by their numbers, found without memory by walks from the labels. A number may
 //! be past 2^64, as there are points for labels and for nodes.
 
-ghost use Rattle.std.specs.Prelude.{◌≡◌, ◌≤◌, ◌+◌, ℕ, nat_le, nat_lt, length, Some, None, option_map, option_copied};
+ghost use Rattle.std.specs.Prelude.{◌≡◌, ◌≤◌, ◌+◌, ℕ, Bool, nat_le, nat_lt, length, Some, None, option_map, option_copied};
 ghost use Rattle.nv_base.specs.Sets.{is_in};
 ghost use Rattle.ssu_ir.specs.Points.{points, place_values, nodes};
 ghost use Rattle.ssu_ir.specs.Slots.{node_of};
 ghost use Rattle.ssu_ir.specs.View.{labels_view};
 ghost use Rattle.ssu_ir.specs.inner.Under.{HasTree, tree_at};
 ghost use Rattle.place_ir.specs.declared.points.Under.TheVariants.{Here as IsHere, Past as IsPast};
+ghost use Rattle.place_ir.specs.declared.points.Way.TheVariants.{There as IsThere, Past as IsPassed};
 ghost use Rattle.place_ir.specs.declared.spots.Spot.{Spot as SpotView};
+ghost use Rattle.place_ir.specs.inner.Checks as checks;
 ghost use Rattle.place_ir.specs.inner.Live.{node_source, source_in};
-ghost use Rattle.place_ir.specs.inner.Found.{place_at, below_at, place_node, value_in, IsNodeAt, IsSpotAt};
+ghost use Rattle.place_ir.specs.inner.Found.{place_at, below_at, place_node, value_in, IsNodeAt, IsAboveAt, IsSpotAt};
 
 use crate::pieces::{Behind, node_values, nodes_behind};
 use crate::spots::Spot;
@@ -19,6 +21,12 @@ use ssu_ir::{NodeId, Ssu, SsuNode};
 /// What stands under a node at a distance: a node, or how far past its last node that is.
 pub enum Under {
     Here(NodeId),
+    Past(u128),
+}
+
+/// What is known of the way to a node at a distance, or how far past the last node that is.
+pub enum Way {
+    There(bool),
     Past(u128),
 }
 
@@ -107,6 +115,46 @@ fn is_under(s: &Ssu, id: NodeId, d: u128) -> bool
     match node_under(s, id, d) {
         Under::Here(_) => true,
         Under::Past(_) => false,
+    }
+}
+
+/// Whether a value is defined above a point.
+pub fn is_above(s: &Ssu, k: u128, x: u32) -> bool
+    ensures { result ≡ checks.is_above (labels_view s.now) k x }
+{
+    let mut left = k;
+    for l in 0..s.labels.len() {
+        if left == 0 {
+            return false;
+        }
+        match way_to(s, s.labels[l].body, left - 1, x) {
+            Way::There(below) => return has(&s.labels[l].params, x) || below,
+            Way::Past(m) => left = m,
+        }
+    }
+    false
+}
+
+/// Whether a value is defined on the way from a node to the one that stands `k` behind it.
+fn way_to(s: &Ssu, id: NodeId, k: u128, x: u32) -> Way
+    requires { HasTree s.now.nodes.slots id.0 }
+    ensures there { (test : Bool) → result ≡ IsThere test → IsAboveAt (tree_at s.now.nodes.slots id.0) k x test }
+    ensures past { (m : ℕ) → result ≡ IsPassed m → k ≡ nodes (tree_at s.now.nodes.slots id.0) + m }
+{
+    if k == 0 {
+        return Way::There(false);
+    }
+    let n = s.node(id);
+    match nodes_behind(n) {
+        Behind::None => Way::Past(k - 1),
+        Behind::One(j) => match way_to(s, j, k - 1, x) {
+            Way::There(below) => Way::There(has(node_values(n), x) || below),
+            Way::Past(m) => Way::Past(m),
+        },
+        Behind::Two(i, j) => match way_to(s, i, k - 1, x) {
+            Way::There(below) => Way::There(below),
+            Way::Past(m) => way_to(s, j, m, x),
+        },
     }
 }
 

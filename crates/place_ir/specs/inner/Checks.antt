@@ -19,7 +19,7 @@ use Rattle.place_ir.specs.Plan.{Plan, home, first, serve, pass}
 use Rattle.place_ir.specs.Uses.{Sort, Parameter, Result, Fetched, Value, Role, Operand, Address, Written, Argument, Ending, Use}
 use Rattle.place_ir.specs.Uses as all_uses
 use Rattle.place_ir.specs.Fits.{read_place, has_place, is_general, is_slot, is_read_register, same_bank, different_groups, maybe, served, word_register, is_early, is_home, parameter}
-use Rattle.place_ir.specs.inner.Found.{role_view, place_at, below_at, place_node, found_use}
+use Rattle.place_ir.specs.inner.Found.{role_view, point_at, place_at, below_at, place_node, found_use}
 
 -- ---- quantifiers over numbers
 
@@ -198,12 +198,8 @@ value_fits us p v = sort_fits us p v.point v.var v.sort
 
 -- ---- values that are held
 
--- a value is defined at a point that has another below it
-abbrev pub covers : List Label → ℕ → ℕ → ℕ → Bool
-covers labels j k x = is_in x (place_values (place_at labels j)) && nat_le (k - j) (below_at labels j)
-
 abbrev pub is_above : List Label → ℕ → ℕ → Bool
-is_above labels k x = any_below (λ j. covers labels j k x) k
+is_above labels k x = is_in x (point_at labels k).above
 
 abbrev pub is_known : List Label → ℕ → ℕ → Bool
 is_known labels k x = is_above labels k x || is_in x (place_values (place_at labels k))

@@ -1,6 +1,7 @@
 -- Points by their numbers, and of each serve the use that it is for, as the test of a placement finds them.
-use Rattle.std.specs.Prelude.{◌≡◌, ℕ, zero, suc, ◌<◌, List, [], ◌∷◌, Option, Some, None, map, length, slice_index_or, slice_get}
+use Rattle.std.specs.Prelude.{◌≡◌, ℕ, zero, suc, ◌<◌, Bool, ◌||◌, List, [], ◌∷◌, Option, Some, None, map, length, slice_index_or, slice_get}
 use Rattle.nv_base.specs.declared.term.Mem.{Mem}
+use Rattle.nv_base.specs.Sets.{is_in}
 use Rattle.ssu_ir.specs.declared.node.SsuLabel.{SsuLabel}
 use Rattle.ssu_ir.specs.declared.node.SsuNode.{SsuNode}
 use Rattle.ssu_ir.specs.declared.ssu.Ssu.{Ssu}
@@ -92,6 +93,17 @@ pub record IsNodeAt (slots : Slots) (t : Tree) (k i : ℕ) : Type 0 where
   pub has : HasTree slots i
   pub within : k < nodes t
   pub there : (of : Names) (above : List ℕ) → HasNode slots i k (tree_points of above t)
+
+-- the point of a number in a list has a value above it where these values have it or the test says so
+pub record HasAbove (x : ℕ) (test : Bool) (above : List ℕ) (k : ℕ) (qs : List Point) : Type 0 where
+  pub point : Point
+  pub found : slice_get qs k ≡ Some point
+  pub is : is_in x point.above ≡ (is_in x above || test)
+
+-- the same of point k of a tree, whatever stands above the tree
+pub record IsAboveAt (t : Tree) (k x : ℕ) (test : Bool) : Type 0 where
+  pub within : k < nodes t
+  pub there : (of : Names) (above : List ℕ) → HasAbove x test above k (tree_points of above t)
 
 -- a point that is where a label begins
 pub record IsEntry (s : Ssu) (l : ℕ) (q : Point) : Type 0 where
