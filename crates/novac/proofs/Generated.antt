@@ -11,7 +11,8 @@ use Rattle.nv_base.specs.declared.outcome.Outcome.TheVariants.{Ended}
 use Rattle.nv_meaning.specs.Meaning.{source}
 use Rattle.uc_isa.specs.Agrees.{IsStart}
 use Rattle.uc_isa.specs.Code.{CodeView}
-use Rattle.uc_isa.specs.Engine.{engine}
+use Rattle.uc_isa.specs.Engine.{engine, run, start}
+use Rattle.uc_isa.specs.declared.engine.Engine.{Engine}
 use Rattle.nova_front.specs.Sources.{IsTypedSource}
 use Rattle.nova_front.proofs.OneSource.{source-program}
 use Rattle.made_source.specs.Laws.{HasProgram}
@@ -69,6 +70,10 @@ code-word t c p m words h code sizes ends =
     let from = both.ends_only m (subst IsOver (sym ends) tt) in
     let alike : (source t (1 ∷ 2 ∷ []) p from.0).outcome ≡ (engine c (1 ∷ 2 ∷ []) spill_base p m).outcome = ap (λ (f : FullOutcome). f.outcome) from.1 in
     (h.word, ended-words words (h.word ∷ []) (sym ends ∙ sym alike ∙ h.means p from.0), h.means)
+
+pub code-ends : (t : ProgramTree) (c : CodeView) (e : Engine) (p : Memories) (m : ℕ) (o : Outcome) (words : List ℕ) → HasWord t → IsCodeFor t c → HasSizes p → e ≡ start (1 ∷ 2 ∷ []) spill_base → o ≡ (run c.list m e p []).outcome → o ≡ Ended words → AreWord t words
+code-ends t c e p m o words h code sizes begins is ends =
+    code-word t c p m words h code sizes (ap (λ (x : Engine). (run c.list m x p []).outcome) (sym begins) ∙ sym is ∙ ends)
 
 pub source-word : (t : ProgramTree) (p : Memories) (calls : ℕ) (words : List ℕ) → HasWord t → (source t (1 ∷ 2 ∷ []) p calls).outcome ≡ Ended words → AreWord t words
 source-word t p calls words h ends = (h.word, ended-words words (h.word ∷ []) (sym ends ∙ h.means p calls), h.means)

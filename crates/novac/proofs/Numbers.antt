@@ -1,11 +1,12 @@
 -- The number that a word spells, by itself or behind a key.
-use Rattle.std.proofs.Common.{◌≡◌, ℕ, ◌<◌, ◌≤◌, ◌^◌, List, ◌++◌, Some, None, true, ◌&&◌, if◌then◌else◌, length, drop, decimal, ap, sym, ◌∙◌, arith}
-use Rattle.std.specs.Prelude.{nat_le}
+use Rattle.std.proofs.Common.{◌≡◌, ◌≢◌, ℕ, ◌<◌, ◌≤◌, ◌^◌, List, ◌++◌, Option, Some, None, Bool, true, false, ◌&&◌, if◌then◌else◌, length, drop, decimal, refl, ap, sym, ◌∙◌, arith}
+use Rattle.std.specs.Prelude.{nat_le, IfNone}
 use Rattle.std.specs.Str.{bytes_eq}
 use Rattle.std.specs.Str.Parse.{digits_value}
 use Rattle.std.proofs.Math.Seq.{drop-append_seam}
 use Rattle.std.proofs.lemmas.Bool.Decides.{nat_tests}
 use Rattle.std.proofs.lemmas.Fmt.{decimal_is_IsNumeral}
+use Rattle.std.proofs.lemmas.List.{append_cancel_left}
 use Rattle.std.proofs.lemmas.Slice.Eq.{bytes_eq-Decides}
 use Rattle.novac.specs.Command.{number_in, option_of}
 
@@ -53,3 +54,23 @@ option-zero key word most w = none-found key word most (digits_value 10 (drop (l
 -- the word, by what stands behind the key
 pub key-spelled : (key word spelling read : List ℕ) (n x : ℕ) → word ≡ key ++ drop x word → spelling ≡ drop x word → read ≡ spelling → read ≡ decimal n → word ≡ key ++ decimal n
 key-spelled key word spelling read n x w s r d = w ∙ ap (λ (l : List ℕ). key ++ l) (sym s ∙ sym r ∙ d)
+
+-- behind the key stands no number up to `most`
+none-spelled : (word text : List ℕ) (most n : ℕ) → (word ≡ text → most < n) → (if bytes_eq word text && nat_le 1 n && nat_le n most then Some n else None) ≡ None
+none-spelled word text most n h = by (bytes_eq word text) refl
+  where
+    by : (b : Bool) → bytes_eq word text ≡ b → (if b && nat_le 1 n && nat_le n most then Some n else None) ≡ None
+    by true e = let above : most < n = h ((bytes_eq-Decides word text).0 e) in grind (arith, nat_tests)
+    by false e = refl
+
+more : (most n : ℕ) → (n ≤ most → ⊥) → most < n
+more most n h = omega (arith, h)
+
+pub option-none : (key word spelling read : List ℕ) (most x : ℕ) → word ≡ key ++ drop x word → spelling ≡ drop x word → read ≡ spelling → ((n : ℕ) → n ≤ most → read ≢ decimal n) → option_of key most word ≡ None
+option-none key word spelling read most x w s r none =
+    let n : ℕ = digits_value 10 (drop (length key) word) in
+    none-spelled word (key ++ decimal n) most n (λ e. more most n (λ le. none n le (r ∙ s ∙ append_cancel_left key (drop x word) (decimal n) (sym w ∙ e))))
+
+pub if-none : (found : Option ℕ) (P : Type 0) → P → IfNone found P
+if-none None P p = p
+if-none (Some n) P p = tt

@@ -1,6 +1,7 @@
 //! The words of a command line.
 ghost use Rattle.std.specs.Prelude.{◌≡◌, ◌≤◌, None, Some, IfSome, IfNone};
 ghost use Rattle.novac.specs.Command.{command_of, command_of_two, command_of_three, command_of_four, gen_of, number_in, option_of, texts_of};
+ghost use Rattle.novac.specs.Command.{are_names as names_differ};
 ghost use Rattle.novac.specs.inner.Words.{command_as, HasLimits};
 
 use crate::limits::{DEFAULT_STORE, MOST_STORE};
@@ -117,6 +118,13 @@ fn number_in(word: &str, least: u64, most: u64) -> Option<u64>
     if n < least { None } else { Some(n) }
 }
 
+// Whether neither file name is empty, and the two differ.
+fn are_names(a: &str, b: &str) -> bool
+    ensures { result ≡ names_differ a.now b.now }
+{
+    !a.is_empty() && !b.is_empty() && a != b
+}
+
 // `run OBJ MEM steps=N`, `exec SRC MEM steps=N` and `compile SRC OBJ store=N`.
 fn of_four<'a>(
     verb: &'a str,
@@ -128,7 +136,7 @@ fn of_four<'a>(
     ensures none { IfNone result (command_of_four verb.now first.now second.now option.now ≡ None) }
     ensures limits { IfSome result HasLimits }
 {
-    if first.is_empty() || second.is_empty() || first == second {
+    if !are_names(first, second) {
         None
     } else if verb == "run" {
         match option_in(option, "steps=", MOST_STEPS) {
