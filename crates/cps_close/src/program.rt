@@ -32,12 +32,9 @@ pub fn close(alloc: Global, c: Cps) -> Result<Flow, NoMemory>
     ensures wide { IfOk result (λ f. flow_wide (map label_view f.labels.items) ≤ wide (map fun_view c.funs.items) c.main) }
     ensures bulk { IfOk result (λ f. IsAtMost (flow_bulk (map label_view f.labels.items)) (code_bulk (map fun_view c.funs.items) c.main)) }
 {
-    match c.funs.get(c.main as usize) {
-        Some(f) => Ok(Flow {
-            labels: closed(alloc, f)?,
-        }),
-        None => Err(NoMemory),
-    }
+    let f = &c.funs[c.main as usize];
+    let labels = closed(alloc, f)?;
+    Ok(Flow { labels })
 }
 
 // The labels of a function's flow.

@@ -1,8 +1,7 @@
 -- Parts of one point, value by value and word by word.
-use Rattle.std.proofs.Common.{◌≡◌, ℕ, zero, suc, ◌+◌, ◌<◌, ◌≤◌, Bool, Some, None, List, [], ◌∷◌, ◌++◌, length, map, get_or, drop, refl, sym, ap, subst, ◌∙◌, append_assoc, arith}
+use Rattle.std.proofs.Common.{◌≡◌, ℕ, zero, suc, ◌+◌, ◌<◌, Some, None, List, [], ◌∷◌, ◌++◌, length, map, get_or, drop, refl, sym, ap, subst, ◌∙◌, append_assoc, arith}
 use Rattle.std.specs.Prelude.{slice_get, All}
-use Rattle.std.proofs.lemmas.List.{drop_more, drop_all, append-nil, map-append}
-use Rattle.nv_base.specs.declared.term.Mem.{Mem}
+use Rattle.std.proofs.lemmas.List.{drop_more}
 use Rattle.ssu_ir.specs.declared.node.SsuLabel.{SsuLabel}
 use Rattle.ssu_ir.specs.declared.ssu.Ssu.{Ssu}
 use Rattle.ssu_ir.specs.Tree.{Tree, Label, Ends, Halt}
@@ -10,8 +9,6 @@ use Rattle.ssu_ir.specs.Points.{Names, Place as PointPlace, Entry, At}
 use Rattle.ssu_ir.specs.View.{with_bodies}
 use Rattle.place_ir.specs.declared.place.Place.{Place}
 use Rattle.place_ir.specs.declared.place.Serve.{Serve}
-use Rattle.place_ir.specs.declared.place.Home.{Home as KeptHome}
-use Rattle.place_ir.specs.Plan.{Home, home_view}
 use Rattle.place_ir.specs.Uses.{Role}
 use Rattle.place_ir.specs.Fits.{param_at, label_param}
 use Rattle.place_ir.specs.inner.Numbers.{Numbers}
@@ -22,7 +19,7 @@ use Rattle.place_ir.specs.declared.spots.Spot.{Spot}
 use Rattle.place_ir.specs.inner.Spots.{params_of, spot_place}
 use Rattle.place_ir.proofs.Sound.{Each}
 use Rattle.place_ir.proofs.Spilled.{all-each}
-use Rattle.place_ir.specs.inner.Parts.{IsShort, Adds, slot_home, fetched_home, fetched_homes, serve_of, word_serves}
+use Rattle.place_ir.specs.inner.Parts.{IsShort, Adds, serve_of, word_serves}
 
 next-of : (xs : List ℕ) (i x : ℕ) → i < length xs → x ≡ get_or xs i x → drop i xs ≡ x ∷ drop (i + 1) xs
 next-of xs i x l e = drop_more xs i x l ∙ ap (λ y. y ∷ drop (i + 1) xs) (sym e)
@@ -30,28 +27,6 @@ next-of xs i x l e = drop_more xs i x l ∙ ap (λ y. y ∷ drop (i + 1) xs) (sy
 -- what comes next goes behind the others
 step-more : {X : Type 0} (old new here rest whole goal : List X) → new ≡ old ++ here → whole ≡ here ++ rest → old ++ whole ≡ goal → new ++ rest ≡ goal
 step-more old new here rest whole goal n w h = ap (λ m. m ++ rest) n ∙ append_assoc old here rest ∙ ap (λ m. old ++ m) (sym w) ∙ h
-
--- ---- homes
-
-pub slot-home-more : (number : Numbers) (old new : List KeptHome) (made : KeptHome) (xs : List ℕ) (i x : ℕ) (goal : List Home) → i < length xs → x ≡ get_or xs i x → new ≡ old ++ made ∷ [] → home_view made ≡ slot_home number x
-    → map home_view old ++ map (slot_home number) (drop i xs) ≡ goal → map home_view new ++ map (slot_home number) (drop (i + 1) xs) ≡ goal
-slot-home-more number old new made xs i x goal l e n m h =
-    step-more (map home_view old) (map home_view new) (slot_home number x ∷ []) (map (slot_home number) (drop (i + 1) xs)) (map (slot_home number) (drop i xs)) goal
-    (ap (map home_view) n ∙ map-append home_view old (made ∷ []) ∙ ap (λ (w : Home). map home_view old ++ w ∷ []) m)
-    (ap (map (slot_home number)) (next-of xs i x l e)) h
-
-pub slot-home-all : (number : Numbers) (homes goal : List Home) (xs : List ℕ) (i : ℕ) → length xs ≤ i → homes ++ map (slot_home number) (drop i xs) ≡ goal → homes ≡ goal
-slot-home-all number homes goal xs i l h = sym (append-nil homes) ∙ ap (λ m. homes ++ map (slot_home number) m) (sym (drop_all i xs l)) ∙ h
-
-pub fetched-more : (number : Numbers) (used : ℕ → Bool) (m : Mem) (old new goal : List Home) (xs : List ℕ) (i x : ℕ) → i < length xs → x ≡ get_or xs i x → new ≡ old ++ fetched_home number used m i x
-    → old ++ fetched_homes number used m i (drop i xs) ≡ goal → new ++ fetched_homes number used m (i + 1) (drop (i + 1) xs) ≡ goal
-fetched-more number used m old new goal xs i x l e n h =
-    let next : suc i ≡ i + 1 = omega arith in
-    step-more old new (fetched_home number used m i x) (fetched_homes number used m (i + 1) (drop (i + 1) xs)) (fetched_homes number used m i (drop i xs)) goal n
-    (ap (fetched_homes number used m i) (next-of xs i x l e) ∙ ap (λ j. fetched_home number used m i x ++ fetched_homes number used m j (drop (i + 1) xs)) next) h
-
-pub fetched-all : (number : Numbers) (used : ℕ → Bool) (m : Mem) (homes goal : List Home) (xs : List ℕ) (i : ℕ) → length xs ≤ i → homes ++ fetched_homes number used m i (drop i xs) ≡ goal → homes ≡ goal
-fetched-all number used m homes goal xs i l h = sym (append-nil homes) ∙ ap (λ w. homes ++ fetched_homes number used m i w) (sym (drop_all i xs l)) ∙ h
 
 -- ---- serves
 
@@ -67,9 +42,6 @@ word-more labels number of k first role at old new goal xs i x j l e g a n h =
     ∙ ap (λ o. here ∷ word_serves labels number of k o (suc i) role (drop (i + 1) xs)) behind
     ∙ ap (λ o. here ∷ word_serves labels number of k (first + (i + 1)) o role (drop (i + 1) xs)) next)
     h
-
-pub word-all : (labels : List Label) (number : Numbers) (of : Names) (k first : ℕ) (role : ℕ → Role) (serves goal : List Serve) (xs : List ℕ) (i : ℕ) → length xs ≤ i → serves ++ word_serves labels number of k (first + i) i role (drop i xs) ≡ goal → serves ≡ goal
-word-all labels number of k first role serves goal xs i l h = sym (append-nil serves) ∙ ap (λ m. serves ++ word_serves labels number of k (first + i) i role m) (sym (drop_all i xs l)) ∙ h
 
 -- ---- parameters of a label, as they are kept
 

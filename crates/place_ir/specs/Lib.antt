@@ -4,4 +4,5 @@ pub mod Uses
 pub mod Fits
 pub mod Costs
 pub mod Held
+pub mod Examples
 pub mod inner

@@ -5,6 +5,8 @@
 #[cfg(test)]
 mod emitted;
 #[cfg(test)]
+mod placed;
+#[cfg(test)]
 mod spill;
 #[cfg(test)]
 mod sum;

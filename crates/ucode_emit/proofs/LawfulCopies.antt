@@ -97,14 +97,14 @@ sum_bound f g (x ∷ xs) e = omega (arith, e x, sum_bound f g xs e)
 
 -- ---- each use is of one value
 
-abbrev one_if : Bool → ℕ
+abbrev pub one_if : Bool → ℕ
 one_if true = 1
 one_if false = 0
 
 abbrev one_at : ℕ → ℕ → ℕ
 one_at v x = one_if (nat_eq v x)
 
-more_if : (b : Bool) (u : Use) (us : List Use) → length (if b then u ∷ us else us) ≡ one_if b + length us
+pub more_if : (b : Bool) (u : Use) (us : List Use) → length (if b then u ∷ us else us) ≡ one_if b + length us
 more_if true u us = omega arith
 more_if false u us = omega arith
 

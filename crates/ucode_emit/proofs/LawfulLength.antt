@@ -246,7 +246,7 @@ tree_among f (Do s t) =
 tree_among f (If c x y t u) = omega (arith, sum_both f (tree_values t) (tree_values u), sum_both f (defined t) (defined u), tree_among f t, tree_among f u)
 tree_among f (End l) = omega arith
 
-all_among : (f : ℕ → ℕ) (ls : List Label) → sum_of f (all_values ls) ≤ sum_of f (all_defined ls)
+pub all_among : (f : ℕ → ℕ) (ls : List Label) → sum_of f (all_values ls) ≤ sum_of f (all_defined ls)
 all_among f [] = omega arith
 all_among f (l ∷ ls) =
     omega (

@@ -52,3 +52,9 @@ pub mod Stood
 pub mod Sequenced
 pub mod Drafting
 pub mod Walked
+pub mod CostMoves
+pub mod CostPieces
+pub mod CostWhole
+pub mod LengthMoves
+pub mod LengthPieces
+pub mod LengthWhole

@@ -81,7 +81,7 @@ can_place labels p mss k n (At it) h r s i =
     subst (λ m. CanNode p k (sequence_at mss k) m) s.root
     (can_tree labels p k s.of s.above s.tree (sequence_at mss k) h s.points_ (subst (λ m. IsSequence (node_moves p k m) (sequence_at mss k)) (sym s.root) i))
 
-there_below : {X : Type 0} (xs : List X) (k : ℕ) (x : X) → slice_get xs k ≡ Some x → k < length xs
+pub there_below : {X : Type 0} (xs : List X) (k : ℕ) (x : X) → slice_get xs k ≡ Some x → k < length xs
 there_below [] k x e = absurd (none-some x e)
 there_below (y ∷ xs) zero x e = omega arith
 there_below (y ∷ xs) (suc k) x e = let l = there_below xs k x e in omega (arith, l)

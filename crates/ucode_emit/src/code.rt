@@ -1,11 +1,13 @@
 //! The code of a form.
-ghost use Rattle.std.specs.Prelude.{◌≡◌, ◌≤◌, ◌*◌, ◌^◌, true, length, IfOk};
+ghost use Rattle.std.specs.Prelude.{◌≡◌, ◌≤◌, ◌^◌, [], true, length, IfOk};
 ghost use Rattle.uc_isa.specs.Agrees.{Agrees};
 ghost use Rattle.uc_isa.specs.Lawful.{IsLawful};
+ghost use Rattle.uc_isa.specs.Moves.{moves};
 ghost use Rattle.ssu_ir.specs.Measures as measures;
 ghost use Rattle.ssu_ir.specs.Meaning.{ssu_meaning, ssu_params};
 ghost use Rattle.ssu_ir.specs.Single.{single};
 ghost use Rattle.ssu_ir.specs.View.{labels_view};
+ghost use Rattle.place_ir.specs.Costs.{cost};
 ghost use Rattle.place_ir.specs.Fits.{Fits};
 ghost use Rattle.place_ir.specs.Plan.{plan_view};
 ghost use Rattle.ucode_emit.specs.inner.Drafted.{AreEmitted};
@@ -47,7 +49,8 @@ pub fn emit(alloc: Global, s: &Ssu, p: &Placement) -> Result<Code, NoMemory>
     requires few { measures.size (labels_view s.now) ≤ 2 ^ 26 }
     ensures lawful { IfOk result (λ c. IsLawful c.list) }
     ensures agrees { IfOk result (λ c. Agrees (ssu_params (labels_view s.now)) (ssu_meaning (labels_view s.now)) c) }
-    ensures short { IfOk result (λ c. length c.list ≤ 16 * measures.size (labels_view s.now)) }
+    ensures light { IfOk result (λ c. moves c.list [] [] ≤ cost (labels_view s.now) (plan_view p.now)) }
+    ensures short { IfOk result (λ c. length c.list ≤ measures.code_bound (labels_view s.now)) }
 {
     let list = instructions(alloc, s, p)?;
     Ok(Code::new(params_of(s), list))

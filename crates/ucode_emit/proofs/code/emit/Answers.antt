@@ -1,10 +1,12 @@
-use Rattle.std.proofs.Common.{◌*◌, ◌≤◌, length, sym, ◌∙◌, subst}
+use Rattle.std.proofs.Common.{◌≤◌, [], length, sym, ◌∙◌, subst}
 use Rattle.uc_isa.specs.Lawful.{IsLawful}
-use Rattle.ssu_ir.specs.Measures.{size}
+use Rattle.uc_isa.specs.Moves.{moves}
+use Rattle.ssu_ir.specs.Measures.{code_bound}
 use Rattle.ssu_ir.specs.View.{labels_view}
+use Rattle.place_ir.specs.Costs.{cost}
 use Rattle.place_ir.specs.Plan.{plan_view}
 use Rattle.ucode_emit.specs.inner.Drafted.{AreEmitted}
-use Rattle.ucode_emit.proofs.Whole.{some_code, few_code, short_code, lawful_code, agreeing_code, placed}
+use Rattle.ucode_emit.proofs.Whole.{some_code, few_code, short_code, light_code, lawful_code, agreeing_code, placed}
 use Rattle.ucode_emit.proofs.code.emit.Goals as goal
 
 pub new-requires-clause-some : goal.new-requires-clause-some
@@ -23,4 +25,10 @@ returns-clause-agrees c =
 
 pub returns-clause-short : goal.returns-clause-short
 returns-clause-short c =
-    subst (λ l. length l ≤ 16 * size (labels_view c.args.s.now)) (sym c.new.ensures.list) (short_code (labels_view c.args.s.now) (plan_view c.args.p.now) c.in_ok-list.list.items (placed c.requires.single c.requires.fits) c.in_ok-list.ensures)
+    subst (λ l. length l ≤ code_bound (labels_view c.args.s.now)) (sym c.new.ensures.list) (short_code (labels_view c.args.s.now) (plan_view c.args.p.now) c.in_ok-list.list.items (placed c.requires.single c.requires.fits) c.in_ok-list.ensures)
+
+pub returns-clause-light : goal.returns-clause-light
+returns-clause-light c =
+    let labels = labels_view c.args.s.now in
+    let p = plan_view c.args.p.now in
+    subst (λ l. moves l [] [] ≤ cost labels p) (sym c.new.ensures.list) (light_code labels p c.in_ok-list.list.items (placed c.requires.single c.requires.fits) c.in_ok-list.ensures)
