@@ -126,7 +126,7 @@ The tree of an expression, pattern, type or layout is certain to be higher than 
         name: "too large",
         text: r#"too large: of a source
 
-With status 8, `too large N` says one of three things (README.md). Of a source that is read and typed, N is its expanded size, which is at most 4,096.
+With status 8, `too large N` says one of four things (README.md). Of a source that is read and typed, N is its expanded size, which is at most 4,096.
 
     fun a[x: word]: word { x } fun b[x: word]: word { a[x] + a[x] }
     fun c[x: word]: word { b[x] + b[x] } fun d[x: word]: word { c[x] + c[x] }
@@ -577,7 +577,8 @@ Nothing is printed, and no file was changed.
         name: "status 8",
         text: r#"status 8: a size
 
-`too large N` says one of three things: a file has more bytes than its limit N, a source has an expanded size N of more than 4,096,
+`too large N` says one of four things: a file has more bytes than its limit N, a source has an expanded size N of more than 4,096,
+the form from which code is made has N points, values and uses, more than 1,048,576,
 or a memory text asks for a memory of size N, more than 65,536.
 "#,
     },
