@@ -1,8 +1,8 @@
 -- Which values are held at a point, by where they are defined and used.
-use Rattle.std.proofs.Common.{◌≡◌, ℕ, zero, suc, ◌+◌, ◌-◌, ◌<◌, ◌≤◌, Bool, true, false, not, ◌&&◌, ◌||◌, nat_eq, ◌⊎◌, inl, inr, ⊎_elim, List, [], ◌∷◌, ◌++◌, Some, length, map, refl, sym, ap, subst, ◌∙◌, append_assoc, arith, take, drop}
+use Rattle.std.proofs.Common.{◌≡◌, ℕ, zero, suc, ◌+◌, ◌<◌, ◌≤◌, Bool, true, false, not, ◌&&◌, ◌||◌, nat_eq, ⊎_elim, List, [], ◌∷◌, ◌++◌, Some, length, map, refl, sym, ap, subst, ◌∙◌, append_assoc, arith, take, drop}
 use Rattle.std.specs.Prelude.{slice_get, nat_le, nat_lt}
 use Rattle.std.specs.List.{list_any}
-use Rattle.std.proofs.lemmas.Bool.{and_parts, and_from, or_cases, or_left, or_right, false≢true, lt-ltb, le-ltb, le-leb, lt-leb, leb-true, eq-eqb, ne_eqb, cases_lt}
+use Rattle.std.proofs.lemmas.Bool.{and_from, or_cases, or_left, or_right, false≢true, lt-ltb, le-ltb, le-leb, lt-leb, eq-eqb, ne_eqb, cases_lt}
 use Rattle.std.proofs.lemmas.List.{append-nil}
 use Rattle.std.proofs.lemmas.List.Folds.{list_any-append}
 use Rattle.nv_base.specs.Sets.{is_in, without}
@@ -15,12 +15,11 @@ use Rattle.ssu_ir.proofs.Lists.{same_tests}
 use Rattle.ssu_ir.proofs.PointLemmas.{length-tree_points}
 use Rattle.place_ir.specs.Plan.{Plan}
 use Rattle.place_ir.specs.Uses.{Role, place_roles, uses_at, uses_from, uses}
-use Rattle.place_ir.specs.inner.Found.{nowhere, point_at, place_at, below_at, place_node}
+use Rattle.place_ir.specs.inner.Found.{place_at, place_node}
 use Rattle.place_ir.specs.inner.Checks.{any_below, found, is_of_below, is_above, is_known, is_before_node, is_before, is_after}
 use Rattle.place_ir.proofs.Scoped.{in-filter, in-itself}
 use Rattle.place_ir.proofs.Sound.{Each, uses_among, Sound, sound-points}
 use Rattle.place_ir.proofs.Recovered.{point-there}
-use Rattle.place_ir.proofs.Walked.{get-within, get-there}
 
 -- ---- what a point holds, by the points below it
 

@@ -1,5 +1,5 @@
 -- Small placements, to see the rules at work.
-use Rattle.std.specs.Prelude.{ℕ, Option, Some, None, List, [], ◌∷◌}
+use Rattle.std.specs.Prelude.{ℕ, Option, List, [], ◌∷◌}
 use Rattle.place_ir.specs.declared.place.Place.{Place}
 use Rattle.place_ir.specs.declared.place.Place.TheVariants.{A, B, L, S, Slot}
 use Rattle.place_ir.specs.declared.place.First.{First}

@@ -22,6 +22,8 @@ use ssu_ir::{Ssu, SsuNode};
 
 /// Whether a placement fits a form: whether each value has a home, each access its registers, each use
 /// is served from a home of its value, and no register or slot is wanted twice at a point.
+///
+/// The time grows as about the fourth power of the number of points.
 pub fn fits(s: &Ssu, p: &Placement) -> bool
     requires single { single (labels_view s.now) ≡ true }
     ensures fits { result ≡ true → Fits (labels_view s.now) (plan_view p.now) }

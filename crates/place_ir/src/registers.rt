@@ -69,6 +69,7 @@ pub fn among(qs: &[Place], q: Place) -> bool
     false
 }
 
+/// Whether a place is a slot.
 pub fn is_slot(q: Place) -> bool
     ensures { result ≡ rules.is_slot q }
 {
@@ -208,6 +209,7 @@ pub fn is_read_place(q: Place, m: Mem, first: u8, i: usize) -> bool
     }
 }
 
+/// Whether a register's number is the sum of two.
 fn is_sum(j: u8, first: u8, i: usize) -> bool
     ensures { result ≡ nat_eq j (first + i) }
 {
@@ -254,6 +256,7 @@ pub fn in_write_run(w: Word, m: Mem, first: u8, words: usize) -> bool
     }
 }
 
+/// Whether a register's number is one of so many from the first on.
 fn is_within(j: u32, first: u8, words: usize) -> bool
     ensures { result ≡ checks.is_within j first words }
 {
@@ -364,6 +367,7 @@ pub fn is_first(m: Mem, words: usize, first: u8) -> bool
     }
 }
 
+/// Whether a run of registers ends within a bank.
 fn ends_in_bank(words: usize, first: u8) -> bool
     ensures { result ≡ nat_le (first + words) 8 }
 {
