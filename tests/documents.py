@@ -34,12 +34,15 @@ def executed(where, name, source, memory, calls, status, output):
     row = Row(where, name)
     row.files = {"s.nova": source.encode(), "s.mem": memory.encode()}
     row.calls = [Call(["exec", "s.nova", "s.mem", f"steps={calls}"], status, output.encode())]
+    if status != STATUSES["going"]:
+        row.calls.append(Call(["compile", "s.nova", "s.obj", "store=1048576"], 0, ANY, {"s.obj": ANY}))
+        row.calls.append(Call(["run", "s.obj", "s.mem", "steps=10000000"], status, output.encode()))
     return row
 
 
 PLAIN = "memory 4 2\nargs\n"
 STATUSES = {"ended": 0, "raised": 14, "fault": 15, "going": 16}
-REFUSALS = {"syntax": 6, "type": 7, "too": 8, "unbuilt": 20}
+REFUSALS = {"syntax": 6, "type": 7, "too": 8, "store": 11, "unbuilt": 20}
 
 
 def status_of(outcome):
@@ -47,8 +50,8 @@ def status_of(outcome):
 
 
 def examples(top):
-    """Each example prints what stands beside it: a source by `exec`, an assembly text when it is assembled and run, a report
-    by `check`."""
+    """Each example prints what stands beside it: a source by `exec` and when it is compiled and run, an assembly text when it is
+    assembled and run, a report by `check`."""
     found = []
     for file in sorted(os.listdir(os.path.join(top, "examples"))):
         name, kind = os.path.splitext(file)

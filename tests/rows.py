@@ -53,14 +53,17 @@ def shown(data, limit=600):
 
 
 def is_like(wanted, found):
-    """Whether an output is as wanted: a line that ends with ' ..' goes on freely, and after a line '..' anything follows."""
+    """Whether an output is as wanted: a line that ends with ' ..' goes on freely, elsewhere in a line '..' is any word, and after
+    a line '..' anything follows."""
     if b".." not in wanted:
         return wanted == found
     pattern = b""
     for line in wanted.split(b"\n")[:-1]:
         if line == b"..":
             return re.match(pattern + b"(.|\n)*", found) is not None
-        pattern += (re.escape(line[:-3]) + b" [^\n]*\n") if line.endswith(b" ..") else re.escape(line) + b"\n"
+        *words, last = line.split(b" ")
+        pattern += b"".join((b"[^ \n]+" if it == b".." else re.escape(it)) + b" " for it in words)
+        pattern += (b"[^\n]*" if words and last == b".." else re.escape(last)) + b"\n"
     return re.fullmatch(pattern, found) is not None
 
 

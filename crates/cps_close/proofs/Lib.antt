@@ -17,3 +17,6 @@ pub mod Along
 pub mod Opening
 pub mod Turns
 pub mod Growing
+pub mod Left
+pub mod Renumbering
+pub mod Leaving

@@ -1,7 +1,7 @@
 -- What a program's main function and its flow have in common.
-use Rattle.std.proofs.Common.{◌≡◌, ℕ, zero, suc, ◌≤◌, Bool, true, nat_le, ◌==◌, ◌&&◌, List, [], ◌∷◌, map, Some, All, refl, sym, ap, subst, ◌∙◌, if◌then◌else◌, length, slice_get, get_or, ◌<◌}
+use Rattle.std.proofs.Common.{◌≡◌, ℕ, zero, suc, ◌≤◌, Bool, true, nat_le, ◌==◌, ◌&&◌, List, [], ◌∷◌, map, Some, All, refl, sym, ap, subst, ◌∙◌, if◌then◌else◌, length, slice_get, get_or, ◌<◌, arith}
 use Rattle.std.specs.List.{list_all}
-use Rattle.std.proofs.lemmas.Bool.{and_parts}
+use Rattle.std.proofs.lemmas.Bool.{and_parts, false≢true}
 use Rattle.std.proofs.lemmas.List.Elements.{All-head, All-tail}
 use Rattle.std.proofs.lemmas.Option.{none-some, same_Some, slice_get_read}
 use Rattle.nv_base.specs.Meanings.{AreEqual}
@@ -62,10 +62,22 @@ main-of funs main f e j here =
       few = (and_parts (nat_le (length f.params) 8) (list_all (λ g. if g.group == f.group then nat_le g.results 8 else true) funs) main').0;
     }
 
--- main is the function that a look-up found
-pub main-at : (funs seen : List CpsFun) (main : ℕ) (f : CpsFun) → seen ≡ funs → main < length seen → f ≡ get_or seen main f → is_program (map fun_view funs) main ≡ true → All (λ g. only_jumps g.body ≡ true) (map fun_view funs) → IsMain (map fun_view funs) main (fun_view f)
-main-at funs seen main f same lt found e j =
-    let here : slice_get funs main ≡ Some f = ap (λ l. slice_get l main) (sym same) ∙ slice_get_read seen (length seen) main f refl lt found in
+-- main is one of the functions
+within : (all : List Fun) (funs : List CpsFun) (i : ℕ) → is_main all (slice_get (map fun_view funs) i) ≡ true → i < length funs
+within all [] i h = absurd (false≢true h)
+within all (f ∷ funs) zero h = omega arith
+within all (f ∷ funs) (suc i) h = let lt : i < length funs = within all funs i h in omega arith
+
+pub main-within : (funs : List CpsFun) (main : ℕ) → is_program (map fun_view funs) main ≡ true → main < length funs
+main-within funs main e =
+    let all = map fun_view funs in
+    let rest = and_parts (list_all (is_function all) all) (agree (all_raised all) && is_main all (slice_get all main)) e in
+    within all funs main (and_parts (agree (all_raised all)) (is_main all (slice_get all main)) rest.1).1
+
+-- main is the function under its number
+pub main-at : (funs : List CpsFun) (main : ℕ) (f : CpsFun) → f ≡ get_or funs main f → is_program (map fun_view funs) main ≡ true → All (λ g. only_jumps g.body ≡ true) (map fun_view funs) → IsMain (map fun_view funs) main (fun_view f)
+main-at funs main f found e j =
+    let here : slice_get funs main ≡ Some f = slice_get_read funs (length funs) main f refl (main-within funs main e) found in
     main-of (map fun_view funs) main (fun_view f) e j (view-at fun_view funs main f here)
 
 -- ---- each property

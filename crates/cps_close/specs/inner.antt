@@ -1,3 +1,4 @@
 pub mod Closed
 pub mod Pending
 pub mod View
+pub mod Pruned

@@ -4,6 +4,7 @@
 
 mod collect;
 mod program;
+mod prune;
 mod table;
 mod trees;
 mod uses;

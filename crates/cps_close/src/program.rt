@@ -15,6 +15,7 @@ ghost use Rattle.flow_ir.specs.Wide.{wide as flow_wide};
 ghost use Rattle.cps_close.specs.inner.Closed.{IsClosed};
 
 use crate::collect::labels_in;
+use crate::prune::pruned;
 use crate::table::table_of;
 use crate::trees::labels_of;
 use cps_ir::{Cps, CpsFun};
@@ -24,7 +25,7 @@ use std::alloc::Global;
 
 /// The flow of a program's main function, where no function calls, returns or throws: label 0 is the
 /// function, and each label behind it has its own parameters and then the variables of round it that it
-/// uses or hands on. More labels than 32 bits can number count as want of memory.
+/// uses or hands on. Labels that nothing leads to are left out. More labels than 32 bits can number count as want of memory.
 pub fn close(alloc: Global, c: Cps) -> Result<Flow, NoMemory>
     requires { All (λ f. only_jumps f.body ≡ true) (map fun_view c.funs.items) }
     ensures parameters { IfOk result (λ f. flow_params (map label_view f.labels.items) ≡ params_in (map fun_view c.funs.items) c.main) }
@@ -32,12 +33,10 @@ pub fn close(alloc: Global, c: Cps) -> Result<Flow, NoMemory>
     ensures wide { IfOk result (λ f. flow_wide (map label_view f.labels.items) ≤ wide (map fun_view c.funs.items) c.main) }
     ensures bulk { IfOk result (λ f. IsAtMost (flow_bulk (map label_view f.labels.items)) (code_bulk (map fun_view c.funs.items) c.main)) }
 {
-    match c.funs.get(c.main as usize) {
-        Some(f) => Ok(Flow {
-            labels: closed(alloc, f)?,
-        }),
-        None => Err(NoMemory),
-    }
+    let f = &c.funs[c.main as usize];
+    let all = closed(alloc, f)?;
+    let labels = pruned(alloc, &all)?;
+    Ok(Flow { labels })
 }
 
 // The labels of a function's flow.

@@ -15,15 +15,15 @@ use flow_ir::{Label, Step, Tree, join};
 use nv_base::{Args, Atom, NoMemory, Vars};
 use std::alloc::Global;
 
-// The same operands in a short list.
-fn short_atoms(alloc: Global, xs: &[Atom]) -> Result<Args, NoMemory>
+/// The same operands in a short list.
+pub fn short_atoms(alloc: Global, xs: &[Atom]) -> Result<Args, NoMemory>
     ensures { IfOk result (λ v. v.items ≡ xs.now) }
 {
     Ok(Args::from_slice(alloc, xs)?)
 }
 
-// The same variables in a short list.
-fn short_numbers(alloc: Global, xs: &[u32]) -> Result<Vars, NoMemory>
+/// The same variables in a short list.
+pub fn short_numbers(alloc: Global, xs: &[u32]) -> Result<Vars, NoMemory>
     ensures { IfOk result (λ v. v.items ≡ xs.now) }
 {
     Ok(Vars::from_slice(alloc, xs)?)

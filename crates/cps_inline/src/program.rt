@@ -17,8 +17,8 @@ use nv_base::{Atom, NoMemory};
 use std::alloc::Global;
 
 /// The program in one function, without calls, returns and throws, which has its outcomes, is at most as
-/// wide, and has at most as much code. Want of memory is also the answer where 2^32 variables or labels
-/// would be needed.
+/// wide, and has at most as much code. Want of memory is also the answer where a variable or a label would
+/// have no number below 2^32: a copy takes as many numbers as the greatest of its function.
 pub fn inline(alloc: Global, c: Cps) -> Result<Cps, NoMemory>
     ensures kept { IfOk result (λ d. KeepsOutcomes (params_in (map fun_view c.funs.items) c.main) (params_in (map fun_view d.funs.items) d.main) (cps_meaning (map fun_view c.funs.items) c.main) (cps_meaning (map fun_view d.funs.items) d.main)) }
     ensures jumps { IfOk result (λ d. All (λ f. only_jumps f.body ≡ true) (map fun_view d.funs.items)) }

@@ -3,6 +3,7 @@ use Rattle.std.proofs.Common.{◌≡◌, ℕ, ◌≤◌, List, [], ◌∷◌, �
 use Rattle.std.specs.declared.vec.Vec.{Vec}
 use Rattle.std.specs.declared.alloc.Global.{Global}
 use Rattle.nv_base.specs.Sets.{all_vars}
+use Rattle.nv_base.specs.Words.{HasPrimCount}
 use Rattle.smallvec.specs.SmallVec.{SmallVec}
 use Rattle.nv_base.specs.declared.term.Atom.{Atom}
 use Rattle.nv_base.specs.declared.term.Cmp.{Cmp}
@@ -65,6 +66,10 @@ along_if {A} {t} {cur} {σ = σ} {M = M} c a b x y q q' f r part rest u τ N ss'
     let at = here cur (If' c a b q f q' r) is on.on in
     let inner = subst (λ v. IsDone A (tree_view v) σ τ M N (tree_view u)) ef done in
     record { on = next rest r e (on_push (tree_view r) τ N (step.If c x y u) ss' at (goes_if x y u sound at.scoped ex ey inner) push); size = shorter t cur (If' c a b q f q' r) rest r is e (omega (arith, deep-If' c a b q f q' r)) on.size }
+
+-- the primitive of a `Let` has a count, if it is a shift
+pub let_count : {A : Answers} {t cur : Tree} {σ0 σ : Names} {M0 M : Set} {ss : List Step} (x : ℕ) (p : Primitive) (q : _) (r : Tree) → Along A t σ0 M0 cur σ M ss → cur ≡ Let' x p q r → HasPrimCount p
+let_count x p q r on is = let at = here _ (Let' x p q r) is on.on in at.scoped.fits.1
 
 -- the first part of an `If` may be simplified
 pub part_scoped : {A : Answers} {t cur : Tree} {σ0 σ : Names} {M0 M : Set} {ss : List Step} (c : Cmp) (a b : Atom) (q q' : _) (f r part : Tree) → Along A t σ0 M0 cur σ M ss → cur ≡ If' c a b q f q' r → part ≡ f → IsScoped σ M (tree_view part)

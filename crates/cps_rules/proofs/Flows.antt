@@ -23,7 +23,7 @@ use Rattle.flow_ir.specs.View.{label_view}
 use Rattle.flow_ir.specs.Wide.{live, wide}
 use Rattle.flow_ir.specs.declared.flow.Label.{Label as FlowLabel}
 use Rattle.cps_rules.specs.Rules.{Answers}
-use Rattle.cps_rules.specs.Simplified.{AreSimplified, IsTidy, AreTidy}
+use Rattle.cps_rules.specs.Simplified.{IsTidy, AreTidy}
 use Rattle.cps_rules.specs.Substitution.{Names}
 use Rattle.cps_rules.specs.inner.Marks.{Set}
 use Rattle.cps_rules.specs.inner.Way.{AreNamed, IsScoped, IsDone, IsScopedLabel, IsLabelDone, AreDone}
@@ -33,7 +33,7 @@ use Rattle.cps_rules.proofs.Members.{first-or-rest, different-parts, different-j
 use Rattle.cps_rules.proofs.Renaming.{image_within, image_own, AllSound}
 use Rattle.cps_rules.proofs.Scopes.{label_fits, fits_apart}
 use Rattle.cps_rules.proofs.Way.{live_image, fewer_defined, still_different, not_in}
-use Rattle.cps_rules.proofs.WayFormed.{still_formed, same_accesses, lets_answered, tidy_used}
+use Rattle.cps_rules.proofs.WayFormed.{still_formed, tidy_used}
 use Rattle.cps_rules.proofs.WayMeasures.{not_wider, not_larger}
 
 -- ---- labels in scope
@@ -194,20 +194,6 @@ flow_bulk A (l ∷ ls) (m ∷ ms) h =
     (most-behind a_label (tree_bulk m.body) (tree_bulk l.body) (not_larger A h.0.names l.body m.body h.0.simplified)) (flow_bulk A ls ms h.1)
 
 -- ---- what stands in labels
-
-pub flow_simplified : (A : Answers) (ls ms : List Label) → AreDone A ls ms → AreSimplified A ls ms
-flow_simplified A [] [] h = tt
-flow_simplified A [] (m ∷ ms) h = absurd h
-flow_simplified A (l ∷ ls) [] h = absurd h
-flow_simplified A (l ∷ ls) (m ∷ ms) h = (
-  record {
-    params = h.0.params;
-    accesses = same_accesses A h.0.names l.body m.body h.0.simplified;
-    names = h.0.names;
-    lets = lets_answered A h.0.names l.body l.body m.body h.0.simplified (λ x p d. d);
-  },
-  flow_simplified A ls ms h.1,
-)
 
 labels_tidy : (A : Answers) (labels ls ms : List Label) → list_all (is_label labels) ls ≡ true → AreDone A ls ms → AreTidy ms
 labels_tidy A labels [] [] e h = All-nil (λ l. IsTidy l.body)

@@ -10,3 +10,4 @@ pub mod Back
 pub mod Down
 pub mod Along
 pub mod Flows
+pub mod Stands

@@ -1,5 +1,6 @@
 -- What a simplified flow keeps, and what its definitions of variables hold.
 use Rattle.std.specs.Prelude.{◌≡◌, ℕ, Bool, true, false, List, [], ◌∷◌, length, ◌++◌, ◌⊎◌, ⊤, All}
+use Rattle.nv_base.specs.declared.term.Atom.TheVariants.{Var}
 use Rattle.nv_base.specs.declared.term.Mem.{Mem}
 use Rattle.nv_base.specs.declared.term.Primitive.{Primitive}
 use Rattle.nv_base.specs.declared.term.Primitive.TheVariants.{Same, Una as UnaOf, Bin as BinOf}
@@ -56,11 +57,13 @@ IsTidy t = EachLet (λ x p rest. (is_in x (live rest) ≡ true) × (is_same p �
 -- ---- labels
 
 -- the second label is the first one simplified: it has the same parameters and accesses, and there is what stands for each variable, so that
--- each `Let` holds an answer for the first label's primitive with that in place, or this primitive where there may be no answer
+-- each `Let` holds an answer for the first label's primitive with that in place, or this primitive where there may be no answer; what stands
+-- for a variable is the variable itself, or such an answer that is just an operand
 pub record IsSimplified (answers : Answers) (l m : Label) : Type 0 where
   pub params : m.params ≡ l.params
   pub accesses : accesses m.body ≡ accesses l.body
   pub names : Names
+  pub stands : (x : ℕ) → (names x ≡ Var x) ⊎ ((p : Primitive) × Defines x p l.body × IsAnswered answers (prim_renamed names p) (Same (names x)))
   pub lets : EachLet (λ x q rest. (p : Primitive) × Defines x p l.body × IsAnswered answers (prim_renamed names p) q) m.body
 
 abbrev pub AreSimplified : Answers → List Label → List Label → Type 0

@@ -3,8 +3,9 @@
 
 ghost use Rattle.std.specs.Prelude.{◌≡◌, ◌++◌, ◌∷◌, [], OnOk, IfOk};
 ghost use Rattle.flow_ir.specs.View.{tree_view};
+ghost use Rattle.nv_base.specs.Words.{HasPrimCount};
 ghost use Rattle.cps_rules.specs.inner.Marked.{is_marked};
-ghost use Rattle.cps_rules.specs.inner.Way.{look, IsFolded, IsScoped, IsDone};
+ghost use Rattle.cps_rules.specs.inner.Way.{Counted, look, IsFolded, IsScoped, IsDone};
 
 use crate::marks::Marks;
 use crate::names::{name, name_all, renamed, renamed_all, renamed_args, renamed_prim};
@@ -22,8 +23,9 @@ fn fold_let<R: Rewrite>(
     names: &mut Vec<Atom>,
     steps: &mut Vec<Step>,
 ) -> Result<(), NoMemory>
-    requires { R.ready r.now }
-    ensures { OnOk result (IsFolded (R.answers r.now) x p (look names.old.items) (look names.new.items) steps.old.items steps.new.items) }
+    requires ready { R.ready r.now }
+    requires count { HasPrimCount p }
+    ensures { OnOk result (IsFolded (Counted (R.answers r.now)) x p (look names.old.items) (look names.new.items) steps.old.items steps.new.items) }
 {
     let q = answer(r, renamed_prim(names, p));
     match q {
@@ -52,7 +54,7 @@ pub fn simplify_tree<R: Rewrite>(
 ) -> Result<Tree, NoMemory>
     requires ready { R.ready r.now }
     requires scoped { IsScoped (look names.old.items) (is_marked marks.old) (tree_view t.now) }
-    ensures { IfOk result (λ u. IsDone (R.answers r.now) (tree_view t.now) (look names.old.items) (look names.new.items) (is_marked marks.old) (is_marked marks.new) (tree_view u)) }
+    ensures { IfOk result (λ u. IsDone (Counted (R.answers r.now)) (tree_view t.now) (look names.old.items) (look names.new.items) (is_marked marks.old) (is_marked marks.new) (tree_view u)) }
 {
     let mut steps = Vec::new(alloc);
     let mut cur = t;

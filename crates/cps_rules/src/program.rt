@@ -9,7 +9,7 @@ ghost use Rattle.flow_ir.specs.Meaning.{flow_meaning, flow_params};
 ghost use Rattle.flow_ir.specs.View.{label_view};
 ghost use Rattle.flow_ir.specs.Wide.{wide};
 ghost use Rattle.cps_rules.specs.Simplified.{AreSimplified, AreTidy};
-ghost use Rattle.cps_rules.specs.inner.Way.{IsScopedLabel, IsLabelDone, AreDone};
+ghost use Rattle.cps_rules.specs.inner.Way.{Counted, IsScopedLabel, IsLabelDone, AreDone};
 ghost use Rattle.std.specs.List.{list_all};
 
 use crate::fold::simplify_tree;
@@ -41,7 +41,7 @@ pub fn simplify<R: Rewrite>(alloc: Global, f: Flow, r: &R) -> Result<Flow, NoMem
 fn simplify_all<R: Rewrite>(alloc: Global, r: &R, labels: &[Label]) -> Result<Vec<Label>, NoMemory>
     requires ready { R.ready r.now }
     requires formed { list_all (is_label (map label_view labels.now)) (map label_view labels.now) ≡ true }
-    ensures { IfOk result (λ v. AreDone (R.answers r.now) (map label_view labels.now) (map label_view v.items)) }
+    ensures { IfOk result (λ v. AreDone (Counted (R.answers r.now)) (map label_view labels.now) (map label_view v.items)) }
 {
     let mut names = Vec::new(alloc);
     let mut marks = Marks::new(alloc);
@@ -62,7 +62,7 @@ fn simplify_label<R: Rewrite>(
 ) -> Result<Label, NoMemory>
     requires ready { R.ready r.now }
     requires formed { IsScopedLabel (label_view l.now) }
-    ensures { IfOk result (λ m. IsLabelDone (R.answers r.now) (label_view l.now) (label_view m)) }
+    ensures { IfOk result (λ m. IsLabelDone (Counted (R.answers r.now)) (label_view l.now) (label_view m)) }
 {
     name_all(names, &l.params)?;
     marks.clear()?;

@@ -1,14 +1,18 @@
 // Rules for primitives.
 
 ghost use Rattle.std.specs.Prelude.{◌≡◌, Option, Some, None, ◌⊎◌, refl};
+ghost use Rattle.std.specs.Borrow.{Bor};
 ghost use Rattle.std.specs.Fn.{FnReturnsAt};
 ghost use Rattle.nv_base.specs.declared.term.Primitive.{Primitive};
+ghost use Rattle.nv_base.specs.Words.{HasPrimCount};
 ghost use Rattle.cps_rules.specs.Rules.{IsSound, IsAnswered, IsSomeOf, both_sound};
+ghost use Rattle.cps_rules.specs.inner.Way.{Counted};
 
 use nv_base::Prim;
 
 /// What answers for a primitive another one that has the same word under every environment of words,
-/// uses no further variable, and has a count of 1 to 31 if it is a shift.
+/// uses no further variable, and has a count of 1 to 31 if it is a shift. It is asked about such
+/// primitives alone, so a shift that it is asked about has a count of 1 to 31 too.
 pub trait Rewrite {
     // the answers that a call may give
     ghost answers: { Self → Primitive → Option Primitive → Type 0 };
@@ -18,11 +22,12 @@ pub trait Rewrite {
 
     /// The answer, or None where the primitive is to stay.
     fn rewrite(&self, p: &Prim) -> Option<Prim>
-        requires { ready self.now }
+        requires ready { ready self.now }
+        requires count { HasPrimCount p.now }
         ensures { answers self.now p.now result };
 
     // each answer is sound
-    ghost sound: { (r : Self) (p q : Primitive) → ready r → answers r p (Some q) → IsSound p q };
+    ghost sound: { (r : Self) (p q : Primitive) → ready r → HasPrimCount p → answers r p (Some q) → IsSound p q };
 }
 
 /// A closure each of whose answers is sound.
@@ -34,8 +39,8 @@ pub struct Rule<F> {
 impl<F: Fn(&Prim) -> Option<Prim>> Rule<F> {
     /// Stores a closure.
     pub fn new(f: F) -> Rule<F>
-        requires callable { F.IsAlwaysCallable f }
-        requires sound { (p q : Primitive) → FnReturnsAt F.Fn f p (Some q) → IsSound p q }
+        requires callable { (p : Bor Primitive) → HasPrimCount p.now → F.pre f p }
+        requires sound { (p q : Primitive) → HasPrimCount p → FnReturnsAt F.Fn f p (Some q) → IsSound p q }
         ensures ready { ⟦<Rule<F> as Rewrite>⟧.ready result }
         ensures answers { (p : Primitive) (a : Option Primitive) → ⟦<Rule<F> as Rewrite>⟧.answers result p a → FnReturnsAt F.Fn f p a }
     {
@@ -46,9 +51,9 @@ impl<F: Fn(&Prim) -> Option<Prim>> Rule<F> {
 impl<F: Fn(&Prim) -> Option<Prim>> Rewrite for Rule<F> {
     ghost answers = { λ r p a. FnReturnsAt F.Fn r.f p a };
 
-    ghost ready = { λ r. F.IsAlwaysCallable r.f × ((p q : Primitive) → FnReturnsAt F.Fn r.f p (Some q) → IsSound p q) };
+    ghost ready = { λ r. ((p : Bor Primitive) → HasPrimCount p.now → F.pre r.f p) × ((p q : Primitive) → HasPrimCount p → FnReturnsAt F.Fn r.f p (Some q) → IsSound p q) };
 
-    ghost sound = { λ r p q h answer. h.1 p q answer };
+    ghost sound = { λ r p q h count answer. h.1 p q count answer };
 
     fn rewrite(&self, p: &Prim) -> Option<Prim> {
         (self.f)(p)
@@ -67,7 +72,7 @@ impl<R: Rewrite, Q: Rewrite> Rewrite for Both<R, Q> {
 
     ghost ready = { λ r. R.ready r.first × Q.ready r.second };
 
-    ghost sound = { λ r p q h. both_sound p q (R.answers r.first p) (Q.answers r.second p) (R.sound r.first p q h.0) (Q.sound r.second p q h.1) };
+    ghost sound = { λ r p q h count. both_sound p q (R.answers r.first p) (Q.answers r.second p) (R.sound r.first p q h.0 count) (Q.sound r.second p q h.1 count) };
 
     fn rewrite(&self, p: &Prim) -> Option<Prim> {
         match self.first.rewrite(p) {
@@ -79,8 +84,9 @@ impl<R: Rewrite, Q: Rewrite> Rewrite for Both<R, Q> {
 
 /// The rule's answer, or the primitive where there is none.
 pub fn answer<R: Rewrite>(r: &R, p: Prim) -> Prim
-    requires { R.ready r.now }
-    ensures { IsAnswered (R.answers r.now) p result }
+    requires ready { R.ready r.now }
+    requires count { HasPrimCount p }
+    ensures { IsAnswered (Counted (R.answers r.now)) p result }
 {
     match r.rewrite(&p) {
         Some(q) => q,

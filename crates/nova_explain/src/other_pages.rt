@@ -3,7 +3,7 @@
 use crate::pages::Page;
 
 /// The text faults, the statuses and the other lines.
-pub const OTHER_PAGES: [Page; 30] = [
+pub const OTHER_PAGES: [Page; 32] = [
     Page {
         name: "syntax char",
         text: r#"syntax char
@@ -126,7 +126,7 @@ The tree of an expression, pattern, type or layout is certain to be higher than 
         name: "too large",
         text: r#"too large: of a source
 
-With status 8, `too large N` says one of three things (README.md). Of a source that is read and typed, N is its expanded size, which is at most 4,096.
+With status 8, `too large N` says one of four things (README.md). Of a source that is read and typed, N is its expanded size, which is at most 4,096.
 
     fun a[x: word]: word { x } fun b[x: word]: word { a[x] + a[x] }
     fun c[x: word]: word { b[x] + b[x] } fun d[x: word]: word { c[x] + c[x] }
@@ -143,35 +143,103 @@ With status 8, `too large N` says one of three things (README.md). Of a source t
 "#,
     },
     Page {
+        name: "status 11",
+        text: r#"status 11, store
+
+`store LENGTH` with status 11 is said by `compile`, and by `gen` of a made source. The code has LENGTH instructions, more than the N of `store=N`, or than 2,048.
+
+    s: fun main[a: word, b: word]: word { a + b }
+    $ compile s o store=1
+    11 store ..
+    $ compile s o
+    0 compiled ..
+    saved o: %any
+"#,
+    },
+    Page {
+        name: "store",
+        text: r#"status 11, store
+
+`store LENGTH` with status 11 is said by `compile`, and by `gen` of a made source. The code has LENGTH instructions, more than the N of `store=N`, or than 2,048.
+
+    s: fun main[a: word, b: word]: word { a + b }
+    $ compile s o store=1
+    11 store ..
+    $ compile s o
+    0 compiled ..
+    saved o: %any
+"#,
+    },
+    Page {
         name: "status 20",
         text: r#"status 20, unbuilt
 
-`unbuilt` with status 20 is said by `compile` alone. The source is a program and runs by `exec`.
-But it isn't of the form that `compile` takes so far (docs/LANGUAGE.md, The first form).
+`unbuilt` with status 20 is said by `compile`, and by `gen` of a made source. The source is a program and runs by `exec`.
+But over 128 of its values are held at once, and compiled code has 128 slots.
+These two run on more memory:
 
-    fun main[]: word { 70000 }
+    memory 136 0
+    args
 
-`unbuilt`: a number of the first form is at most 65,535. `exec` runs it, and so does `compile` this one:
+    fun main[]: word {
+      let a = sram[8](0); let b = sram[8](8); let c = sram[8](16); let d = sram[8](24); let e = sram[8](32); let f = sram[8](40);
+      let g = sram[8](48); let h = sram[8](56); let i = sram[8](64); let j = sram[8](72); let k = sram[8](80); let l = sram[8](88);
+      let m = sram[8](96); let n = sram[8](104); let o = sram[8](112); let p = sram[8](120); let q = sram[8](128);
+      sram(0) <- a; sram(8) <- b; sram(16) <- c; sram(24) <- d; sram(32) <- e; sram(40) <- f;
+      sram(48) <- g; sram(56) <- h; sram(64) <- i; sram(72) <- j; sram(80) <- k; sram(88) <- l;
+      sram(96) <- m; sram(104) <- n; sram(112) <- o; sram(120) <- p; sram(128) <- q;
+      0
+    }
 
-    fun main[]: word { 65535 }
+`unbuilt`: all 136 words are wanted behind the last fetch. Use them sooner:
 
-`ended 0000ffff`.
+    fun main[]: word {
+      let a = sram[8](0); sram(0) <- a; let b = sram[8](8); sram(8) <- b; let c = sram[8](16); sram(16) <- c;
+      let d = sram[8](24); sram(24) <- d; let e = sram[8](32); sram(32) <- e; let f = sram[8](40); sram(40) <- f;
+      let g = sram[8](48); sram(48) <- g; let h = sram[8](56); sram(56) <- h; let i = sram[8](64); sram(64) <- i;
+      let j = sram[8](72); sram(72) <- j; let k = sram[8](80); sram(80) <- k; let l = sram[8](88); sram(88) <- l;
+      let m = sram[8](96); sram(96) <- m; let n = sram[8](104); sram(104) <- n; let o = sram[8](112); sram(112) <- o;
+      let p = sram[8](120); sram(120) <- p; let q = sram[8](128); sram(128) <- q;
+      0
+    }
+
+`ended 00000000`.
 "#,
     },
     Page {
         name: "unbuilt",
         text: r#"status 20, unbuilt
 
-`unbuilt` with status 20 is said by `compile` alone. The source is a program and runs by `exec`.
-But it isn't of the form that `compile` takes so far (docs/LANGUAGE.md, The first form).
+`unbuilt` with status 20 is said by `compile`, and by `gen` of a made source. The source is a program and runs by `exec`.
+But over 128 of its values are held at once, and compiled code has 128 slots.
+These two run on more memory:
 
-    fun main[]: word { 70000 }
+    memory 136 0
+    args
 
-`unbuilt`: a number of the first form is at most 65,535. `exec` runs it, and so does `compile` this one:
+    fun main[]: word {
+      let a = sram[8](0); let b = sram[8](8); let c = sram[8](16); let d = sram[8](24); let e = sram[8](32); let f = sram[8](40);
+      let g = sram[8](48); let h = sram[8](56); let i = sram[8](64); let j = sram[8](72); let k = sram[8](80); let l = sram[8](88);
+      let m = sram[8](96); let n = sram[8](104); let o = sram[8](112); let p = sram[8](120); let q = sram[8](128);
+      sram(0) <- a; sram(8) <- b; sram(16) <- c; sram(24) <- d; sram(32) <- e; sram(40) <- f;
+      sram(48) <- g; sram(56) <- h; sram(64) <- i; sram(72) <- j; sram(80) <- k; sram(88) <- l;
+      sram(96) <- m; sram(104) <- n; sram(112) <- o; sram(120) <- p; sram(128) <- q;
+      0
+    }
 
-    fun main[]: word { 65535 }
+`unbuilt`: all 136 words are wanted behind the last fetch. Use them sooner:
 
-`ended 0000ffff`.
+    fun main[]: word {
+      let a = sram[8](0); sram(0) <- a; let b = sram[8](8); sram(8) <- b; let c = sram[8](16); sram(16) <- c;
+      let d = sram[8](24); sram(24) <- d; let e = sram[8](32); sram(32) <- e; let f = sram[8](40); sram(40) <- f;
+      let g = sram[8](48); sram(48) <- g; let h = sram[8](56); sram(56) <- h; let i = sram[8](64); sram(64) <- i;
+      let j = sram[8](72); sram(72) <- j; let k = sram[8](80); sram(80) <- k; let l = sram[8](88); sram(88) <- l;
+      let m = sram[8](96); sram(96) <- m; let n = sram[8](104); sram(104) <- n; let o = sram[8](112); sram(112) <- o;
+      let p = sram[8](120); sram(120) <- p; let q = sram[8](128); sram(128) <- q;
+      0
+    }
+
+`ended 00000000`.
 "#,
     },
     Page {
@@ -509,7 +577,8 @@ Nothing is printed, and no file was changed.
         name: "status 8",
         text: r#"status 8: a size
 
-`too large N` says one of three things: a file has more bytes than its limit N, a source has an expanded size N of more than 4,096,
+`too large N` says one of four things: a file has more bytes than its limit N, a source has an expanded size N of more than 4,096,
+the form from which code is made has N points, values and uses, more than 1,048,576,
 or a memory text asks for a memory of size N, more than 65,536.
 "#,
     },

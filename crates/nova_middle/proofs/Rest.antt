@@ -7,8 +7,6 @@ use Rattle.nv_base.specs.declared.term.Atom.{Atom}
 use Rattle.nv_base.specs.declared.term.Atom.TheVariants.{Var, Lit}
 use Rattle.nv_base.specs.declared.term.Primitive.{Primitive}
 use Rattle.nv_base.specs.declared.term.Primitive.TheVariants.{Same, Una as UnaOf, Bin as BinOf}
-use Rattle.nv_base.specs.Access.{has_count}
-use Rattle.nv_base.specs.Words.{word, una_word}
 use Rattle.flow_ir.specs.Tree.{Tree, Let, Read, Write, If, Jump, Halt, Label}
 use Rattle.cps_rules.specs.Rules.{Answers, IsAnswered, IsSomeOf}
 use Rattle.cps_rules.specs.Simplified.{EachLet, is_same, IsTidy, AreTidy, AreSimplified}
@@ -31,7 +29,7 @@ if-said false o r h k = k
 
 pub value_same : (p : Primitive) → SaysSame (value_rule p)
 value_same (Same a) = nothing-said
-value_same (UnaOf op (Lit v)) = if-said (has_count op) (Some (Same (Lit (una_word op (word v))))) None (same-said _) nothing-said
+value_same (UnaOf op (Lit v)) = same-said _
 value_same (UnaOf op (Var x)) = nothing-said
 value_same (BinOf op (Lit v) (Lit w)) = same-said _
 value_same (BinOf op (Lit v) (Var y)) = nothing-said

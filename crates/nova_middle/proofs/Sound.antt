@@ -11,10 +11,8 @@ use Rattle.nv_base.specs.declared.term.Bin.{Bin}
 use Rattle.nv_base.specs.declared.term.Bin.TheVariants.{Add, Sub, And, Or, Xor}
 use Rattle.nv_base.specs.declared.term.Primitive.{Primitive}
 use Rattle.nv_base.specs.declared.term.Primitive.TheVariants.{Same, Una as UnaOf, Bin as BinOf}
-use Rattle.nv_base.specs.Access.{has_count}
-use Rattle.nv_base.specs.Words.{IsWord, Env, IsEnv, word, word_sum, word_difference, una_word, bin_word, atom_word, atom_vars}
+use Rattle.nv_base.specs.Words.{IsWord, Env, IsEnv, HasPrimCount, word, word_sum, word_difference, una_word, bin_word, atom_word, atom_vars}
 use Rattle.nv_base.proofs.Environments.{atom-fits}
-use Rattle.nv_base.proofs.Operands.{has_its_count}
 use Rattle.nv_base.proofs.Sets.{within-left, within-right}
 use Rattle.nv_base.proofs.WordLemmas.{word-fits, una-fits, bin-fits}
 use Rattle.cps_rules.specs.Rules.{IsSound}
@@ -29,21 +27,17 @@ answers p r q h e = subst (IsSound p) (same_Some r q e) h
 
 -- ---- values
 
-one-at : (g : Bool) (op : Una) (v : ℕ) (q : Primitive) → has_count op ≡ g → (if g then Some (Same (Lit (una_word op (word v)))) else None) ≡ Some q → IsSound (UnaOf op (Lit v)) q
-one-at true op v q count e =
+pub value_sound : (p q : Primitive) → HasPrimCount p → value_rule p ≡ Some q → IsSound p q
+value_sound (Same a) q count e = absurd (none-some q e)
+value_sound (UnaOf op (Lit v)) q count e =
     answers (UnaOf op (Lit v)) (Same (Lit (una_word op (word v)))) q
-    (record { word = λ env fits. same-word (una_word op (word v)) (una-fits op (word v) (has_its_count op count) (word-fits v)); uses = λ y i. i; count = tt }) e
-one-at false op v q count e = absurd (none-some q e)
-
-pub value_sound : (p q : Primitive) → value_rule p ≡ Some q → IsSound p q
-value_sound (Same a) q e = absurd (none-some q e)
-value_sound (UnaOf op (Lit v)) q e = one-at (has_count op) op v q refl e
-value_sound (UnaOf op (Var x)) q e = absurd (none-some q e)
-value_sound (BinOf op (Lit v) (Lit w)) q e =
+    (record { word = λ env fits. same-word (una_word op (word v)) (una-fits op (word v) count (word-fits v)); uses = λ y i. i; count = tt }) e
+value_sound (UnaOf op (Var x)) q count e = absurd (none-some q e)
+value_sound (BinOf op (Lit v) (Lit w)) q count e =
     answers (BinOf op (Lit v) (Lit w)) (Same (Lit (bin_word op (word v) (word w)))) q
     (record { word = λ env fits. same-word (bin_word op (word v) (word w)) (bin-fits op (word v) (word w) (word-fits v) (word-fits w)); uses = λ y i. i; count = tt }) e
-value_sound (BinOf op (Lit v) (Var y)) q e = absurd (none-some q e)
-value_sound (BinOf op (Var x) b) q e = absurd (none-some q e)
+value_sound (BinOf op (Lit v) (Var y)) q count e = absurd (none-some q e)
+value_sound (BinOf op (Var x) b) q count e = absurd (none-some q e)
 
 -- ---- operands
 

@@ -7,7 +7,6 @@ use Rattle.nv_base.specs.declared.term.Bin.{Bin}
 use Rattle.nv_base.specs.declared.term.Bin.TheVariants.{Add, Sub, And, Or, Xor}
 use Rattle.nv_base.specs.declared.term.Primitive.{Primitive}
 use Rattle.nv_base.specs.declared.term.Primitive.TheVariants.{Same, Una as UnaOf, Bin as BinOf}
-use Rattle.nv_base.specs.Access.{has_count}
 use Rattle.nv_base.specs.Words.{word, una_word, bin_word}
 use Rattle.flow_ir.specs.Tree.{Label}
 use Rattle.cps_rules.specs.Simplified.{EachLet}
@@ -15,7 +14,7 @@ use Rattle.cps_rules.specs.Simplified.{EachLet}
 -- ---- an operation on literals gives its word
 
 abbrev pub value_of_one : Una → Atom → Option Primitive
-value_of_one op (Lit v) = if has_count op then Some (Same (Lit (una_word op (word v)))) else None
+value_of_one op (Lit v) = Some (Same (Lit (una_word op (word v))))
 value_of_one op (Var x) = None
 
 abbrev pub value_of_two : Bin → Atom → Atom → Option Primitive

@@ -1,9 +1,9 @@
 // The rules for primitives.
 
 ghost use Rattle.std.specs.Prelude.{◌≡◌, ◌≤◌, All, IfOk, map};
-ghost use Rattle.nv_base.specs.Access as access;
 ghost use Rattle.nv_base.specs.Meanings.{AreEqual};
 ghost use Rattle.nv_base.specs.Measures.{IsAtMost};
+ghost use Rattle.nv_base.specs.Words.{HasPrimCount};
 ghost use Rattle.flow_ir.specs.Bulk.{bulk};
 ghost use Rattle.flow_ir.specs.Meaning.{flow_meaning, flow_params};
 ghost use Rattle.flow_ir.specs.View.{label_view};
@@ -14,36 +14,19 @@ ghost use Rattle.nova_middle.specs.Rules.{value_rule, operand_rule, nothing_rule
 
 use cps_rules::{Both, Rule, simplify};
 use flow_ir::Flow;
-use nv_base::{Atom, Bin, NoMemory, Prim, Una};
+use nv_base::{Atom, Bin, NoMemory, Prim};
 use std::alloc::Global;
 
 // The word whose bits are all set.
 const ONES: u32 = u32::MAX;
 
-// Whether an operation may be done: the count of a shift is 1 to 31.
-fn has_count(op: Una) -> bool
-    ensures { result ≡ access.has_count op }
-{
-    match op {
-        Una::Not => true,
-        Una::Shl(k) => 1 <= k && k <= 31,
-        Una::Shr(k) => 1 <= k && k <= 31,
-        Una::Rol(k) => 1 <= k && k <= 31,
-    }
-}
-
 // An operation on literals gives its word.
 fn value(p: Prim) -> Option<Prim>
+    requires { HasPrimCount p }
     ensures { result ≡ value_rule p }
 {
     match p {
-        Prim::Una(op, Atom::Lit(v)) => {
-            if has_count(op) {
-                Some(Prim::Same(Atom::Lit(op.apply(v))))
-            } else {
-                None
-            }
-        }
+        Prim::Una(op, Atom::Lit(v)) => Some(Prim::Same(Atom::Lit(op.apply(v)))),
         Prim::Bin(op, Atom::Lit(v), Atom::Lit(w)) => Some(Prim::Same(Atom::Lit(op.apply(v, w)))),
         _ => None,
     }

@@ -1,17 +1,32 @@
--- The program of a made source is typed, and means a word.
-use Rattle.std.proofs.Common.{◌≡◌, ◌⊎◌, ℕ, ◌≤◌, List, inl, inr, length, ap, sym, ◌∙◌, subst}
+-- The program of a made source is typed, and means a word, with which its code ends.
+use Rattle.std.proofs.Common.{◌≡◌, ◌⊎◌, ℕ, ◌≤◌, ◌<◌, ◌^◌, List, [], ◌∷◌, inl, inr, length, ap, sym, ◌∙◌, subst, arith}
+use Rattle.std.specs.Prelude.{slice_index}
+use Rattle.std.proofs.lemmas.List.Elements.{All-nil, All-cons}
+use Rattle.nv_ast.specs.Sizes.{main_words}
 use Rattle.nv_ast.specs.Tree.{ProgramTree}
-use Rattle.nv_base.specs.Memories.{Memories}
+use Rattle.nv_base.specs.Memories.{Memories, HasSizes}
+use Rattle.nv_base.specs.Meanings.{FullOutcome, IsOver, seen}
+use Rattle.nv_base.specs.declared.outcome.Outcome.{Outcome}
+use Rattle.nv_base.specs.declared.outcome.Outcome.TheVariants.{Ended}
+use Rattle.nv_meaning.specs.Meaning.{source}
+use Rattle.uc_isa.specs.Agrees.{IsStart}
+use Rattle.uc_isa.specs.Code.{CodeView}
+use Rattle.uc_isa.specs.Engine.{engine, run, start}
+use Rattle.uc_isa.specs.declared.engine.Engine.{Engine}
 use Rattle.nova_front.specs.Sources.{IsTypedSource}
 use Rattle.nova_front.proofs.OneSource.{source-program}
 use Rattle.made_source.specs.Laws.{HasProgram}
 use Rattle.made_source.specs.Made.{made}
 use Rattle.made_source.proofs.Programs.{each_has_program}
-use Rattle.novac.specs.Generating.{MeansWord, IsGenerated, generated_text}
+use Rattle.novac.specs.Forms.{IsCodeFor}
+use Rattle.novac.specs.Generating.{GenRefuses, MeansWord}
+use Rattle.novac.specs.Headline.{CompileRefuses, IsUnfit}
+use Rattle.novac.specs.Limits.{store_limit}
 use Rattle.novac.specs.Lines.{IsUncaused}
-use Rattle.novac.specs.Reading.{SourceRefuses}
+use Rattle.novac.specs.Machine.{spill_base}
+use Rattle.novac.specs.Reading.{HasTyped}
 use Rattle.novac.specs.declared.refusal.Refusal.{Refusal}
-use Rattle.novac.specs.inner.Generated.{HasWord}
+use Rattle.novac.specs.inner.Generated.{HasWord, AreWord}
 use Rattle.novac.proofs.OneSource.{source-good}
 
 made-typed : (seed size : ℕ) (h : HasProgram seed size) → IsTypedSource (made seed size) h.program
@@ -21,12 +36,13 @@ made-typed seed size h = record { is_source = record { reads = h.reads; low = h.
 pub made-short : (seed size : ℕ) (bytes : List ℕ) → 1 ≤ size → size ≤ 500 → bytes ≡ made seed size → length bytes ≤ 262144
 made-short seed size bytes some few e = subst (λ (x : List ℕ). length x ≤ 262144) (sym e) (each_has_program seed size some few).short
 
--- it isn't refused
-pub made-good : (seed size : ℕ) (bytes : List ℕ) (e : Refusal) → 1 ≤ size → size ≤ 500 → bytes ≡ made seed size → IsUncaused e ⊎ SourceRefuses bytes e → IsUncaused e
-made-good seed size bytes e some few is (inl u) = u
-made-good seed size bytes e some few is (inr h) =
+-- it is refused only where its program isn't compiled
+pub made-refused : (seed size : ℕ) (bytes : List ℕ) (e : Refusal) → 1 ≤ size → size ≤ 500 → bytes ≡ made seed size → IsUncaused e ⊎ CompileRefuses bytes store_limit e → IsUncaused e ⊎ GenRefuses seed size e
+made-refused seed size bytes e some few is (inl u) = inl u
+made-refused seed size bytes e some few is (inr (inl h)) =
     let p = each_has_program seed size some few in
-    absurd (source-good (made seed size) e p.program (made-typed seed size p) (subst (λ (x : List ℕ). SourceRefuses x e) is h))
+    absurd (source-good bytes e p.program (subst (λ (x : List ℕ). IsTypedSource x p.program) (sym is) (made-typed seed size p)) h)
+made-refused seed size bytes e some few is (inr (inr h)) = inr (subst (λ (x : List ℕ). HasTyped x (λ program. IsUnfit program store_limit e)) is h)
 
 -- its program means a word
 pub made-word : (seed size : ℕ) (bytes : List ℕ) (t : ProgramTree) → 1 ≤ size → size ≤ 500 → bytes ≡ made seed size → IsTypedSource bytes t → HasWord t
@@ -34,13 +50,37 @@ made-word seed size bytes t some few is h =
     let p = each_has_program seed size some few in
     let typed : IsTypedSource (made seed size) t = subst (λ (x : List ℕ). IsTypedSource x t) is h in
     let same = source-program (made seed size) p.program t (made-typed seed size p).is_source typed.is_source in
-    subst HasWord same (p.word, λ (m : Memories) (calls : ℕ). ap (λ f. f.outcome) (p.ends m calls))
+    let word : HasWord p.program = record { two = p.two; word = p.word; means = λ (m : Memories) (calls : ℕ). ap (λ (f : FullOutcome). f.outcome) (p.ends m calls) } in
+    subst HasWord same word
 
-pub made-told : (seed size : ℕ) (bytes line : List ℕ) (t : ProgramTree) (n w : ℕ) → bytes ≡ made seed size → IsTypedSource bytes t → MeansWord t w → n ≡ length bytes → line ≡ generated_text seed size n w → IsGenerated seed size line
-made-told seed size bytes line t n w is h means long told = record {
-  program = t;
-  is_source = subst (λ (x : List ℕ). IsTypedSource x t) is h;
-  word = w;
-  means = means;
-  told = told ∙ ap (λ (x : ℕ). generated_text seed size x w) (long ∙ ap length is);
+-- with which its code ends
+one-two : (params : ℕ) (p : Memories) → params ≡ 2 → HasSizes p → IsStart params (1 ∷ 2 ∷ []) p spill_base
+one-two params p two sizes = record {
+  words = (sym two, All-cons (λ (w : ℕ). w < 2 ^ 32) 1 (2 ∷ []) (omega arith) (All-cons (λ (w : ℕ). w < 2 ^ 32) 2 [] (omega arith) (All-nil (λ (w : ℕ). w < 2 ^ 32))));
+  memories = sizes;
+  spills = (omega arith, omega arith);
 }
+
+ended-words : (a b : List ℕ) → Ended a ≡ Ended b → a ≡ b
+ended-words a b e = cc
+
+pub code-word : (t : ProgramTree) (c : CodeView) (p : Memories) (m : ℕ) (words : List ℕ) → HasWord t → IsCodeFor t c → HasSizes p → (engine c (1 ∷ 2 ∷ []) spill_base p m).outcome ≡ Ended words → AreWord t words
+code-word t c p m words h code sizes ends =
+    let both = code.agrees.same (1 ∷ 2 ∷ []) p spill_base (one-two (main_words t) p h.two sizes) in
+    let from = both.ends_only m (subst IsOver (sym ends) tt) in
+    let alike : (source t (1 ∷ 2 ∷ []) p from.0).outcome ≡ (engine c (1 ∷ 2 ∷ []) spill_base p m).outcome = ap (λ (f : FullOutcome). f.outcome) from.1 in
+    (h.word, ended-words words (h.word ∷ []) (sym ends ∙ sym alike ∙ h.means p from.0), h.means)
+
+pub code-ends : (t : ProgramTree) (c : CodeView) (e : Engine) (p : Memories) (m : ℕ) (o : Outcome) (words : List ℕ) → HasWord t → IsCodeFor t c → HasSizes p → e ≡ start (1 ∷ 2 ∷ []) spill_base → o ≡ (run c.list m e p []).outcome → o ≡ Ended words → AreWord t words
+code-ends t c e p m o words h code sizes begins is ends =
+    code-word t c p m words h code sizes (ap (λ (x : Engine). (run c.list m x p []).outcome) (sym begins) ∙ sym is ∙ ends)
+
+pub source-word : (t : ProgramTree) (p : Memories) (calls : ℕ) (words : List ℕ) → HasWord t → (source t (1 ∷ 2 ∷ []) p calls).outcome ≡ Ended words → AreWord t words
+source-word t p calls words h ends = (h.word, ended-words words (h.word ∷ []) (sym ends ∙ h.means p calls), h.means)
+
+-- the first of these words is the one
+pub word-there : (t : ProgramTree) (words read : List ℕ) → AreWord t words → read ≡ words → 0 < length read
+word-there t words read h e = subst (λ (x : List ℕ). 0 < length x) (sym (e ∙ h.1)) (omega arith)
+
+pub word-first : (t : ProgramTree) (words read : List ℕ) → AreWord t words → read ≡ words → MeansWord t (slice_index read 0)
+word-first t words read h e = subst (λ (x : List ℕ). MeansWord t (slice_index x 0)) (sym (e ∙ h.1)) h.2

@@ -1,5 +1,5 @@
 -- The contents of a command's inputs decide the answer.
-use Rattle.std.proofs.Common.{◌≡◌, ℕ, ◌⊎◌, inl, inr, List, [], ◌∷◌, Ok, Err, length, refl, ap, sym, ◌∙◌, subst, codes}
+use Rattle.std.proofs.Common.{◌≡◌, ℕ, ◌+◌, ◌*◌, ◌<◌, ◌≤◌, ◌^◌, ◌⊎◌, inl, inr, List, [], ◌∷◌, Ok, Err, length, refl, ap, sym, ◌∙◌, subst, codes, arith}
 use Rattle.nv_memtext.specs.MemoryText.{Gives, IsBad}
 use Rattle.nv_memtext.proofs.ExactLemmas.{gives_one, gives_not_large, large_one, given_answer, bad_answer}
 use Rattle.nv_memtext.specs.declared.read.MemError.TheVariants.{Bad}
@@ -25,24 +25,23 @@ use Rattle.nova_front.proofs.OneSource.{source-program}
 use Rattle.nv_ast.specs.Sizes.{main_words}
 use Rattle.nv_ast.specs.Tree.{ProgramTree}
 use Rattle.nv_meaning.specs.Meaning.{source as meaning}
-use Rattle.made_source.specs.Made.{made}
-use Rattle.novac.specs.Answers.{Makes, CanMake, Refuses}
+use Rattle.novac.specs.Answers.{Makes, Prints, CanMake, CanEnd, Refuses, MustRefuse}
 use Rattle.novac.specs.Assembly.{AsmRefuses, IsListed}
 use Rattle.novac.specs.Command.{Command, Compile, Run, Exec, Asm, Dis, Lint, Check, Gen}
 use Rattle.novac.specs.Executing.{ExecRefuses, IsExecuted}
-use Rattle.novac.specs.Generating.{IsGenerated, generated_text}
-use Rattle.novac.specs.Headline.{HasProgram}
-use Rattle.novac.specs.Lines.{counted}
+use Rattle.novac.specs.Forms.{form_bound}
+use Rattle.novac.specs.Headline.{IsUnfit, IsEndOf}
+use Rattle.novac.specs.Lines.{counted, refusal_status}
 use Rattle.novac.specs.Machine.{IsBadObjectFor, IsUnlawfulFor, IsMemoryRefusedFor, LintRefuses, RunRefuses, IsLinted, IsRun, spill_base, full_text}
-use Rattle.novac.specs.Saving.{File, file}
+use Rattle.novac.specs.Saving.{File}
 use Rattle.novac.specs.Status.{outcome_status}
 use Rattle.novac.specs.inner.Replies.{IsOutcome}
 use Rattle.novac.specs.declared.refusal.Refusal.{Refusal}
-use Rattle.novac.specs.declared.refusal.Refusal.TheVariants.{NoMemory, ReadFault, TooLarge, Syntax, Label, UnlawfulLine, BadObject, BadMemoryText, Unlawful, Unbuilt}
+use Rattle.novac.specs.declared.refusal.Refusal.TheVariants.{NoMemory, ReadFault, TooLarge, Syntax, Label, UnlawfulLine, BadObject, BadMemoryText, Unlawful, SourceLarge, StoreFull, Unbuilt}
 use Rattle.novac.specs.declared.status.Status.{Status}
 use Rattle.novac.specs.declared.status.Status.TheVariants.{Done}
 use Rattle.novac.proofs.OneReport.{check-one, check-good, checked-one}
-use Rattle.novac.proofs.OneSource.{source-one, source-good, compile-one, compile-good}
+use Rattle.novac.proofs.OneSource.{source-one, source-good}
 
 -- objects
 bad-one : (b : List ℕ) (e e' : Refusal) → IsBadObjectFor b e → IsBadObjectFor b e' → e ≡ e'
@@ -206,69 +205,67 @@ executed-one b t calls s s' text text' h k =
     let status : FullOutcome → Status = λ f. outcome_status f.outcome in
     (h.ends ∙ ap status run ∙ sym k.ends, h.prints ∙ ap full_text run ∙ sym k.prints)
 
--- made sources
-ended-word : (a b : ℕ) → outcome.Ended (a ∷ []) ≡ outcome.Ended (b ∷ []) → a ≡ b
-ended-word a b e = cc
-
-generated-one : (seed size : ℕ) (t t' : List ℕ) → IsGenerated seed size t → IsGenerated seed size t' → t ≡ t'
-generated-one seed size t t' h k =
-    let same = source-program (made seed size) h.program k.program h.is_source.is_source k.is_source.is_source in
-    let blank : Memories = record { sram = []; sdram = []; scratch = [] } in
-    let means : (meaning k.program (1 ∷ 2 ∷ []) blank 0).outcome ≡ outcome.Ended (h.word ∷ []) = subst (λ (p : ProgramTree). (meaning p (1 ∷ 2 ∷ []) blank 0).outcome ≡ outcome.Ended (h.word ∷ [])) same (h.means blank 0) in
-    let word = ended-word h.word k.word (sym means ∙ k.means blank 0) in
-    h.told ∙ ap (λ (w : ℕ). generated_text seed size (length (made seed size)) w) word ∙ sym k.told
-
--- of the same contents at most one refusal is true
-pub refusal-one : (c : Command) (bs : List (List ℕ)) (e e' : Refusal) → Refuses c bs e → Refuses c bs e' → e ≡ e'
-refusal-one (Compile source object) (b ∷ []) e e' h k = compile-one b e e' h k
+-- where contents decide a refusal, no other is true of them
+pub refusal-one : (c : Command) (bs : List (List ℕ)) (e e' : Refusal) → Refuses c bs e → MustRefuse c bs e' → e ≡ e'
+refusal-one (Compile source object store) (b ∷ []) e e' (inl h) k = source-one b e e' h k
+refusal-one (Compile source object store) (b ∷ []) e e' (inr h) k = absurd (source-good b e' h.0 h.1 k)
 refusal-one (Run object memory steps) (b ∷ g ∷ []) e e' h k = runs-one b g e e' h k
 refusal-one (Exec source memory calls) (b ∷ g ∷ []) e e' h k = exec-one b g e e' h k
 refusal-one (Asm input object) (b ∷ []) e e' h k = assembly-one b e e' h k
 refusal-one (Dis object) (b ∷ []) e e' h k = bad-one b e e' h k
 refusal-one (Lint object) (b ∷ []) e e' h k = lint-one b e e' h k
 refusal-one (Check report) (b ∷ []) e e' h k = check-one b e e' h k
-refusal-one _ _ e e' h k = absurd h
+refusal-one _ _ e e' h k = absurd k
 
--- and none where the command makes something
-pub makes-good : (c : Command) (bs : List (List ℕ)) (s : Status) (fs : List File) (t : List ℕ) (e : Refusal) → Makes c bs s fs t → Refuses c bs e → ⊥
-makes-good (Compile source object) (b ∷ []) s fs t e h k =
-    let good : HasProgram b = record { program = h.compiled.program; is_source = h.compiled.is_source; first_form = h.compiled.first_form } in
-    compile-good b e good k
+-- and none is, where the command makes something
+pub makes-good : (c : Command) (bs : List (List ℕ)) (s : Status) (fs : List File) (t : List ℕ) (e : Refusal) → Makes c bs s fs t → MustRefuse c bs e → ⊥
+makes-good (Compile source object store) (b ∷ []) s fs t e h k = source-good b e h.compiled.program h.compiled.is_source k
 makes-good (Run object memory steps) (b ∷ g ∷ []) s fs t e h k = run-good b g e steps s t h.1 k
 makes-good (Exec source memory calls) (b ∷ g ∷ []) s fs t e h k = exec-good b g e calls s t h.1 k
 makes-good (Asm input object) (b ∷ []) s fs t e h k = assembly-good b e h.assembled.c h.assembled.code k
 makes-good (Dis object) (b ∷ []) s fs t e h k = bad-good b e h.1.c h.1.object k
 makes-good (Lint object) (b ∷ []) s fs t e h k = lint-good b e h.1.c h.1.object h.1.lawful k
 makes-good (Check report) (b ∷ []) s fs t e h k = check-good b s t e h.1 k
-makes-good (Gen seed size) [] s fs t e h k = k
-makes-good _ _ s fs t e h k = h
+makes-good _ _ s fs t e h k = k
 
--- or can
-pub can-good : (c : Command) (bs : List (List ℕ)) (s : Status) (e : Refusal) → CanMake c bs s → Refuses c bs e → ⊥
-can-good (Compile source object) (b ∷ []) s e h k = compile-good b e h.1 k
-can-good (Asm input object) (b ∷ []) s e h k = assembly-good b e h.1.c h.1.code k
-can-good _ _ s e h k = h
+-- what contents show isn't refused
+pub prints-good : (c : Command) (bs : List (List ℕ)) (s : Status) (t : List ℕ) (e : Refusal) → Prints c bs s t → Refuses c bs e → ⊥
+prints-good (Run object memory steps) (b ∷ g ∷ []) s t e h k = run-good b g e steps s t h k
+prints-good (Exec source memory calls) (b ∷ g ∷ []) s t e h k = exec-good b g e calls s t h k
+prints-good (Dis object) (b ∷ []) s t e h k = bad-good b e h.c h.object k
+prints-good (Lint object) (b ∷ []) s t e h k = lint-good b e h.c h.object h.lawful k
+prints-good (Check report) (b ∷ []) s t e h k = check-good b s t e h k
+prints-good _ _ s t e h k = h
 
--- what it makes, with this status
-pub can-one : (c : Command) (bs : List (List ℕ)) (s s' : Status) (fs : List File) (t : List ℕ) → Makes c bs s fs t → CanMake c bs s' → s ≡ s'
-can-one (Compile source object) (b ∷ []) s s' fs t h k = h.done ∙ sym k.0
-can-one (Asm input object) (b ∷ []) s s' fs t h k = h.done ∙ sym k.0
-can-one _ _ s s' fs t h k = absurd k
+-- and is one
+pub prints-one : (c : Command) (bs : List (List ℕ)) (s s' : Status) (fs : List File) (t t' : List ℕ) → Makes c bs s fs t → Prints c bs s' t' → (s ≡ s') × (t ≡ t')
+prints-one (Run object memory steps) (b ∷ g ∷ []) s s' fs t t' h k = run-one b g steps s s' t t' h.1 k
+prints-one (Exec source memory calls) (b ∷ g ∷ []) s s' fs t t' h k = executed-one b g calls s s' t t' h.1 k
+prints-one (Dis object) (b ∷ []) s s' fs t t' h k = listed-one b s s' t t' h.1 k
+prints-one (Lint object) (b ∷ []) s s' fs t t' h k = linted-one b s s' t t' h.1 k
+prints-one (Check report) (b ∷ []) s s' fs t t' h k = checked-one b s s' t t' h.1 k
+prints-one _ _ s s' fs t t' h k = absurd k
 
-no-file : (f : File) → [] ≡ f ∷ [] → ⊥
-no-file f e = cc
+-- how a command ends that can make something
+above : (n k : ℕ) → 2 ^ 20 < n → n ≤ k → 2 ^ 20 < k
+above n k h le = omega arith
 
--- what is shown is one
-pub shows-one : (c : Command) (bs : List (List ℕ)) (s s' : Status) (fs : List File) (t t' : List ℕ) → Makes c bs s fs t → Makes c bs s' [] t' → (s ≡ s') × (t ≡ t')
-shows-one (Compile source object) (b ∷ []) s s' fs t t' h k = absurd (no-file (file object k.object) k.saves)
-shows-one (Run object memory steps) (b ∷ g ∷ []) s s' fs t t' h k = run-one b g steps s s' t t' h.1 k.1
-shows-one (Exec source memory calls) (b ∷ g ∷ []) s s' fs t t' h k = executed-one b g calls s s' t t' h.1 k.1
-shows-one (Asm input object) (b ∷ []) s s' fs t t' h k = absurd (no-file (file object k.object) k.saves)
-shows-one (Dis object) (b ∷ []) s s' fs t t' h k = listed-one b s s' t t' h.1 k.1
-shows-one (Lint object) (b ∷ []) s s' fs t t' h k = linted-one b s s' t t' h.1 k.1
-shows-one (Check report) (b ∷ []) s s' fs t t' h k = checked-one b s s' t t' h.1 k.1
-shows-one (Gen seed size) [] s s' fs t t' h k = (h.1 ∙ sym k.1, generated-one seed size t t' h.2 k.2)
-shows-one _ _ s s' fs t t' h k = absurd h
+unfit-end : (p : ProgramTree) (store : ℕ) (e : Refusal) → IsUnfit p store e → IsEndOf p (refusal_status e)
+unfit-end p store (SourceLarge n) h = above n (form_bound p) h.0.2.large h.1
+unfit-end p store Unbuilt h = h.1.1
+unfit-end p store (StoreFull n) h = tt
+unfit-end p store _ h = absurd h
+
+pub made-end : (c : Command) (bs : List (List ℕ)) (s : Status) (fs : List File) (t : List ℕ) → Makes c bs s fs t → CanMake c bs → CanEnd c bs s
+made-end (Compile source object store) (b ∷ []) s fs t h k = (h.compiled.program, h.compiled.is_source, subst (IsEndOf h.compiled.program) (sym h.done) tt)
+made-end (Asm input object) (b ∷ []) s fs t h k = h.done
+made-end _ _ s fs t h k = absurd k
+
+pub refused-end : (c : Command) (bs : List (List ℕ)) (e : Refusal) → Refuses c bs e → CanMake c bs → CanEnd c bs (refusal_status e)
+refused-end (Compile source object store) (b ∷ []) e (inl h) k = absurd (source-good b e k.0 k.1 h)
+refused-end (Compile source object store) (b ∷ []) e (inr h) k = (h.0, h.1, unfit-end h.0 store e h.2)
+refused-end (Asm input object) (b ∷ []) e h k = absurd (assembly-good b e k.c k.code h)
+refused-end _ _ e h k = absurd k
 
 -- the statuses of what is made
 outcome-is : (o : Outcome) → IsOutcome (outcome_status o)
@@ -278,7 +275,7 @@ outcome-is (outcome.Fault m a) = tt
 outcome-is outcome.Going = tt
 
 pub makes-outcome : (c : Command) (bs : List (List ℕ)) (s : Status) (fs : List File) (t : List ℕ) → Makes c bs s fs t → IsOutcome s
-makes-outcome (Compile source object) (b ∷ []) s fs t h = subst IsOutcome (sym h.done) tt
+makes-outcome (Compile source object store) (b ∷ []) s fs t h = subst IsOutcome (sym h.done) tt
 makes-outcome (Run object memory steps) (b ∷ g ∷ []) s fs t h = subst IsOutcome (sym h.1.ends) (outcome-is (engine h.1.c h.1.arguments spill_base h.1.packet steps).outcome)
 makes-outcome (Exec source memory calls) (b ∷ g ∷ []) s fs t h = subst IsOutcome (sym h.1.ends) (outcome-is (meaning h.1.program h.1.arguments h.1.packet calls).outcome)
 makes-outcome (Asm input object) (b ∷ []) s fs t h = subst IsOutcome (sym h.done) tt
@@ -290,7 +287,7 @@ makes-outcome _ _ s fs t h = absurd h
 
 -- a file is saved only by what is done
 pub makes-kept : (c : Command) (bs : List (List ℕ)) (s : Status) (fs : List File) (t : List ℕ) → Makes c bs s fs t → (s ≡ Done) ⊎ (fs ≡ [])
-makes-kept (Compile source object) (b ∷ []) s fs t h = inl h.done
+makes-kept (Compile source object store) (b ∷ []) s fs t h = inl h.done
 makes-kept (Run object memory steps) (b ∷ g ∷ []) s fs t h = inr h.0
 makes-kept (Exec source memory calls) (b ∷ g ∷ []) s fs t h = inr h.0
 makes-kept (Asm input object) (b ∷ []) s fs t h = inl h.done
@@ -310,12 +307,9 @@ lint-unread b (ReadFault name) f (inl h) = h
 lint-unread b (ReadFault name) f (inr h) = h.2
 lint-unread b _ f h = absurd f
 
-unbuilt-unread : (e : Refusal) → IsFault e → e ≡ Unbuilt → ⊥
-unbuilt-unread e f is = subst IsFault is f
-
 pub refuses-unread : (e : Refusal) (c : Command) (bs : List (List ℕ)) → IsFault e → Refuses c bs e → ⊥
-refuses-unread (ReadFault name) (Compile source object) (b ∷ []) f (inl h) = h
-refuses-unread (ReadFault name) (Compile source object) (b ∷ []) f (inr h) = unbuilt-unread (ReadFault name) tt h.0
+refuses-unread (ReadFault name) (Compile source object store) (b ∷ []) f (inl h) = h
+refuses-unread (ReadFault name) (Compile source object store) (b ∷ []) f (inr h) = h.2
 refuses-unread (ReadFault name) (Run object memory steps) (b ∷ g ∷ []) f (inl h) = lint-unread b (ReadFault name) tt h
 refuses-unread (ReadFault name) (Run object memory steps) (b ∷ g ∷ []) f (inr h) = h.2.1
 refuses-unread (ReadFault name) (Exec source memory calls) (b ∷ g ∷ []) f (inl h) = h
@@ -324,5 +318,6 @@ refuses-unread (ReadFault name) (Asm input object) (b ∷ []) f h = h
 refuses-unread (ReadFault name) (Dis object) (b ∷ []) f h = h
 refuses-unread (ReadFault name) (Lint object) (b ∷ []) f h = lint-unread b (ReadFault name) tt h
 refuses-unread (ReadFault name) (Check report) (b ∷ []) f h = h
+refuses-unread (ReadFault name) (Gen seed size) [] f h = h.2
 refuses-unread (ReadFault name) _ _ f h = h
 refuses-unread _ c bs f h = absurd f

@@ -8,14 +8,13 @@ use Rattle.nova_front.specs.Sources.{IsTypedSource, IsCause}
 use Rattle.nova_front.specs.declared.error.FrontError.{FrontError}
 use Rattle.nova_front.specs.declared.error.FrontError.TheVariants as front
 use Rattle.nova_front.proofs.OneSource.{source-program, cause-one, cause-none}
-use Rattle.novac.specs.FirstForm.{HasFirstForm}
-use Rattle.novac.specs.Headline.{HasProgram, IsUnbuilt, CompileRefuses}
+use Rattle.novac.specs.Headline.{IsUnfit, CompileRefuses}
 use Rattle.novac.specs.Lines.{IsUncaused}
 use Rattle.novac.specs.Reading.{SourceRefuses}
-use Rattle.novac.specs.Building.{IsFirstCause}
-use Rattle.novac.specs.inner.Telling.{IsFaulty, IsToldAs, IsPassedAs}
-use Rattle.novac.specs.declared.build.FirstError.{FirstError}
-use Rattle.novac.specs.declared.build.FirstError.TheVariants as first
+use Rattle.novac.specs.Building.{IsTextCause, IsFormCause, IsSpilledCause}
+use Rattle.novac.specs.inner.Telling.{IsToldAs, IsPassedAs}
+use Rattle.novac.specs.declared.build.SpilledError.{SpilledError}
+use Rattle.novac.specs.declared.build.SpilledError.TheVariants as spilled
 use Rattle.novac.specs.declared.refusal.Refusal.{Refusal}
 use Rattle.novac.specs.declared.refusal.Refusal.TheVariants.{NoMemory, SourceChar, SourceNumber, SourceName, SourceSyntax, SourceDeep, SourceType, SourceLarge}
 
@@ -63,118 +62,97 @@ source-good bytes e p s h =
     let w = why bytes e h in
     cause-none bytes w.cause p s w.caused
 
-pub compile-one : (bytes : List ℕ) (e e' : Refusal) → CompileRefuses bytes e → CompileRefuses bytes e' → e ≡ e'
-compile-one bytes e e' (inl h) (inl k) = source-one bytes e e' h k
-compile-one bytes e e' (inl h) (inr k) = absurd (source-good bytes e k.1.program k.1.is_source h)
-compile-one bytes e e' (inr h) (inl k) = absurd (source-good bytes e' h.1.program h.1.is_source k)
-compile-one bytes e e' (inr h) (inr k) = h.0 ∙ sym k.0
-
-pub compile-good : (bytes : List ℕ) (e : Refusal) → HasProgram bytes → CompileRefuses bytes e → ⊥
-compile-good bytes e g (inl h) = source-good bytes e g.program g.is_source h
-compile-good bytes e g (inr h) =
-    let same = source-program bytes g.program h.1.program g.is_source.is_source h.1.is_source.is_source in
-    h.1.other_form (subst HasFirstForm same g.first_form)
-
 -- what the error says is why the command refuses
-pub pass-faulty : (bytes : List ℕ) (error : FirstError) (e : Refusal) → IsFaulty bytes error → IsToldAs error e → IsUncaused e ⊎ SourceRefuses bytes e
-pass-faulty bytes first.NoMemory e h is = inl (subst IsUncaused (sym is) tt)
-pass-faulty bytes (first.Text text.NoMemory) e h is = absurd h
-pass-faulty bytes (first.Text (text.Char at)) e h is = inr (subst (SourceRefuses bytes) (sym is) h)
-pass-faulty bytes (first.Text (text.Number at)) e h is = inr (subst (SourceRefuses bytes) (sym is) h)
-pass-faulty bytes (first.Text (text.Name at)) e h is = inr (subst (SourceRefuses bytes) (sym is) h)
-pass-faulty bytes (first.Text (text.Syntax at)) e h is = inr (subst (SourceRefuses bytes) (sym is) h)
-pass-faulty bytes (first.Text (text.Deep at)) e h is = inr (subst (SourceRefuses bytes) (sym is) h)
-pass-faulty bytes (first.Fault kind place) e h is = inr (subst (SourceRefuses bytes) (sym is) h)
-pass-faulty bytes (first.TooLarge size) e h is = inr (subst (SourceRefuses bytes) (sym is) h)
-pass-faulty bytes first.Unbuilt e h is = absurd h
+none-told : (error : SpilledError) (e : Refusal) → error ≡ spilled.NoMemory → IsToldAs error e → IsUncaused e
+none-told error e none is =
+    let told : e ≡ NoMemory = subst (λ (x : SpilledError). IsToldAs x e) none is in
+    subst IsUncaused (sym told) tt
 
-pub pass-error : (bytes : List ℕ) (error : FirstError) (e : Refusal) → (error ≡ first.NoMemory) ⊎ IsFirstCause bytes error → IsToldAs error e → IsUncaused e ⊎ CompileRefuses bytes e
-pass-error bytes error e (inl none) is =
-    let told : e ≡ NoMemory = subst (λ (x : FirstError). IsToldAs x e) none is in
-    inl (subst IsUncaused (sym told) tt)
-pass-error bytes first.NoMemory e (inr h) is = absurd h
-pass-error bytes (first.Text text.NoMemory) e (inr h) is = absurd h
-pass-error bytes (first.Text (text.Char at)) e (inr h) is = inr (inl (subst (SourceRefuses bytes) (sym is) h))
-pass-error bytes (first.Text (text.Number at)) e (inr h) is = inr (inl (subst (SourceRefuses bytes) (sym is) h))
-pass-error bytes (first.Text (text.Name at)) e (inr h) is = inr (inl (subst (SourceRefuses bytes) (sym is) h))
-pass-error bytes (first.Text (text.Syntax at)) e (inr h) is = inr (inl (subst (SourceRefuses bytes) (sym is) h))
-pass-error bytes (first.Text (text.Deep at)) e (inr h) is = inr (inl (subst (SourceRefuses bytes) (sym is) h))
-pass-error bytes (first.Fault kind place) e (inr h) is = inr (inl (subst (SourceRefuses bytes) (sym is) h))
-pass-error bytes (first.TooLarge size) e (inr h) is = inr (inl (subst (SourceRefuses bytes) (sym is) h))
-pass-error bytes first.Unbuilt e (inr h) is = inr (inr (is, h))
+text-told : (bytes : List ℕ) (error : SpilledError) (e : Refusal) → IsTextCause bytes error → IsToldAs error e → SourceRefuses bytes e
+text-told bytes (spilled.Text text.NoMemory) e h is = absurd h
+text-told bytes (spilled.Text (text.Char at)) e h is = subst (SourceRefuses bytes) (sym is) h
+text-told bytes (spilled.Text (text.Number at)) e h is = subst (SourceRefuses bytes) (sym is) h
+text-told bytes (spilled.Text (text.Name at)) e h is = subst (SourceRefuses bytes) (sym is) h
+text-told bytes (spilled.Text (text.Syntax at)) e h is = subst (SourceRefuses bytes) (sym is) h
+text-told bytes (spilled.Text (text.Deep at)) e h is = subst (SourceRefuses bytes) (sym is) h
+text-told bytes (spilled.Fault kind place) e h is = subst (SourceRefuses bytes) (sym is) h
+text-told bytes (spilled.TooLarge size) e h is = subst (SourceRefuses bytes) (sym is) h
+text-told bytes spilled.NoMemory e h is = absurd h
+text-told bytes (spilled.TooFew n) e h is = absurd h
+text-told bytes (spilled.StoreFull n) e h is = absurd h
 
-text-caused : (f : TextError) → front.Text f ≡ front.NoMemory → ⊥
-text-caused f h = cc
+form-told : (p : ProgramTree) (store : ℕ) (error : SpilledError) (e : Refusal) → IsFormCause p store error → IsToldAs error e → IsUnfit p store e
+form-told p store (spilled.TooLarge n) e h is = subst (IsUnfit p store) (sym is) h
+form-told p store (spilled.TooFew n) e h is = subst (IsUnfit p store) (sym is) (n, h)
+form-told p store (spilled.StoreFull n) e h is = subst (IsUnfit p store) (sym is) h
+form-told p store spilled.NoMemory e h is = absurd h
+form-told p store (spilled.Text f) e h is = absurd h
+form-told p store (spilled.Fault kind place) e h is = absurd h
 
-fault-caused : (kind : ℕ) (place : Span) → front.Fault kind place ≡ front.NoMemory → ⊥
-fault-caused kind place h = cc
+pub pass-text : (bytes : List ℕ) (error : SpilledError) (e : Refusal) → (error ≡ spilled.NoMemory) ⊎ IsTextCause bytes error → IsToldAs error e → IsUncaused e ⊎ SourceRefuses bytes e
+pass-text bytes error e (inl none) is = inl (none-told error e none is)
+pass-text bytes error e (inr h) is = inr (text-told bytes error e h is)
 
-size-caused : (size : ℕ) → front.TooLarge size ≡ front.NoMemory → ⊥
-size-caused size h = cc
+pub pass-error : (bytes : List ℕ) (store : ℕ) (error : SpilledError) (e : Refusal) → (error ≡ spilled.NoMemory) ⊎ IsSpilledCause bytes store error → IsToldAs error e → IsUncaused e ⊎ CompileRefuses bytes store e
+pass-error bytes store error e (inl none) is = inl (none-told error e none is)
+pass-error bytes store error e (inr (inl h)) is = inr (inl (text-told bytes error e h is))
+pass-error bytes store error e (inr (inr h)) is = inr (inr (h.0, h.1, form-told h.0 store error e h.2 is))
 
 -- what the front end says is passed on
-pub pass-front : (bytes : List ℕ) (error : FrontError) (e : FirstError) → (error ≡ front.NoMemory) ⊎ IsCause bytes error → IsPassedAs error e → IsFaulty bytes e
-pass-front bytes front.NoMemory e h is = subst (IsFaulty bytes) (sym is) tt
-pass-front bytes (front.Text f) e (inr h) is = subst (IsFaulty bytes) (sym is) h
-pass-front bytes (front.Text f) e (inl h) is = absurd (text-caused f h)
-pass-front bytes (front.Fault kind place) e (inr h) is = subst (IsFaulty bytes) (sym is) h
-pass-front bytes (front.Fault kind place) e (inl h) is = absurd (fault-caused kind place h)
-pass-front bytes (front.TooLarge size) e (inr h) is = subst (IsFaulty bytes) (sym is) h
-pass-front bytes (front.TooLarge size) e (inl h) is = absurd (size-caused size h)
+pub front-caused : (bytes : List ℕ) (error : FrontError) (e : SpilledError) → (error ≡ front.NoMemory) ⊎ IsCause bytes error → IsPassedAs error e → (e ≡ spilled.NoMemory) ⊎ IsTextCause bytes e
+front-caused bytes error e (inl none) is = inl (subst (λ (x : FrontError). IsPassedAs x e) none is)
+front-caused bytes front.NoMemory e (inr h) is = absurd h
+front-caused bytes (front.Text f) e (inr h) is = inr (subst (IsTextCause bytes) (sym is) h)
+front-caused bytes (front.Fault kind place) e (inr h) is = inr (subst (IsTextCause bytes) (sym is) h)
+front-caused bytes (front.TooLarge size) e (inr h) is = inr (subst (IsTextCause bytes) (sym is) h)
 
--- why a text has no code is one reason, and none where it has code
-passed : FrontError → FirstError
-passed front.NoMemory = first.NoMemory
-passed (front.Text f) = first.Text f
-passed (front.Fault kind place) = first.Fault kind place
-passed (front.TooLarge size) = first.TooLarge size
+-- why a text has no typed program is one reason, and none where it has one
+passed : FrontError → SpilledError
+passed front.NoMemory = spilled.NoMemory
+passed (front.Text f) = spilled.Text f
+passed (front.Fault kind place) = spilled.Fault kind place
+passed (front.TooLarge size) = spilled.TooLarge size
 
-first-why : (bytes : List ℕ) (e : FirstError) → IsFirstCause bytes e → ((f : FrontError) × IsCause bytes f × (e ≡ passed f)) ⊎ ((e ≡ first.Unbuilt) × IsUnbuilt bytes)
+text-why : (bytes : List ℕ) (e : SpilledError) → IsTextCause bytes e → (f : FrontError) × IsCause bytes f × (e ≡ passed f)
 unfolding passed
-first-why bytes first.NoMemory h = absurd h
-first-why bytes (first.Text f) h = inl (front.Text f, h, refl)
-first-why bytes (first.Fault kind place) h = inl (front.Fault kind place, h, refl)
-first-why bytes (first.TooLarge size) h = inl (front.TooLarge size, h, refl)
-first-why bytes first.Unbuilt h = inr (refl, h)
+text-why bytes (spilled.Text f) h = (front.Text f, h, refl)
+text-why bytes (spilled.Fault kind place) h = (front.Fault kind place, h, refl)
+text-why bytes (spilled.TooLarge size) h = (front.TooLarge size, h, refl)
+text-why bytes spilled.NoMemory h = absurd h
+text-why bytes (spilled.TooFew n) h = absurd h
+text-why bytes (spilled.StoreFull n) h = absurd h
 
-pub first-one : (bytes : List ℕ) (e e' : FirstError) → IsFirstCause bytes e → IsFirstCause bytes e' → e ≡ e'
-first-one bytes e e' h k = elim (first-why bytes e h) [
-  | inl a ↦
-      elim (first-why bytes e' k) [
-        | inl b ↦ a.2 ∙ ap passed (cause-one bytes a.0 b.0 a.1 b.1) ∙ sym b.2
-        | inr b ↦ absurd (cause-none bytes a.0 b.1.program b.1.is_source a.1)
-      ]
-  | inr a ↦
-      elim (first-why bytes e' k) [
-        | inl b ↦ absurd (cause-none bytes b.0 a.1.program a.1.is_source b.1)
-        | inr b ↦ a.0 ∙ sym b.0
-      ]
-]
+text-one : (bytes : List ℕ) (e e' : SpilledError) → IsTextCause bytes e → IsTextCause bytes e' → e ≡ e'
+text-one bytes e e' h k =
+    let a = text-why bytes e h in
+    let b = text-why bytes e' k in
+    a.2 ∙ ap passed (cause-one bytes a.0 b.0 a.1 b.1) ∙ sym b.2
 
-pub first-good : (bytes : List ℕ) (p : ProgramTree) (e : FirstError) → IsTypedSource bytes p → HasFirstForm p → IsFirstCause bytes e → ⊥
-first-good bytes p e s form h = elim (first-why bytes e h) [
-  | inl a ↦ cause-none bytes a.0 p s a.1
-  | inr a ↦
-      let same = source-program bytes p a.1.program s.is_source a.1.is_source.is_source in
-      a.1.other_form (subst HasFirstForm same form)
-]
+pub text-good : (bytes : List ℕ) (p : ProgramTree) (e : SpilledError) → IsTypedSource bytes p → IsTextCause bytes e → ⊥
+text-good bytes p e s h =
+    let a = text-why bytes e h in
+    cause-none bytes a.0 p s a.1
 
 -- so the answer is this program, or this reason
 pub only-program : (bytes : List ℕ) (found p : ProgramTree) → IsTypedSource bytes found → IsTypedSource bytes p → found ≡ p
 only-program bytes found p s r = source-program bytes found p s.is_source r.is_source
 
-pub only-want : (bytes : List ℕ) (p : ProgramTree) (e : FirstError) → IsTypedSource bytes p → HasFirstForm p → (e ≡ first.NoMemory) ⊎ IsFirstCause bytes e → e ≡ first.NoMemory
-only-want bytes p e s form (inl none) = none
-only-want bytes p e s form (inr h) = absurd (first-good bytes p e s form h)
+pub text-want : (bytes : List ℕ) (store : ℕ) (p : ProgramTree) (e : SpilledError) → IsTypedSource bytes p → (e ≡ spilled.NoMemory) ⊎ IsTextCause bytes e → (e ≡ spilled.NoMemory) ⊎ IsFormCause p store e
+text-want bytes store p e s (inl none) = inl none
+text-want bytes store p e s (inr h) = absurd (text-good bytes p e s h)
 
-pub only-cause : (bytes : List ℕ) (f e : FirstError) → IsFirstCause bytes f → (e ≡ first.NoMemory) ⊎ IsFirstCause bytes e → (e ≡ first.NoMemory) ⊎ (e ≡ f)
-only-cause bytes f e h (inl none) = inl none
-only-cause bytes f e h (inr k) = inr (first-one bytes e f k h)
+pub text-cause : (bytes : List ℕ) (store : ℕ) (e : SpilledError) → (e ≡ spilled.NoMemory) ⊎ IsTextCause bytes e → (e ≡ spilled.NoMemory) ⊎ IsSpilledCause bytes store e
+text-cause bytes store e (inl none) = inl none
+text-cause bytes store e (inr h) = inr (inl h)
 
--- the same of what the front end refuses
-pub front-caused : (bytes : List ℕ) (error : FrontError) (e : FirstError) → (error ≡ front.NoMemory) ⊎ IsCause bytes error → IsPassedAs error e → (e ≡ first.NoMemory) ⊎ IsFirstCause bytes e
-front-caused bytes error e (inl none) is = inl (subst (λ (x : FrontError). IsPassedAs x e) none is)
-front-caused bytes front.NoMemory e (inr h) is = absurd h
-front-caused bytes (front.Text f) e (inr h) is = inr (subst (IsFirstCause bytes) (sym is) h)
-front-caused bytes (front.Fault kind place) e (inr h) is = inr (subst (IsFirstCause bytes) (sym is) h)
-front-caused bytes (front.TooLarge size) e (inr h) is = inr (subst (IsFirstCause bytes) (sym is) h)
+pub text-only : (bytes : List ℕ) (f e : SpilledError) → IsTextCause bytes f → (e ≡ spilled.NoMemory) ⊎ IsTextCause bytes e → (e ≡ spilled.NoMemory) ⊎ (e ≡ f)
+text-only bytes f e h (inl none) = inl none
+text-only bytes f e h (inr k) = inr (text-one bytes e f k h)
+
+-- the same of what the back end says of the typed program
+pub form-want : (bytes : List ℕ) (store : ℕ) (p q : ProgramTree) (e : SpilledError) → IsTypedSource bytes p → IsTypedSource bytes q → (e ≡ spilled.NoMemory) ⊎ IsFormCause p store e → (e ≡ spilled.NoMemory) ⊎ IsFormCause q store e
+form-want bytes store p q e s r h = subst (λ (x : ProgramTree). (e ≡ spilled.NoMemory) ⊎ IsFormCause x store e) (only-program bytes p q s r) h
+
+pub form-cause : (bytes : List ℕ) (store : ℕ) (p : ProgramTree) (e : SpilledError) → IsTypedSource bytes p → (e ≡ spilled.NoMemory) ⊎ IsFormCause p store e → (e ≡ spilled.NoMemory) ⊎ IsSpilledCause bytes store e
+form-cause bytes store p e s (inl none) = inl none
+form-cause bytes store p e s (inr h) = inr (inr (p, s, h))

@@ -3,9 +3,9 @@ use Rattle.std.proofs.Common.{◌≡◌, ◌≢◌, ℕ, ◌⊎◌, inl, inr, Li
 use Rattle.std.specs.Prelude.{⊤}
 use Rattle.std.proofs.lemmas.List.{append-nil}
 use Rattle.nv_outside.specs.Holding.{Holding, AppendsFront}
-use Rattle.novac.specs.Answers.{Makes, Refuses, Shows, IsMakeable, IsRefusable, IsCaused, IsDone, IsStopped, IsRefused, Ends, IsPrinted, IsBegun, IsFree, IsOnly}
+use Rattle.novac.specs.Answers.{Makes, CanMake, CanEnd, Refuses, MustRefuse, Shows, IsRefusable, IsCaused, IsDone, IsStopped, IsRefused, Ends, IsPrinted, IsBegun, IsFree, IsOnly}
 use Rattle.novac.specs.Command.{Command, Compile, Run, Exec, Asm, Dis, Lint, Check, Gen, IfCommand, IfCompile, IfGen, ForCommand, SomeFile, outputs_of}
-use Rattle.novac.specs.Generating.{IsGenerated, EndsGenerated}
+use Rattle.novac.specs.Generating.{IsGenerated, GenRefuses, EndsGenerated}
 use Rattle.novac.specs.Headline.{IsCompiled}
 use Rattle.novac.specs.Lines.{IsUncaused, refusal_status, refusal_text, cannot_read, cannot_write}
 use Rattle.novac.specs.Loading.{AreRead, StopsAt, IsUnread, inputs_of}
@@ -13,11 +13,11 @@ use Rattle.novac.specs.Saving.{File, IsSameBut}
 use Rattle.novac.specs.Status.{MaySave}
 use Rattle.novac.specs.inner.Replies.{IsOutcome, HasEnded}
 use Rattle.novac.specs.declared.refusal.Refusal.{Refusal}
-use Rattle.novac.specs.declared.refusal.Refusal.TheVariants.{NoMemory, ReadFault, TooLarge, SourceChar, SourceNumber, SourceName, SourceSyntax, SourceDeep, SourceType, SourceLarge, Syntax, Label, BadObject, BadMemoryText, BadReport, FalseReport, Unlawful, UnlawfulLine, Unbuilt}
+use Rattle.novac.specs.declared.refusal.Refusal.TheVariants.{NoMemory, ReadFault, TooLarge, SourceChar, SourceNumber, SourceName, SourceSyntax, SourceDeep, SourceType, SourceLarge, Syntax, Label, BadObject, BadMemoryText, BadReport, FalseReport, Unlawful, UnlawfulLine, StoreFull, Unbuilt}
 use Rattle.novac.specs.declared.status.Status.{Status}
 use Rattle.novac.specs.declared.status.Status.TheVariants as status
 use Rattle.novac.proofs.Inputs.{contents-one, stopped-read, stops-both, stops-map, unread-long, unread-one, none-long, Never}
-use Rattle.novac.proofs.OneAnswer.{refusal-one, makes-good, can-good, can-one, shows-one, makes-outcome, makes-kept, refuses-unread}
+use Rattle.novac.proofs.OneAnswer.{refusal-one, makes-good, prints-good, prints-one, made-end, refused-end, makes-outcome, makes-kept, refuses-unread}
 use Rattle.novac.proofs.Saves.{cut-output, same-all, nothing-saved, saved-elsewhere, cut-elsewhere, done-compiled}
 
 -- the statuses of refusals
@@ -46,6 +46,7 @@ refusal-is (BadReport n) = tt
 refusal-is FalseReport = tt
 refusal-is (Unlawful p r) = tt
 refusal-is (UnlawfulLine p r) = tt
+refusal-is (StoreFull n) = tt
 refusal-is Unbuilt = tt
 
 -- the sink failed, or the status r of the whole call is that of the command, and its text was printed
@@ -72,15 +73,15 @@ usage-not_write : (r : Status) → r ≡ status.Usage → r ≡ status.WriteFaul
 usage-not_write r d w = let e : status.Usage ≡ status.WriteFault = sym d ∙ w in cc
 
 -- the headline
-compiled-end : (T : Type 0) (old new : Holding) (LR SR : List ℕ → Type 0) (source object : List ℕ) (s : Status) (text : List ℕ) → T → s ≡ status.Done
-    → HasEnded T old new LR SR (Compile source object) s text → IsCompiled old new source object text
-compiled-end T old new LR SR source object s text t d (inl h) = done-compiled T old new source object s text t h
-compiled-end T old new LR SR source object s text t d (inr (inl w)) = absurd (done-not_fault s d w.0)
-compiled-end T old new LR SR source object s text t d (inr (inr h)) = absurd (subst IsRefusal d (refused-is T old new LR (Compile source object) s text h))
+compiled-end : (T : Type 0) (old new : Holding) (LR SR : List ℕ → Type 0) (source object : List ℕ) (store : ℕ) (s : Status) (text : List ℕ) → T → s ≡ status.Done
+    → HasEnded T old new LR SR (Compile source object store) s text → IsCompiled old new source object store text
+compiled-end T old new LR SR source object store s text t d (inl h) = done-compiled T old new source object store s text t h
+compiled-end T old new LR SR source object store s text t d (inr (inl w)) = absurd (done-not_fault s d w.0)
+compiled-end T old new LR SR source object store s text t d (inr (inr h)) = absurd (subst IsRefusal d (refused-is T old new LR (Compile source object store) s text h))
 
 pub compiled : (Tells : Type 0) (old new : Holding) (LR SR : List ℕ → Type 0) (s r : Status) (text before after : List ℕ) (T Failed : Type 0) → Tells → IsTold s r text before after T Failed
     → (o : Option Command) → IfCommand o (λ c. HasEnded Tells old new LR SR c s text) → r ≡ status.Done
-    → IfCompile o (λ source object. (line : List ℕ) × IsCompiled old new source object line × (T → after ≡ before ++ line))
+    → IfCompile o (λ source object store. (line : List ℕ) × IsCompiled old new source object store line × (T → after ≡ before ++ line))
 compiled Tells old new LR SR s r text before after T Failed tells told None a d = tt
 compiled Tells old new LR SR s r text before after T Failed tells told (Some (Run object memory steps)) a d = tt
 compiled Tells old new LR SR s r text before after T Failed tells told (Some (Exec source memory calls)) a d = tt
@@ -89,8 +90,8 @@ compiled Tells old new LR SR s r text before after T Failed tells told (Some (Di
 compiled Tells old new LR SR s r text before after T Failed tells told (Some (Lint object)) a d = tt
 compiled Tells old new LR SR s r text before after T Failed tells told (Some (Check report)) a d = tt
 compiled Tells old new LR SR s r text before after T Failed tells told (Some (Gen seed size)) a d = tt
-compiled Tells old new LR SR s r text before after T Failed tells (inl w) (Some (Compile source object)) a d = absurd (done-not_fault r d w.0)
-compiled Tells old new LR SR s r text before after T Failed tells (inr h) (Some (Compile source object)) a d = (text, compiled-end Tells old new LR SR source object s text tells (sym h.0 ∙ d) a, h.1)
+compiled Tells old new LR SR s r text before after T Failed tells (inl w) (Some (Compile source object store)) a d = absurd (done-not_fault r d w.0)
+compiled Tells old new LR SR s r text before after T Failed tells (inr h) (Some (Compile source object store)) a d = (text, compiled-end Tells old new LR SR source object store s text tells (sym h.0 ∙ d) a, h.1)
 
 -- the line of `gen`
 gen-made : (seed size : ℕ) (bs : List (List ℕ)) (s : Status) (fs : List File) (t : List ℕ) → Makes (Gen seed size) bs s fs t → (s ≡ status.Done) × IsGenerated seed size t
@@ -101,27 +102,38 @@ uncaused-memory : (e : Refusal) → IsUncaused e → refusal_status e ≡ status
 uncaused-memory NoMemory h = refl
 uncaused-memory _ h = absurd h
 
-gen-cause : (T : Type 0) (old : Holding) (R : List ℕ → Type 0) (seed size : ℕ) (e : Refusal) → IsUncaused e ⊎ IsCaused T old R (Gen seed size) e → refusal_status e ≡ status.NoMemory
-gen-cause T old R seed size e (inl u) = uncaused-memory e u
-gen-cause T old R seed size e (inr (inl h)) = absurd h
-gen-cause T old R seed size e (inr (inr h)) = absurd h.2
+gen-why : (seed size : ℕ) (bs : List (List ℕ)) (e : Refusal) → Refuses (Gen seed size) bs e → GenRefuses seed size e
+gen-why seed size [] e h = h
+gen-why seed size (b ∷ bs) e h = absurd h
 
-gen-told : (seed size : ℕ) (s r : Status) (text before after : List ℕ) (T : Type 0) → r ≡ s → (T → after ≡ before ++ text)
-    → (s ≡ status.WriteFault) ⊎ (s ≡ status.NoMemory) ⊎ ((s ≡ status.Done) × IsGenerated seed size text) → EndsGenerated seed size r T before after
+gen-cause : (T : Type 0) (old : Holding) (R : List ℕ → Type 0) (seed size : ℕ) (e : Refusal) → IsUncaused e ⊎ IsCaused T old R (Gen seed size) e → (refusal_status e ≡ status.NoMemory) ⊎ GenRefuses seed size e
+gen-cause T old R seed size e (inl u) = inl (uncaused-memory e u)
+gen-cause T old R seed size e (inr (inl h)) = absurd h
+gen-cause T old R seed size e (inr (inr h)) = inr (gen-why seed size h.0 e h.2)
+
+-- how it ended, before its text was printed
+abbrev pub GenEnd : ℕ → ℕ → Status → List ℕ → Type 0
+GenEnd seed size s text =
+    (s ≡ status.WriteFault) ⊎ (s ≡ status.NoMemory) ⊎ ((s ≡ status.Done) × IsGenerated seed size text) ⊎ ((e : Refusal) × GenRefuses seed size e × (s ≡ refusal_status e) × (text ≡ refusal_text e))
+
+gen-told : (seed size : ℕ) (s r : Status) (text before after : List ℕ) (T : Type 0) → r ≡ s → (T → after ≡ before ++ text) → GenEnd seed size s text → EndsGenerated seed size r T before after
 gen-told seed size s r text before after T e p (inl w) = inl (e ∙ w)
 gen-told seed size s r text before after T e p (inr (inl m)) = inr (inl (e ∙ m))
-gen-told seed size s r text before after T e p (inr (inr d)) = inr (inr (e ∙ d.0, (text, d.1, p)))
+gen-told seed size s r text before after T e p (inr (inr (inl d))) = inr (inr (inl (e ∙ d.0, (text, d.1, p))))
+gen-told seed size s r text before after T e p (inr (inr (inr f))) = inr (inr (inr (f.0, f.1, e ∙ f.2, λ t. p t ∙ ap (λ (x : List ℕ). before ++ x) f.3)))
 
-gen-ended : (T : Type 0) (old new : Holding) (LR SR : List ℕ → Type 0) (seed size : ℕ) (s : Status) (text : List ℕ) → HasEnded T old new LR SR (Gen seed size) s text
-    → (s ≡ status.WriteFault) ⊎ (s ≡ status.NoMemory) ⊎ ((s ≡ status.Done) × IsGenerated seed size text)
-gen-ended T old new LR SR seed size s text (inl h) = inr (inr (gen-made seed size h.contents s h.files text h.makes))
+gen-ended : (T : Type 0) (old new : Holding) (LR SR : List ℕ → Type 0) (seed size : ℕ) (s : Status) (text : List ℕ) → HasEnded T old new LR SR (Gen seed size) s text → GenEnd seed size s text
+gen-ended T old new LR SR seed size s text (inl h) = inr (inr (inl (gen-made seed size h.contents s h.files text h.makes)))
 gen-ended T old new LR SR seed size s text (inr (inl w)) = inl w.0
-gen-ended T old new LR SR seed size s text (inr (inr e)) = inr (inl (e.status_is ∙ gen-cause T old LR seed size e.why e.cause))
+gen-ended T old new LR SR seed size s text (inr (inr h)) = elim (gen-cause T old LR seed size h.why h.cause) [
+  | inl m ↦ inr (inl (h.status_is ∙ m))
+  | inr g ↦ inr (inr (inr (h.why, g, h.status_is, h.text_is)))
+]
 
 pub generated : (Tells : Type 0) (old new : Holding) (LR SR : List ℕ → Type 0) (s r : Status) (text before after : List ℕ) (T Failed : Type 0) → IsTold s r text before after T Failed
     → (o : Option Command) → IfCommand o (λ c. HasEnded Tells old new LR SR c s text) → IfGen o (λ seed size. EndsGenerated seed size r T before after)
 generated Tells old new LR SR s r text before after T Failed told None a = tt
-generated Tells old new LR SR s r text before after T Failed told (Some (Compile source object)) a = tt
+generated Tells old new LR SR s r text before after T Failed told (Some (Compile source object store)) a = tt
 generated Tells old new LR SR s r text before after T Failed told (Some (Run object memory steps)) a = tt
 generated Tells old new LR SR s r text before after T Failed told (Some (Exec source memory calls)) a = tt
 generated Tells old new LR SR s r text before after T Failed told (Some (Asm input object)) a = tt
@@ -134,7 +146,7 @@ generated Tells old new LR SR s r text before after T Failed (inr h) (Some (Gen 
 -- memory failed before anything was printed
 pub memory-generated : (o : Option Command) (before after : List ℕ) (T : Type 0) → IfGen o (λ seed size. EndsGenerated seed size status.NoMemory T before after)
 memory-generated None before after T = tt
-memory-generated (Some (Compile source object)) before after T = tt
+memory-generated (Some (Compile source object store)) before after T = tt
 memory-generated (Some (Run object memory steps)) before after T = tt
 memory-generated (Some (Exec source memory calls)) before after T = tt
 memory-generated (Some (Asm input object)) before after T = tt
@@ -220,18 +232,28 @@ shown-only : (Tells : Type 0) (old new : Holding) (LR SR : List ℕ → Type 0) 
     → IsFree s ⊎ ((s ≡ s') × (t ≡ t'))
 shown-only Tells old new LR SR c s s' t t' tells (inl h) k =
     let same = contents-one Tells old (inputs_of c) h.contents k.0 tells h.read k.1 in
-    inr (shows-one c k.0 s s' h.files t t' (subst (λ (x : List (List ℕ)). Makes c x s h.files t) same h.makes) k.2)
+    inr (prints-one c k.0 s s' h.files t t' (subst (λ (x : List (List ℕ)). Makes c x s h.files t) same h.makes) k.2)
 shown-only Tells old new LR SR c s s' t t' tells (inr (inl h)) k = inl (inr (inl h.0))
 shown-only Tells old new LR SR c s s' t t' tells (inr (inr h)) k =
-    inl (subst IsFree (sym h.status_is) (good-free Tells old LR c h.why k.0 tells k.1 (makes-good c k.0 s' [] t' h.why k.2) h.cause))
+    inl (subst IsFree (sym h.status_is) (good-free Tells old LR c h.why k.0 tells k.1 (prints-good c k.0 s' t' h.why k.2) h.cause))
 
-made-only : (Tells : Type 0) (old new : Holding) (LR SR : List ℕ → Type 0) (c : Command) (s s' : Status) (t : List ℕ) → Tells → HasEnded Tells old new LR SR c s t → IsMakeable c old s' → IsFree s ⊎ (s ≡ s')
-made-only Tells old new LR SR c s s' t tells (inl h) k =
-    let same = contents-one Tells old (inputs_of c) h.contents k.0 tells h.read k.1 in
-    inr (can-one c k.0 s s' h.files t (subst (λ (x : List (List ℕ)). Makes c x s h.files t) same h.makes) k.2)
-made-only Tells old new LR SR c s s' t tells (inr (inl h)) k = inl (inr (inl h.0))
-made-only Tells old new LR SR c s s' t tells (inr (inr h)) k =
-    inl (subst IsFree (sym h.status_is) (good-free Tells old LR c h.why k.0 tells k.1 (can-good c k.0 s' h.why k.2) h.cause))
+-- how a command can end, where all inputs are read and it can make something of their contents
+can-end : (T : Type 0) (old : Holding) (R : List ℕ → Type 0) (c : Command) (e : Refusal) (bs : List (List ℕ)) → T → AreRead ⊤ old (inputs_of c) bs → CanMake c bs → IsUncaused e ⊎ IsCaused T old R c e → IsFree (refusal_status e) ⊎ CanEnd c bs (refusal_status e)
+can-end T old R c e bs t read can (inl u) = inl (uncaused-free e u)
+can-end T old R c e bs t read can (inr (inl h)) = inl (stopped-read T ⊤ (IsFree (refusal_status e)) old (inputs_of c) bs (IsUnread T old R e) tt (λ i u. unread-long T old R e i t u) h read)
+can-end T old R c e bs t read can (inr (inr h)) =
+    let same = contents-one T old (inputs_of c) h.0 bs t h.1 read in
+    inr (refused-end c bs e (subst (λ (x : List (List ℕ)). Refuses c x e) same h.2) can)
+
+made-only : (Tells : Type 0) (old new : Holding) (LR SR : List ℕ → Type 0) (c : Command) (s : Status) (t : List ℕ) (bs : List (List ℕ)) → Tells → HasEnded Tells old new LR SR c s t → AreRead ⊤ old (inputs_of c) bs → CanMake c bs → IsFree s ⊎ CanEnd c bs s
+made-only Tells old new LR SR c s t bs tells (inl h) read can =
+    let same = contents-one Tells old (inputs_of c) h.contents bs tells h.read read in
+    inr (made-end c bs s h.files t (subst (λ (x : List (List ℕ)). Makes c x s h.files t) same h.makes) can)
+made-only Tells old new LR SR c s t bs tells (inr (inl h)) read can = inl (inr (inl h.0))
+made-only Tells old new LR SR c s t bs tells (inr (inr h)) read can = elim (can-end Tells old LR c h.why bs tells read can h.cause) [
+  | inl f ↦ inl (subst IsFree (sym h.status_is) f)
+  | inr e ↦ inr (subst (CanEnd c bs) (sym h.status_is) e)
+]
 
 -- the status and the text, from what they must be where they aren't free
 only : (s r want : Status) (text line before after : List ℕ) (T Failed : Type 0) → IsTold s r text before after T Failed
@@ -254,16 +276,17 @@ only-shown Tells old new LR SR s r text before after T Failed tells told None a 
 only-shown Tells old new LR SR s r text before after T Failed tells told (Some c) a = λ s' t' k.
     only s r s' text t' before after T Failed told (shown-only Tells old new LR SR c s s' text t' tells a k)
 
-told-made : (s r want : Status) (text before after : List ℕ) (T Failed : Type 0) → IsTold s r text before after T Failed → IsFree s ⊎ (s ≡ want) → IsFree r ⊎ (r ≡ want)
-told-made s r want text before after T Failed (inl w) a = inl (inr (inl w.0))
-told-made s r want text before after T Failed (inr h) (inl free) = inl (subst IsFree (sym h.0) free)
-told-made s r want text before after T Failed (inr h) (inr is) = inr (h.0 ∙ is)
+told-made : (s r : Status) (text before after : List ℕ) (T Failed : Type 0) (P : Status → Type 0) → IsTold s r text before after T Failed → IsFree s ⊎ P s → IsFree r ⊎ P r
+told-made s r text before after T Failed P (inl w) a = inl (inr (inl w.0))
+told-made s r text before after T Failed P (inr h) (inl free) = inl (subst IsFree (sym h.0) free)
+told-made s r text before after T Failed P (inr h) (inr p) = inr (subst P (sym h.0) p)
 
 pub only-made : (Tells : Type 0) (old new : Holding) (LR SR : List ℕ → Type 0) (s r : Status) (text before after : List ℕ) (T Failed : Type 0) → Tells → IsTold s r text before after T Failed
-    → (o : Option Command) → IfCommand o (λ c. HasEnded Tells old new LR SR c s text) → IfCommand o (λ c. (s' : Status) → IsMakeable c old s' → IsFree r ⊎ (r ≡ s'))
+    → (o : Option Command) → IfCommand o (λ c. HasEnded Tells old new LR SR c s text)
+    → IfCommand o (λ c. (bs : List (List ℕ)) → AreRead ⊤ old (inputs_of c) bs → CanMake c bs → IsFree r ⊎ CanEnd c bs r)
 only-made Tells old new LR SR s r text before after T Failed tells told None a = tt
-only-made Tells old new LR SR s r text before after T Failed tells told (Some c) a = λ s' k.
-    told-made s r s' text before after T Failed told (made-only Tells old new LR SR c s s' text tells a k)
+only-made Tells old new LR SR s r text before after T Failed tells told (Some c) a = λ bs read can.
+    told-made s r text before after T Failed (CanEnd c bs) told (made-only Tells old new LR SR c s text bs tells a read can)
 
 -- the cause of a read fault
 fault-input : (T : Type 0) (held : Holding) (R : List ℕ → Type 0) (c : Command) (e : Refusal) → refusal_status e ≡ status.ReadFault → IsUncaused e ⊎ IsCaused T held R c e
@@ -289,6 +312,7 @@ fault-input T held R c (BadReport n) is h = absurd cc
 fault-input T held R c FalseReport is h = absurd cc
 fault-input T held R c (Unlawful p r) is h = absurd cc
 fault-input T held R c (UnlawfulLine p r) is h = absurd cc
+fault-input T held R c (StoreFull n) is h = absurd cc
 fault-input T held R c Unbuilt is h = absurd cc
 
 read-end : (Tells : Type 0) (old new : Holding) (LR SR : List ℕ → Type 0) (c : Command) (s : Status) (text : List ℕ) → s ≡ status.ReadFault → HasEnded Tells old new LR SR c s text

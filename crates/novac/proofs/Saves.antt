@@ -31,7 +31,7 @@ saved-only fs f old new is h =
 
 -- a save that failed is of one of the outputs
 pub cut-output : (T : Type 0) (c : Command) (bs : List (List ℕ)) (s : Status) (fs : List File) (t : List ℕ) (old new : Holding) (P : List ℕ → Type 0) → Makes c bs s fs t → IsCut T fs old new P → SomeFile (outputs_of c) P
-cut-output T (Compile source object) (b ∷ []) s fs t old new P h k = (object, (0, omega arith, refl), (cut-only T fs (file object h.object) old new P h.saves k).0)
+cut-output T (Compile source object store) (b ∷ []) s fs t old new P h k = (object, (0, omega arith, refl), (cut-only T fs (file object h.object) old new P h.saves k).0)
 cut-output T (Run object memory steps) (b ∷ g ∷ []) s fs t old new P h k = absurd (subst (λ (x : List File). IsCut T x old new P) h.0 k)
 cut-output T (Exec source memory calls) (b ∷ g ∷ []) s fs t old new P h k = absurd (subst (λ (x : List File). IsCut T x old new P) h.0 k)
 cut-output T (Asm input object) (b ∷ []) s fs t old new P h k = (object, (0, omega arith, refl), (cut-only T fs (file object h.object) old new P h.saves k).0)
@@ -52,7 +52,7 @@ pub nothing-saved : (fs : List File) (old new : Holding) → fs ≡ [] → AreSa
 nothing-saved fs old new is h = subst (λ (x : List File). AreSaved x old new) is h
 
 pub saved-elsewhere : (c : Command) (bs : List (List ℕ)) (s : Status) (fs : List File) (t : List ℕ) (old new : Holding) → Makes c bs s fs t → AreSaved fs old new → IsSameBut (outputs_of c) old new
-saved-elsewhere (Compile source object) (b ∷ []) s fs t old new h k = same-but old new object (saved-only fs (file object h.object) old new h.saves k).elsewhere
+saved-elsewhere (Compile source object store) (b ∷ []) s fs t old new h k = same-but old new object (saved-only fs (file object h.object) old new h.saves k).elsewhere
 saved-elsewhere (Run object memory steps) (b ∷ g ∷ []) s fs t old new h k = same-all [] old new (nothing-saved fs old new h.0 k)
 saved-elsewhere (Exec source memory calls) (b ∷ g ∷ []) s fs t old new h k = same-all [] old new (nothing-saved fs old new h.0 k)
 saved-elsewhere (Asm input object) (b ∷ []) s fs t old new h k = same-but old new object (saved-only fs (file object h.object) old new h.saves k).elsewhere
@@ -63,7 +63,7 @@ saved-elsewhere (Gen seed size) [] s fs t old new h k = same-all [] old new (not
 saved-elsewhere _ _ s fs t old new h k = absurd h
 
 pub cut-elsewhere : (T : Type 0) (c : Command) (bs : List (List ℕ)) (s : Status) (fs : List File) (t : List ℕ) (old new : Holding) (P : List ℕ → Type 0) → T → Makes c bs s fs t → IsCut T fs old new P → IsSameBut (outputs_of c) old new
-cut-elsewhere T (Compile source object) (b ∷ []) s fs t old new P tells h k = same-but old new object ((cut-only T fs (file object h.object) old new P h.saves k).1 tells)
+cut-elsewhere T (Compile source object store) (b ∷ []) s fs t old new P tells h k = same-but old new object ((cut-only T fs (file object h.object) old new P h.saves k).1 tells)
 cut-elsewhere T (Run object memory steps) (b ∷ g ∷ []) s fs t old new P tells h k = absurd (subst (λ (x : List File). IsCut T x old new P) h.0 k)
 cut-elsewhere T (Exec source memory calls) (b ∷ g ∷ []) s fs t old new P tells h k = absurd (subst (λ (x : List File). IsCut T x old new P) h.0 k)
 cut-elsewhere T (Asm input object) (b ∷ []) s fs t old new P tells h k = same-but old new object ((cut-only T fs (file object h.object) old new P h.saves k).1 tells)
@@ -74,9 +74,9 @@ cut-elsewhere T (Gen seed size) [] s fs t old new P tells h k = absurd (subst (�
 cut-elsewhere T _ _ s fs t old new P tells h k = absurd h
 
 -- what `compile` saved is compiled
-compiled-of : (T : Type 0) (old new : Holding) (source object : List ℕ) (bs : List (List ℕ)) (s : Status) (fs : List File) (t : List ℕ)
-    → T → AreRead T old (inputs_of (Compile source object)) bs → Makes (Compile source object) bs s fs t → (T → AreSaved fs old new) → IsCompiled old new source object t
-compiled-of T old new source object (b ∷ []) s fs t tells read h saved = record {
+compiled-of : (T : Type 0) (old new : Holding) (source object : List ℕ) (store : ℕ) (bs : List (List ℕ)) (s : Status) (fs : List File) (t : List ℕ)
+    → T → AreRead T old (inputs_of (Compile source object store)) bs → Makes (Compile source object store) bs s fs t → (T → AreSaved fs old new) → IsCompiled old new source object store t
+compiled-of T old new source object store (b ∷ []) s fs t tells read h saved = record {
   text = b;
   held = read.0.here tells;
   short = read.0.short;
@@ -86,10 +86,10 @@ compiled-of T old new source object (b ∷ []) s fs t tells read h saved = recor
   compiled = h.compiled;
   told = h.told;
 }
-compiled-of T old new source object _ s fs t tells read h saved = absurd h
+compiled-of T old new source object store _ s fs t tells read h saved = absurd h
 
-pub done-compiled : (T : Type 0) (old new : Holding) (source object : List ℕ) (s : Status) (t : List ℕ) → T → IsDone T old new (Compile source object) s t → IsCompiled old new source object t
-done-compiled T old new source object s t tells h = compiled-of T old new source object h.contents s h.files t tells h.read h.makes h.saved
+pub done-compiled : (T : Type 0) (old new : Holding) (source object : List ℕ) (store : ℕ) (s : Status) (t : List ℕ) → T → IsDone T old new (Compile source object store) s t → IsCompiled old new source object store t
+done-compiled T old new source object store s t tells h = compiled-of T old new source object store h.contents s h.files t tells h.read h.makes h.saved
 
 -- what was made is saved, or a save failed
 pub saves-end : (T : Type 0) (old mid new : Holding) (Rises Later : List ℕ → Type 0) (c : Command) (bs : List (List ℕ)) (made s : Status) (fs : List File) (line t : List ℕ)

@@ -5,11 +5,12 @@ use Rattle.novac.specs.Assembly.{AsmMakes, AsmRefuses, HasAssembly, IsListed}
 use Rattle.novac.specs.Command.{Command, Compile, Run, Exec, Asm, Dis, Lint, Check, Gen}
 use Rattle.novac.specs.Checking.{CheckRefuses, IsChecked}
 use Rattle.novac.specs.Executing.{ExecRefuses, IsExecuted}
-use Rattle.novac.specs.Generating.{IsGenerated}
-use Rattle.novac.specs.Headline.{CompileMakes, CompileRefuses, HasProgram}
+use Rattle.novac.specs.Generating.{IsGenerated, GenRefuses}
+use Rattle.novac.specs.Headline.{CompileMakes, CompileRefuses, IsEndOf}
 use Rattle.novac.specs.Lines.{IsUncaused, refusal_status, refusal_text, cannot_write}
 use Rattle.novac.specs.Loading.{AreRead, StopsAt, IsUnread, inputs_of}
 use Rattle.novac.specs.Machine.{IsBadObjectFor, LintRefuses, IsLinted, RunRefuses, IsRun}
+use Rattle.novac.specs.Reading.{HasTyped, SourceRefuses}
 use Rattle.novac.specs.Saving.{File, AreSaved, IsCut}
 use Rattle.novac.specs.declared.refusal.Refusal.{Refusal}
 use Rattle.novac.specs.declared.status.Status.{Status}
@@ -17,7 +18,7 @@ use Rattle.novac.specs.declared.status.Status.TheVariants.{Done, ReadFault, Writ
 
 -- what a command makes of the contents of its inputs: a status, the files that it saves, in this order, and a text
 abbrev pub Makes : Command → List (List ℕ) → Status → List File → List ℕ → Type 0
-Makes (Compile source object) (bytes ∷ []) status files text = CompileMakes bytes object status files text
+Makes (Compile source object store) (bytes ∷ []) status files text = CompileMakes bytes object store status files text
 Makes (Run object memory steps) (bytes ∷ given ∷ []) status files text = (files ≡ []) × IsRun bytes given steps status text
 Makes (Exec source memory calls) (bytes ∷ given ∷ []) status files text = (files ≡ []) × IsExecuted bytes given calls status text
 Makes (Asm input object) (bytes ∷ []) status files text = AsmMakes bytes object status files text
@@ -27,22 +28,49 @@ Makes (Check report) (bytes ∷ []) status files text = (files ≡ []) × IsChec
 Makes (Gen seed size) [] status files text = (files ≡ []) × (status ≡ Done) × IsGenerated seed size text
 Makes _ _ status files text = ⊥
 
--- a command that saves files can make something with this status of the contents of its inputs
-abbrev pub CanMake : Command → List (List ℕ) → Status → Type 0
-CanMake (Compile source object) (bytes ∷ []) status = (status ≡ Done) × HasProgram bytes
-CanMake (Asm input object) (bytes ∷ []) status = (status ≡ Done) × HasAssembly bytes
-CanMake _ _ status = ⊥
+-- what a command makes without a file, of contents that decide it
+abbrev pub Prints : Command → List (List ℕ) → Status → List ℕ → Type 0
+Prints (Run object memory steps) (bytes ∷ given ∷ []) status text = IsRun bytes given steps status text
+Prints (Exec source memory calls) (bytes ∷ given ∷ []) status text = IsExecuted bytes given calls status text
+Prints (Dis object) (bytes ∷ []) status text = IsListed bytes status text
+Prints (Lint object) (bytes ∷ []) status text = IsLinted bytes status text
+Prints (Check report) (bytes ∷ []) status text = IsChecked bytes status text
+Prints _ _ status text = ⊥
+
+-- the contents of the input of a command that saves a file are those of a program, or of code
+abbrev pub CanMake : Command → List (List ℕ) → Type 0
+CanMake (Compile source object store) (bytes ∷ []) = HasTyped bytes (λ _. ⊤)
+CanMake (Asm input object) (bytes ∷ []) = HasAssembly bytes
+CanMake _ _ = ⊥
+
+-- how it ends then
+abbrev pub CanEnd : Command → List (List ℕ) → Status → Type 0
+CanEnd (Compile source object store) (bytes ∷ []) status = HasTyped bytes (λ program. IsEndOf program status)
+CanEnd (Asm input object) (bytes ∷ []) status = status ≡ Done
+CanEnd _ _ status = ⊥
 
 -- the contents of its inputs are why a command is refused
 abbrev pub Refuses : Command → List (List ℕ) → Refusal → Type 0
-Refuses (Compile source object) (bytes ∷ []) e = CompileRefuses bytes e
+Refuses (Compile source object store) (bytes ∷ []) e = CompileRefuses bytes store e
 Refuses (Run object memory steps) (bytes ∷ given ∷ []) e = RunRefuses bytes given e
 Refuses (Exec source memory calls) (bytes ∷ given ∷ []) e = ExecRefuses bytes given e
 Refuses (Asm input object) (bytes ∷ []) e = AsmRefuses bytes e
 Refuses (Dis object) (bytes ∷ []) e = IsBadObjectFor bytes e
 Refuses (Lint object) (bytes ∷ []) e = LintRefuses bytes e
 Refuses (Check report) (bytes ∷ []) e = CheckRefuses bytes e
+Refuses (Gen seed size) [] e = GenRefuses seed size e
 Refuses _ _ e = ⊥
+
+-- the same where the contents alone decide it: why a typed program isn't compiled its form and its code decide
+abbrev pub MustRefuse : Command → List (List ℕ) → Refusal → Type 0
+MustRefuse (Compile source object store) (bytes ∷ []) e = SourceRefuses bytes e
+MustRefuse (Run object memory steps) (bytes ∷ given ∷ []) e = RunRefuses bytes given e
+MustRefuse (Exec source memory calls) (bytes ∷ given ∷ []) e = ExecRefuses bytes given e
+MustRefuse (Asm input object) (bytes ∷ []) e = AsmRefuses bytes e
+MustRefuse (Dis object) (bytes ∷ []) e = IsBadObjectFor bytes e
+MustRefuse (Lint object) (bytes ∷ []) e = LintRefuses bytes e
+MustRefuse (Check report) (bytes ∷ []) e = CheckRefuses bytes e
+MustRefuse _ _ e = ⊥
 
 -- an input isn't read, while those before it are, or all are, and their contents are why
 abbrev pub IsCaused : Type 0 → Holding → (List ℕ → Type 0) → Command → Refusal → Type 0
@@ -95,15 +123,13 @@ pub record IsBegun (Tells : Type 0) (old new : Holding) (LoadRises SaveRises : L
 
 -- the files hold what a command makes this of, without a file that it saves
 abbrev pub Shows : Command → Holding → Status → List ℕ → Type 0
-Shows command held status text = (contents : List (List ℕ)) × AreRead ⊤ held (inputs_of command) contents × Makes command contents status [] text
-
--- they hold what it can make something of, with this status
-abbrev pub IsMakeable : Command → Holding → Status → Type 0
-IsMakeable command held status = (contents : List (List ℕ)) × AreRead ⊤ held (inputs_of command) contents × CanMake command contents status
+Shows command held status text = (contents : List (List ℕ)) × AreRead ⊤ held (inputs_of command) contents × Prints command contents status text
 
 -- they hold why it is refused
 abbrev pub IsRefusable : Command → Holding → Refusal → Type 0
-IsRefusable command held e = IsCaused ⊤ held (λ _. ⊥) command e
+IsRefusable command held e =
+    StopsAt ⊤ held (inputs_of command) (IsUnread ⊤ held (λ _. ⊥) e)
+    ⊎ ((contents : List (List ℕ)) × AreRead ⊤ held (inputs_of command) contents × MustRefuse command contents e)
 
 -- a fault of the files or the sink, or want of memory
 abbrev pub IsFree : Status → Type 0

@@ -1,12 +1,13 @@
 -- Command lines.
-use Rattle.std.specs.Prelude.{ℕ, List, [], ◌∷◌, ◌++◌, Option, Some, None, Vec, String, map, drop, string_bytes, codes, decimal, Bool, not, ◌&&◌, nat_le, if◌then◌else◌, Contains, ⊤, option_map}
+use Rattle.std.specs.Prelude.{ℕ, length, List, [], ◌∷◌, ◌++◌, Option, Some, None, Vec, String, map, drop, string_bytes, codes, decimal, Bool, not, ◌&&◌, nat_le, if◌then◌else◌, Contains, ⊤, option_map}
 use Rattle.std.specs.Global.{Global}
 use Rattle.std.specs.Str.{bytes_eq}
 use Rattle.std.specs.Str.Parse.{digits_value}
+use Rattle.novac.specs.Limits.{store_default, store_limit}
 
 -- a command with what its words name
 pub data Command : Type 0 where
-  Compile : (source object : List ℕ) → Command
+  Compile : (source object : List ℕ) (store : ℕ) → Command
   Run : (object memory : List ℕ) (steps : ℕ) → Command
   Exec : (source memory : List ℕ) (calls : ℕ) → Command
   Asm : (text object : List ℕ) → Command
@@ -27,15 +28,19 @@ is_name a = not (bytes_eq a [])
 abbrev pub are_names : List ℕ → List ℕ → Bool
 are_names a b = is_name a && is_name b && not (bytes_eq a b)
 
--- the word for a number of steps
-abbrev pub steps_word : ℕ → List ℕ
-steps_word n = codes "steps=" ++ decimal n
+-- the number, 1 to `most`, that a word spells behind a key
+abbrev pub option_of : List ℕ → ℕ → List ℕ → Option ℕ
+option_of key most word =
+    let n = digits_value 10 (drop (length key) word) in
+    if bytes_eq word (key ++ decimal n) && nat_le 1 n && nat_le n most then Some n else None
 
--- the number of steps, or of calls, 1 to 100,000,000, that a word is for
+-- the number of steps, or of calls, that a word is for
 abbrev pub steps_of : List ℕ → Option ℕ
-steps_of word =
-    let n = digits_value 10 (drop 6 word) in
-    if bytes_eq word (steps_word n) && nat_le 1 n && nat_le n 100000000 then Some n else None
+steps_of word = option_of (codes "steps=") 100000000 word
+
+-- the number of instructions that a word is for
+abbrev pub store_of : List ℕ → Option ℕ
+store_of word = option_of (codes "store=") store_limit word
 
 -- the number of a range that a word spells
 abbrev pub number_in : ℕ → ℕ → List ℕ → Option ℕ
@@ -64,15 +69,16 @@ command_of_two verb name =
 abbrev pub command_of_three : List ℕ → List ℕ → List ℕ → Option Command
 command_of_three verb input object =
     if bytes_eq verb (codes "gen") then gen_of input object
-    else if bytes_eq verb (codes "compile") && are_names input object then Some (Compile input object)
+    else if bytes_eq verb (codes "compile") && are_names input object then Some (Compile input object store_default)
     else if bytes_eq verb (codes "asm") && are_names input object then Some (Asm input object)
     else None
 
--- run OBJ MEM steps=N, exec SRC MEM steps=N
+-- run OBJ MEM steps=N, exec SRC MEM steps=N, compile SRC OBJ store=N
 abbrev pub command_of_four : List ℕ → List ℕ → List ℕ → List ℕ → Option Command
-command_of_four verb input memory steps =
-    if bytes_eq verb (codes "run") && are_names input memory then option_map (Run input memory) (steps_of steps)
-    else if bytes_eq verb (codes "exec") && are_names input memory then option_map (Exec input memory) (steps_of steps)
+command_of_four verb first second option =
+    if bytes_eq verb (codes "run") && are_names first second then option_map (Run first second) (steps_of option)
+    else if bytes_eq verb (codes "exec") && are_names first second then option_map (Exec first second) (steps_of option)
+    else if bytes_eq verb (codes "compile") && are_names first second then option_map (Compile first second) (store_of option)
     else None
 
 -- the command of a list of words
@@ -84,7 +90,7 @@ command_of _ = None
 
 -- the names of the files that a command saves, in this order
 abbrev pub outputs_of : Command → List (List ℕ)
-outputs_of (Compile source object) = object ∷ []
+outputs_of (Compile source object store) = object ∷ []
 outputs_of (Run object memory steps) = []
 outputs_of (Exec source memory calls) = []
 outputs_of (Asm text object) = object ∷ []
@@ -102,9 +108,9 @@ abbrev pub IfCommand : Option Command → (Command → Type 0) → Type 0
 IfCommand (Some command) P = P command
 IfCommand None P = ⊤
 
--- a fact about the source and the object of `compile`, where the command is that one
-abbrev pub IfCompile : Option Command → (List ℕ → List ℕ → Type 0) → Type 0
-IfCompile (Some (Compile source object)) P = P source object
+-- a fact about the source, the object and the number of instructions of `compile`, where the command is that one
+abbrev pub IfCompile : Option Command → (List ℕ → List ℕ → ℕ → Type 0) → Type 0
+IfCompile (Some (Compile source object store)) P = P source object store
 IfCompile _ P = ⊤
 
 -- a fact about the seed and the size of `gen`, where the command is that one

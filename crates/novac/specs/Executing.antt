@@ -7,14 +7,10 @@ use Rattle.nv_memtext.specs.MemoryText.{Gives}
 use Rattle.nv_meaning.specs.Meaning.{source}
 use Rattle.novac.specs.Machine.{IsMemoryRefusedFor, full_text}
 use Rattle.nova_front.specs.Sources.{IsTypedSource}
-use Rattle.novac.specs.Reading.{SourceRefuses}
+use Rattle.novac.specs.Reading.{HasTyped, SourceRefuses}
 use Rattle.novac.specs.Status.{outcome_status}
 use Rattle.novac.specs.declared.refusal.Refusal.{Refusal}
 use Rattle.novac.specs.declared.status.Status.{Status}
-
--- the text is that of a typed program, not too large, of which this holds
-abbrev pub HasTyped : List ℕ → (ProgramTree → Type 0) → Type 0
-HasTyped text P = (program : ProgramTree) × IsTypedSource text program × P program
 
 -- the source is refused, or else the memory text, for as many words as main takes
 abbrev pub ExecRefuses : List ℕ → List ℕ → Refusal → Type 0

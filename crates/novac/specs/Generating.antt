@@ -1,12 +1,19 @@
--- What the command `gen` prints.
-use Rattle.std.specs.Prelude.{◌≡◌, ◌⊎◌, ℕ, List, [], ◌∷◌, ◌++◌, codes, decimal, length}
+-- What the command `gen` prints, and why it is refused.
+use Rattle.std.specs.Prelude.{◌≡◌, ◌≤◌, ◌⊎◌, ℕ, List, [], ◌∷◌, ◌++◌, codes, decimal, length}
 use Rattle.line_text.specs.Number.{hex_word}
 use Rattle.made_source.specs.Made.{made}
 use Rattle.nv_ast.specs.Tree.{ProgramTree}
 use Rattle.nv_base.specs.Memories.{Memories}
 use Rattle.nv_base.specs.declared.outcome.Outcome.TheVariants.{Ended}
 use Rattle.nv_meaning.specs.Meaning.{source}
+use Rattle.uc_isa.specs.Code.{CodeView}
 use Rattle.nova_front.specs.Sources.{IsTypedSource}
+use Rattle.novac.specs.Forms.{IsCodeFor, HasFittingForm}
+use Rattle.novac.specs.Headline.{IsUnfit}
+use Rattle.novac.specs.Limits.{store_limit}
+use Rattle.novac.specs.Lines.{refusal_status, refusal_text}
+use Rattle.novac.specs.Reading.{HasTyped}
+use Rattle.novac.specs.declared.refusal.Refusal.{Refusal}
 use Rattle.novac.specs.declared.status.Status.{Status}
 use Rattle.novac.specs.declared.status.Status.TheVariants.{Done, WriteFault, NoMemory}
 
@@ -14,19 +21,31 @@ use Rattle.novac.specs.declared.status.Status.TheVariants.{Done, WriteFault, NoM
 abbrev pub MeansWord : ProgramTree → ℕ → Type 0
 MeansWord program word = (p : Memories) (calls : ℕ) → (source program (1 ∷ 2 ∷ []) p calls).outcome ≡ Ended (word ∷ [])
 
--- the seed, the size, the number of bytes and the word
-abbrev pub generated_text : ℕ → ℕ → ℕ → ℕ → List ℕ
-generated_text seed size bytes word = codes "gen " ++ decimal seed ++ codes " " ++ decimal size ++ codes " source " ++ decimal bytes ++ codes " outcome " ++ hex_word word ++ 10 ∷ []
+-- the seed, the size, the number of bytes, the number of instructions and the word
+abbrev pub generated_text : ℕ → ℕ → ℕ → ℕ → ℕ → List ℕ
+generated_text seed size bytes instructions word =
+    codes "gen " ++ decimal seed ++ codes " " ++ decimal size ++ codes " source " ++ decimal bytes ++ codes " length " ++ decimal instructions ++ codes " outcome " ++ hex_word word ++ 10 ∷ []
 
--- the line tells the length of the text that the seed makes, and the word that its program means
+-- the line tells the length of the text that the seed makes, that of a code of its program, and the word that the program means
 pub record IsGenerated (seed size : ℕ) (line : List ℕ) : Type 0 where
   pub program : ProgramTree
   pub is_source : IsTypedSource (made seed size) program
+  pub c : CodeView
+  pub code : IsCodeFor program c
+  pub short : length c.list ≤ store_limit
+  pub fits : HasFittingForm program
   pub word : ℕ
   pub means : MeansWord program word
-  pub told : line ≡ generated_text seed size (length (made seed size)) word
+  pub told : line ≡ generated_text seed size (length (made seed size)) (length c.list) word
 
--- the line was printed, or the sink or memory failed
+-- the program of the text isn't compiled
+abbrev pub GenRefuses : ℕ → ℕ → Refusal → Type 0
+GenRefuses seed size e = HasTyped (made seed size) (λ program. IsUnfit program store_limit e)
+
+-- the line was printed, or why it is refused, or the sink or memory failed
 abbrev pub EndsGenerated : ℕ → ℕ → Status → Type 0 → List ℕ → List ℕ → Type 0
 EndsGenerated seed size status SinkTells before after =
-    (status ≡ WriteFault) ⊎ (status ≡ NoMemory) ⊎ ((status ≡ Done) × ((line : List ℕ) × IsGenerated seed size line × (SinkTells → after ≡ before ++ line)))
+    (status ≡ WriteFault)
+    ⊎ (status ≡ NoMemory)
+    ⊎ ((status ≡ Done) × ((line : List ℕ) × IsGenerated seed size line × (SinkTells → after ≡ before ++ line)))
+    ⊎ ((e : Refusal) × GenRefuses seed size e × (status ≡ refusal_status e) × (SinkTells → after ≡ before ++ refusal_text e))

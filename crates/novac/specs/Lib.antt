@@ -1,4 +1,3 @@
-pub mod FirstForm
 pub mod Status
 pub mod Lines
 pub mod Command
@@ -6,6 +5,7 @@ pub mod Limits
 pub mod Loading
 pub mod Saving
 pub mod Reading
+pub mod Forms
 pub mod Headline
 pub mod Building
 pub mod Machine

@@ -1,4 +1,4 @@
--- How many bytes the files that commands read may have.
+-- How many bytes the files that commands read may have, and how many instructions code may have.
 use Rattle.std.specs.Prelude.{ℕ}
 
 -- a source
@@ -20,3 +20,10 @@ assembly_limit = 67108864
 -- a report
 abbrev pub report_limit : ℕ
 report_limit = 67108864
+
+-- how many instructions code may have: where the words of `compile` don't say it, and the most that they can say
+abbrev pub store_default : ℕ
+store_default = 2048
+
+abbrev pub store_limit : ℕ
+store_limit = 1048576

@@ -4,7 +4,7 @@ use Rattle.nv_ast.specs.declared.token.Span.{Span}
 use Rattle.novac.specs.declared.status.Status.{Status}
 use Rattle.novac.specs.declared.status.Status.TheVariants as status
 use Rattle.novac.specs.declared.refusal.Refusal.{Refusal}
-use Rattle.novac.specs.declared.refusal.Refusal.TheVariants.{NoMemory, ReadFault, TooLarge, SourceChar, SourceNumber, SourceName, SourceSyntax, SourceDeep, SourceType, SourceLarge, Syntax, Label, BadObject, BadMemoryText, BadReport, FalseReport, Unlawful, UnlawfulLine, Unbuilt}
+use Rattle.novac.specs.declared.refusal.Refusal.TheVariants.{NoMemory, ReadFault, TooLarge, SourceChar, SourceNumber, SourceName, SourceSyntax, SourceDeep, SourceType, SourceLarge, Syntax, Label, BadObject, BadMemoryText, BadReport, FalseReport, Unlawful, UnlawfulLine, StoreFull, Unbuilt}
 
 -- a text and a name
 abbrev pub named : List ℕ → List ℕ → List ℕ
@@ -53,6 +53,7 @@ refusal_text (BadReport n) = counted (codes "report line ") n
 refusal_text FalseReport = codes "report refused" ++ 10 ∷ []
 refusal_text (Unlawful place rule) = ruled (codes "unlawful place ") place rule
 refusal_text (UnlawfulLine n rule) = ruled (codes "unlawful line ") n rule
+refusal_text (StoreFull n) = counted (codes "store ") n
 refusal_text Unbuilt = codes "unbuilt" ++ 10 ∷ []
 
 -- the status of a command that isn't done
@@ -75,6 +76,7 @@ refusal_status (BadReport n) = status.CertificateRefused
 refusal_status FalseReport = status.CertificateRefused
 refusal_status (Unlawful place rule) = status.Unlawful
 refusal_status (UnlawfulLine n rule) = status.Unlawful
+refusal_status (StoreFull n) = status.StoreFull
 refusal_status Unbuilt = status.Unbuilt
 
 -- memory ran out, which has no cause that is told

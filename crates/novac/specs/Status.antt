@@ -3,7 +3,7 @@ use Rattle.std.specs.Prelude.{ℕ}
 use Rattle.nv_base.specs.declared.outcome.Outcome.{Outcome}
 use Rattle.nv_base.specs.declared.outcome.Outcome.TheVariants as outcome
 use Rattle.novac.specs.declared.status.Status.{Status}
-use Rattle.novac.specs.declared.status.Status.TheVariants.{Done, Usage, ReadFault, WriteFault, NoMemory, Syntax, TypeFault, TooLarge, BadObject, BadMemoryText, Raised, Fault, StepsSpent, CertificateRefused, Unlawful, Unbuilt}
+use Rattle.novac.specs.declared.status.Status.TheVariants.{Done, Usage, ReadFault, WriteFault, NoMemory, Syntax, TypeFault, TooLarge, StoreFull, BadObject, BadMemoryText, Raised, Fault, StepsSpent, CertificateRefused, Unlawful, Unbuilt}
 
 -- the numbers of the statuses
 abbrev pub status_number : Status → ℕ
@@ -15,6 +15,7 @@ status_number NoMemory = 5
 status_number Syntax = 6
 status_number TypeFault = 7
 status_number TooLarge = 8
+status_number StoreFull = 11
 status_number BadObject = 12
 status_number BadMemoryText = 13
 status_number Raised = 14

@@ -1,5 +1,3 @@
-pub mod Forming
-pub mod Sum
 pub mod Telling
 pub mod Contents
 pub mod Replies

@@ -1,8 +1,10 @@
 //! The words of a command line.
 ghost use Rattle.std.specs.Prelude.{◌≡◌, ◌≤◌, None, Some, IfSome, IfNone};
-ghost use Rattle.novac.specs.Command.{command_of, command_of_two, command_of_three, command_of_four, gen_of, number_in, steps_of, texts_of};
+ghost use Rattle.novac.specs.Command.{command_of, command_of_two, command_of_three, command_of_four, gen_of, number_in, option_of, texts_of};
+ghost use Rattle.novac.specs.Command.{are_names as names_differ};
 ghost use Rattle.novac.specs.inner.Words.{command_as, HasLimits};
 
+use crate::limits::{DEFAULT_STORE, MOST_STORE};
 use line_text::read_decimal;
 
 /// The most steps, or calls, of a run.
@@ -17,8 +19,8 @@ const MOST_LINES: u64 = 500;
 /// A command with what its words name.
 #[derive(Clone, Copy, Debug, PartialEq, Eq)]
 pub enum Command<'a> {
-    /// Source, object.
-    Compile(&'a str, &'a str),
+    /// Source, object, number of instructions.
+    Compile(&'a str, &'a str, u32),
     /// Object, memory text, number of steps.
     Run(&'a str, &'a str, u64),
     /// Source, memory text, number of calls.
@@ -86,7 +88,7 @@ fn of_three<'a>(verb: &'a str, input: &'a str, object: &'a str) -> Option<Comman
     } else if input.is_empty() || object.is_empty() || input == object {
         None
     } else if verb == "compile" {
-        Some(Command::Compile(input, object))
+        Some(Command::Compile(input, object, DEFAULT_STORE))
     } else if verb == "asm" {
         Some(Command::Asm(input, object))
     } else {
@@ -116,27 +118,39 @@ fn number_in(word: &str, least: u64, most: u64) -> Option<u64>
     if n < least { None } else { Some(n) }
 }
 
-// `run OBJ MEM steps=N` and `exec SRC MEM steps=N`.
+// Whether neither file name is empty, and the two differ.
+fn are_names(a: &str, b: &str) -> bool
+    ensures { result ≡ names_differ a.now b.now }
+{
+    !a.is_empty() && !b.is_empty() && a != b
+}
+
+// `run OBJ MEM steps=N`, `exec SRC MEM steps=N` and `compile SRC OBJ store=N`.
 fn of_four<'a>(
     verb: &'a str,
-    input: &'a str,
-    memory: &'a str,
-    steps: &'a str,
+    first: &'a str,
+    second: &'a str,
+    option: &'a str,
 ) -> Option<Command<'a>>
-    ensures some { IfSome result (λ c. command_of_four verb.now input.now memory.now steps.now ≡ Some (command_as c)) }
-    ensures none { IfNone result (command_of_four verb.now input.now memory.now steps.now ≡ None) }
+    ensures some { IfSome result (λ c. command_of_four verb.now first.now second.now option.now ≡ Some (command_as c)) }
+    ensures none { IfNone result (command_of_four verb.now first.now second.now option.now ≡ None) }
     ensures limits { IfSome result HasLimits }
 {
-    if input.is_empty() || memory.is_empty() || input == memory {
+    if !are_names(first, second) {
         None
     } else if verb == "run" {
-        match steps_in(steps) {
-            Some(n) => Some(Command::Run(input, memory, n)),
+        match option_in(option, "steps=", MOST_STEPS) {
+            Some(n) => Some(Command::Run(first, second, n)),
             None => None,
         }
     } else if verb == "exec" {
-        match steps_in(steps) {
-            Some(n) => Some(Command::Exec(input, memory, n)),
+        match option_in(option, "steps=", MOST_STEPS) {
+            Some(n) => Some(Command::Exec(first, second, n)),
+            None => None,
+        }
+    } else if verb == "compile" {
+        match option_in(option, "store=", MOST_STORE as u64) {
+            Some(n) => Some(Command::Compile(first, second, n as u32)),
             None => None,
         }
     } else {
@@ -144,13 +158,13 @@ fn of_four<'a>(
     }
 }
 
-// The number of `steps=N`.
-fn steps_in(word: &str) -> Option<u64>
-    ensures some { IfSome result (λ n. steps_of word.now ≡ Some n) }
-    ensures none { IfNone result (steps_of word.now ≡ None) }
-    ensures most { IfSome result (λ n. n ≤ 100000000) }
+// The number from 1 to `most` that the word spells behind a key.
+fn option_in(word: &str, key: &str, most: u64) -> Option<u64>
+    ensures some { IfSome result (λ n. option_of key.now most word.now ≡ Some n) }
+    ensures none { IfNone result (option_of key.now most word.now ≡ None) }
+    ensures most { IfSome result (λ n. n ≤ most) }
 {
-    let spelling = word.strip_prefix("steps=")?;
-    let n = read_decimal(spelling.as_bytes(), MOST_STEPS)?;
+    let spelling = word.strip_prefix(key)?;
+    let n = read_decimal(spelling.as_bytes(), most)?;
     if n == 0 { None } else { Some(n) }
 }

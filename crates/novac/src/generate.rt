@@ -1,37 +1,45 @@
 //! The command `gen`.
-ghost use Rattle.std.specs.Prelude.{◌≡◌, ◌≤◌, IfOk, IfErr};
+ghost use Rattle.std.specs.Prelude.{◌≡◌, ◌≤◌, ◌⊎◌, IfOk, IfErr};
 ghost use Rattle.nv_ast.specs.TypedView.{typed_program};
-ghost use Rattle.novac.specs.Generating.{MeansWord, IsGenerated, generated_text};
+ghost use Rattle.novac.specs.Forms.{IsCodeFor};
+ghost use Rattle.novac.specs.Generating.{MeansWord, IsGenerated, GenRefuses, generated_text};
 ghost use Rattle.novac.specs.Lines.{IsUncaused};
 ghost use Rattle.novac.specs.declared.status.Status.{Status};
-ghost use Rattle.novac.specs.inner.Generated.{HasWord};
+ghost use Rattle.novac.specs.inner.Generated.{HasWord, AreWord};
 
-use crate::execute::source_of;
+use crate::build::SpilledText;
+use crate::compile::compiled_of;
+use crate::limits::{MOST_STORE, SPILL_BASE};
 use crate::refusal::Refusal;
 use crate::reply::Reply;
 use crate::status::Status;
 use line_text::{push_decimal, push_word};
 use made_source::made_text;
 use nv_ast::Typed;
-use nv_base::{NoMemory, Outcome, Packet, WriteLog};
+use nv_base::{Mem, NoMemory, Outcome, Packet, Words, WriteLog};
 use nv_meaning::exec;
 use std::alloc::Global;
+use uc_isa::Engine;
+use uc_sim::simulate;
 
-/// The most calls of the run; a made source makes none.
-const CALLS: u64 = 100_000_000;
+/// The most steps of the run of the code, and the most calls of that of the source.
+const STEPS: u64 = 100_000_000;
 
-/// Makes the source of a seed, runs its program on the arguments 1 and 2, and tells its length and the word.
+/// Makes the source of a seed, compiles it, runs its code on the arguments 1 and 2, and tells how long both are and the
+/// word.
 pub fn generate<'a>(alloc: Global, seed: u32, size: u32) -> Result<Reply, Refusal<'a>>
     requires some { 1 ≤ size }
     requires few { size ≤ 500 }
     ensures generated { IfOk result (λ r. IsGenerated seed size r.text.items) }
     ensures done { IfOk result (λ r. r.status ≡ Status.Done) }
-    ensures refused { IfErr result IsUncaused }
+    ensures refused { IfErr result (λ e. IsUncaused e ⊎ GenRefuses seed size e) }
 {
     let source = made_text(alloc, seed, size)?;
-    let program = source_of(alloc, &source)?;
-    let word = word_of(alloc, &program)?;
-    let text = line_of(alloc, seed, size, source.len() as u64, word)?;
+    let compiled = compiled_of(alloc, &source, MOST_STORE)?;
+    let word = word_of(alloc, &compiled)?;
+    let bytes = source.len() as u64;
+    let instructions = compiled.built.code.list().len() as u64;
+    let text = line_of(alloc, seed, size, bytes, instructions, word)?;
     Ok(Reply {
         status: Status::Done,
         text,
@@ -39,25 +47,65 @@ pub fn generate<'a>(alloc: Global, seed: u32, size: u32) -> Result<Reply, Refusa
 }
 
 // The word that a program comes to on the arguments 1 and 2, without words of SRAM and SDRAM.
-fn word_of(alloc: Global, program: &Typed) -> Result<u32, NoMemory>
-    requires { HasWord (typed_program program.now) }
-    ensures { IfOk result (MeansWord (typed_program program.now)) }
+fn word_of(alloc: Global, t: &SpilledText) -> Result<u32, NoMemory>
+    requires word { HasWord (typed_program t.now.typed) }
+    requires code { IsCodeFor (typed_program t.now.typed) t.now.built.code }
+    ensures { IfOk result (MeansWord (typed_program t.now.typed)) }
 {
-    let mut packet = match Packet::new(alloc, 0, 0) {
-        Ok(packet) => packet,
-        Err(_) => return Err(NoMemory),
-    };
+    let words = code_words(alloc, t)?;
+    Ok(words.list()[0])
+}
+
+// The words with which its code ends; where that takes more steps than are given, those with which its source does.
+fn code_words(alloc: Global, t: &SpilledText) -> Result<Words, NoMemory>
+    requires word { HasWord (typed_program t.now.typed) }
+    requires code { IsCodeFor (typed_program t.now.typed) t.now.built.code }
+    ensures { IfOk result (AreWord (typed_program t.now.typed)) }
+{
+    let code = &t.built.code;
+    // The check has to be told that the code has an instruction, and of the memories' sizes.
+    let _list = code.list();
+    let mut packet = empty(alloc)?;
+    let _size = packet.size(Mem::Sram);
+    let mut engine = Engine::start(&[1, 2], SPILL_BASE);
     let mut log = WriteLog::new(alloc, 0)?;
-    let outcome = exec(alloc, program, &[1, 2], &mut packet, &mut log, CALLS)?;
-    match outcome {
-        Outcome::Ended(words) => Ok(words.list()[0]),
+    match simulate(code, &mut engine, &mut packet, &mut log, STEPS) {
+        Outcome::Ended(words) => Ok(words),
+        _ => source_words(alloc, &t.typed),
+    }
+}
+
+// The words with which a program ends.
+fn source_words(alloc: Global, t: &Typed) -> Result<Words, NoMemory>
+    requires { HasWord (typed_program t.now) }
+    ensures { IfOk result (AreWord (typed_program t.now)) }
+{
+    let mut packet = empty(alloc)?;
+    let mut log = WriteLog::new(alloc, 0)?;
+    match exec(alloc, t, &[1, 2], &mut packet, &mut log, STEPS)? {
+        Outcome::Ended(words) => Ok(words),
         _ => unreachable!(),
     }
 }
 
-// The line of a seed, a size, a number of bytes and a word.
-fn line_of(alloc: Global, seed: u32, size: u32, bytes: u64, word: u32) -> Result<Vec<u8>, NoMemory>
-    ensures { IfOk result (λ out. out.items ≡ generated_text seed size bytes word) }
+// Memories without words of SRAM and SDRAM.
+fn empty(alloc: Global) -> Result<Packet, NoMemory> {
+    match Packet::new(alloc, 0, 0) {
+        Ok(packet) => Ok(packet),
+        Err(_) => Err(NoMemory),
+    }
+}
+
+// The line of a seed, a size, a number of bytes, one of instructions, and a word.
+fn line_of(
+    alloc: Global,
+    seed: u32,
+    size: u32,
+    bytes: u64,
+    instructions: u64,
+    word: u32,
+) -> Result<Vec<u8>, NoMemory>
+    ensures { IfOk result (λ out. out.items ≡ generated_text seed size bytes instructions word) }
 {
     let mut out = Vec::new(alloc);
     out.extend_from_slice(b"gen ")?;
@@ -66,6 +114,8 @@ fn line_of(alloc: Global, seed: u32, size: u32, bytes: u64, word: u32) -> Result
     push_decimal(&mut out, u64::from(size))?;
     out.extend_from_slice(b" source ")?;
     push_decimal(&mut out, bytes)?;
+    out.extend_from_slice(b" length ")?;
+    push_decimal(&mut out, instructions)?;
     out.extend_from_slice(b" outcome ")?;
     push_word(&mut out, word)?;
     out.push(b'\n')?;

@@ -5,9 +5,7 @@ mod assemble;
 mod build;
 mod command;
 mod compile;
-mod emit;
 mod execute;
-mod form;
 mod generate;
 mod limits;
 mod lint;
@@ -20,13 +18,12 @@ mod report;
 mod save;
 mod simulate;
 mod status;
-mod sum;
 #[cfg(test)]
 mod tests;
 mod top;
 mod work;
 
-pub use build::{First, FirstError, compile_first};
+pub use build::{SpilledError, SpilledText, compile_spilled};
 use nv_base::NoMemory;
 use nv_outside::{DiskFiles, StdSink};
 pub use status::Status;

@@ -30,8 +30,8 @@ pub enum Refusal<'a> {
     SourceDeep(u32),
     /// The kind of the first fault of a source's types, and where it lies.
     SourceType(u8, Span),
-    /// The expanded size of a source's program, which is over 4,096.
-    SourceLarge(u32),
+    /// The expanded size of a source's program, which is over 4,096, or the size of its form in single use, over 2^20.
+    SourceLarge(u64),
     /// The first line of an assembly text that isn't of its form, counted from 1.
     Syntax(u32),
     /// The first line of an assembly text with a label that is declared before, or nowhere.
@@ -48,7 +48,9 @@ pub enum Refusal<'a> {
     Unlawful(u32, u8),
     /// The first line of an assembly text whose instruction isn't lawful, and the least rule that it breaks.
     UnlawfulLine(u32, u8),
-    /// The source's program isn't of the form that is compiled so far.
+    /// The number of instructions of a source's code, more than were allowed.
+    StoreFull(u32),
+    /// More values of a source's program are held at once than there are slots.
     Unbuilt,
 }
 
@@ -89,6 +91,7 @@ impl<'a> Refusal<'a> {
             Refusal::BadMemoryText(_) => Status::BadMemoryText,
             Refusal::BadReport(_) | Refusal::FalseReport => Status::CertificateRefused,
             Refusal::Unlawful(_, _) | Refusal::UnlawfulLine(_, _) => Status::Unlawful,
+            Refusal::StoreFull(_) => Status::StoreFull,
             Refusal::Unbuilt => Status::Unbuilt,
         }
     }
@@ -107,7 +110,7 @@ impl<'a> Refusal<'a> {
             Refusal::SourceSyntax(at) => counted_line(alloc, b"syntax syntax at ", u64::from(at)),
             Refusal::SourceDeep(at) => counted_line(alloc, b"syntax deep at ", u64::from(at)),
             Refusal::SourceType(kind, span) => type_line(alloc, kind, span),
-            Refusal::SourceLarge(n) => counted_line(alloc, b"too large ", u64::from(n)),
+            Refusal::SourceLarge(n) => counted_line(alloc, b"too large ", n),
             Refusal::Syntax(n) => counted_line(alloc, b"syntax text line ", u64::from(n)),
             Refusal::Label(n) => counted_line(alloc, b"syntax label line ", u64::from(n)),
             Refusal::BadObject(n) => counted_line(alloc, b"object ", u64::from(n)),
@@ -116,6 +119,7 @@ impl<'a> Refusal<'a> {
             Refusal::FalseReport => line(alloc, b"report refused"),
             Refusal::Unlawful(n, rule) => ruled_line(alloc, b"unlawful place ", n, rule),
             Refusal::UnlawfulLine(n, rule) => ruled_line(alloc, b"unlawful line ", n, rule),
+            Refusal::StoreFull(n) => counted_line(alloc, b"store ", u64::from(n)),
             Refusal::Unbuilt => line(alloc, b"unbuilt"),
         }
     }

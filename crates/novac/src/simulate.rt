@@ -9,6 +9,7 @@ ghost use Rattle.novac.specs.Machine.{RunRefuses, IsMemoryRefusedFor, IsRun, spi
 ghost use Rattle.novac.specs.Status.{outcome_status};
 ghost use Rattle.novac.specs.inner.Replies.{IsOutcome};
 
+use crate::limits::SPILL_BASE;
 use crate::object::{check_lawful, code_of};
 use crate::refusal::Refusal;
 use crate::reply::Reply;
@@ -18,9 +19,6 @@ use nv_memtext::{Job, MemError, print_outcome, read_memory};
 use std::alloc::Global;
 use uc_isa::{Code, Engine};
 use uc_sim::simulate;
-
-/// The first scratch word that code may use for itself.
-const SPILL_BASE: u32 = 512;
 
 /// How many writes are kept and shown.
 pub const SHOWN_WRITES: u32 = 64;

@@ -19,8 +19,10 @@ pub enum Status {
     Syntax,
     /// A source's program has a fault of its types.
     TypeFault,
-    /// An input has more bytes than its limit, or a source's program or a memory a size above its limit.
+    /// An input has more bytes than its limit, or a source's program, its form or a memory a size above its limit.
     TooLarge,
+    /// The code has more instructions than were allowed.
+    StoreFull,
     /// The bytes aren't an object.
     BadObject,
     /// A memory text isn't of its form.
@@ -35,7 +37,7 @@ pub enum Status {
     CertificateRefused,
     /// The code isn't lawful.
     Unlawful,
-    /// The source's program isn't of the form that is compiled so far.
+    /// More values of a source's program are held at once than there are slots.
     Unbuilt,
 }
 
@@ -53,6 +55,7 @@ impl Status {
             Status::Syntax => 6,
             Status::TypeFault => 7,
             Status::TooLarge => 8,
+            Status::StoreFull => 11,
             Status::BadObject => 12,
             Status::BadMemoryText => 13,
             Status::Raised => 14,

@@ -1,14 +1,14 @@
 //! The top call.
-ghost use Rattle.std.specs.Prelude.{◌≡◌, ◌≢◌, ◌⊎◌, ◌++◌, ℕ, List, None, IfOk, IfErr, OnErr};
+ghost use Rattle.std.specs.Prelude.{◌≡◌, ◌≢◌, ◌⊎◌, ◌++◌, ℕ, List, None, IfOk, IfErr, OnErr, ⊤};
 ghost use Rattle.nv_outside.specs.Causes.{Rose};
 ghost use Rattle.nv_outside.specs.Holding.{AppendsFront};
-ghost use Rattle.novac.specs.Answers.{Shows, Ends, IsCaused, IsDone, IsStopped, IsMakeable, IsRefusable, IsPrinted, IsBegun, IsFree, IsOnly};
+ghost use Rattle.novac.specs.Answers.{Shows, Ends, IsCaused, IsDone, IsStopped, CanMake, CanEnd, IsRefusable, IsPrinted, IsBegun, IsFree, IsOnly};
 ghost use Rattle.novac.specs.Command.{command_of, texts_of, outputs_of, SomeFile, IfCommand, IfCompile, IfGen, ForCommand};
 ghost use Rattle.novac.specs.Generating.{EndsGenerated};
 ghost use Rattle.novac.specs.inner.Words.{command_as, HasLimits};
 ghost use Rattle.novac.specs.Headline.{IsCompiled};
 ghost use Rattle.novac.specs.Lines.{IsUncaused, usage_text, cannot_read, cannot_write, refusal_status, refusal_text};
-ghost use Rattle.novac.specs.Loading.{inputs_of, StopsAt};
+ghost use Rattle.novac.specs.Loading.{AreRead, inputs_of, StopsAt};
 ghost use Rattle.novac.specs.Saving.{IsSameBut};
 ghost use Rattle.novac.specs.Status.{MaySave};
 ghost use Rattle.novac.specs.inner.Replies.{IsEnd, HasEnded};
@@ -30,14 +30,14 @@ use std::alloc::Global;
 ///
 /// | Words | |
 /// |---|---|
-/// | `compile SRC OBJ` | saves the object of the code of the source SRC |
+/// | `compile SRC OBJ [store=N]` | saves the object of the code of the source SRC, of at most N instructions: 1 to 1,048,576, or 2,048 |
 /// | `run OBJ MEM steps=N` | takes 1 to 100,000,000 steps of OBJ's code on the memory text MEM, and prints the outcome |
 /// | `exec SRC MEM steps=N` | runs the program of SRC with 1 to 100,000,000 calls on the memory text MEM, and prints the outcome |
 /// | `asm TEXT OBJ` | saves the object of the code of the assembly text TEXT |
 /// | `dis OBJ` | prints the listing of OBJ's code |
 /// | `lint OBJ` | prints whether OBJ's code is lawful |
 /// | `check REPORT` | checks a report by itself, and prints its verdict |
-/// | `gen SEED SIZE` | makes a source of 1 to 500 lines from a seed of 32 bits, runs it, and prints its length and its word |
+/// | `gen SEED SIZE` | makes a source of 1 to 500 lines from a seed of 32 bits, compiles it, runs the code, and prints how long both are and the word |
 ///
 /// Sources have at most 262,144 bytes, objects 8,388,620, memory texts 4 MiB, assembly texts and reports 64 MiB.
 pub fn run<F: Files, K: Sink>(
@@ -47,10 +47,10 @@ pub fn run<F: Files, K: Sink>(
     out: &mut K,
 ) -> Status
     // The headline: what `compile` saved is lawful code that does what the source says.
-    ensures compiled { F.tells → result ≡ Status.Done → IfCompile (command_of (texts_of words.now)) (λ source object. (line : List ℕ) × IsCompiled (F.held files.old) (F.held files.new) source object line × (K.tells → K.written out.new ≡ K.written out.old ++ line)) }
+    ensures compiled { F.tells → result ≡ Status.Done → IfCompile (command_of (texts_of words.now)) (λ source object store. (line : List ℕ) × IsCompiled (F.held files.old) (F.held files.new) source object store line × (K.tells → K.written out.new ≡ K.written out.old ++ line)) }
 
-    // What `gen` prints: the length of the text that the seed makes, and the word that its program means. Only the sink and
-    // memory keep it from that.
+    // What `gen` prints: the length of the text that the seed makes, that of lawful code that does what its program says, and
+    // the word that the program means; or why the program isn't compiled. Only the sink and memory keep it from that.
     ensures generated { IfGen (command_of (texts_of words.now)) (λ seed size. EndsGenerated seed size result K.tells (K.written out.old) (K.written out.new)) }
 
     // What the command made of the contents of its inputs and saved, or why it is refused, and the text that was printed. A
@@ -61,10 +61,11 @@ pub fn run<F: Files, K: Sink>(
     // of this one. Or else the print failed: then all that the command saves has its whole bytes, or no file changed.
     ensures begun { result ≡ Status.WriteFault → IfCommand (command_of (texts_of words.now)) (λ c. IsBegun F.tells (F.held files.old) (F.held files.new) (λ q. Rose (F.load_faults files.old q) (F.load_faults files.new q)) (λ q. Rose (F.save_faults files.old q) (F.save_faults files.new q)) c (Rose (K.faults out.old) (K.faults out.new)) K.tells (K.written out.old) (K.written out.new)) }
 
-    // The other way: what the files hold decides the status and the text; of a command that saves files, the status.
+    // The other way: what the files hold decides the status and the text; of a command that saves files, the statuses with
+    // which it can end.
     ensures only_refused { F.tells → IfCommand (command_of (texts_of words.now)) (λ c. (e : Refusal) → IsRefusable c (F.held files.old) e → IsOnly result (refusal_status e) K.tells (K.written out.old) (K.written out.new) (refusal_text e)) }
     ensures only_shown { F.tells → IfCommand (command_of (texts_of words.now)) (λ c. (status : Status) (text : List ℕ) → Shows c (F.held files.old) status text → IsOnly result status K.tells (K.written out.old) (K.written out.new) text) }
-    ensures only_made { F.tells → IfCommand (command_of (texts_of words.now)) (λ c. (status : Status) → IsMakeable c (F.held files.old) status → IsFree result ⊎ (result ≡ status)) }
+    ensures only_made { F.tells → IfCommand (command_of (texts_of words.now)) (λ c. (contents : List (List ℕ)) → AreRead ⊤ (F.held files.old) (inputs_of c) contents → CanMake c contents → IsFree result ⊎ CanEnd c contents result) }
 
     ensures usage { result ≡ Status.Usage → command_of (texts_of words.now) ≡ None }
     ensures only_usage { command_of (texts_of words.now) ≡ None → (result ≡ Status.Usage) ⊎ (result ≡ Status.WriteFault) ⊎ (result ≡ Status.NoMemory) }

@@ -36,7 +36,7 @@ pub fn work<'a>(
     ensures refused { IfErr result (λ e. IsUncaused e ⊎ Refuses (command_as command.entry) (contents_of (command_as command.entry) inputs.now.first.items inputs.now.second.items) e) }
 {
     match command {
-        Command::Compile(_, object) => compile_bytes(alloc, &inputs.first, object),
+        Command::Compile(_, object, store) => { compile_bytes(alloc, &inputs.first, object, store) }
         Command::Run(_, _, steps) => {
             shown(run_bytes(alloc, &inputs.first, &inputs.second, steps))
         }

@@ -12,3 +12,16 @@ pub mod Fitting
 pub mod Slotted
 pub mod Covering
 pub mod Homes
+pub mod Recovered
+pub mod Walked
+pub mod Seen
+pub mod Valued
+pub mod Ruled
+pub mod Loops
+pub mod Pointed
+pub mod Decided
+pub mod Gathering
+pub mod Named
+pub mod Short
+pub mod Joined
+pub mod PartSteps

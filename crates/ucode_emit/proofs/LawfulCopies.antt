@@ -1,10 +1,10 @@
 -- How many places values are copied to: for each value its banks and its early words, and for all values together no more than a form is large.
-use Rattle.std.proofs.Common.{◌≡◌, ℕ, zero, suc, ◌+◌, ◌*◌, ◌≤◌, ◌<◌, nat_eq, Bool, true, false, not, ◌&&◌, List, [], ◌∷◌, ◌++◌, map, filter, length, Option, Some, None, if◌then◌else◌, refl, sym, ap, ◌∙◌, subst, ⊎_elim, arith}
+use Rattle.std.proofs.Common.{◌≡◌, ℕ, suc, ◌+◌, ◌*◌, ◌≤◌, nat_eq, Bool, true, false, not, List, [], ◌∷◌, ◌++◌, map, filter, length, Option, Some, None, if◌then◌else◌, refl, ap, ◌∙◌, subst, ⊎_elim, arith}
 use Rattle.std.proofs.lemmas.Bool.{and_parts, or_parts, not-true, cases_Bool}
 use Rattle.nv_base.specs.Sets.{is_in, all_different}
 use Rattle.nv_base.proofs.Sets.{same-number}
 use Rattle.ssu_ir.specs.Tree.{Label}
-use Rattle.ssu_ir.specs.Points.{Point, points}
+use Rattle.ssu_ir.specs.Points.{Point}
 use Rattle.ssu_ir.specs.Measures.{point_size, total}
 use Rattle.place_ir.specs.declared.place.Place.{Place}
 use Rattle.place_ir.specs.declared.place.Place.TheVariants.{A, B, Slot}
@@ -97,14 +97,14 @@ sum_bound f g (x ∷ xs) e = omega (arith, e x, sum_bound f g xs e)
 
 -- ---- each use is of one value
 
-abbrev one_if : Bool → ℕ
+abbrev pub one_if : Bool → ℕ
 one_if true = 1
 one_if false = 0
 
 abbrev one_at : ℕ → ℕ → ℕ
 one_at v x = one_if (nat_eq v x)
 
-more_if : (b : Bool) (u : Use) (us : List Use) → length (if b then u ∷ us else us) ≡ one_if b + length us
+pub more_if : (b : Bool) (u : Use) (us : List Use) → length (if b then u ∷ us else us) ≡ one_if b + length us
 more_if true u us = omega arith
 more_if false u us = omega arith
 

@@ -23,7 +23,7 @@ use zo_cert::{Cert, CertNode, Fixed};
 use zo_model::{Assignment, NoMemory, ZeroOne};
 
 /// So many terms of rows are visited in the rounds of one search; after that nodes are closed without multipliers.
-const WORK_LIMIT: u64 = 600_000_000;
+const WORK_LIMIT: u64 = 300_000_000;
 
 /// What a search found, with its tree.
 #[derive(Debug, Drop)]

@@ -32,6 +32,12 @@ pub record IsNamed (σ : Names) (x : ℕ) (a : Atom) (τ : Names) : Type 0 where
 pub record AreNamed (σ : Names) (xs : List ℕ) (τ : Names) : Type 0 where
   pub at : (y : ℕ) → τ y ≡ (if is_in y xs then Var y else σ y)
 
+-- ---- what is answered
+
+-- the answers for primitives that may stand in a program
+abbrev pub Counted : Answers → Answers
+Counted A p a = HasPrimCount p × A p a
+
 -- ---- the whole way
 
 -- all variables that a tree uses, its own among them

@@ -1,8 +1,17 @@
--- Programs that mean a word.
-use Rattle.std.specs.Prelude.{ℕ}
+-- Programs that mean a word, and code of theirs.
+use Rattle.std.specs.Prelude.{◌≡◌, ℕ, List, [], ◌∷◌}
+use Rattle.nv_ast.specs.Sizes.{main_words}
 use Rattle.nv_ast.specs.Tree.{ProgramTree}
+use Rattle.uc_isa.specs.Code.{CodeView}
+use Rattle.novac.specs.Forms.{IsCodeFor}
 use Rattle.novac.specs.Generating.{MeansWord}
 
--- the program means some word on the arguments 1 and 2
-abbrev pub HasWord : ProgramTree → Type 0
-HasWord program = (word : ℕ) × MeansWord program word
+-- the program takes two words, and means some word on the arguments 1 and 2
+pub record HasWord (program : ProgramTree) : Type 0 where
+  pub two : main_words program ≡ 2
+  pub word : ℕ
+  pub means : MeansWord program word
+
+-- these are the one word that the program means
+abbrev pub AreWord : ProgramTree → List ℕ → Type 0
+AreWord program words = (word : ℕ) × (words ≡ word ∷ []) × MeansWord program word

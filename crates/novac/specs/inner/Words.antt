@@ -6,7 +6,7 @@ use Rattle.novac.specs.declared.command.Command.TheVariants as spoken
 
 -- a command without where its names lie
 abbrev pub command_as : Spoken → Command
-command_as (spoken.Compile source object) = Compile source.now object.now
+command_as (spoken.Compile source object store) = Compile source.now object.now store
 command_as (spoken.Run object memory steps) = Run object.now memory.now steps
 command_as (spoken.Exec source memory calls) = Exec source.now memory.now calls
 command_as (spoken.Asm text object) = Asm text.now object.now

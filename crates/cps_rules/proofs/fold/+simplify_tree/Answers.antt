@@ -5,7 +5,7 @@ use Rattle.cps_rules.proofs.fold.+simplify_tree.Goals as goal
 
 pub spine-preserved-in-Let : goal.spine-preserved-in-Let
 spine-preserved-in-Let g t c =
-    along_let c.in-Let.x c.in-Let.p _ _ _ _ _ (λ p q a. g.met.R.Rewrite.sound c.args.r.now p q c.requires.ready a) c.spine.invariant c.in-Let.is c.deref-cur.ensures c.in_ok-fold_let-in-Let.ensures
+    along_let c.in-Let.x c.in-Let.p _ _ _ _ _ (λ p q a. g.met.R.Rewrite.sound c.args.r.now p q c.requires.ready a.0 a.1) c.spine.invariant c.in-Let.is c.deref-cur.ensures c.in_ok-fold_let-in-Let.ensures
 
 pub spine-preserved-in-Read : goal.spine-preserved-in-Read
 spine-preserved-in-Read g t c =
@@ -19,7 +19,7 @@ spine-preserved-in-Write g t c =
 
 pub spine-preserved : goal.spine-preserved
 spine-preserved g t c =
-    along_if c.in-If.c c.in-If.a c.in-If.b c.renamed-x.result c.renamed-y.result _ _ _ _ c.deref-in-If-3.result.now _ c.in_ok-u-in-If.u _ _ _ (λ p q a. g.met.R.Rewrite.sound c.args.r.now p q c.requires.ready a) c.spine.invariant c.in-If.is c.deref-in-If-3.ensures c.deref-cur-in-If.ensures
+    along_if c.in-If.c c.in-If.a c.in-If.b c.renamed-x.result c.renamed-y.result _ _ _ _ c.deref-in-If-3.result.now _ c.in_ok-u-in-If.u _ _ _ (λ p q a. g.met.R.Rewrite.sound c.args.r.now p q c.requires.ready a.0 a.1) c.spine.invariant c.in-If.is c.deref-in-If-3.ensures c.deref-cur-in-If.ensures
     (renamed_at c.in-If.a c.renamed-x.ensures c.deref-in-If.ensures.value) (renamed_at c.in-If.b c.renamed-y.ensures c.deref-in-If-2.ensures.value) c.in_ok-u-in-If.ensures c.in_ok-push-in-If.ensures.items
 
 pub joined-requires-clause-firsts : goal.joined-requires-clause-firsts

@@ -1,8 +1,8 @@
 use Rattle.cps_rules.specs.inner.Marked.{is_marked}
-use Rattle.cps_rules.specs.inner.Way.{look}
+use Rattle.cps_rules.specs.inner.Way.{Counted, look}
 use Rattle.cps_rules.proofs.Along.{Along}
 use Rattle.cps_rules.proofs.fold.+simplify_tree.Given as goal
 
 abbrev pub invariant-spine : goal.invariant-spine
 invariant-spine g l =
-    Along (g.R.Rewrite.answers l.r) l.t (look l.initial.names.items) (is_marked l.initial.marks) l.cur (look l.names.items) (is_marked l.marks) l.steps.items
+    Along (Counted (g.R.Rewrite.answers l.r)) l.t (look l.initial.names.items) (is_marked l.initial.marks) l.cur (look l.names.items) (is_marked l.marks) l.steps.items

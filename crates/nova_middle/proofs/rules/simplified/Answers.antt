@@ -6,13 +6,13 @@ use Rattle.nova_middle.proofs.Whole.{if_ok_both}
 use Rattle.nova_middle.proofs.rules.simplified.Goals as goal
 
 pub new-values-requires-clause-sound : goal.new-values-requires-clause-sound
-new-values-requires-clause-sound c = λ p q h. value_sound p q (let e : value_rule p ≡ Some q = search rules in e)
+new-values-requires-clause-sound c = λ p q count h. value_sound p q count (let e : value_rule p ≡ Some q = search rules in e)
 
 pub new-operands-requires-clause-sound : goal.new-operands-requires-clause-sound
-new-operands-requires-clause-sound c = λ p q h. operand_sound p q (let e : operand_rule p ≡ Some q = search rules in e)
+new-operands-requires-clause-sound c = λ p q count h. operand_sound p q (let e : operand_rule p ≡ Some q = search rules in e)
 
 pub new-nothings-requires-clause-sound : goal.new-nothings-requires-clause-sound
-new-nothings-requires-clause-sound c = λ p q h. nothing_sound p q (let e : nothing_rule p ≡ Some q = search rules in e)
+new-nothings-requires-clause-sound c = λ p q count h. nothing_sound p q (let e : nothing_rule p ≡ Some q = search rules in e)
 
 pub returns-clause-rules : goal.returns-clause-rules
 returns-clause-rules c =

@@ -16,3 +16,9 @@ returns-in-Check-clause-refused c =
     let report = subst (λ (bytes : List ℕ). IfErr c.check_bytes.result (λ e. IsUncaused e ⊎ CheckRefuses bytes e)) c.deref-in-Check.ensures.value c.check_bytes.ensures.refused in
     shown-refused c.check_bytes.result c.shown-in-Check.result (Why c.args.command) c.shown-in-Check.ensures
     (subst (λ (x : Spoken). IfErr c.check_bytes.result (Why x)) (sym c.in-Check.is) report)
+
+pub returns-in-Gen-clause-refused : goal.returns-in-Gen-clause-refused
+returns-in-Gen-clause-refused c =
+    let first : List ℕ = c.args.inputs.now.first.items in
+    let Why : Spoken → Refusal → Type 0 = λ x e. IsUncaused e ⊎ Refuses (command_as x) (contents_of (command_as x) first c.args.inputs.now.second.items) e in
+    shown-refused c.generate.result c.shown-in-Gen.result (Why c.args.command) c.shown-in-Gen.ensures (subst (λ (x : Spoken). IfErr c.generate.result (Why x)) (sym c.in-Gen.is) c.generate.ensures.refused)

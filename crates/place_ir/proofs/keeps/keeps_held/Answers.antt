@@ -1,0 +1,13 @@
+use Rattle.std.proofs.Common.{◌∙◌, sym, ap}
+use Rattle.ssu_ir.specs.View.{labels_view}
+use Rattle.place_ir.specs.Plan.{home_view, plan_view}
+use Rattle.place_ir.specs.inner.Checks as checks
+use Rattle.place_ir.specs.inner.Checks.{use_view}
+use Rattle.place_ir.proofs.Loops.{all-miss, all-more}
+use Rattle.place_ir.proofs.keeps.keeps_held.Goals as goal
+
+pub returns-then-not-held_fits : goal.returns-then-not-held_fits
+returns-then-not-held_fits c = all-miss (λ h. checks.held_fits (labels_view c.args.s.now) (plan_view c.args.p.now) c.args.k h.var) home_view c.args.p.now.homes.items _ _ _ (home_view c.h-item.result) c.deref-h-items.ensures.value c.loop-h-test.true (ap home_view c.h-item.is) (sym c.held_fits.ensures ∙ c.if-not-held_fits.true)
+
+pub loop-h-preserved : goal.loop-h-preserved
+loop-h-preserved c = all-more (λ h. checks.held_fits (labels_view c.args.s.now) (plan_view c.args.p.now) c.args.k h.var) home_view c.args.p.now.homes.items _ _ _ (home_view c.h-item.result) c.deref-h-items.ensures.value c.loop-h-test.true c.loop-h.invariant (ap home_view c.h-item.is) (sym c.held_fits.ensures ∙ c.if-not-held_fits.false)

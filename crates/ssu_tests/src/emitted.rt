@@ -1,0 +1,63 @@
+// Code of small forms whose values stand in slots.
+
+use crate::sum::sum;
+use nv_base::{Cmp, NoMemory, Vars};
+use place_ir::{PlaceError, spill_all};
+use ssu_ir::{Ssu, SsuBuild, SsuLabel, SsuNode, single, size};
+use std::alloc::Global;
+use uc_isa::{Code, Cond, Dst, Instr, RegA, RegS, Src, UnOp};
+use ucode_emit::emit;
+
+// Ends with exception 1 where two parameters are equal, else with exception 2.
+fn test(alloc: Global) -> Result<Ssu, NoMemory> {
+    let params = Vec::from_array(alloc, [0, 1])?;
+    let mut b = SsuBuild::new(alloc);
+    let other = b.add(SsuNode::Halt(2, Vars::new(alloc)))?;
+    let same = b.add(SsuNode::Halt(1, Vars::new(alloc)))?;
+    let body = b.add(SsuNode::If(Cmp::Eq, 0, 1, same, other))?;
+    let labels = Vec::from_array(alloc, [SsuLabel { params, body }])?;
+    Ok(b.finish(labels))
+}
+
+// The code of a form, where it is one in single use.
+fn code_of(alloc: Global, s: &Ssu) -> Result<Option<Code>, PlaceError> {
+    if !single(s) || size(alloc, s)? > 100 {
+        return Ok(None);
+    }
+    let placement = spill_all(alloc, s, 8)?;
+    Ok(Some(emit(alloc, s, &placement)?))
+}
+
+// Parameters go by S0 to their slots, operands come by a read register, one of them on to A15, and the sum
+// goes by a write register to its slot, and from there to A0.
+#[test]
+fn a_sum_has_twelve_instructions(rt: HostRuntime) -> Result<(), PlaceError> {
+    let s = sum(rt.alloc())?;
+    let code = code_of(rt.alloc(), &s)?;
+    assert_eq!(rt; code.as_ref().map(|c| c.list().len()), Some(12));
+    assert_eq!(rt;
+        code.as_ref().and_then(|c| c.list().first()).copied(),
+        Some(Instr::Un {
+            dst: Dst::S(RegS { number: 0 }),
+            op: UnOp::Copy,
+            x: Src::A(RegA { number: 0 }),
+        })
+    );
+    Ok(())
+}
+
+// A comparison goes to its second arm, which stands behind the first.
+#[test]
+fn a_branch_has_the_place_of_its_arm(rt: HostRuntime) -> Result<(), PlaceError> {
+    let s = test(rt.alloc())?;
+    let code = code_of(rt.alloc(), &s)?;
+    assert_eq!(rt; code.as_ref().map(|c| c.list().len()), Some(11));
+    assert_eq!(rt;
+        code.as_ref().and_then(|c| c.list().get(8)).copied(),
+        Some(Instr::Br {
+            cond: Cond::NZ,
+            target: 10,
+        })
+    );
+    Ok(())
+}

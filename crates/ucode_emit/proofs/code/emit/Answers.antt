@@ -1,0 +1,34 @@
+use Rattle.std.proofs.Common.{◌≤◌, [], length, sym, ◌∙◌, subst}
+use Rattle.uc_isa.specs.Lawful.{IsLawful}
+use Rattle.uc_isa.specs.Moves.{moves}
+use Rattle.ssu_ir.specs.Measures.{code_bound}
+use Rattle.ssu_ir.specs.View.{labels_view}
+use Rattle.place_ir.specs.Costs.{cost}
+use Rattle.place_ir.specs.Plan.{plan_view}
+use Rattle.ucode_emit.specs.inner.Drafted.{AreEmitted}
+use Rattle.ucode_emit.proofs.Whole.{some_code, few_code, short_code, light_code, lawful_code, agreeing_code, placed}
+use Rattle.ucode_emit.proofs.code.emit.Goals as goal
+
+pub new-requires-clause-some : goal.new-requires-clause-some
+new-requires-clause-some c = some_code (labels_view c.args.s.now) (plan_view c.args.p.now) c.in_ok-list.list.items (placed c.requires.single c.requires.fits) c.in_ok-list.ensures
+
+pub new-requires-clause-few : goal.new-requires-clause-few
+new-requires-clause-few c = few_code (labels_view c.args.s.now) (plan_view c.args.p.now) c.in_ok-list.list.items (placed c.requires.single c.requires.fits) c.in_ok-list.ensures c.requires.few
+
+pub returns-clause-lawful : goal.returns-clause-lawful
+returns-clause-lawful c =
+    subst IsLawful (sym c.new.ensures.list) (lawful_code (labels_view c.args.s.now) (plan_view c.args.p.now) c.in_ok-list.list.items (placed c.requires.single c.requires.fits) c.in_ok-list.ensures)
+
+pub returns-clause-agrees : goal.returns-clause-agrees
+returns-clause-agrees c =
+    agreeing_code (labels_view c.args.s.now) (plan_view c.args.p.now) c.new.result (placed c.requires.single c.requires.fits) (subst (AreEmitted (labels_view c.args.s.now) (plan_view c.args.p.now)) (sym c.new.ensures.list) c.in_ok-list.ensures) (c.new.ensures.params ∙ c.params_of.ensures.params)
+
+pub returns-clause-short : goal.returns-clause-short
+returns-clause-short c =
+    subst (λ l. length l ≤ code_bound (labels_view c.args.s.now)) (sym c.new.ensures.list) (short_code (labels_view c.args.s.now) (plan_view c.args.p.now) c.in_ok-list.list.items (placed c.requires.single c.requires.fits) c.in_ok-list.ensures)
+
+pub returns-clause-light : goal.returns-clause-light
+returns-clause-light c =
+    let labels = labels_view c.args.s.now in
+    let p = plan_view c.args.p.now in
+    subst (λ l. moves l [] [] ≤ cost labels p) (sym c.new.ensures.list) (light_code labels p c.in_ok-list.list.items (placed c.requires.single c.requires.fits) c.in_ok-list.ensures)
