@@ -20,12 +20,7 @@ pub fn push_sizes(
     push(out, "expanded size ")?;
     push_number(out, u64::from(typed.expanded()))?;
     push_line(out, " of at most 4096")?;
-    push(out, "room ")?;
-    push_number(out, u64::from(typed.room()))?;
-    push_line(
-        out,
-        ": at most so many words are wanted at once, on 30 registers and up to 128 slots of scratch",
-    )?;
+    push_room(out, typed.room())?;
     push_parts(
         alloc,
         out,
@@ -33,6 +28,18 @@ pub fn push_sizes(
         typed.expanded(),
         Some(typed.room()),
     )
+}
+
+// Appends the room, and whether the slots of compiled code are enough for it.
+fn push_room(out: &mut Vec<u8>, room: u32) -> Result<(), NoMemory> {
+    push(out, "room ")?;
+    push_number(out, u64::from(room))?;
+    push(out, ": at most so many words are wanted at once")?;
+    if room <= 128 {
+        push_line(out, ", so the 128 slots of compiled code are enough")
+    } else {
+        push_line(out, ", and the 128 slots of compiled code may be too few")
+    }
 }
 
 /// Appends the sizes of each declaration of a program of this expanded size and room.
