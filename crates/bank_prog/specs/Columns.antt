@@ -4,9 +4,9 @@ use Rattle.std.specs.Prelude.{ℕ, zero, suc, ◌+◌, ◌%◌, nat_eq, nat_le, 
 use Rattle.std.specs.List.{flat_map, list_any}
 use Rattle.nv_base.specs.declared.term.Mem.{Mem}
 use Rattle.nv_base.specs.declared.term.Mem.TheVariants.{Sram, Sdram, Scratch}
-use Rattle.ssu_ir.specs.Tree.{Label}
-use Rattle.ssu_ir.specs.Points.{Point, points}
-use Rattle.place_ir.specs.Uses.{Access, accesses, Sort, Parameter, Result, Fetched, Value, values, place_values, Role, Operand, Address, Written, Argument, Ending, Use, uses, is_used}
+use Rattle.ssu_ir.specs.Tree.{Step, Lit, Una, Bin, Clone, Read, Write, Label, Does, Forks, Ends}
+use Rattle.ssu_ir.specs.Points.{Place, Entry, At, Point, points}
+use Rattle.place_ir.specs.Uses.{Access, accesses, Sort, Parameter, Result, Fetched, Value, values, place_values, Role, Operand, Address, Written, Argument, Ending, Use, uses, uses_at, place_roles, is_used}
 use Rattle.place_ir.specs.Fits.{is_result}
 use Rattle.bank_prog.specs.declared.column.Bank.{Bank}
 use Rattle.bank_prog.specs.declared.column.Bank.TheVariants.{A, B, M, T, L, A15, W}
@@ -34,13 +34,24 @@ is_fetched (Parameter l i) = false
 is_fetched Result = false
 is_fetched (Fetched m i) = true
 
--- how many words the access at a point has
-abbrev pub words_in : List Access → ℕ → ℕ
-words_in [] k = 0
-words_in (a ∷ rest) k = if nat_eq a.point k then a.words else words_in rest k
+-- the uses of a point
+abbrev pub point_uses : ℕ → Point → List Use
+point_uses k q = uses_at k 0 q.uses (place_roles q.place)
 
-abbrev pub words_at : List Label → ℕ → ℕ
-words_at labels k = words_in (accesses labels) k
+-- how many words the access at a place has
+abbrev pub step_words : Step → ℕ
+step_words (Lit x v) = 0
+step_words (Una x op y) = 0
+step_words (Bin x op y z) = 0
+step_words (Clone xs y) = 0
+step_words (Read m xs y) = length xs
+step_words (Write m y xs) = length xs
+
+abbrev pub place_words : Place → ℕ
+place_words (Entry l params) = 0
+place_words (At (Does s)) = step_words s
+place_words (At (Forks c x y)) = 0
+place_words (At (Ends l)) = 0
 
 -- the numbers of the eight registers of a transfer bank
 abbrev pub eight : List ℕ
@@ -55,14 +66,14 @@ may_begin Scratch n f = nat_le (f + n) 8
 abbrev pub beginnings : Mem → ℕ → List ℕ
 beginnings m n = filter (may_begin m n) eight
 
--- where the write of a written word may begin, and where the read of a read value
-abbrev pub role_beginnings : List Label → ℕ → Role → List ℕ
-role_beginnings labels k (Written m i) = beginnings m (words_at labels k)
-role_beginnings labels k _ = []
+-- where the write of a written word may begin, and where the read of a read value, where the access has n words
+abbrev pub role_beginnings : ℕ → Role → List ℕ
+role_beginnings n (Written m i) = beginnings m n
+role_beginnings n _ = []
 
-abbrev pub sort_beginnings : List Label → ℕ → Sort → List ℕ
-sort_beginnings labels k (Fetched m i) = beginnings m (words_at labels k)
-sort_beginnings labels k _ = []
+abbrev pub sort_beginnings : ℕ → Sort → List ℕ
+sort_beginnings n (Fetched m i) = beginnings m n
+sort_beginnings n _ = []
 
 -- ---- the families
 
@@ -80,21 +91,29 @@ abbrev pub def_columns : Value → List Priced
 def_columns v = sort_defs v.var v.sort
 
 -- a written word whose value is a result
-abbrev pub dir_columns : List Label → Use → List Priced
-dir_columns labels u =
-    if is_result (sort_of labels u.value) then map (λ f. (Dir u.point u.operand f, 0)) (role_beginnings labels u.point u.role) else []
+abbrev pub dir_columns : List Label → ℕ → Use → List Priced
+dir_columns labels n u = if is_result (sort_of labels u.value) then map (λ f. (Dir u.point u.operand f, 0)) (role_beginnings n u.role) else []
+
+abbrev pub point_dirs : List Label → ℕ → Point → List Priced
+point_dirs labels k q = flat_map (dir_columns labels (place_words q.place)) (point_uses k q)
 
 -- a used value
 abbrev pub fill_columns : List Label → Value → List Priced
 fill_columns labels v = if is_used labels v.var then (Fill v.var A, 1) ∷ (Fill v.var B, 1) ∷ (Fill v.var M, 17) ∷ [] else []
 
 -- a used read value
-abbrev pub stay_columns : List Label → Value → List Priced
-stay_columns labels v = if is_used labels v.var then map (λ f. (Stay v.var f, 0)) (sort_beginnings labels v.point v.sort) else []
+abbrev pub stay_columns : List Label → ℕ → Value → List Priced
+stay_columns labels n v = if is_used labels v.var then map (λ f. (Stay v.var f, 0)) (sort_beginnings n v.sort) else []
+
+abbrev pub point_stays : List Label → ℕ → Point → List Priced
+point_stays labels k q = flat_map (stay_columns labels (place_words q.place)) (place_values k q.place)
 
 -- a written word
-abbrev pub ear_columns : List Label → Use → List Priced
-ear_columns labels u = map (λ f. (Ear u.point u.operand f, 1)) (role_beginnings labels u.point u.role)
+abbrev pub ear_columns : ℕ → Use → List Priced
+ear_columns n u = map (λ f. (Ear u.point u.operand f, 1)) (role_beginnings n u.role)
+
+abbrev pub point_ears : ℕ → Point → List Priced
+point_ears k q = flat_map (ear_columns (place_words q.place)) (point_uses k q)
 
 -- a read or a write
 abbrev pub first_columns : Access → List Priced
@@ -172,10 +191,10 @@ pas_s_columns labels k q = for_eight (list_any (λ v. is_used labels v.var) (pla
 abbrev pub priced : List Label → List Priced
 priced labels =
     flat_map def_columns (values labels)
-    ++ (flat_map (dir_columns labels) (uses labels)
+    ++ (each_point (point_dirs labels) 0 (points labels)
     ++ (flat_map (fill_columns labels) (values labels)
-    ++ (flat_map (stay_columns labels) (values labels)
-    ++ (flat_map (ear_columns labels) (uses labels)
+    ++ (each_point (point_stays labels) 0 (points labels)
+    ++ (each_point point_ears 0 (points labels)
     ++ (flat_map first_columns (accesses labels)
     ++ (flat_map (srv_columns labels) (uses labels)
     ++ (each_point pas_l_columns 0 (points labels)

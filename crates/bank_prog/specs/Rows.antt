@@ -6,14 +6,14 @@ use Rattle.nv_base.specs.declared.term.Mem.TheVariants.{Sram, Sdram, Scratch}
 use Rattle.nv_base.specs.Sets.{is_in, without}
 use Rattle.ssu_ir.specs.Tree.{Label}
 use Rattle.ssu_ir.specs.Points.{Point, points}
-use Rattle.place_ir.specs.Uses.{Access, accesses, reads_at, writes_at, Sort, Parameter, Result, Fetched, Value, values, place_values, Role, Operand, Address, Written, Argument, Ending, Use, uses, uses_at, place_roles, uses_of, is_used}
+use Rattle.place_ir.specs.Uses.{Access, accesses, reads_at, writes_at, Sort, Parameter, Result, Fetched, Value, values, place_values, Role, Operand, Address, Written, Argument, Ending, Use, uses, place_roles, uses_of, is_used}
 use Rattle.place_ir.specs.Fits.{is_result, parameter, point_values}
 use Rattle.bank_prog.specs.declared.column.Bank.{Bank}
 use Rattle.bank_prog.specs.declared.column.Bank.TheVariants.{A, B, M, T, L, A15, W}
 use Rattle.bank_prog.specs.declared.column.Column.{Column}
 use Rattle.bank_prog.specs.declared.column.Column.TheVariants.{Def, Dir, Fill, Stay, Ear, First, Srv, PasL, PasS}
 use Rattle.bank_prog.specs.declared.column.Service.{Service}
-use Rattle.bank_prog.specs.Columns.{each_point, sort_of, is_fetched, eight, beginnings, role_beginnings, sort_beginnings, services}
+use Rattle.bank_prog.specs.Columns.{each_point, sort_of, is_fetched, eight, point_uses, place_words, role_beginnings, sort_beginnings, services}
 
 -- ---- rows by names
 
@@ -245,14 +245,14 @@ owners labels =
 
 -- ---- 6. adjacency: a run begins where its words ask for it
 
-abbrev pub stay_begins : List Label → Value → List Line
-stay_begins labels v = if is_used labels v.var then map (λ f. covers (First v.point f ∷ []) (Stay v.var f ∷ [])) (sort_beginnings labels v.point v.sort) else []
+abbrev pub stay_begins : List Label → ℕ → Value → List Line
+stay_begins labels n v = if is_used labels v.var then map (λ f. covers (First v.point f ∷ []) (Stay v.var f ∷ [])) (sort_beginnings n v.sort) else []
 
-abbrev pub word_begins : List Label → Use → List Line
-word_begins labels u = map (λ f. covers (First u.point f ∷ []) (Dir u.point u.operand f ∷ Ear u.point u.operand f ∷ [])) (role_beginnings labels u.point u.role)
+abbrev pub word_begins : ℕ → Use → List Line
+word_begins n u = map (λ f. covers (First u.point f ∷ []) (Dir u.point u.operand f ∷ Ear u.point u.operand f ∷ [])) (role_beginnings n u.role)
 
 abbrev pub begins_at : List Label → ℕ → Point → List Line
-begins_at labels k q = flat_map (stay_begins labels) (place_values k q.place) ++ flat_map (word_begins labels) (uses_at k 0 q.uses (place_roles q.place))
+begins_at labels k q = flat_map (stay_begins labels (place_words q.place)) (place_values k q.place) ++ flat_map (word_begins (place_words q.place)) (point_uses k q)
 
 abbrev pub adjacency : List Label → List Line
 adjacency labels = each_point (begins_at labels) 0 (points labels)

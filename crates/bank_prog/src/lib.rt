@@ -3,6 +3,7 @@
 
 pub mod column;
 pub mod error;
+mod numbers;
 pub mod program;
 
 pub use column::{Bank, Column, Service};
