@@ -169,9 +169,11 @@ abbrev pub has_bank : Bool → Bank → Bool
 has_bank fetched T = fetched
 has_bank fetched _ = true
 
+abbrev pub use_services : Bool → Use → List Priced
+use_services fetched u = map (λ s. (Srv u.point u.operand s.from s.at, s.cost)) (filter (λ s. has_bank fetched s.from) (services u.role))
+
 abbrev pub srv_columns : List Label → Use → List Priced
-srv_columns labels u =
-    map (λ s. (Srv u.point u.operand s.from s.at, s.cost)) (filter (λ s. has_bank (is_fetched (sort_of labels u.value)) s.from) (services u.role))
+srv_columns labels u = use_services (is_fetched (sort_of labels u.value)) u
 
 -- a column for each register, where there is one
 abbrev pub for_eight : Bool → (ℕ → Column) → List Priced
@@ -188,17 +190,32 @@ pas_s_columns labels k q = for_eight (list_any (λ v. is_used labels v.var) (pla
 
 -- ---- all
 
+abbrev pub all_dirs : List Label → List Priced
+all_dirs labels = each_point (point_dirs labels) 0 (points labels)
+
+abbrev pub all_stays : List Label → List Priced
+all_stays labels = each_point (point_stays labels) 0 (points labels)
+
+abbrev pub all_ears : List Label → List Priced
+all_ears labels = each_point point_ears 0 (points labels)
+
+abbrev pub all_pas_l : List Label → List Priced
+all_pas_l labels = each_point pas_l_columns 0 (points labels)
+
+abbrev pub all_pas_s : List Label → List Priced
+all_pas_s labels = each_point (pas_s_columns labels) 0 (points labels)
+
 abbrev pub priced : List Label → List Priced
 priced labels =
     flat_map def_columns (values labels)
-    ++ (each_point (point_dirs labels) 0 (points labels)
+    ++ (all_dirs labels
     ++ (flat_map (fill_columns labels) (values labels)
-    ++ (each_point (point_stays labels) 0 (points labels)
-    ++ (each_point point_ears 0 (points labels)
+    ++ (all_stays labels
+    ++ (all_ears labels
     ++ (flat_map first_columns (accesses labels)
     ++ (flat_map (srv_columns labels) (uses labels)
-    ++ (each_point pas_l_columns 0 (points labels)
-    ++ each_point (pas_s_columns labels) 0 (points labels))))))))
+    ++ (all_pas_l labels
+    ++ all_pas_s labels)))))))
 
 abbrev pub columns : List Label → List Column
 columns labels = map (λ c. c.0) (priced labels)

@@ -2,3 +2,4 @@ pub mod Columns
 pub mod Rows
 pub mod Program
 pub mod Meaning
+pub mod inner

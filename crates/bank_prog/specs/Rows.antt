@@ -121,25 +121,37 @@ served_home u h = covers (home u.value h) (srv_from u.point u.operand h)
 abbrev pub served_stay : Use → Line
 served_stay u = covers (stay u.value) (srv_from u.point u.operand T)
 
+abbrev pub use_stay : List Label → Use → List Line
+use_stay labels u = if is_fetched (sort_of labels u.value) then served_stay u ∷ [] else []
+
 abbrev pub use_cover : List Label → Use → List Line
-use_cover labels u = map (served_home u) homes ++ (if is_fetched (sort_of labels u.value) then served_stay u ∷ [] else [])
+use_cover labels u = map (served_home u) homes ++ use_stay labels u
 
 -- a used value that isn't read: at most one copy in a bank, and copies only where it is first put into a register
 abbrev pub in_register : ℕ → List Column
 in_register x = Def x A ∷ Def x B ∷ []
 
+abbrev pub fill : ℕ → Bank → List Column
+fill x h = Fill x h ∷ []
+
+abbrev pub word_from_register : ℕ → Use → List Line
+word_from_register x u = if is_written u.role then covers (in_register x) (ear u) ∷ [] else []
+
 abbrev pub copy_lines : List Label → ℕ → List Line
 copy_lines labels x =
     map (λ h. at_most 1 (home x h)) homes
-    ++ (map (λ h. covers (in_register x) (Fill x h ∷ [])) homes
-    ++ map (λ u. covers (in_register x) (ear u)) (filter (λ u. is_written u.role) (uses_of labels x)))
+    ++ (map (λ h. covers (in_register x) (fill x h)) homes
+    ++ flat_map (word_from_register x) (uses_of labels x))
 
 abbrev pub copy_cover : List Label → Value → List Line
 copy_cover labels v = if is_used labels v.var && not (is_fetched v.sort) then copy_lines labels v.var else []
 
 -- an argument is brought to where its parameter is first put
+abbrev pub at_home : ℕ → Bank → List Column
+at_home x h = Def x h ∷ []
+
 abbrev pub argument_lines : List Label → ℕ → ℕ → Role → List Line
-argument_lines labels k i (Argument l j) = map (λ p. covers (Def (parameter labels l j) p ∷ []) (srv_at k i p)) homes
+argument_lines labels k i (Argument l j) = map (λ p. covers (at_home (parameter labels l j) p) (srv_at k i p)) homes
 argument_lines labels k i _ = []
 
 abbrev pub argument_cover : List Label → Use → List Line
@@ -153,15 +165,21 @@ homes_cover labels =
 
 -- ---- 3. operand banks: the two operands of an instruction come from different groups of registers
 
+abbrev pub two_operands : List Role → Bool
+two_operands (Operand ∷ Operand ∷ rs) = true
+two_operands _ = false
+
 abbrev pub both_at : ℕ → List Bank → List Column
 both_at k ps = flat_map (srv_at k 0) ps ++ flat_map (srv_at k 1) ps
 
-abbrev pub operand_lines : ℕ → List Role → List Line
-operand_lines k (Operand ∷ Operand ∷ rs) = at_most 1 (both_at k (A ∷ A15 ∷ [])) ∷ at_most 1 (both_at k (B ∷ [])) ∷ at_most 1 (both_at k (L ∷ T ∷ [])) ∷ []
-operand_lines k _ = []
+abbrev pub pair_lines : ℕ → List Line
+pair_lines k = at_most 1 (both_at k (A ∷ A15 ∷ [])) ∷ at_most 1 (both_at k (B ∷ [])) ∷ at_most 1 (both_at k (L ∷ T ∷ [])) ∷ []
+
+abbrev pub operand_lines : ℕ → Point → List Line
+operand_lines k q = if two_operands (place_roles q.place) then pair_lines k else []
 
 abbrev pub operand_banks : List Label → List Line
-operand_banks labels = each_point (λ k q. operand_lines k (place_roles q.place)) 0 (points labels)
+operand_banks labels = each_point operand_lines 0 (points labels)
 
 -- ---- 4. capacity
 

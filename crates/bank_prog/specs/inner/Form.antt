@@ -1,0 +1,98 @@
+-- What the code keeps of a form: lists of its values, uses and accesses, all together and point by point.
+use Rattle.std.specs.Prelude.{◌≡◌, ℕ, nat_eq, nat_le, length, Bool, List, [], ◌∷◌, Option, Some, None, map}
+use Rattle.std.specs.HashMap.{get}
+use Rattle.std.specs.declared.vec.Vec.{Vec}
+use Rattle.std.specs.declared.alloc.Global.{Global}
+use Rattle.ssu_ir.specs.Tree.{Label}
+use Rattle.ssu_ir.specs.Points.{Point, points}
+use Rattle.place_ir.specs.Uses as pure
+use Rattle.place_ir.specs.Uses.{values, uses, accesses, uses_of, place_values, place_roles, reads_at, writes_at}
+use Rattle.bank_prog.specs.Columns.{each_point, sort_of, point_uses, place_words}
+use Rattle.bank_prog.specs.Rows.{two_operands}
+use Rattle.bank_prog.specs.declared.form.Sort.{Sort}
+use Rattle.bank_prog.specs.declared.form.Sort.TheVariants.{Parameter, Result, Fetched}
+use Rattle.bank_prog.specs.declared.form.Role.{Role}
+use Rattle.bank_prog.specs.declared.form.Role.TheVariants.{Operand, Address, Written, Argument, Ending}
+use Rattle.bank_prog.specs.declared.form.Value.{Value}
+use Rattle.bank_prog.specs.declared.form.Use.{Use}
+use Rattle.bank_prog.specs.declared.form.Access.{Access}
+use Rattle.bank_prog.specs.declared.form.Stop.{Stop}
+use Rattle.bank_prog.specs.declared.form.Tables.{Tables}
+
+abbrev pub sort_view : Sort → pure.Sort
+sort_view (Parameter l i) = pure.Parameter l i
+sort_view Result = pure.Result
+sort_view (Fetched m i) = pure.Fetched m i
+
+abbrev pub role_view : Role → pure.Role
+role_view Operand = pure.Operand
+role_view Address = pure.Address
+role_view (Written m i) = pure.Written m i
+role_view (Argument l i) = pure.Argument l i
+role_view (Ending i) = pure.Ending i
+
+abbrev pub value_view : Value → pure.Value
+value_view v = record { point = v.point; var = v.var; sort = sort_view v.sort }
+
+abbrev pub use_view : Use → pure.Use
+use_view u = record { point = u.point; operand = u.operand; value = u.value; role = role_view u.role }
+
+abbrev pub access_view : Access → pure.Access
+access_view a = record { point = a.point; mem = a.mem; words = a.words }
+
+-- what is kept of a point
+pub record Part : Type 0 where
+  pub point : ℕ
+  pub words : ℕ
+  pub two : Bool
+  pub busy : Bool
+  pub values : List pure.Value
+  pub uses : List pure.Use
+  pub reads : List pure.Access
+  pub writes : List pure.Access
+
+abbrev pub stop_view : Stop → Part
+stop_view s = record {
+  point = s.point;
+  words = s.words;
+  two = s.two;
+  busy = s.busy;
+  values = map value_view s.values.items;
+  uses = map use_view s.uses.items;
+  reads = map access_view s.reads.items;
+  writes = map access_view s.writes.items;
+}
+
+abbrev pub part_of : ℕ → Point → Part
+part_of k q = record {
+  point = k;
+  words = place_words q.place;
+  two = two_operands (place_roles q.place);
+  busy = nat_le 1 (length q.uses);
+  values = place_values k q.place;
+  uses = point_uses k q;
+  reads = reads_at k q.place;
+  writes = writes_at k q.place;
+}
+
+abbrev pub parts : List Label → List Part
+parts labels = each_point (λ k q. part_of k q ∷ []) 0 (points labels)
+
+-- how a value comes, where it is known
+abbrev pub known_sort : Option Sort → pure.Sort
+known_sort (Some s) = sort_view s
+known_sort None = pure.Result
+
+-- the uses of a value, where it has any
+abbrev pub known_uses : Option (Vec Use Global) → List pure.Use
+known_uses (Some us) = map use_view us.items
+known_uses None = []
+
+-- all that is kept of a form is so
+pub record AreTables (labels : List Label) (f : Tables) : Type 0 where
+  pub stops : map stop_view f.stops.items ≡ parts labels
+  pub values : map value_view f.values.items ≡ values labels
+  pub uses : map use_view f.uses.items ≡ uses labels
+  pub accesses : map access_view f.accesses.items ≡ accesses labels
+  pub sorts : (x : ℕ) → known_sort (get nat_eq f.sorts x) ≡ sort_of labels x
+  pub users : (x : ℕ) → known_uses (get nat_eq f.users x) ≡ uses_of labels x

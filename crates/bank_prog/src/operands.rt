@@ -1,0 +1,73 @@
+//! Rows of the third family: the two operands of an instruction come from different groups of registers.
+
+ghost use Rattle.std.specs.Prelude.{◌≡◌, ◌++◌, [], ◌∷◌, OnOk};
+ghost use Rattle.std.specs.HashMap.{get};
+ghost use Rattle.std.specs.List.{concat};
+ghost use Rattle.ssu_ir.specs.View.{labels_view};
+ghost use Rattle.bank_prog.specs.Program.{same_column};
+ghost use Rattle.bank_prog.specs.Rows as lines;
+ghost use Rattle.bank_prog.specs.inner.Adds.{Adds};
+
+use crate::column::{Bank, Column};
+use crate::form::Form;
+use crate::lines::push_at_most;
+use crate::names;
+use crate::numbers::Numbers;
+use nv_base::NoMemory;
+use std::alloc::Global;
+use zo_model::Row;
+
+/// At most one of these.
+fn push_different(
+    alloc: Global,
+    numbers: &Numbers,
+    parts: &[[Column; 7]],
+    rows: &mut Vec<Row>,
+) -> Result<(), NoMemory>
+    ensures { OnOk result (Adds (get same_column numbers.now) rows.old.items rows.new.items (lines.at_most 1 (concat parts.now) ∷ [])) }
+{
+    let mut cs = Vec::new(alloc);
+    for part in parts {
+        cs.extend_from_slice(part)?;
+    }
+    push_at_most(alloc, numbers, 1, &cs, rows)
+}
+
+/// The rows of an instruction with two operands.
+fn push_pair(alloc: Global, numbers: &Numbers, k: u32, rows: &mut Vec<Row>) -> Result<(), NoMemory>
+    ensures { OnOk result (Adds (get same_column numbers.now) rows.old.items rows.new.items (lines.pair_lines k)) }
+{
+    let a = [
+        names::srv_at(k, 0, Bank::A),
+        names::srv_at(k, 0, Bank::A15),
+        names::srv_at(k, 1, Bank::A),
+        names::srv_at(k, 1, Bank::A15),
+    ];
+    push_different(alloc, numbers, &a, rows)?;
+    let b = [names::srv_at(k, 0, Bank::B), names::srv_at(k, 1, Bank::B)];
+    push_different(alloc, numbers, &b, rows)?;
+    let read = [
+        names::srv_at(k, 0, Bank::L),
+        names::srv_at(k, 0, Bank::T),
+        names::srv_at(k, 1, Bank::L),
+        names::srv_at(k, 1, Bank::T),
+    ];
+    push_different(alloc, numbers, &read, rows)
+}
+
+/// The rows of the third family.
+pub fn push_operand_banks(
+    alloc: Global,
+    numbers: &Numbers,
+    f: &Form<'_>,
+    rows: &mut Vec<Row>,
+) -> Result<(), NoMemory>
+    ensures { OnOk result (Adds (get same_column numbers.now) rows.old.items rows.new.items (lines.operand_banks (labels_view f.now.ssu.now))) }
+{
+    for stop in &f.tables.stops {
+        if stop.two {
+            push_pair(alloc, numbers, stop.point, rows)?;
+        }
+    }
+    Ok(())
+}
