@@ -1,1 +1,2 @@
 pub mod RowTerms
+pub mod Keys

@@ -5,13 +5,13 @@ ghost use Rattle.std.specs.Prelude.{◌≡◌, ◌++◌, map, IfOk, OnOk};
 ghost use Rattle.std.specs.HashMap.{get};
 ghost use Rattle.std.specs.List.{flat_map};
 ghost use Rattle.ssu_ir.specs.View.{labels_view};
-ghost use Rattle.place_ir.specs.Uses as pure;
 ghost use Rattle.bank_prog.specs.Program.{same_column};
 ghost use Rattle.bank_prog.specs.Rows as lines;
+ghost use Rattle.bank_prog.specs.declared.column.Column.TheVariants as column;
 ghost use Rattle.bank_prog.specs.inner.Adds.{Adds};
 ghost use Rattle.bank_prog.specs.inner.Form.{use_view, value_view, access_view};
 
-use crate::column::Column;
+use crate::column::{Column, Service};
 use crate::form::{Access, Form, Role, Sort, Use, Value};
 use crate::lines::push_exactly_one;
 use crate::names;
@@ -86,14 +86,26 @@ fn push_result_choices(
     alloc: Global,
     numbers: &Numbers,
     f: &Form<'_>,
+    values: &[Value],
     rows: &mut Vec<Row>,
 ) -> Result<(), NoMemory>
-    ensures { OnOk result (Adds (get same_column numbers.now) rows.old.items rows.new.items (flat_map (lines.result_choice (labels_view f.now.ssu.now)) (pure.values (labels_view f.now.ssu.now)))) }
+    ensures { OnOk result (Adds (get same_column numbers.now) rows.old.items rows.new.items (flat_map (lines.result_choice (labels_view f.now.ssu.now)) (map value_view values.now))) }
 {
-    for v in &f.tables.values {
+    for v in values {
         push_result_choice(alloc, numbers, f, *v, rows)?;
     }
     Ok(())
+}
+
+fn push_access_choice(
+    alloc: Global,
+    numbers: &Numbers,
+    a: Access,
+    rows: &mut Vec<Row>,
+) -> Result<(), NoMemory>
+    ensures { OnOk result (Adds (get same_column numbers.now) rows.old.items rows.new.items (lines.access_choice (access_view a))) }
+{
+    push_exactly_one(alloc, numbers, &names::first(a.point), rows)
 }
 
 fn push_access_choices(
@@ -105,16 +117,16 @@ fn push_access_choices(
     ensures { OnOk result (Adds (get same_column numbers.now) rows.old.items rows.new.items (flat_map lines.access_choice (map access_view accesses.now))) }
 {
     for a in accesses {
-        push_exactly_one(alloc, numbers, &names::first(a.point), rows)?;
+        push_access_choice(alloc, numbers, *a, rows)?;
     }
     Ok(())
 }
 
-/// All ways to serve a use.
-fn add_services(cs: &mut Vec<Column>, u: Use) -> Result<(), NoMemory>
-    ensures { OnOk result (cs.new.items ≡ cs.old.items ++ lines.srv (use_view u)) }
+/// These ways to serve a use.
+fn add_services(cs: &mut Vec<Column>, u: Use, services: &[Service]) -> Result<(), NoMemory>
+    ensures { OnOk result (cs.new.items ≡ cs.old.items ++ map (λ s. column.Srv u.point u.operand s.from s.at) services.now) }
 {
-    for s in services(u.role) {
+    for s in services {
         cs.push(Column::Srv(u.point, u.operand, s.from, s.at))?;
     }
     Ok(())
@@ -140,7 +152,7 @@ fn push_use_choice(
     ensures { OnOk result (Adds (get same_column numbers.now) rows.old.items rows.new.items (lines.use_choice (use_view u))) }
 {
     let mut cs = Vec::new(alloc);
-    add_services(&mut cs, u)?;
+    add_services(&mut cs, u, services(u.role))?;
     add_early(&mut cs, u)?;
     push_exactly_one(alloc, numbers, &cs, rows)
 }
@@ -169,7 +181,7 @@ pub fn push_one_choice(
     ensures { OnOk result (Adds (get same_column numbers.now) rows.old.items rows.new.items (lines.one_choice (labels_view f.now.ssu.now))) }
 {
     push_parameter_choices(alloc, numbers, &f.tables.values, rows)?;
-    push_result_choices(alloc, numbers, f, rows)?;
+    push_result_choices(alloc, numbers, f, &f.tables.values, rows)?;
     push_access_choices(alloc, numbers, &f.tables.accesses, rows)?;
     push_use_choices(alloc, numbers, &f.tables.uses, rows)
 }

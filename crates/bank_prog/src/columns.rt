@@ -3,12 +3,13 @@
 ghost use Rattle.std.specs.Prelude.{◌≡◌, ◌++◌, ◌∷◌, [], map, IfOk, OnOk};
 ghost use Rattle.std.specs.List.{flat_map, list_any};
 ghost use Rattle.ssu_ir.specs.View.{labels_view};
-ghost use Rattle.place_ir.specs.Uses as pure;
+ghost use Rattle.place_ir.specs.Uses.{is_used};
 ghost use Rattle.bank_prog.specs.Columns as columns;
 ghost use Rattle.bank_prog.specs.declared.column.Column.TheVariants as column;
-ghost use Rattle.bank_prog.specs.inner.Form.{use_view, value_view, access_view, role_view, sort_view};
+ghost use Rattle.bank_prog.specs.inner.Form as form;
+ghost use Rattle.bank_prog.specs.inner.Form.{stop_view, use_view, value_view, access_view, role_view, sort_view};
 
-use crate::column::{Bank, Column};
+use crate::column::{Bank, Column, Service};
 use crate::form::{Access, Form, Role, Sort, Stop, Use, Value};
 use crate::names;
 use crate::services::services;
@@ -55,15 +56,22 @@ fn may_begin(m: Mem, n: u32, f: u8) -> bool
     }
 }
 
+fn push_beginning(fs: &mut Vec<u8>, m: Mem, n: u32, f: u8) -> Result<(), NoMemory>
+    ensures { OnOk result (fs.new.items ≡ fs.old.items ++ form.beginning m n f) }
+{
+    if may_begin(m, n, f) {
+        fs.push(f)?;
+    }
+    Ok(())
+}
+
 /// Where an access of n words may begin.
 pub fn beginnings(alloc: Global, m: Mem, n: u32) -> Result<Vec<u8>, NoMemory>
     ensures { IfOk result (λ fs. fs.items ≡ columns.beginnings m n) }
 {
     let mut fs = Vec::new(alloc);
-    for f in 0..8 {
-        if may_begin(m, n, f) {
-            fs.push(f)?;
-        }
+    for f in [0, 1, 2, 3, 4, 5, 6, 7] {
+        push_beginning(&mut fs, m, n, f)?;
     }
     Ok(fs)
 }
@@ -142,21 +150,22 @@ fn push_stop_dirs(
     alloc: Global,
     out: &mut Priced,
     f: &Form<'_>,
-    stop: &Stop,
+    n: u32,
+    uses: &[Use],
 ) -> Result<(), NoMemory>
-    ensures { OnOk result (out.new.items ≡ out.old.items ++ flat_map (columns.dir_columns (labels_view f.now.ssu.now) stop.now.words) (map use_view stop.now.uses.items)) }
+    ensures { OnOk result (out.new.items ≡ out.old.items ++ flat_map (columns.dir_columns (labels_view f.now.ssu.now) n) (map use_view uses.now)) }
 {
-    for u in &stop.uses {
-        push_dir(alloc, out, f, stop.words, *u)?;
+    for u in uses {
+        push_dir(alloc, out, f, n, *u)?;
     }
     Ok(())
 }
 
-fn push_dirs(alloc: Global, out: &mut Priced, f: &Form<'_>) -> Result<(), NoMemory>
-    ensures { OnOk result (out.new.items ≡ out.old.items ++ columns.all_dirs (labels_view f.now.ssu.now)) }
+fn push_dirs(alloc: Global, out: &mut Priced, f: &Form<'_>, stops: &[Stop]) -> Result<(), NoMemory>
+    ensures { OnOk result (out.new.items ≡ out.old.items ++ flat_map (form.part_dirs (labels_view f.now.ssu.now)) (map stop_view stops.now)) }
 {
-    for stop in &f.tables.stops {
-        push_stop_dirs(alloc, out, f, stop)?;
+    for stop in stops {
+        push_stop_dirs(alloc, out, f, stop.words, &stop.uses)?;
     }
     Ok(())
 }
@@ -175,10 +184,10 @@ fn push_fill(out: &mut Priced, f: &Form<'_>, v: Value) -> Result<(), NoMemory>
     Ok(())
 }
 
-fn push_fills(out: &mut Priced, f: &Form<'_>) -> Result<(), NoMemory>
-    ensures { OnOk result (out.new.items ≡ out.old.items ++ flat_map (columns.fill_columns (labels_view f.now.ssu.now)) (pure.values (labels_view f.now.ssu.now))) }
+fn push_fills(out: &mut Priced, f: &Form<'_>, values: &[Value]) -> Result<(), NoMemory>
+    ensures { OnOk result (out.new.items ≡ out.old.items ++ flat_map (columns.fill_columns (labels_view f.now.ssu.now)) (map value_view values.now)) }
 {
-    for v in &f.tables.values {
+    for v in values {
         push_fill(out, f, *v)?;
     }
     Ok(())
@@ -214,21 +223,22 @@ fn push_stop_stays(
     alloc: Global,
     out: &mut Priced,
     f: &Form<'_>,
-    stop: &Stop,
+    n: u32,
+    values: &[Value],
 ) -> Result<(), NoMemory>
-    ensures { OnOk result (out.new.items ≡ out.old.items ++ flat_map (columns.stay_columns (labels_view f.now.ssu.now) stop.now.words) (map value_view stop.now.values.items)) }
+    ensures { OnOk result (out.new.items ≡ out.old.items ++ flat_map (columns.stay_columns (labels_view f.now.ssu.now) n) (map value_view values.now)) }
 {
-    for v in &stop.values {
-        push_stay(alloc, out, f, stop.words, *v)?;
+    for v in values {
+        push_stay(alloc, out, f, n, *v)?;
     }
     Ok(())
 }
 
-fn push_stays(alloc: Global, out: &mut Priced, f: &Form<'_>) -> Result<(), NoMemory>
-    ensures { OnOk result (out.new.items ≡ out.old.items ++ columns.all_stays (labels_view f.now.ssu.now)) }
+fn push_stays(alloc: Global, out: &mut Priced, f: &Form<'_>, stops: &[Stop]) -> Result<(), NoMemory>
+    ensures { OnOk result (out.new.items ≡ out.old.items ++ flat_map (form.part_stays (labels_view f.now.ssu.now)) (map stop_view stops.now)) }
 {
-    for stop in &f.tables.stops {
-        push_stop_stays(alloc, out, f, stop)?;
+    for stop in stops {
+        push_stop_stays(alloc, out, f, stop.words, &stop.values)?;
     }
     Ok(())
 }
@@ -244,20 +254,26 @@ fn push_ears_at(out: &mut Priced, u: Use, firsts: &[u8]) -> Result<(), NoMemory>
     Ok(())
 }
 
-fn push_stop_ears(alloc: Global, out: &mut Priced, stop: &Stop) -> Result<(), NoMemory>
-    ensures { OnOk result (out.new.items ≡ out.old.items ++ flat_map (columns.ear_columns stop.now.words) (map use_view stop.now.uses.items)) }
+fn push_ear(alloc: Global, out: &mut Priced, n: u32, u: Use) -> Result<(), NoMemory>
+    ensures { OnOk result (out.new.items ≡ out.old.items ++ columns.ear_columns n (use_view u)) }
 {
-    for u in &stop.uses {
-        push_ears_at(out, *u, &role_beginnings(alloc, stop.words, u.role)?)?;
+    push_ears_at(out, u, &role_beginnings(alloc, n, u.role)?)
+}
+
+fn push_stop_ears(alloc: Global, out: &mut Priced, n: u32, uses: &[Use]) -> Result<(), NoMemory>
+    ensures { OnOk result (out.new.items ≡ out.old.items ++ flat_map (columns.ear_columns n) (map use_view uses.now)) }
+{
+    for u in uses {
+        push_ear(alloc, out, n, *u)?;
     }
     Ok(())
 }
 
-fn push_ears(alloc: Global, out: &mut Priced, f: &Form<'_>) -> Result<(), NoMemory>
-    ensures { OnOk result (out.new.items ≡ out.old.items ++ columns.all_ears (labels_view f.now.ssu.now)) }
+fn push_ears(alloc: Global, out: &mut Priced, stops: &[Stop]) -> Result<(), NoMemory>
+    ensures { OnOk result (out.new.items ≡ out.old.items ++ flat_map form.part_ears (map stop_view stops.now)) }
 {
-    for stop in &f.tables.stops {
-        push_stop_ears(alloc, out, stop)?;
+    for stop in stops {
+        push_stop_ears(alloc, out, stop.words, &stop.uses)?;
     }
     Ok(())
 }
@@ -273,11 +289,17 @@ fn push_firsts_at(out: &mut Priced, k: u32, firsts: &[u8]) -> Result<(), NoMemor
     Ok(())
 }
 
+fn push_first(alloc: Global, out: &mut Priced, a: Access) -> Result<(), NoMemory>
+    ensures { OnOk result (out.new.items ≡ out.old.items ++ columns.first_columns (access_view a)) }
+{
+    push_firsts_at(out, a.point, &beginnings(alloc, a.mem, a.words)?)
+}
+
 fn push_firsts(alloc: Global, out: &mut Priced, accesses: &[Access]) -> Result<(), NoMemory>
     ensures { OnOk result (out.new.items ≡ out.old.items ++ flat_map columns.first_columns (map access_view accesses.now)) }
 {
     for a in accesses {
-        push_firsts_at(out, a.point, &beginnings(alloc, a.mem, a.words)?)?;
+        push_first(alloc, out, *a)?;
     }
     Ok(())
 }
@@ -294,42 +316,68 @@ fn has_bank(fetched: bool, h: Bank) -> bool
     }
 }
 
-fn push_srv(out: &mut Priced, fetched: bool, u: Use) -> Result<(), NoMemory>
-    ensures { OnOk result (out.new.items ≡ out.old.items ++ columns.use_services fetched (use_view u)) }
+fn push_service(out: &mut Priced, fetched: bool, u: Use, s: Service) -> Result<(), NoMemory>
+    ensures { OnOk result (out.new.items ≡ out.old.items ++ form.service_columns fetched (use_view u) s) }
 {
-    for s in services(u.role) {
-        if has_bank(fetched, s.from) {
-            out.push((Column::Srv(u.point, u.operand, s.from, s.at), s.cost))?;
-        }
+    if has_bank(fetched, s.from) {
+        out.push((Column::Srv(u.point, u.operand, s.from, s.at), s.cost))?;
     }
     Ok(())
 }
 
-fn push_srvs(out: &mut Priced, f: &Form<'_>) -> Result<(), NoMemory>
-    ensures { OnOk result (out.new.items ≡ out.old.items ++ flat_map (columns.srv_columns (labels_view f.now.ssu.now)) (pure.uses (labels_view f.now.ssu.now))) }
+fn push_services(
+    out: &mut Priced,
+    fetched: bool,
+    u: Use,
+    services: &[Service],
+) -> Result<(), NoMemory>
+    ensures { OnOk result (out.new.items ≡ out.old.items ++ flat_map (form.service_columns fetched (use_view u)) services.now) }
 {
-    for u in &f.tables.uses {
-        push_srv(out, f.sort_of(u.value).is_fetched(), *u)?;
+    for s in services {
+        push_service(out, fetched, u, *s)?;
+    }
+    Ok(())
+}
+
+fn push_srv(out: &mut Priced, f: &Form<'_>, u: Use) -> Result<(), NoMemory>
+    ensures { OnOk result (out.new.items ≡ out.old.items ++ columns.srv_columns (labels_view f.now.ssu.now) (use_view u)) }
+{
+    let fetched = f.sort_of(u.value).is_fetched();
+    push_services(out, fetched, u, services(u.role))
+}
+
+fn push_srvs(out: &mut Priced, f: &Form<'_>, uses: &[Use]) -> Result<(), NoMemory>
+    ensures { OnOk result (out.new.items ≡ out.old.items ++ flat_map (columns.srv_columns (labels_view f.now.ssu.now)) (map use_view uses.now)) }
+{
+    for u in uses {
+        push_srv(out, f, *u)?;
     }
     Ok(())
 }
 
 // ---- passes
 
-fn push_pas_ls(out: &mut Priced, f: &Form<'_>) -> Result<(), NoMemory>
-    ensures { OnOk result (out.new.items ≡ out.old.items ++ columns.all_pas_l (labels_view f.now.ssu.now)) }
+fn push_pas_l(out: &mut Priced, stop: &Stop) -> Result<(), NoMemory>
+    ensures { OnOk result (out.new.items ≡ out.old.items ++ form.part_pas_l (stop_view stop.now)) }
 {
-    for stop in &f.tables.stops {
-        if stop.busy {
-            push_eight(out, &names::pas_l(stop.point))?;
-        }
+    if stop.busy {
+        push_eight(out, &names::pas_l(stop.point))?;
+    }
+    Ok(())
+}
+
+fn push_pas_ls(out: &mut Priced, stops: &[Stop]) -> Result<(), NoMemory>
+    ensures { OnOk result (out.new.items ≡ out.old.items ++ flat_map form.part_pas_l (map stop_view stops.now)) }
+{
+    for stop in stops {
+        push_pas_l(out, stop)?;
     }
     Ok(())
 }
 
 /// Whether one of these values is used.
 fn any_used(f: &Form<'_>, values: &[Value]) -> bool
-    ensures { result ≡ list_any (λ v. pure.is_used (labels_view f.now.ssu.now) v.var) (map value_view values.now) }
+    ensures { result ≡ list_any (λ v. is_used (labels_view f.now.ssu.now) v.var) (map value_view values.now) }
 {
     for v in values {
         if f.is_used(v.var) {
@@ -339,13 +387,20 @@ fn any_used(f: &Form<'_>, values: &[Value]) -> bool
     false
 }
 
-fn push_pas_ss(out: &mut Priced, f: &Form<'_>) -> Result<(), NoMemory>
-    ensures { OnOk result (out.new.items ≡ out.old.items ++ columns.all_pas_s (labels_view f.now.ssu.now)) }
+fn push_pas_s(out: &mut Priced, f: &Form<'_>, stop: &Stop) -> Result<(), NoMemory>
+    ensures { OnOk result (out.new.items ≡ out.old.items ++ form.part_pas_s (labels_view f.now.ssu.now) (stop_view stop.now)) }
 {
-    for stop in &f.tables.stops {
-        if any_used(f, &stop.values) {
-            push_eight(out, &names::pas_s(stop.point))?;
-        }
+    if any_used(f, &stop.values) {
+        push_eight(out, &names::pas_s(stop.point))?;
+    }
+    Ok(())
+}
+
+fn push_pas_ss(out: &mut Priced, f: &Form<'_>, stops: &[Stop]) -> Result<(), NoMemory>
+    ensures { OnOk result (out.new.items ≡ out.old.items ++ flat_map (form.part_pas_s (labels_view f.now.ssu.now)) (map stop_view stops.now)) }
+{
+    for stop in stops {
+        push_pas_s(out, f, stop)?;
     }
     Ok(())
 }
@@ -356,13 +411,13 @@ pub fn columns_of(alloc: Global, f: &Form<'_>) -> Result<Priced, NoMemory>
 {
     let mut out = Vec::new(alloc);
     push_defs(&mut out, &f.tables.values)?;
-    push_dirs(alloc, &mut out, f)?;
-    push_fills(&mut out, f)?;
-    push_stays(alloc, &mut out, f)?;
-    push_ears(alloc, &mut out, f)?;
+    push_dirs(alloc, &mut out, f, &f.tables.stops)?;
+    push_fills(&mut out, f, &f.tables.values)?;
+    push_stays(alloc, &mut out, f, &f.tables.stops)?;
+    push_ears(alloc, &mut out, &f.tables.stops)?;
     push_firsts(alloc, &mut out, &f.tables.accesses)?;
-    push_srvs(&mut out, f)?;
-    push_pas_ls(&mut out, f)?;
-    push_pas_ss(&mut out, f)?;
+    push_srvs(&mut out, f, &f.tables.uses)?;
+    push_pas_ls(&mut out, &f.tables.stops)?;
+    push_pas_ss(&mut out, f, &f.tables.stops)?;
     Ok(out)
 }

@@ -5,7 +5,6 @@ ghost use Rattle.std.specs.Prelude.{◌≡◌, [], ◌∷◌, map, filter, OnOk}
 ghost use Rattle.std.specs.HashMap.{get};
 ghost use Rattle.std.specs.List.{flat_map};
 ghost use Rattle.ssu_ir.specs.View.{labels_view};
-ghost use Rattle.place_ir.specs.Uses as pure;
 ghost use Rattle.bank_prog.specs.Program.{same_column};
 ghost use Rattle.bank_prog.specs.Rows as lines;
 ghost use Rattle.bank_prog.specs.inner.Adds.{Adds};
@@ -73,11 +72,12 @@ fn push_use_covers(
     alloc: Global,
     numbers: &Numbers,
     f: &Form<'_>,
+    uses: &[Use],
     rows: &mut Vec<Row>,
 ) -> Result<(), NoMemory>
-    ensures { OnOk result (Adds (get same_column numbers.now) rows.old.items rows.new.items (flat_map (lines.use_cover (labels_view f.now.ssu.now)) (pure.uses (labels_view f.now.ssu.now)))) }
+    ensures { OnOk result (Adds (get same_column numbers.now) rows.old.items rows.new.items (flat_map (lines.use_cover (labels_view f.now.ssu.now)) (map use_view uses.now))) }
 {
-    for u in &f.tables.uses {
+    for u in uses {
         push_use_cover(alloc, numbers, f, *u, rows)?;
     }
     Ok(())
@@ -192,11 +192,12 @@ fn push_copy_covers(
     alloc: Global,
     numbers: &Numbers,
     f: &Form<'_>,
+    values: &[Value],
     rows: &mut Vec<Row>,
 ) -> Result<(), NoMemory>
-    ensures { OnOk result (Adds (get same_column numbers.now) rows.old.items rows.new.items (flat_map (lines.copy_cover (labels_view f.now.ssu.now)) (pure.values (labels_view f.now.ssu.now)))) }
+    ensures { OnOk result (Adds (get same_column numbers.now) rows.old.items rows.new.items (flat_map (lines.copy_cover (labels_view f.now.ssu.now)) (map value_view values.now))) }
 {
-    for v in &f.tables.values {
+    for v in values {
         push_copy_cover(alloc, numbers, f, *v, rows)?;
     }
     Ok(())
@@ -244,11 +245,12 @@ fn push_argument_covers(
     alloc: Global,
     numbers: &Numbers,
     f: &Form<'_>,
+    uses: &[Use],
     rows: &mut Vec<Row>,
 ) -> Result<(), NoMemory>
-    ensures { OnOk result (Adds (get same_column numbers.now) rows.old.items rows.new.items (flat_map (lines.argument_cover (labels_view f.now.ssu.now)) (pure.uses (labels_view f.now.ssu.now)))) }
+    ensures { OnOk result (Adds (get same_column numbers.now) rows.old.items rows.new.items (flat_map (lines.argument_cover (labels_view f.now.ssu.now)) (map use_view uses.now))) }
 {
-    for u in &f.tables.uses {
+    for u in uses {
         push_argument_cover(alloc, numbers, f, *u, rows)?;
     }
     Ok(())
@@ -263,7 +265,7 @@ pub fn push_homes_cover(
 ) -> Result<(), NoMemory>
     ensures { OnOk result (Adds (get same_column numbers.now) rows.old.items rows.new.items (lines.homes_cover (labels_view f.now.ssu.now))) }
 {
-    push_use_covers(alloc, numbers, f, rows)?;
-    push_copy_covers(alloc, numbers, f, rows)?;
-    push_argument_covers(alloc, numbers, f, rows)
+    push_use_covers(alloc, numbers, f, &f.tables.uses, rows)?;
+    push_copy_covers(alloc, numbers, f, &f.tables.values, rows)?;
+    push_argument_covers(alloc, numbers, f, &f.tables.uses, rows)
 }

@@ -1,15 +1,16 @@
 //! Rows of the third family: the two operands of an instruction come from different groups of registers.
 
-ghost use Rattle.std.specs.Prelude.{◌≡◌, ◌++◌, [], ◌∷◌, OnOk};
+ghost use Rattle.std.specs.Prelude.{[], ◌∷◌, map, OnOk};
 ghost use Rattle.std.specs.HashMap.{get};
-ghost use Rattle.std.specs.List.{concat};
+ghost use Rattle.std.specs.List.{concat, flat_map};
 ghost use Rattle.ssu_ir.specs.View.{labels_view};
 ghost use Rattle.bank_prog.specs.Program.{same_column};
 ghost use Rattle.bank_prog.specs.Rows as lines;
 ghost use Rattle.bank_prog.specs.inner.Adds.{Adds};
+ghost use Rattle.bank_prog.specs.inner.Form.{part_operands, stop_view};
 
 use crate::column::{Bank, Column};
-use crate::form::Form;
+use crate::form::{Form, Stop};
 use crate::lines::push_at_most;
 use crate::names;
 use crate::numbers::Numbers;
@@ -55,6 +56,34 @@ fn push_pair(alloc: Global, numbers: &Numbers, k: u32, rows: &mut Vec<Row>) -> R
     push_different(alloc, numbers, &read, rows)
 }
 
+fn push_stop_operands(
+    alloc: Global,
+    numbers: &Numbers,
+    stop: &Stop,
+    rows: &mut Vec<Row>,
+) -> Result<(), NoMemory>
+    ensures { OnOk result (Adds (get same_column numbers.now) rows.old.items rows.new.items (part_operands (stop_view stop.now))) }
+{
+    if stop.two {
+        push_pair(alloc, numbers, stop.point, rows)?;
+    }
+    Ok(())
+}
+
+fn push_operands(
+    alloc: Global,
+    numbers: &Numbers,
+    stops: &[Stop],
+    rows: &mut Vec<Row>,
+) -> Result<(), NoMemory>
+    ensures { OnOk result (Adds (get same_column numbers.now) rows.old.items rows.new.items (flat_map part_operands (map stop_view stops.now))) }
+{
+    for stop in stops {
+        push_stop_operands(alloc, numbers, stop, rows)?;
+    }
+    Ok(())
+}
+
 /// The rows of the third family.
 pub fn push_operand_banks(
     alloc: Global,
@@ -64,10 +93,5 @@ pub fn push_operand_banks(
 ) -> Result<(), NoMemory>
     ensures { OnOk result (Adds (get same_column numbers.now) rows.old.items rows.new.items (lines.operand_banks (labels_view f.now.ssu.now))) }
 {
-    for stop in &f.tables.stops {
-        if stop.two {
-            push_pair(alloc, numbers, stop.point, rows)?;
-        }
-    }
-    Ok(())
+    push_operands(alloc, numbers, &f.tables.stops, rows)
 }

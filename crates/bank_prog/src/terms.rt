@@ -1,6 +1,7 @@
 //! The terms of a row by the numbers of its columns.
 
-ghost use Rattle.std.specs.Prelude.{◌≡◌, ◌≤◌, ◌<◌, ◌+◌, ℕ, length, slice_index_or, pos, OnOk};
+ghost use Rattle.std.specs.Prelude.{◌≡◌, ◌≢◌, ◌≤◌, ◌<◌, ℕ, true, false, Some, length, slice_index_or, ℤ, pos, ◌+ℤ◌, OnOk};
+ghost use Rattle.std.proofs.Common.{SFits, w32};
 ghost use Rattle.std.specs.HashMap.{get};
 ghost use Rattle.bank_prog.specs.Program as program;
 ghost use Rattle.bank_prog.specs.Program.{same_column, add_named};
@@ -25,14 +26,29 @@ fn place(terms: &[(u32, i32)], j: u32) -> usize
     i
 }
 
+/// Whether a term of column j stands there.
+fn stands_at(terms: &[(u32, i32)], i: usize, j: u32) -> bool
+    ensures there { result ≡ true → (i < length terms.now) × ((slice_index_or terms.now i (0, pos 0)).0 ≡ j) }
+    ensures other { result ≡ false → i < length terms.now → (slice_index_or terms.now i (0, pos 0)).0 ≢ j }
+{
+    i < terms.len() && terms[i].0 == j
+}
+
+/// The sum, where it fits.
+fn sum(a: i32, b: i32) -> Option<i32>
+    ensures { (z : ℤ) → result ≡ Some z → (SFits w32 z) × (z ≡ a +ℤ b) }
+{
+    a.checked_add(b)
+}
+
 /// One term more; the terms of one column are added up.
 fn add_term(terms: &mut Vec<(u32, i32)>, j: u32, a: i32) -> Result<(), NoMemory>
     requires { Rising 0 terms.old.items }
     ensures { OnOk result (terms.new.items ≡ program.add_term j a terms.old.items) }
 {
     let i = place(terms, j);
-    if i < terms.len() && terms[i].0 == j {
-        match a.checked_add(terms[i].1) {
+    if stands_at(terms, i, j) {
+        match sum(a, terms[i].1) {
             Some(b) => terms[i] = (j, b),
             None => return Err(NoMemory),
         }

@@ -1,14 +1,18 @@
 -- What the code keeps of a form: lists of its values, uses and accesses, all together and point by point.
-use Rattle.std.specs.Prelude.{◌≡◌, ℕ, nat_eq, nat_le, length, Bool, List, [], ◌∷◌, Option, Some, None, map}
+use Rattle.std.specs.Prelude.{◌≡◌, ℕ, nat_eq, nat_le, length, Bool, List, [], ◌∷◌, Option, Some, None, map, if◌then◌else◌}
 use Rattle.std.specs.HashMap.{get}
+use Rattle.std.specs.List.{flat_map, list_any}
 use Rattle.std.specs.declared.vec.Vec.{Vec}
 use Rattle.std.specs.declared.alloc.Global.{Global}
 use Rattle.ssu_ir.specs.Tree.{Label}
 use Rattle.ssu_ir.specs.Points.{Point, points}
 use Rattle.place_ir.specs.Uses as pure
-use Rattle.place_ir.specs.Uses.{values, uses, accesses, uses_of, place_values, place_roles, reads_at, writes_at}
-use Rattle.bank_prog.specs.Columns.{each_point, sort_of, point_uses, place_words}
-use Rattle.bank_prog.specs.Rows.{two_operands}
+use Rattle.place_ir.specs.Uses.{values, uses, accesses, uses_of, is_used, place_values, place_roles, reads_at, writes_at}
+use Rattle.bank_prog.specs.Columns.{Priced, each_point, sort_of, point_uses, place_words, dir_columns, stay_columns, ear_columns, for_eight, may_begin, has_bank}
+use Rattle.bank_prog.specs.Rows.{Line, two_operands, pair_lines}
+use Rattle.bank_prog.specs.declared.column.Column.TheVariants.{Srv, PasL, PasS}
+use Rattle.bank_prog.specs.declared.column.Service.{Service}
+use Rattle.nv_base.specs.declared.term.Mem.{Mem}
 use Rattle.bank_prog.specs.declared.form.Sort.{Sort}
 use Rattle.bank_prog.specs.declared.form.Sort.TheVariants.{Parameter, Result, Fetched}
 use Rattle.bank_prog.specs.declared.form.Role.{Role}
@@ -77,6 +81,33 @@ part_of k q = record {
 
 abbrev pub parts : List Label → List Part
 parts labels = each_point (λ k q. part_of k q ∷ []) 0 (points labels)
+
+-- columns and rows of a point, by what is kept of it
+abbrev pub part_dirs : List Label → Part → List Priced
+part_dirs labels p = flat_map (dir_columns labels p.words) p.uses
+
+abbrev pub part_stays : List Label → Part → List Priced
+part_stays labels p = flat_map (stay_columns labels p.words) p.values
+
+abbrev pub part_ears : Part → List Priced
+part_ears p = flat_map (ear_columns p.words) p.uses
+
+abbrev pub part_pas_l : Part → List Priced
+part_pas_l p = for_eight p.busy (PasL p.point)
+
+abbrev pub part_pas_s : List Label → Part → List Priced
+part_pas_s labels p = for_eight (list_any (λ v. is_used labels v.var) p.values) (PasS p.point)
+
+abbrev pub part_operands : Part → List Line
+part_operands p = if p.two then pair_lines p.point else []
+
+-- a register, where an access may begin there
+abbrev pub beginning : Mem → ℕ → ℕ → List ℕ
+beginning m n f = if may_begin m n f then f ∷ [] else []
+
+-- a way to serve a use, where its value can be there
+abbrev pub service_columns : Bool → pure.Use → Service → List Priced
+service_columns fetched u s = if has_bank fetched s.from then (Srv u.point u.operand s.from s.at, s.cost) ∷ [] else []
 
 -- how a value comes, where it is known
 abbrev pub known_sort : Option Sort → pure.Sort
