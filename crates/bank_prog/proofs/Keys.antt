@@ -1,6 +1,7 @@
 -- Columns are compared field by field.
-use Rattle.std.proofs.Common.{◌≡◌, ℕ, suc, ◌+◌, Bool, true, false, cond, if◌then◌else◌, ◌&&◌, nat_eq, List, [], ◌∷◌, ◌++◌, length, Option, Some, None, is_some, refl, sym, ap, ◌∙◌, arith}
+use Rattle.std.proofs.Common.{◌≡◌, ℕ, suc, ◌+◌, Bool, true, false, cond, if◌then◌else◌, ◌&&◌, nat_eq, List, [], ◌∷◌, ◌++◌, length, Option, Some, None, is_some, Bor, refl, sym, ap, ◌∙◌, arith}
 use Rattle.std.proofs.Math.Path.{fun_ext}
+use Rattle.std.specs.Option.{option_copied}
 use Rattle.std.proofs.lemmas.Bool.{and_parts, false≢true}
 use Rattle.nv_base.proofs.Sets.{same-number}
 use Rattle.bank_prog.specs.declared.column.Bank.{Bank}
@@ -319,3 +320,11 @@ number-more i (d ∷ ds) e c n h = pick (same_column d c) (number-more (suc i) d
         → (if b then Some i else number_in (suc i) (ds ++ e ∷ []) c) ≡ either (if b then Some i else number_in (suc i) ds c) (if same_column e c then Some n else None)
     pick true q = refl
     pick false q = q
+
+pub copied-some : (o : Option (Bor ℕ)) → is_some (option_copied o) ≡ is_some o
+copied-some None = refl
+copied-some (Some x) = refl
+
+pub copied-none : (o : Option (Bor ℕ)) → is_some o ≡ false → option_copied o ≡ None
+copied-none None e = refl
+copied-none (Some x) e = absurd (false≢true (sym e))

@@ -1,2 +1,3 @@
 pub mod RowTerms
 pub mod Keys
+pub mod Loops
