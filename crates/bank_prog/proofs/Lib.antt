@@ -1,3 +1,4 @@
 pub mod RowTerms
 pub mod Keys
 pub mod Loops
+pub mod FormLemmas

@@ -1,7 +1,7 @@
 //! Rows of the first family: each value is first put somewhere, each access begins somewhere, and each use
 //! is served.
 
-ghost use Rattle.std.specs.Prelude.{◌≡◌, ◌++◌, map, IfOk, OnOk};
+ghost use Rattle.std.specs.Prelude.{◌≡◌, ◌++◌, map, OnOk};
 ghost use Rattle.std.specs.HashMap.{get};
 ghost use Rattle.std.specs.List.{flat_map};
 ghost use Rattle.ssu_ir.specs.View.{labels_view};
@@ -50,15 +50,22 @@ fn push_parameter_choices(
     Ok(())
 }
 
-/// The columns that put the words of these uses into their write registers.
-fn dirs_of(alloc: Global, uses: &[Use]) -> Result<Vec<Column>, NoMemory>
-    ensures { IfOk result (λ cs. cs.items ≡ flat_map lines.dir (map use_view uses.now)) }
+/// The columns that put the word of a use into its write register.
+fn add_dir(cs: &mut Vec<Column>, u: Use) -> Result<(), NoMemory>
+    ensures { OnOk result (cs.new.items ≡ cs.old.items ++ lines.dir (use_view u)) }
 {
-    let mut cs = Vec::new(alloc);
+    cs.extend_from_slice(&names::dir(u.point, u.operand))?;
+    Ok(())
+}
+
+/// Those of all these uses.
+fn add_dirs(cs: &mut Vec<Column>, uses: &[Use]) -> Result<(), NoMemory>
+    ensures { OnOk result (cs.new.items ≡ cs.old.items ++ flat_map lines.dir (map use_view uses.now)) }
+{
     for u in uses {
-        cs.extend_from_slice(&names::dir(u.point, u.operand))?;
+        add_dir(cs, *u)?;
     }
-    Ok(cs)
+    Ok(())
 }
 
 fn push_result_choice(
@@ -75,7 +82,7 @@ fn push_result_choice(
         Sort::Result => {
             let mut cs = Vec::new(alloc);
             cs.extend_from_slice(&names::def(v.var))?;
-            cs.extend_from_slice(&dirs_of(alloc, f.uses_of(v.var))?)?;
+            add_dirs(&mut cs, f.uses_of(v.var))?;
             push_exactly_one(alloc, numbers, &cs, rows)
         }
         Sort::Fetched(_, _) => Ok(()),

@@ -65,14 +65,21 @@ fn push_beginning(fs: &mut Vec<u8>, m: Mem, n: u32, f: u8) -> Result<(), NoMemor
     Ok(())
 }
 
+fn push_beginnings(fs: &mut Vec<u8>, m: Mem, n: u32, firsts: &[u8]) -> Result<(), NoMemory>
+    ensures { OnOk result (fs.new.items ≡ fs.old.items ++ flat_map (form.beginning m n) firsts.now) }
+{
+    for f in firsts {
+        push_beginning(fs, m, n, *f)?;
+    }
+    Ok(())
+}
+
 /// Where an access of n words may begin.
 pub fn beginnings(alloc: Global, m: Mem, n: u32) -> Result<Vec<u8>, NoMemory>
     ensures { IfOk result (λ fs. fs.items ≡ columns.beginnings m n) }
 {
     let mut fs = Vec::new(alloc);
-    for f in [0, 1, 2, 3, 4, 5, 6, 7] {
-        push_beginning(&mut fs, m, n, f)?;
-    }
+    push_beginnings(&mut fs, m, n, &[0, 1, 2, 3, 4, 5, 6, 7])?;
     Ok(fs)
 }
 
