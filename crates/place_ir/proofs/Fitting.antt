@@ -97,7 +97,7 @@ vars-numbered : (k : ℕ) (sort : ℕ → Sort) (i : ℕ) (xs : List ℕ) → ma
 vars-numbered k sort i [] = refl
 vars-numbered k sort i (x ∷ xs) = ap (λ l. x ∷ l) (vars-numbered k sort (suc i) xs)
 
-vars-of-place : (k : ℕ) (q : Spot) → map (λ v. v.var) (place_values k q) ≡ pure.place_values q
+pub vars-of-place : (k : ℕ) (q : Spot) → map (λ v. v.var) (place_values k q) ≡ pure.place_values q
 vars-of-place k (Entry l ps) = vars-numbered k (Parameter l) 0 ps
 vars-of-place k (At (Does (Lit x v))) = refl
 vars-of-place k (At (Does (Una x op y))) = refl

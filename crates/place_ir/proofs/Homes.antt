@@ -20,7 +20,7 @@ use Rattle.place_ir.proofs.Sound.{Each}
 use Rattle.place_ir.proofs.Spilled.{each-all, all-each, each-weaker, each-apply}
 use Rattle.place_ir.proofs.Fitting.{values-are}
 
-home-var : (n x : ℕ) (sort : Sort) → (sort_home n x sort).var ≡ x
+pub home-var : (n x : ℕ) (sort : Sort) → (sort_home n x sort).var ≡ x
 home-var n x (Parameter l i) = refl
 home-var n x Result = refl
 home-var n x (Fetched m i) = refl

@@ -36,7 +36,7 @@ pub record HeldThere (of : Names) (above : List ℕ) (t : Tree) (x : ℕ) : Type
   pub used_ : is_in x (used of t) ≡ true
 
 -- names that are known have the values that the whole gives
-same-values : (of value : Names) (known xs : List ℕ) → ((y : ℕ) → is_in y known ≡ true → of y ≡ value y) → ((y : ℕ) → is_in y xs ≡ true → is_in y known ≡ true) → map value xs ≡ map of xs
+pub same-values : (of value : Names) (known xs : List ℕ) → ((y : ℕ) → is_in y known ≡ true → of y ≡ value y) → ((y : ℕ) → is_in y xs ≡ true → is_in y known ≡ true) → map value xs ≡ map of xs
 same-values of value known xs h k = map-same value of xs (λ y e. sym (h y (k y e)))
 
 -- the value of a name that is known stands above

@@ -12,3 +12,8 @@ pub mod Fitting
 pub mod Slotted
 pub mod Covering
 pub mod Homes
+pub mod Gathering
+pub mod Named
+pub mod Short
+pub mod Joined
+pub mod PartSteps

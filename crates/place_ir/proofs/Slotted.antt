@@ -134,7 +134,7 @@ housed labels number slots homes (v ∷ vs) h b = (housed-by labels number slots
 
 -- ---- accesses
 
-first-fits : (m : Mem) (n f : ℕ) → f ≡ 0 → can_move m n ≡ true → IsFirst m n f
+pub first-fits : (m : Mem) (n f : ℕ) → f ≡ 0 → can_move m n ≡ true → IsFirst m n f
 first-fits Sram n f e h = let l = leb-true n 8 (and_parts (nat_le 1 n) (nat_le n 8) h).1 in omega arith
 first-fits Scratch n f e h = let l = leb-true n 8 (and_parts (nat_le 1 n) (nat_le n 8) h).1 in omega arith
 first-fits Sdram n f e h = (

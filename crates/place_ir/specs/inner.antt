@@ -2,3 +2,5 @@ pub mod Live
 pub mod Spots
 pub mod Numbers
 pub mod Spilled
+pub mod Parts
+pub mod Targets

@@ -3,12 +3,17 @@
 
 mod copies;
 mod laws;
+mod parts;
+mod parts_homes;
+mod parts_passes;
+mod parts_serves;
 mod place;
 mod row;
 mod rows;
 mod slots;
 mod spill;
 mod spots;
+mod used;
 
 pub use place::{First, Home, Pass, Place, PlaceError, Placement, Serve};
 pub use rows::{held, peak};

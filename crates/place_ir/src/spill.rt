@@ -1,21 +1,28 @@
 //! Slots for all values of a program.
 
-ghost use Rattle.std.specs.Prelude.{◌≡◌, ◌≤◌, ◌<◌, ℕ, true, nat_eq, All, Err, IfOk};
+ghost use Rattle.std.specs.Prelude.{◌≡◌, ◌≤◌, ◌<◌, ℕ, true, nat_eq, map, All, Err, IfOk};
 ghost use Rattle.std.specs.HashMap.{get};
 ghost use Rattle.ssu_ir.specs.Measures as measures;
 ghost use Rattle.ssu_ir.specs.Points.{points};
 ghost use Rattle.ssu_ir.specs.Single.{single};
-ghost use Rattle.ssu_ir.specs.View.{labels_view};
+ghost use Rattle.ssu_ir.specs.Slots.{bare_all};
+ghost use Rattle.ssu_ir.specs.View.{placed_of, labels_view};
 ghost use Rattle.place_ir.specs.Fits.{Fits};
 ghost use Rattle.place_ir.specs.Plan.{plan_view};
 ghost use Rattle.place_ir.specs.declared.place.PlaceError.TheVariants.{TooFew as WantsSlots};
+ghost use Rattle.place_ir.specs.inner.Live.{source_among};
 ghost use Rattle.place_ir.specs.inner.Spilled.{IsNumbered};
+ghost use Rattle.place_ir.specs.inner.Spots.{spot_place};
 
-use crate::copies::copies_of;
+use crate::copies::{Copies, copies_of};
+use crate::parts::{Given, spill_spots};
+use crate::parts_homes::by_variable;
 use crate::place::{PlaceError, Placement};
 use crate::rows::{all_rows, longest_row};
 use crate::slots::{Slots, slots_for};
-use crate::spots::spots_of;
+use crate::spots::{Spot, spots_of};
+use crate::used::used_values;
+use nv_base::NoMemory;
 use ssu_ir::Ssu;
 use std::alloc::Global;
 
@@ -29,21 +36,62 @@ fn too_few(wanted: usize) -> PlaceError
     }
 }
 
-/// Numbers of slots for all values, below this bound.
-pub fn numbers_below(alloc: Global, s: &Ssu, slots: u32) -> Result<Slots, PlaceError>
-    requires { single (labels_view s.now) ≡ true }
+/// Numbers of slots for all values, below this bound, where these are the clones and the points.
+pub fn numbers_below(
+    alloc: Global,
+    s: &Ssu,
+    copies: &Copies,
+    spots: &[Spot],
+    slots: u32,
+) -> Result<Slots, PlaceError>
+    requires single { single (labels_view s.now) ≡ true }
+    requires copies { (z : ℕ) → get nat_eq copies.now z ≡ source_among (bare_all (placed_of s.now)) z }
+    requires spots { map (spot_place s.now) spots.now ≡ map (λ p. p.place) (points (labels_view s.now)) }
     ensures numbered { IfOk result (λ m. All (IsNumbered (get nat_eq m) slots) (points (labels_view s.now))) }
     ensures enough { IfOk result (λ m. measures.peak (labels_view s.now) ≤ slots) }
     ensures few { (n : ℕ) → result ≡ Err (WantsSlots n) → (n ≡ measures.peak (labels_view s.now)) × (slots < n) }
 {
-    let copies = copies_of(alloc, s)?;
-    let rows = all_rows(alloc, s, &copies)?;
+    let rows = all_rows(alloc, s, copies)?;
     let wanted = longest_row(&rows);
     if wanted > slots as usize {
         return Err(too_few(wanted));
     }
-    let spots = spots_of(alloc, s)?;
-    Ok(slots_for(alloc, s, &spots, &rows)?)
+    Ok(slots_for(alloc, s, spots, &rows)?)
+}
+
+/// The placement by these clones, points and numbers.
+fn placed(
+    alloc: Global,
+    s: &Ssu,
+    copies: Copies,
+    spots: &[Spot],
+    numbers: Slots,
+    slots: u32,
+) -> Result<Placement, NoMemory>
+    requires single { single (labels_view s.now) ≡ true }
+    requires copies { (z : ℕ) → get nat_eq copies z ≡ source_among (bare_all (placed_of s.now)) z }
+    requires spots { map (spot_place s.now) spots.now ≡ map (λ p. p.place) (points (labels_view s.now)) }
+    requires slots { slots ≤ 128 }
+    requires numbered { All (IsNumbered (get nat_eq numbers) slots) (points (labels_view s.now)) }
+    requires enough { measures.peak (labels_view s.now) ≤ slots }
+    ensures fits { IfOk result (λ p. Fits (labels_view s.now) (plan_view p)) }
+    ensures slots { IfOk result (λ p. p.slots ≡ slots) }
+{
+    let used = used_values(alloc, s, &copies, spots)?;
+    let given = Given {
+        slots: numbers,
+        copies,
+        used,
+    };
+    let parts = spill_spots(alloc, s, &given, spots)?;
+    let homes = by_variable(parts.homes);
+    Ok(Placement {
+        slots,
+        homes,
+        firsts: parts.firsts,
+        serves: parts.serves,
+        passes: parts.passes,
+    })
 }
 
 /// Every value at home in a slot alone.
@@ -59,5 +107,8 @@ pub fn spill_all(alloc: Global, s: &Ssu, slots: u32) -> Result<Placement, PlaceE
     ensures enough { IfOk result (λ p. measures.peak (labels_view s.now) ≤ slots) }
     ensures few { (n : ℕ) → result ≡ Err (WantsSlots n) → (n ≡ measures.peak (labels_view s.now)) × (slots < n) }
 {
-    Err(PlaceError::NoMemory)
+    let copies = copies_of(alloc, s)?;
+    let spots = spots_of(alloc, s)?;
+    let numbers = numbers_below(alloc, s, &copies, &spots, slots)?;
+    Ok(placed(alloc, s, copies, &spots, numbers, slots)?)
 }

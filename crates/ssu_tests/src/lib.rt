@@ -3,4 +3,6 @@
 #![tactic(auto)]
 
 #[cfg(test)]
+mod spill;
+#[cfg(test)]
 mod sum;

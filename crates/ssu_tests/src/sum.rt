@@ -10,7 +10,8 @@ use ssu_ir::{Ssu, SsuBuild, SsuLabel, SsuNode, single, size};
 use std::alloc::Global;
 use std::test::Fail;
 
-fn sum(alloc: Global) -> Result<Ssu, NoMemory>
+/// The sum of two parameters.
+pub fn sum(alloc: Global) -> Result<Ssu, NoMemory>
     ensures { IfOk result (λ s. labels_view s ≡ sum_of_two) }
 {
     let words = Vars::from_slice(alloc, &[2])?;

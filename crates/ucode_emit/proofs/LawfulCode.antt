@@ -74,7 +74,7 @@ labels_good labels p mss k l (x ∷ ls) h r q e f =
     ap (entry_point labels) n ∙ (e (suc j) ∙ m))
     (λ j it g. let n : suc l + j ≡ l + suc j = omega arith in ap (slice_get labels) n ∙ f (suc j) it g))
 
-items_good : (labels : List Label) (p : Plan) (mss : Sequences) → Placed labels p → ReadyLayer labels p → AreSequences (parallel_moves p labels) mss → AreGood (items labels p mss)
+pub items_good : (labels : List Label) (p : Plan) (mss : Sequences) → Placed labels p → ReadyLayer labels p → AreSequences (parallel_moves p labels) mss → AreGood (items labels p mss)
 items_good labels p mss h r q =
     labels_good labels p mss 0 0 labels h r q
     (λ j. let n : 0 + j ≡ j = omega arith in let m : entry_point labels j ≡ 0 + entry_point labels j = omega arith in ap (entry_point labels) n ∙ m)

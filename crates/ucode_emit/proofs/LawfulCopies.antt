@@ -1,10 +1,10 @@
 -- How many places values are copied to: for each value its banks and its early words, and for all values together no more than a form is large.
-use Rattle.std.proofs.Common.{◌≡◌, ℕ, zero, suc, ◌+◌, ◌*◌, ◌≤◌, ◌<◌, nat_eq, Bool, true, false, not, ◌&&◌, List, [], ◌∷◌, ◌++◌, map, filter, length, Option, Some, None, if◌then◌else◌, refl, sym, ap, ◌∙◌, subst, ⊎_elim, arith}
+use Rattle.std.proofs.Common.{◌≡◌, ℕ, suc, ◌+◌, ◌*◌, ◌≤◌, nat_eq, Bool, true, false, not, List, [], ◌∷◌, ◌++◌, map, filter, length, Option, Some, None, if◌then◌else◌, refl, ap, ◌∙◌, subst, ⊎_elim, arith}
 use Rattle.std.proofs.lemmas.Bool.{and_parts, or_parts, not-true, cases_Bool}
 use Rattle.nv_base.specs.Sets.{is_in, all_different}
 use Rattle.nv_base.proofs.Sets.{same-number}
 use Rattle.ssu_ir.specs.Tree.{Label}
-use Rattle.ssu_ir.specs.Points.{Point, points}
+use Rattle.ssu_ir.specs.Points.{Point}
 use Rattle.ssu_ir.specs.Measures.{point_size, total}
 use Rattle.place_ir.specs.declared.place.Place.{Place}
 use Rattle.place_ir.specs.declared.place.Place.TheVariants.{A, B, Slot}

@@ -1,11 +1,10 @@
 -- How long the code of a form is: at most 16 instructions for each point, value and use.
-use Rattle.std.proofs.Common.{◌≡◌, ℕ, zero, suc, ◌+◌, ◌*◌, ◌≤◌, ◌<◌, Bool, true, false, ◌&&◌, List, [], ◌∷◌, ◌++◌, length, Option, Some, None, if◌then◌else◌, refl, sym, ap, ◌∙◌, subst, slice_get, arith}
+use Rattle.std.proofs.Common.{◌≡◌, ℕ, zero, suc, ◌+◌, ◌*◌, ◌≤◌, ◌<◌, Bool, true, false, ◌&&◌, List, [], ◌∷◌, ◌++◌, length, Option, None, if◌then◌else◌, refl, sym, ap, slice_get, arith}
 use Rattle.std.specs.Prelude.{◌^◌, ◌/◌}
 use Rattle.std.specs.List.{list_all}
 use Rattle.std.proofs.lemmas.Bool.{and_parts}
 use Rattle.nv_base.specs.Sets.{all_different}
 use Rattle.nv_base.specs.declared.term.Bin.TheVariants.{Sub}
-use Rattle.nv_base.specs.declared.term.Cmp.{Cmp}
 use Rattle.uc_isa.specs.declared.instruction.Instr.{Instr}
 use Rattle.uc_isa.specs.declared.instruction.Instr.TheVariants as instr
 use Rattle.uc_isa.specs.declared.instruction.Dst.{Dst}
@@ -13,9 +12,9 @@ use Rattle.uc_isa.specs.declared.instruction.Dst.TheVariants as dst
 use Rattle.uc_isa.specs.declared.instruction.Cond.{Cond}
 use Rattle.uc_isa.specs.declared.instruction.Cond.TheVariants.{Always}
 use Rattle.uc_isa.specs.Registers.{failing}
-use Rattle.ssu_ir.specs.Tree.{Step, Lit, Una, Bin, Clone, Read, Write, Last, Jump, Halt, Tree, Do, If, End, Label, Does, Forks, Ends, step_values, step_clones}
+use Rattle.ssu_ir.specs.Tree.{Step, Lit, Una, Bin, Clone, Read, Write, Last, Jump, Halt, Tree, Do, If, End, Label, Does, Ends, step_values, step_clones}
 use Rattle.ssu_ir.specs.Points.{nodes, points}
-use Rattle.ssu_ir.specs.Single.{defined, all_defined, is_entry, is_single, single}
+use Rattle.ssu_ir.specs.Single.{defined, all_defined, is_entry, is_single}
 use Rattle.ssu_ir.specs.Measures.{node_size, tree_size, size}
 use Rattle.ssu_ir.proofs.PointLemmas.{total-from}
 use Rattle.place_ir.specs.declared.place.Place.{Place}
@@ -25,7 +24,7 @@ use Rattle.place_ir.specs.Plan.{Plan, home, first, serve, pass}
 use Rattle.place_ir.specs.Uses.{uses}
 use Rattle.place_ir.specs.Fits.{is_slot, is_read_register}
 use Rattle.par_move.specs.Moves.{Move, temporary, StandFor, none, once, around, at_rest}
-use Rattle.ucode_emit.specs.inner.Pieces.{Item, Moved, Plain, Branch, instr_of, named, bring, brought, to_temporary, to_read_register, each_operand, operands, operand_at, words, result_place, to_slot, copied, all_copied, copies, all_copies, single_move, single_moves, un_op, source, target, address_of, shift_of, defines, moved, step_items, fork_items, last_items, entry_point, Sequences, sequence_at, tree_items, label_items, items_from, items, starts, served_moves, entry_moves, last_moves, tree_moves, label_moves, moves_from, parallel_moves}
+use Rattle.ucode_emit.specs.inner.Pieces.{Item, Plain, Branch, instr_of, named, bring, brought, to_temporary, to_read_register, each_operand, operands, operand_at, words, to_slot, copied, all_copied, copies, all_copies, single_move, single_moves, un_op, source, address_of, shift_of, defines, moved, step_items, fork_items, last_items, entry_point, Sequences, sequence_at, tree_items, label_items, items_from, items, starts, served_moves, entry_moves, last_moves, tree_moves, label_moves, moves_from, parallel_moves}
 use Rattle.ucode_emit.specs.inner.Ready.{AreSequences}
 use Rattle.ucode_emit.specs.inner.Layers.{Placed}
 use Rattle.ucode_emit.proofs.Placing.{as_many, long_both, items_long, Part, part_whole, part_head, part_tail, part_left, part_right, label_moves_many, moves_many, code_of}

@@ -45,7 +45,7 @@ idle labels p k q = record {
 
 -- ---- what the form says of a point
 
-node_here : (labels : List Label) (p : Plan) (k : ℕ) (of : Names) (above : List ℕ) (t : Tree) → Placed labels p → PointsAt labels k of above t → Formed labels k (root_point of above t)
+pub node_here : (labels : List Label) (p : Plan) (k : ℕ) (of : Names) (above : List ℕ) (t : Tree) → Placed labels p → PointsAt labels k of above t → Formed labels k (root_point of above t)
 node_here labels p k of above t h a = formed_at labels k (root_point of above t) h.single (root_at labels k of above t a)
 
 -- ---- steps
@@ -108,7 +108,7 @@ fork_good labels p k of above c x y second t u h r a =
 
 -- ---- jumps and ends
 
-takes_some : (n : ℕ) (o : Option Label) → takes_as_many n o ≡ true → (to : Label) × (o ≡ Some to)
+pub takes_some : (n : ℕ) (o : Option Label) → takes_as_many n o ≡ true → (to : Label) × (o ≡ Some to)
 takes_some n (Some l) e = (l, refl)
 takes_some n None e = absurd (false≢true e)
 
@@ -132,11 +132,11 @@ last_good labels p k of above (Halt c xs) ms h r a s =
 pub sequence_here : (all : List (List Move)) (mss : Sequences) (k : ℕ) (moves : List Move) → AreSequences all mss → slice_get all k ≡ Some moves → IsSequence moves (sequence_at mss k)
 sequence_here all mss k moves s e = s.each k moves (sequence_at mss k) e (there_by_length all mss k moves [] s.as_many e)
 
-none_stand : (ms : List Move) → StandFor [] ms → ms ≡ []
+pub none_stand : (ms : List Move) → StandFor [] ms → ms ≡ []
 none_stand ms none = refl
 
 -- arguments in A0 and on
-abbrev given : List ℕ → Words
+abbrev pub given : List ℕ → Words
 given xs (A i) = slice_index_or xs i 0
 given xs _ = 0
 

@@ -2,3 +2,11 @@ pub mod Pieces
 pub mod Ready
 pub mod Machine
 pub mod Layers
+pub mod Marks
+pub mod Emitted
+pub mod Here
+pub mod Spots
+pub mod Cursors
+pub mod Given
+pub mod Drafted
+pub mod Walk

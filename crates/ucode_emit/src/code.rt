@@ -8,12 +8,37 @@ ghost use Rattle.ssu_ir.specs.Single.{single};
 ghost use Rattle.ssu_ir.specs.View.{labels_view};
 ghost use Rattle.place_ir.specs.Fits.{Fits};
 ghost use Rattle.place_ir.specs.Plan.{plan_view};
+ghost use Rattle.ucode_emit.specs.inner.Drafted.{AreEmitted};
 
+use crate::drafted::draft_of;
+use crate::settle::settle;
 use nv_base::NoMemory;
 use place_ir::Placement;
 use ssu_ir::Ssu;
 use std::alloc::Global;
-use uc_isa::Code;
+use uc_isa::{Code, Instr};
+
+// How many parameters label 0 has.
+fn params_of(s: &Ssu) -> u8
+    requires { single (labels_view s.now) ≡ true }
+    ensures params { result ≡ ssu_params (labels_view s.now) }
+    ensures few { result ≤ 8 }
+{
+    match s.labels.first() {
+        Some(l) => l.params.len() as u8,
+        None => 0,
+    }
+}
+
+// The instructions.
+fn instructions(alloc: Global, s: &Ssu, p: &Placement) -> Result<Vec<Instr>, NoMemory>
+    requires single { single (labels_view s.now) ≡ true }
+    requires fits { Fits (labels_view s.now) (plan_view p.now) }
+    ensures { IfOk result (λ list. AreEmitted (labels_view s.now) (plan_view p.now) list.items) }
+{
+    let (draft, places) = draft_of(alloc, s, p)?;
+    settle(alloc, draft.list(), &places)
+}
 
 /// The code of a form in single use, whose values stand where a placement that fits has them.
 pub fn emit(alloc: Global, s: &Ssu, p: &Placement) -> Result<Code, NoMemory>
@@ -23,5 +48,6 @@ pub fn emit(alloc: Global, s: &Ssu, p: &Placement) -> Result<Code, NoMemory>
     ensures lawful { IfOk result (λ c. IsLawful c.list) }
     ensures agrees { IfOk result (λ c. Agrees (ssu_params (labels_view s.now)) (ssu_meaning (labels_view s.now)) c) }
 {
-    Err(NoMemory)
+    let list = instructions(alloc, s, p)?;
+    Ok(Code::new(params_of(s), list))
 }

@@ -1,0 +1,35 @@
+-- The code of all points, one point after the other.
+use Rattle.std.proofs.Common.{◌≡◌, ℕ, List, length, map, sym, ap, ◌∙◌, arith}
+use Rattle.std.proofs.lemmas.List.{take_all}
+use Rattle.uc_isa.specs.declared.instruction.Instr.{Instr}
+use Rattle.ssu_ir.specs.Tree.{Label}
+use Rattle.ssu_ir.specs.View.{labels_view}
+use Rattle.ssu_ir.specs.declared.ssu.Ssu.{Ssu}
+use Rattle.place_ir.specs.Plan.{Plan}
+use Rattle.ucode_emit.specs.declared.spots.Spot.{Spot}
+use Rattle.ucode_emit.specs.inner.Pieces.{Sequences, parallel_moves}
+use Rattle.ucode_emit.specs.inner.Ready.{AreSequences}
+use Rattle.ucode_emit.specs.inner.Emitted.{draft}
+use Rattle.ucode_emit.specs.inner.Marks.{marks, pieces, joined, begins}
+use Rattle.ucode_emit.specs.inner.Spots.{spot_mark}
+use Rattle.ucode_emit.specs.inner.Walk.{pieces_below, IsDrafted}
+use Rattle.ucode_emit.specs.inner.Drafted.{AreDrafted}
+use Rattle.ucode_emit.proofs.Placing.{as_many}
+use Rattle.ucode_emit.proofs.Marked.{all_joined, all_begins}
+
+-- ---- behind the last point
+
+pub drafted_all : (labels : List Label) (p : Plan) (mss : Sequences) (k : ℕ) (code : List Instr) (places : List ℕ) → AreSequences (parallel_moves p labels) mss → k ≡ length (marks labels)
+    → IsDrafted labels p mss k code places → AreDrafted labels p code places
+drafted_all labels p mss k code places s e h =
+    let all : pieces_below labels p mss k ≡ pieces labels p mss 0 (marks labels) = ap (pieces labels p mss 0) (take_all k (marks labels) (omega (arith, e))) in
+    record {
+      mss = mss;
+      sequences = s;
+      code_ = h.code_ ∙ ap (map draft) (ap joined all ∙ all_joined labels p mss);
+      places_ = h.places_ ∙ (ap (begins 0) all ∙ all_begins labels p mss);
+    }
+
+-- as many as there are points
+pub spots_many : (s : Ssu) (spots : List Spot) → map (spot_mark s) spots ≡ marks (labels_view s) → length spots ≡ length (marks (labels_view s))
+spots_many s spots e = sym (as_many (spot_mark s) spots) ∙ ap length e

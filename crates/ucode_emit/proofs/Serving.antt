@@ -1,0 +1,170 @@
+-- What is given at a point says what the placement says of it.
+use Rattle.std.proofs.Common.{◌≡◌, ℕ, zero, suc, ◌+◌, ◌<◌, ◌≤◌, List, [], ◌∷◌, ◌++◌, length, get_or, Some, refl, sym, ap, ◌∙◌, subst, slice_get, arith}
+use Rattle.std.specs.Prelude.{◌/◌, ◌^◌}
+use Rattle.std.proofs.lemmas.Option.{none-some}
+use Rattle.nv_base.specs.declared.term.Bin.TheVariants.{Sub}
+use Rattle.uc_isa.specs.declared.instruction.Instr.{Instr}
+use Rattle.uc_isa.specs.declared.instruction.Instr.TheVariants as instr
+use Rattle.uc_isa.specs.declared.instruction.Dst.TheVariants as dst
+use Rattle.uc_isa.specs.declared.instruction.Cond.TheVariants.{Always}
+use Rattle.uc_isa.specs.Registers.{failing}
+use Rattle.ssu_ir.specs.Tree.{Step, Lit, Una, Bin, Clone, Read, Write, Jump, Halt, Node, Does, Forks, Ends, node_uses}
+use Rattle.place_ir.specs.declared.place.Place.{Place}
+use Rattle.place_ir.specs.declared.place.Place.TheVariants.{Slot}
+use Rattle.place_ir.specs.declared.place.Serve.{Serve}
+use Rattle.place_ir.specs.Plan.{Plan, home, first, serve, pass}
+use Rattle.par_move.specs.Moves.{Move}
+use Rattle.ucode_emit.specs.declared.here.Here.{Here}
+use Rattle.ucode_emit.specs.inner.Pieces.{Item, Plain, Branch, moved, operands, operand_at, words, all_copied, all_copies, single_moves, un_op, source, address_of, shift_of}
+use Rattle.ucode_emit.specs.inner.Machine.{IsReadable}
+use Rattle.ucode_emit.specs.inner.Layers.{IsAddress}
+use Rattle.ucode_emit.specs.inner.Emitted.{fetches}
+use Rattle.ucode_emit.specs.inner.Here.{IsHere, CanAll, CanNode, node_items}
+use Rattle.ucode_emit.specs.inner.Given.{at_of, write_moves, each_copied, result_items, CanResult, given_node, CanGiven}
+use Rattle.ucode_emit.proofs.Fetching.{operands_served, words_served}
+
+-- ---- operands by number
+
+pub at_some : (ss : List Serve) (i : ℕ) (s : Serve) → i < length ss → ((d : Serve) → s ≡ get_or ss i d) → s.at ≡ at_of ss i
+at_some [] i s lt e = absurd (omega (arith, lt))
+at_some (r ∷ ss) zero s lt e = ap (λ q. q.at) (e r)
+at_some (r ∷ ss) (suc i) s lt e = at_some ss i s (omega (arith, lt)) e
+
+pub at_none : (ss : List Serve) (i : ℕ) → length ss ≤ i → Slot 0 ≡ at_of ss i
+at_none [] i le = refl
+at_none (r ∷ ss) zero le = absurd (omega (arith, le))
+at_none (r ∷ ss) (suc i) le = at_none ss i (omega (arith, le))
+
+-- each of these serves is that of the operands of a point from a number on
+abbrev pub AreServes : Plan → ℕ → ℕ → List Serve → Type 0
+AreServes p k i ss = (j : ℕ) (s : Serve) → slice_get ss j ≡ Some s → serve p k (i + j) ≡ s
+
+at_served : (p : Plan) (k i : ℕ) (ss : List Serve) (j : ℕ) → AreServes p k i ss → j < length ss → at_of ss j ≡ operand_at p k (i + j)
+at_served p k i [] j h lt = absurd (omega (arith, lt))
+at_served p k i (s ∷ ss) zero h lt = sym (ap (λ q. q.at) (h 0 s refl))
+at_served p k i (s ∷ ss) (suc j) h lt =
+    let z : suc i + j ≡ i + suc j = omega arith in
+    at_served p k (suc i) ss j (λ m r e. let w : suc i + m ≡ i + suc m = omega arith in ap (serve p k) w ∙ h (suc m) r e) (omega (arith, lt)) ∙ ap (operand_at p k) z
+
+-- ---- functions of several equals
+
+two : {A B D : Type 0} (f : A → B → D) (a c : A) (b d : B) → a ≡ c → b ≡ d → f a b ≡ f c d
+two f a c b d e g = ap (λ x. f x b) e ∙ ap (f c) g
+
+subst_two : {A B : Type 0} (F : A → B → Type 0) (a c : A) (b d : B) → a ≡ c → b ≡ d → F a b → F c d
+subst_two F a c b d e g h = subst (F c) g (subst (λ x. F x b) e h)
+
+-- ---- what is given
+
+served : (p : Plan) (n : ℕ) (here : Here) → IsHere p n here → AreServes p here.point 0 here.serves.now
+served p n here h j s e = let z : 0 + j ≡ j = omega arith in ap (serve p here.point) z ∙ h.serves j s e
+
+l_is : (p : Plan) (n : ℕ) (here : Here) → IsHere p n here → here.pass.l ≡ (pass p here.point).l
+l_is p n here h = ap (λ q. q.l) h.pass
+
+s_is : (p : Plan) (n : ℕ) (here : Here) → IsHere p n here → here.pass.s ≡ (pass p here.point).s
+s_is p n here h = ap (λ q. q.s) h.pass
+
+fetched : (p : Plan) (n : ℕ) (here : Here) → IsHere p n here → fetches here.pass.l here.serves.now ≡ operands p here.point n
+fetched p n here h =
+    ap (λ l. fetches l here.serves.now) (l_is p n here h) ∙ (sym (operands_served p here.point here.serves.now (served p n here h)) ∙ ap (operands p here.point) h.as_many)
+
+at_is : (p : Plan) (n : ℕ) (here : Here) (i : ℕ) → IsHere p n here → i < n → at_of here.serves.now i ≡ operand_at p here.point i
+at_is p n here i h lt =
+    let z : 0 + i ≡ i = omega arith in
+    at_served p here.point 0 here.serves.now i (served p n here h) (subst (λ m. i < m) (sym h.as_many) lt) ∙ ap (operand_at p here.point) z
+
+pub copies_are : (p : Plan) (k : ℕ) (xs : List ℕ) → each_copied p (pass p k).s xs ≡ all_copies p k xs
+copies_are p k [] = refl
+copies_are p k (x ∷ xs) = ap (λ l. all_copied (pass p k).s (home p x).defined (home p x).copied ++ l) (copies_are p k xs)
+
+pub copied_here : (p : Plan) (n : ℕ) (here : Here) (xs : List ℕ) → IsHere p n here → each_copied p here.pass.s xs ≡ all_copies p here.point xs
+copied_here p n here xs h = ap (λ s. each_copied p s xs) (s_is p n here h) ∙ copies_are p here.point xs
+
+first_alone : (p : Plan) (k : ℕ) (s : Serve) (ss : List Serve) → AreServes p k 0 (s ∷ ss) → AreServes p k 0 (s ∷ [])
+first_alone p k s ss h zero r e = h zero r e
+first_alone p k s ss h (suc j) r e = absurd (none-some r e)
+
+write_served : (p : Plan) (k n : ℕ) (ss : List Serve) → AreServes p k 0 ss → length ss ≡ suc n → write_moves (pass p k).l ss ≡ operands p k 1 ++ words p k 1 n
+write_served p k n [] h e = absurd (omega (arith, e))
+write_served p k n (s ∷ ss) h e =
+    let m : length ss ≡ n = omega (arith, e) in
+    two (λ (a b : List Move). a ++ b) _ (operands p k 1) _ (words p k 1 n) (sym (operands_served p k (s ∷ []) (first_alone p k s ss h)))
+    (sym (words_served p k 1 ss (λ j r g. let z : 1 + j ≡ 0 + suc j = omega arith in ap (serve p k) z ∙ h (suc j) r g)) ∙ ap (words p k 1) m)
+
+written : (p : Plan) (n : ℕ) (here : Here) → IsHere p (suc n) here → write_moves here.pass.l here.serves.now ≡ operands p here.point 1 ++ words p here.point 1 n
+written p n here h = ap (λ l. write_moves l here.serves.now) (l_is p (suc n) here h) ∙ write_served p here.point n here.serves.now (served p (suc n) here h) h.as_many
+
+-- ---- the piece
+
+given_step_is : (p : Plan) (here : Here) (s : Step) → IsHere p (length (node_uses (Does s))) here → given_node p here (Does s) ≡ node_items p here.point here.to here.singles.now (Does s)
+given_step_is p here (Lit x v) h = ap (λ s. result_items p s x (λ d. instr.Immed d (v / 2 ^ shift_of v) (shift_of v))) (s_is p 0 here h)
+given_step_is p here (Una x op y) h =
+    two (λ (a : List Move) (is : List Item). moved a ++ is) _ (operands p here.point 1) _ _ (fetched p 1 here h)
+    (two (λ s (q : Place). result_items p s x (λ d. instr.Un d (un_op op) (source q))) _ (pass p here.point).s _ (operand_at p here.point 0) (s_is p 1 here h) (at_is p 1 here 0 h (omega arith)))
+given_step_is p here (Bin x op y z) h =
+    let k = here.point in
+    two (λ (a : List Move) (is : List Item). moved a ++ is) _ (operands p k 2) _ _ (fetched p 2 here h)
+    (two (λ s (f : Place × Place). result_items p s x (λ d. instr.Alu d op (source f.0) (source f.1))) _ (pass p k).s (at_of here.serves.now 0, at_of here.serves.now 1) (operand_at p k 0, operand_at p k 1) (s_is p 2 here h)
+    (two (λ (a b : Place). (a, b)) _ (operand_at p k 0) _ (operand_at p k 1) (at_is p 2 here 0 h (omega arith)) (at_is p 2 here 1 h (omega arith))))
+given_step_is p here (Clone xs y) h = refl
+given_step_is p here (Read m xs y) h =
+    let k = here.point in
+    two (λ (a : List Move) (is : List Item). moved a ++ is) _ (operands p k 1) _ _ (fetched p 1 here h)
+    (two (λ (i : Instr) (a : List Move). Plain i ∷ moved a) _ (instr.Read m (first p k) (length xs) (address_of (operand_at p k 0)) 0) _ (all_copies p k xs)
+    (two (λ (f : ℕ) (q : Place). instr.Read m f (length xs) (address_of q) 0) _ (first p k) _ (operand_at p k 0) h.first (at_is p 1 here 0 h (omega arith)))
+    (copied_here p 1 here xs h))
+given_step_is p here (Write m y xs) h =
+    let k = here.point in
+    let n = length xs in
+    two (λ (a : List Move) (is : List Item). moved a ++ is) _ (operands p k 1 ++ words p k 1 n) _ _ (written p n here h)
+    (two (λ (f : ℕ) (q : Place). Plain (instr.Write m f n (address_of q) 0) ∷ []) _ (first p k) _ (operand_at p k 0) h.first (at_is p (suc n) here 0 h (omega arith)))
+
+pub given_is : (p : Plan) (here : Here) (n : Node) → IsHere p (length (node_uses n)) here → given_node p here n ≡ node_items p here.point here.to here.singles.now n
+given_is p here (Does s) h = given_step_is p here s h
+given_is p here (Forks c x y) h =
+    let k = here.point in
+    two (λ (a : List Move) (is : List Item). moved a ++ is) _ (operands p k 2) _ _ (fetched p 2 here h)
+    (two (λ (a b : Place). Plain (instr.Alu dst.Nowhere Sub (source a) (source b)) ∷ Branch (failing c) here.to ∷ []) _ (operand_at p k 0) _ (operand_at p k 1) (at_is p 2 here 0 h (omega arith)) (at_is p 2 here 1 h (omega arith)))
+given_is p here (Ends (Jump l xs)) h = ap (λ r. moved (single_moves r here.singles.now) ++ Branch Always here.to ∷ []) (l_is p (length xs) here h)
+given_is p here (Ends (Halt e xs)) h = ap (λ r. moved (single_moves r here.singles.now) ++ Plain (instr.Halt e (length xs)) ∷ []) (l_is p (length xs) here h)
+
+-- ---- what is asked
+
+fetches_can : (p : Plan) (n : ℕ) (here : Here) → IsHere p n here → CanAll (operands p here.point n) → CanAll (fetches here.pass.l here.serves.now)
+fetches_can p n here h c = subst CanAll (sym (fetched p n here h)) c
+
+readable_can : (p : Plan) (n : ℕ) (here : Here) (i : ℕ) → IsHere p n here → i < n → IsReadable (operand_at p here.point i) → IsReadable (at_of here.serves.now i)
+readable_can p n here i h lt c = subst IsReadable (sym (at_is p n here i h lt)) c
+
+address_can : (p : Plan) (n : ℕ) (here : Here) → IsHere p n here → 0 < n → IsAddress (operand_at p here.point 0) → IsAddress (at_of here.serves.now 0)
+address_can p n here h lt c = subst IsAddress (sym (at_is p n here 0 h lt)) c
+
+result_can : (p : Plan) (n : ℕ) (here : Here) (x : ℕ) → IsHere p n here → CanResult p (pass p here.point).s x → CanResult p here.pass.s x
+result_can p n here x h c = subst (λ s. CanResult p s x) (sym (s_is p n here h)) c
+
+singles_can : (p : Plan) (n : ℕ) (here : Here) → IsHere p n here → CanAll (single_moves (pass p here.point).l here.singles.now) → CanAll (single_moves here.pass.l here.singles.now)
+singles_can p n here h c = subst (λ r. CanAll (single_moves r here.singles.now)) (sym (l_is p n here h)) c
+
+given_step_can : (p : Plan) (here : Here) (s : Step) → IsHere p (length (node_uses (Does s))) here → CanNode p here.point here.singles.now (Does s) → CanGiven p here (Does s)
+given_step_can p here (Lit x v) h c = (c.0, result_can p 0 here x h c.1)
+given_step_can p here (Una x op y) h c = (fetches_can p 1 here h c.0, readable_can p 1 here 0 h (omega arith) c.1, result_can p 1 here x h c.2)
+given_step_can p here (Bin x op y z) h c =
+    (fetches_can p 2 here h c.0, readable_can p 2 here 0 h (omega arith) c.1, readable_can p 2 here 1 h (omega arith) c.2, result_can p 2 here x h c.3)
+given_step_can p here (Clone xs y) h c = tt
+given_step_can p here (Read m xs y) h c =
+    (fetches_can p 1 here h c.0, address_can p 1 here h (omega arith) c.1, c.2, subst CanAll (sym (copied_here p 1 here xs h)) c.3)
+given_step_can p here (Write m y xs) h c =
+    (subst CanAll (sym (written p (length xs) here h)) c.0, address_can p (suc (length xs)) here h (omega arith) c.1, c.2)
+
+pub given_can : (p : Plan) (here : Here) (n : Node) → IsHere p (length (node_uses n)) here → CanNode p here.point here.singles.now n → CanGiven p here n
+given_can p here (Does s) h c = given_step_can p here s h c
+given_can p here (Forks k x y) h c = (fetches_can p 2 here h c.0, readable_can p 2 here 0 h (omega arith) c.1, readable_can p 2 here 1 h (omega arith) c.2)
+given_can p here (Ends (Jump l xs)) h c = singles_can p (length xs) here h c
+given_can p here (Ends (Halt e xs)) h c = (singles_can p (length xs) here h c.0, c.1)
+
+-- ---- where labels begin
+
+-- lists that were appended to an empty one
+pub appended : {X : Type 0} (new more_ old a b c : List X) → new ≡ more_ ++ b → more_ ≡ old ++ a → old ≡ [] → b ≡ c → new ≡ a ++ c
+appended new more_ old a b c e f g h = e ∙ (ap (λ l. l ++ b) (f ∙ ap (λ l. l ++ a) g) ∙ ap (λ l. a ++ l) h)

@@ -1,0 +1,47 @@
+-- The whole code from the draft of all points.
+use Rattle.std.proofs.Common.{◌≡◌, ℕ, ◌<◌, ◌≤◌, ◌^◌, true, List, map, length, sym, ap, ◌∙◌, subst}
+use Rattle.uc_isa.specs.declared.instruction.Instr.{Instr}
+use Rattle.uc_isa.specs.Agrees.{Agrees}
+use Rattle.uc_isa.specs.Code.{CodeView}
+use Rattle.uc_isa.specs.Lawful.{IsLawful}
+use Rattle.ssu_ir.specs.Tree.{Label}
+use Rattle.ssu_ir.specs.Measures.{size}
+use Rattle.ssu_ir.specs.Meaning.{ssu_meaning, ssu_params}
+use Rattle.ssu_ir.specs.Single.{single}
+use Rattle.place_ir.specs.Fits.{Fits}
+use Rattle.place_ir.specs.Plan.{Plan}
+use Rattle.ucode_emit.specs.inner.Pieces.{instr_of, items, starts}
+use Rattle.ucode_emit.specs.inner.Emitted.{settled}
+use Rattle.ucode_emit.specs.inner.Layers.{Placed}
+use Rattle.ucode_emit.specs.inner.Drafted.{AreDrafted, AreEmitted}
+use Rattle.ucode_emit.proofs.Agreeing.{code_agrees}
+use Rattle.ucode_emit.proofs.Layer.{ready_layer}
+use Rattle.ucode_emit.proofs.LawfulCode.{items_good, code_some, code_lawful}
+use Rattle.ucode_emit.proofs.LawfulLength.{code_few}
+use Rattle.ucode_emit.proofs.Settling.{settles}
+
+pub placed : {labels : List Label} {p : Plan} → single labels ≡ true → Fits labels p → Placed labels p
+placed s f = record { single = s; fits = f }
+
+-- points in branches are given their places
+pub emitted : (labels : List Label) (p : Plan) (code list : List Instr) (places : List ℕ) → Placed labels p → AreDrafted labels p code places → list ≡ map (settled places) code → AreEmitted labels p list
+emitted labels p code list places h d e = record {
+  mss = d.mss;
+  sequences = d.sequences;
+  code_ = e ∙ (ap (λ ps. map (settled ps) code) d.places_ ∙ (ap (map (settled (starts labels p d.mss))) d.code_ ∙ settles (starts labels p d.mss) (items labels p d.mss) (items_good labels p d.mss h (ready_layer labels p h) d.sequences)));
+}
+
+pub some_code : (labels : List Label) (p : Plan) (list : List Instr) → Placed labels p → AreEmitted labels p list → 1 ≤ length list
+some_code labels p list h e = subst (λ l. 1 ≤ length l) (sym e.code_) (code_some labels p e.mss h)
+
+pub few_code : (labels : List Label) (p : Plan) (list : List Instr) → Placed labels p → AreEmitted labels p list → size labels ≤ 2 ^ 26 → length list < 2 ^ 31
+few_code labels p list h e n = subst (λ l. length l < 2 ^ 31) (sym e.code_) (code_few labels p e.mss h e.sequences n)
+
+pub lawful_code : (labels : List Label) (p : Plan) (list : List Instr) → Placed labels p → AreEmitted labels p list → IsLawful list
+lawful_code labels p list h e = subst IsLawful (sym e.code_) (code_lawful labels p e.mss h (ready_layer labels p h) e.sequences)
+
+-- code as its parameters and its instructions
+pub agreeing_code : (labels : List Label) (p : Plan) (c : CodeView) → Placed labels p → AreEmitted labels p c.list → c.params ≡ ssu_params labels → Agrees (ssu_params labels) (ssu_meaning labels) c
+agreeing_code labels p c h e n =
+    subst (λ l. Agrees (ssu_params labels) (ssu_meaning labels) (record { params = c.params; list = l })) (sym e.code_)
+    (subst (λ m. Agrees (ssu_params labels) (ssu_meaning labels) (record { params = m; list = map (instr_of (starts labels p e.mss)) (items labels p e.mss) })) (sym n) (code_agrees labels p e.mss h e.sequences))

@@ -1,0 +1,21 @@
+use Rattle.std.proofs.Common.{sym, ◌∙◌, subst}
+use Rattle.uc_isa.specs.Lawful.{IsLawful}
+use Rattle.ssu_ir.specs.View.{labels_view}
+use Rattle.place_ir.specs.Plan.{plan_view}
+use Rattle.ucode_emit.specs.inner.Drafted.{AreEmitted}
+use Rattle.ucode_emit.proofs.Whole.{some_code, few_code, lawful_code, agreeing_code, placed}
+use Rattle.ucode_emit.proofs.code.emit.Goals as goal
+
+pub new-requires-clause-some : goal.new-requires-clause-some
+new-requires-clause-some c = some_code (labels_view c.args.s.now) (plan_view c.args.p.now) c.in_ok-list.list.items (placed c.requires.single c.requires.fits) c.in_ok-list.ensures
+
+pub new-requires-clause-few : goal.new-requires-clause-few
+new-requires-clause-few c = few_code (labels_view c.args.s.now) (plan_view c.args.p.now) c.in_ok-list.list.items (placed c.requires.single c.requires.fits) c.in_ok-list.ensures c.requires.few
+
+pub returns-clause-lawful : goal.returns-clause-lawful
+returns-clause-lawful c =
+    subst IsLawful (sym c.new.ensures.list) (lawful_code (labels_view c.args.s.now) (plan_view c.args.p.now) c.in_ok-list.list.items (placed c.requires.single c.requires.fits) c.in_ok-list.ensures)
+
+pub returns-clause-agrees : goal.returns-clause-agrees
+returns-clause-agrees c =
+    agreeing_code (labels_view c.args.s.now) (plan_view c.args.p.now) c.new.result (placed c.requires.single c.requires.fits) (subst (AreEmitted (labels_view c.args.s.now) (plan_view c.args.p.now)) (sym c.new.ensures.list) c.in_ok-list.ensures) (c.new.ensures.params ∙ c.params_of.ensures.params)

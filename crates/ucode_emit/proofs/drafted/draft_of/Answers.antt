@@ -1,0 +1,11 @@
+use Rattle.ssu_ir.specs.View.{labels_view}
+use Rattle.place_ir.specs.Plan.{plan_view}
+use Rattle.ucode_emit.specs.inner.Walk.{moves_of}
+use Rattle.ucode_emit.proofs.Drafting.{drafted_all, spots_many}
+use Rattle.ucode_emit.proofs.drafted.draft_of.Goals as goal
+
+pub returns : goal.returns
+returns c =
+    let labels = labels_view c.args.s.now in
+    let p = plan_view c.args.p.now in
+    drafted_all labels p (moves_of c.in_ok-points.points.sequences.items) _ _ _ c.in_ok-points.ensures.sequences (spots_many c.args.s.now c.in_ok-points.points.spots.items c.in_ok-points.ensures.spots) c.in_ok-places.ensures

@@ -1,0 +1,13 @@
+use Rattle.std.proofs.Common.{◌≡◌, ◌++◌, map, OnOk, subst}
+use Rattle.ssu_ir.specs.Slots.{node_of}
+use Rattle.place_ir.specs.Plan.{plan_view}
+use Rattle.ucode_emit.specs.inner.Emitted.{draft}
+use Rattle.ucode_emit.proofs.Serving.{given_is, given_can}
+use Rattle.ucode_emit.proofs.piece.push_node.Goals as goal
+
+pub push_given-requires-clause-can : goal.push_given-requires-clause-can
+push_given-requires-clause-can c = given_can (plan_view c.args.p.now) c.args.here.now (node_of c.args.n.now) c.requires.here c.requires.can
+
+pub returns : goal.returns
+returns c =
+    subst (λ is. OnOk c.push_given.result (c.push_given.new.code ≡ c.args.code.now ++ map draft is)) (given_is (plan_view c.args.p.now) c.args.here.now (node_of c.args.n.now) c.requires.here) c.push_given.ensures

@@ -1,0 +1,21 @@
+use Rattle.std.proofs.Common.{◌≡◌, List, [], ◌∷◌, All}
+use Rattle.std.specs.Prelude.{reverse, vec_len}
+use Rattle.ssu_ir.specs.Slots.{Placed}
+use Rattle.ssu_ir.specs.Work.{tops}
+use Rattle.ssu_ir.proofs.Turns.{Completes}
+use Rattle.place_ir.specs.inner.Live.{label_tree}
+use Rattle.ucode_emit.specs.inner.Spots.{IsSpot, on_stack}
+use Rattle.ucode_emit.proofs.Spotted.{weights, all_marks}
+use Rattle.ucode_emit.proofs.spots.label_spots.Given as goal
+
+abbrev pub invariant-walk : goal.invariant-walk
+invariant-walk l = record {
+  made : List Placed;
+  left : Completes l.s.nodes.slots (tops l.order.items) made (label_tree l.s l.l ∷ []);
+  counts_ : reverse l.counts.items ≡ weights made;
+  marks_ : on_stack l.s l.spots.items ≡ all_marks made;
+  there : All (IsSpot l.s) l.spots.items;
+}
+
+abbrev pub decreases-walk : goal.decreases-walk
+decreases-walk l = vec_len l.order

@@ -1,0 +1,20 @@
+-- The code of a whole form: with points in its branches, and with places.
+use Rattle.std.specs.Prelude.{◌≡◌, ℕ, List, map}
+use Rattle.uc_isa.specs.declared.instruction.Instr.{Instr}
+use Rattle.ssu_ir.specs.Tree.{Label}
+use Rattle.place_ir.specs.Plan.{Plan}
+use Rattle.ucode_emit.specs.inner.Emitted.{draft}
+use Rattle.ucode_emit.specs.inner.Pieces.{Sequences, instr_of, items, starts, parallel_moves}
+use Rattle.ucode_emit.specs.inner.Ready.{AreSequences}
+
+-- for some single moves that do the parallel moves, these instructions are the code, and the points begin at these places
+pub record AreDrafted (labels : List Label) (p : Plan) (code : List Instr) (places : List ℕ) : Type 0 where
+  pub mss : Sequences
+  pub sequences : AreSequences (parallel_moves p labels) mss
+  pub code_ : code ≡ map draft (items labels p mss)
+  pub places_ : places ≡ starts labels p mss
+
+pub record AreEmitted (labels : List Label) (p : Plan) (code : List Instr) : Type 0 where
+  pub mss : Sequences
+  pub sequences : AreSequences (parallel_moves p labels) mss
+  pub code_ : code ≡ map (instr_of (starts labels p mss)) (items labels p mss)

@@ -1,0 +1,25 @@
+//! The code of all points, one behind the other.
+
+ghost use Rattle.std.specs.Prelude.{IfOk};
+ghost use Rattle.ssu_ir.specs.View.{labels_view};
+ghost use Rattle.place_ir.specs.Plan.{plan_view};
+ghost use Rattle.ucode_emit.specs.inner.Drafted.{AreDrafted};
+ghost use Rattle.ucode_emit.specs.inner.Layers.{Placed};
+
+use crate::draft::Draft;
+use crate::walk::{points_of, push_points};
+use nv_base::NoMemory;
+use place_ir::Placement;
+use ssu_ir::Ssu;
+use std::alloc::Global;
+
+/// The code of all points, whose branches name points, and the place at which each point begins.
+pub fn draft_of(alloc: Global, s: &Ssu, p: &Placement) -> Result<(Draft, Vec<u32>), NoMemory>
+    requires { Placed (labels_view s.now) (plan_view p.now) }
+    ensures { IfOk result (λ r. AreDrafted (labels_view s.now) (plan_view p.now) r.0 r.1.items) }
+{
+    let points = points_of(alloc, s, p)?;
+    let mut code = Draft::new(alloc);
+    let places = push_points(alloc, &mut code, s, p, &points)?;
+    Ok((code, places))
+}

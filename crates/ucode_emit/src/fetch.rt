@@ -1,0 +1,112 @@
+//! The moves that fetch a point's operands.
+
+ghost use Rattle.std.specs.Prelude.{◌≡◌, ◌++◌, map, OnOk};
+ghost use Rattle.place_ir.specs.Fits as fits;
+ghost use Rattle.ucode_emit.specs.inner.Emitted as emitted;
+ghost use Rattle.ucode_emit.specs.inner.Given as given;
+ghost use Rattle.ucode_emit.specs.inner.Here.{CanAll};
+ghost use Rattle.ucode_emit.specs.inner.Pieces.{moved};
+
+use crate::draft::{Draft, push_moves};
+use crate::moves::{Move, brought, is_slot, same_place};
+use nv_base::NoMemory;
+use place_ir::{Place, Serve};
+use std::alloc::Global;
+
+/// Whether a place is a register that is read into.
+fn is_read_register(p: Place) -> bool
+    ensures { result ≡ fits.is_read_register p }
+{
+    match p {
+        Place::L(_) => true,
+        Place::LD(_) => true,
+        Place::A(_) => false,
+        Place::B(_) => false,
+        Place::S(_) => false,
+        Place::SD(_) => false,
+        Place::Slot(_) => false,
+    }
+}
+
+// Fetches an operand that is wanted in the compiler's own register.
+fn own_fetch(moves: &mut Vec<Move>, l: Option<u8>, serve: Serve) -> Result<(), NoMemory>
+    ensures { OnOk result (moves.new.items ≡ moves.old.items ++ emitted.own_fetch l serve) }
+{
+    if same_place(serve.at, Place::A(15)) {
+        brought(moves, l, serve.from, serve.at)?;
+    }
+    Ok(())
+}
+
+// Fetches an operand from a slot into a read register.
+fn slot_fetch(moves: &mut Vec<Move>, serve: Serve) -> Result<(), NoMemory>
+    ensures { OnOk result (moves.new.items ≡ moves.old.items ++ emitted.slot_fetch serve) }
+{
+    if is_slot(serve.from) && is_read_register(serve.at) {
+        moves.push((serve.from, serve.at))?;
+    }
+    Ok(())
+}
+
+// Those that are wanted in the compiler's own register.
+fn own_fetches(moves: &mut Vec<Move>, l: Option<u8>, serves: &[Serve]) -> Result<(), NoMemory>
+    ensures { OnOk result (moves.new.items ≡ moves.old.items ++ emitted.each_fetch (emitted.own_fetch l) serves.now) }
+{
+    for serve in serves {
+        own_fetch(moves, l, *serve)?;
+    }
+    Ok(())
+}
+
+// Those that come from slots into read registers.
+fn slot_fetches(moves: &mut Vec<Move>, serves: &[Serve]) -> Result<(), NoMemory>
+    ensures { OnOk result (moves.new.items ≡ moves.old.items ++ emitted.each_fetch emitted.slot_fetch serves.now) }
+{
+    for serve in serves {
+        slot_fetch(moves, *serve)?;
+    }
+    Ok(())
+}
+
+/// Fetches the operands of an instruction.
+pub fn fetches(moves: &mut Vec<Move>, l: Option<u8>, serves: &[Serve]) -> Result<(), NoMemory>
+    ensures { OnOk result (moves.new.items ≡ moves.old.items ++ emitted.fetches l serves.now) }
+{
+    own_fetches(moves, l, serves)?;
+    slot_fetches(moves, serves)
+}
+
+/// Adds the moves that fetch the operands of an instruction.
+pub fn push_fetches(
+    alloc: Global,
+    code: &mut Draft,
+    l: Option<u8>,
+    serves: &[Serve],
+) -> Result<(), NoMemory>
+    requires { CanAll (emitted.fetches l serves.now) }
+    ensures { OnOk result (code.new ≡ code.old ++ map emitted.draft (moved (emitted.fetches l serves.now))) }
+{
+    let mut moves = Vec::new(alloc);
+    fetches(&mut moves, l, serves)?;
+    push_moves(code, &moves)
+}
+
+/// Where the operand of a number is wanted.
+pub fn served_at(serves: &[Serve], i: usize) -> Place
+    ensures { result ≡ given.at_of serves.now i }
+{
+    match serves.get(i) {
+        Some(serve) => serve.at,
+        None => Place::Slot(0),
+    }
+}
+
+/// Brings words to their places; those that are there stay.
+pub fn words(moves: &mut Vec<Move>, l: Option<u8>, serves: &[Serve]) -> Result<(), NoMemory>
+    ensures { OnOk result (moves.new.items ≡ moves.old.items ++ emitted.each_fetch (emitted.word_fetch l) serves.now) }
+{
+    for serve in serves {
+        brought(moves, l, serve.from, serve.at)?;
+    }
+    Ok(())
+}
