@@ -18,7 +18,7 @@ if-false : {A : Type 0} (b : Bool) (x y : A) → b ≡ false → (if b then x el
 if-false false x y e = refl
 if-false true x y e = absurd (false≢true (sym e))
 
-eq-itself : (x : ℕ) → nat_eq x x ≡ true
+pub eq-itself : (x : ℕ) → nat_eq x x ≡ true
 eq-itself x = search (tests, rules)
 
 other-test : (a b : ℕ) → (a ≡ b → ⊥) → nat_eq a b ≡ false

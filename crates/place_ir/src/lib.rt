@@ -15,6 +15,8 @@ mod spill;
 mod spots;
 mod used;
 
+pub use copies::{Copies, copies_of, value_of};
 pub use place::{First, Home, Pass, Place, PlaceError, Placement, Serve};
 pub use rows::{held, peak};
 pub use spill::spill_all;
+pub use spots::{Spot, spots_of};

@@ -17,7 +17,7 @@ returns-then-is_used c =
     let p = λ (v : pure.Value). is_used (labels_view c.args.f.now.ssu.now) v.var in
     any-here p value_view c.args.values.now c.loop-v.v-index _ (list_any p (map value_view c.args.values.now)) (omega arith) (sym c.is_used.ensures ∙ c.if-is_used.true) c.loop-v.invariant
 
-pub returns-after-loop-v : goal.returns-after-loop-v
-returns-after-loop-v c =
+pub returns : goal.returns
+returns c =
     let p = λ (v : pure.Value). is_used (labels_view c.args.f.now.ssu.now) v.var in
     any-none p value_view c.args.values.now c.loop-v.v-index (list_any p (map value_view c.args.values.now)) (omega arith) c.loop-v.invariant

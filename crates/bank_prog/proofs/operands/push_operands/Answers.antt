@@ -14,7 +14,7 @@ loop-stop-preserved c =
     let number = get same_column c.args.numbers.now in
     adds-more number (form.part_operands) stop_view c.args.stops.now c.loop-stop.stop-index _ c.loop-stop.rows.items c.push_stop_operands.new.rows.items
     (map row_contents c.args.rows.now.items ++ map (row_of number) (flat_map (form.part_operands) (map stop_view c.args.stops.now)))
-    (omega arith) (adds-as number c.loop-stop.rows.items c.push_stop_operands.new.rows.items _ _ c.in_ok-push_stop_operands.ensures (ap (λ s. form.part_operands (stop_view s)) c.stop-item.ensures)) c.loop-stop.invariant
+    (omega arith) (adds-as number c.loop-stop.rows.items c.push_stop_operands.new.rows.items _ _ c.in_ok-push_stop_operands.ensures (ap (λ s. form.part_operands (stop_view s)) c.stop-item.is)) c.loop-stop.invariant
 
 pub returns : goal.returns
 returns c =

@@ -1,8 +1,13 @@
-use Rattle.std.proofs.Common.{◌≡◌, ◌∙◌, ap}
+use Rattle.std.proofs.Common.{◌≡◌, ◌∙◌, ap, sym, Some, None}
+use Rattle.ssu_ir.proofs.Keeps.{view_at, some_from, none_from}
+use Rattle.place_ir.specs.Fits.{label_param, param_at}
 use Rattle.bank_prog.proofs.form.Form.parameter.Goals as goal
 
 pub returns-in-Some : goal.returns-in-Some
-returns-in-Some c = let a = c.get.ensures in let b = c.in-Some.ensures in let d = c.unwrap_or.ensures in let e = c.copied.ensures in let f = c.get-in-Some.ensures in ?
+returns-in-Some c =
+    let v = ap (λ o. label_param o c.args.i) (view_at c.args.self.now.ssu.now _ c.args.l (Some c.in-Some.l.now) c.deref.ensures.value (some_from _ _ _ _ c.in-Some.ensures.lookup.0 c.in-Some.ensures.lookup.1)) in
+    let e = c.unwrap_or.ensures in
+    ?
 
 pub returns-in-None : goal.returns-in-None
-returns-in-None c = let a = c.get.ensures in let b = c.in-None.ensures in ?
+returns-in-None c = sym (ap (λ o. label_param o c.args.i) (view_at c.args.self.now.ssu.now _ c.args.l None c.deref.ensures.value (none_from _ _ c.in-None.ensures.lookup.0)))
