@@ -1,11 +1,17 @@
 -- What the tables of a form say.
-use Rattle.std.proofs.Common.{◌≡◌, ℕ, zero, suc, Bool, true, false, not, cond, ◌||◌, ◌==◌, nat_eq, List, [], ◌∷◌, map, length, refl, sym, ap, subst, ◌∙◌, arith, rules, tests}
+use Rattle.std.proofs.Common.{◌≡◌, ℕ, zero, suc, Bool, true, false, not, cond, ◌||◌, ◌==◌, nat_eq, List, [], ◌∷◌, map, length, get_or, refl, sym, ap, subst, ◌∙◌, arith, rules, tests}
+use Rattle.std.specs.Prelude.{slice_get}
 use Rattle.std.specs.List.{filter}
 use Rattle.std.proofs.lemmas.Bool.{false≢true}
 use Rattle.nv_base.specs.Sets.{is_in}
 use Rattle.nv_base.proofs.Sets.{other-number, same-number}
 use Rattle.place_ir.specs.Uses.{Use}
-use Rattle.bank_prog.proofs.RowTerms.{eq-itself}
+use Rattle.place_ir.specs.Fits.{param_at}
+use Rattle.zo_model.specs.Contents.{Contents, RowContents}
+use Rattle.bank_prog.specs.declared.column.Column.{Column}
+use Rattle.bank_prog.specs.Rows.{Line}
+use Rattle.bank_prog.specs.Program.{Numbers, row_of}
+use Rattle.bank_prog.proofs.RowTerms.{eq-itself, terms-alike}
 
 pub length-map : {X Y : Type 0} (f : X → Y) (xs : List X) → length (map f xs) ≡ length xs
 length-map f [] = refl
@@ -31,3 +37,17 @@ used-of (u ∷ us) x = pick (nat_eq u.value x) (nat_eq x u.value) (turned u.valu
     pick false false e h = h
     pick true false e h = absurd (false≢true (sym e))
     pick false true e h = absurd (false≢true e)
+
+pub param-got : (xs : List ℕ) (i : ℕ) → param_at (slice_get xs i) ≡ get_or xs i 0
+param-got [] i = refl
+param-got (x ∷ xs) zero = refl
+param-got (x ∷ xs) (suc i) = param-got xs i
+
+-- two functions that number alike give the same rows
+pub rows-alike : (number number' : Numbers) → ((c : Column) → number c ≡ number' c) → (ls : List Line) → map (row_of number) ls ≡ map (row_of number') ls
+rows-alike number number' h [] = refl
+rows-alike number number' h (l ∷ ls) =
+    ap (λ ts. record { terms = ts; least = l.least } ∷ map (row_of number) ls) (terms-alike number number' h l.terms) ∙ ap (λ rs. row_of number' l ∷ rs) (rows-alike number number' h ls)
+
+pub same-program : (costs costs' : List ℕ) (rows rows' : List RowContents) → costs ≡ costs' → rows ≡ rows' → ◌≡◌ {A = Contents} (record { costs = costs; rows = rows }) (record { costs = costs'; rows = rows' })
+same-program costs costs' rows rows' h g = ap (λ cs. record { costs = cs; rows = rows }) h ∙ ap (λ rs. record { costs = costs'; rows = rs }) g

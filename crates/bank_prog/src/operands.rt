@@ -2,14 +2,15 @@
 
 ghost use Rattle.std.specs.Prelude.{[], ◌∷◌, map, OnOk};
 ghost use Rattle.std.specs.HashMap.{get};
-ghost use Rattle.std.specs.List.{concat, flat_map};
+ghost use Rattle.std.specs.List.{flat_map};
 ghost use Rattle.ssu_ir.specs.View.{labels_view};
 ghost use Rattle.bank_prog.specs.Program.{same_column};
 ghost use Rattle.bank_prog.specs.Rows as lines;
+ghost use Rattle.bank_prog.specs.declared.column.Bank.TheVariants as bank;
 ghost use Rattle.bank_prog.specs.inner.Adds.{Adds};
 ghost use Rattle.bank_prog.specs.inner.Form.{part_operands, stop_view};
 
-use crate::column::{Bank, Column};
+use crate::column::Bank;
 use crate::form::{Form, Stop};
 use crate::lines::push_at_most;
 use crate::names;
@@ -18,19 +19,42 @@ use nv_base::NoMemory;
 use std::alloc::Global;
 use zo_model::Row;
 
-/// At most one of these.
-fn push_different(
-    alloc: Global,
-    numbers: &Numbers,
-    parts: &[[Column; 7]],
-    rows: &mut Vec<Row>,
-) -> Result<(), NoMemory>
-    ensures { OnOk result (Adds (get same_column numbers.now) rows.old.items rows.new.items (lines.at_most 1 (concat parts.now) ∷ [])) }
+/// At most one operand comes from bank A.
+fn push_in_a(alloc: Global, numbers: &Numbers, k: u32, rows: &mut Vec<Row>) -> Result<(), NoMemory>
+    ensures { OnOk result (Adds (get same_column numbers.now) rows.old.items rows.new.items (lines.at_most 1 (lines.both_at k (bank.A ∷ bank.A15 ∷ [])) ∷ [])) }
 {
     let mut cs = Vec::new(alloc);
-    for part in parts {
-        cs.extend_from_slice(part)?;
-    }
+    cs.extend_from_slice(&names::srv_at(k, 0, Bank::A))?;
+    cs.extend_from_slice(&names::srv_at(k, 0, Bank::A15))?;
+    cs.extend_from_slice(&names::srv_at(k, 1, Bank::A))?;
+    cs.extend_from_slice(&names::srv_at(k, 1, Bank::A15))?;
+    push_at_most(alloc, numbers, 1, &cs, rows)
+}
+
+/// At most one operand comes from bank B.
+fn push_in_b(alloc: Global, numbers: &Numbers, k: u32, rows: &mut Vec<Row>) -> Result<(), NoMemory>
+    ensures { OnOk result (Adds (get same_column numbers.now) rows.old.items rows.new.items (lines.at_most 1 (lines.both_at k (bank.B ∷ [])) ∷ [])) }
+{
+    let mut cs = Vec::new(alloc);
+    cs.extend_from_slice(&names::srv_at(k, 0, Bank::B))?;
+    cs.extend_from_slice(&names::srv_at(k, 1, Bank::B))?;
+    push_at_most(alloc, numbers, 1, &cs, rows)
+}
+
+/// At most one operand comes from a read register.
+fn push_in_read(
+    alloc: Global,
+    numbers: &Numbers,
+    k: u32,
+    rows: &mut Vec<Row>,
+) -> Result<(), NoMemory>
+    ensures { OnOk result (Adds (get same_column numbers.now) rows.old.items rows.new.items (lines.at_most 1 (lines.both_at k (bank.L ∷ bank.T ∷ [])) ∷ [])) }
+{
+    let mut cs = Vec::new(alloc);
+    cs.extend_from_slice(&names::srv_at(k, 0, Bank::L))?;
+    cs.extend_from_slice(&names::srv_at(k, 0, Bank::T))?;
+    cs.extend_from_slice(&names::srv_at(k, 1, Bank::L))?;
+    cs.extend_from_slice(&names::srv_at(k, 1, Bank::T))?;
     push_at_most(alloc, numbers, 1, &cs, rows)
 }
 
@@ -38,22 +62,9 @@ fn push_different(
 fn push_pair(alloc: Global, numbers: &Numbers, k: u32, rows: &mut Vec<Row>) -> Result<(), NoMemory>
     ensures { OnOk result (Adds (get same_column numbers.now) rows.old.items rows.new.items (lines.pair_lines k)) }
 {
-    let a = [
-        names::srv_at(k, 0, Bank::A),
-        names::srv_at(k, 0, Bank::A15),
-        names::srv_at(k, 1, Bank::A),
-        names::srv_at(k, 1, Bank::A15),
-    ];
-    push_different(alloc, numbers, &a, rows)?;
-    let b = [names::srv_at(k, 0, Bank::B), names::srv_at(k, 1, Bank::B)];
-    push_different(alloc, numbers, &b, rows)?;
-    let read = [
-        names::srv_at(k, 0, Bank::L),
-        names::srv_at(k, 0, Bank::T),
-        names::srv_at(k, 1, Bank::L),
-        names::srv_at(k, 1, Bank::T),
-    ];
-    push_different(alloc, numbers, &read, rows)
+    push_in_a(alloc, numbers, k, rows)?;
+    push_in_b(alloc, numbers, k, rows)?;
+    push_in_read(alloc, numbers, k, rows)
 }
 
 fn push_stop_operands(
