@@ -129,6 +129,25 @@ pub adds-all : {V A : Type 0} (number : Numbers) (f : A → List Line) (view : V
 adds-all number f view xs i rows goal l h =
     sym (append-nil (map row_contents rows)) ∙ sym (at_drop_all (λ ys. map row_contents rows ++ map (row_of number) (flat_map f (map view ys))) xs i l) ∙ h
 
+-- the same over the elements themselves
+pub adds-plain-more : {V : Type 0} (number : Numbers) (f : V → List Line) (xs : List V) (i : ℕ) (d : V) (rows rows' : List Row) (goal : List RowContents) → i < length xs
+    → Adds number rows rows' (f (get_or xs i d)) → map row_contents rows ++ map (row_of number) (flat_map f (drop i xs)) ≡ goal
+    → map row_contents rows' ++ map (row_of number) (flat_map f (drop (i + 1) xs)) ≡ goal
+adds-plain-more number f xs i d rows rows' goal l e h =
+    ap (λ o. o ++ map (row_of number) (flat_map f (drop (i + 1) xs))) e
+    ∙ append_assoc (map row_contents rows) (map (row_of number) (f (get_or xs i d))) (map (row_of number) (flat_map f (drop (i + 1) xs)))
+    ∙ ap (λ o. map row_contents rows ++ o) (sym (map-append (row_of number) (f (get_or xs i d)) (flat_map f (drop (i + 1) xs))))
+    ∙ sym (at_drop_more (λ ys. map row_contents rows ++ map (row_of number) (flat_map f ys)) xs i d l) ∙ h
+
+pub adds-plain-all : {V : Type 0} (number : Numbers) (f : V → List Line) (xs : List V) (i : ℕ) (rows : List Row) (goal : List RowContents) → length xs ≤ i
+    → map row_contents rows ++ map (row_of number) (flat_map f (drop i xs)) ≡ goal → map row_contents rows ≡ goal
+adds-plain-all number f xs i rows goal l h =
+    sym (append-nil (map row_contents rows)) ∙ sym (at_drop_all (λ ys. map row_contents rows ++ map (row_of number) (flat_map f ys)) xs i l) ∙ h
+
+pub flat-map : {X Y : Type 0} (f : X → Y) (xs : List X) → flat_map (λ x. f x ∷ []) xs ≡ map f xs
+flat-map f [] = refl
+flat-map f (x ∷ xs) = ap (λ ys. f x ∷ ys) (flat-map f xs)
+
 -- ---- points by what is kept of them
 
 pub each-parts : {X : Type 0} (f : Part → List X) (g : ℕ → Point → List X) → ((k : ℕ) (q : Point) → f (part_of k q) ≡ g k q) → (k : ℕ) (ps : List Point)

@@ -287,11 +287,11 @@ slot_read u = map (λ s. covers (map (PasL u.point) eight) (Srv u.point u.operan
 abbrev pub slot_written : ℕ → Column → Line
 slot_written k c = covers (map (PasS k) eight) (c ∷ [])
 
+abbrev pub result_written : Value → List Line
+result_written v = if is_result v.sort then slot_written v.point (Def v.var M) ∷ [] else []
+
 abbrev pub value_written : List Label → Value → List Line
-value_written labels v =
-    if is_used labels v.var
-    then slot_written v.point (Fill v.var M) ∷ (if is_result v.sort then slot_written v.point (Def v.var M) ∷ [] else [])
-    else []
+value_written labels v = if is_used labels v.var then slot_written v.point (Fill v.var M) ∷ result_written v else []
 
 abbrev pub passes : List Label → List Line
 passes labels = flat_map slot_read (uses labels) ++ flat_map (value_written labels) (values labels)

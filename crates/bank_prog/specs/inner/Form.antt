@@ -1,5 +1,5 @@
 -- What the code keeps of a form: lists of its values, uses and accesses, all together and point by point.
-use Rattle.std.specs.Prelude.{◌≡◌, ℕ, nat_eq, nat_le, length, Bool, List, [], ◌∷◌, Option, Some, None, map, if◌then◌else◌}
+use Rattle.std.specs.Prelude.{◌≡◌, ℕ, nat_eq, nat_le, length, Bool, List, [], ◌∷◌, ◌++◌, Option, Some, None, map, if◌then◌else◌}
 use Rattle.std.specs.HashMap.{get}
 use Rattle.std.specs.List.{flat_map, list_any}
 use Rattle.std.specs.declared.vec.Vec.{Vec}
@@ -8,9 +8,9 @@ use Rattle.ssu_ir.specs.Tree.{Label}
 use Rattle.ssu_ir.specs.Points.{Point, points}
 use Rattle.place_ir.specs.Uses as pure
 use Rattle.place_ir.specs.Uses.{values, uses, accesses, uses_of, is_used, place_values, place_roles, reads_at, writes_at}
-use Rattle.bank_prog.specs.Columns.{Priced, each_point, sort_of, point_uses, place_words, dir_columns, stay_columns, ear_columns, for_eight, may_begin, has_bank}
-use Rattle.bank_prog.specs.Rows.{Line, two_operands, pair_lines}
-use Rattle.bank_prog.specs.declared.column.Column.TheVariants.{Srv, PasL, PasS}
+use Rattle.bank_prog.specs.Columns.{Priced, each_point, sort_of, point_uses, place_words, dir_columns, stay_columns, ear_columns, for_eight, may_begin, has_bank, eight}
+use Rattle.bank_prog.specs.Rows.{Line, covers, two_operands, pair_lines, stay_begins, word_begins, is_slot}
+use Rattle.bank_prog.specs.declared.column.Column.TheVariants.{Dir, Stay, Ear, First, Srv, PasL, PasS}
 use Rattle.bank_prog.specs.declared.column.Service.{Service}
 use Rattle.nv_base.specs.declared.term.Mem.{Mem}
 use Rattle.bank_prog.specs.declared.form.Sort.{Sort}
@@ -100,6 +100,20 @@ part_pas_s labels p = for_eight (list_any (λ v. is_used labels v.var) p.values)
 
 abbrev pub part_operands : Part → List Line
 part_operands p = if p.two then pair_lines p.point else []
+
+abbrev pub part_begins : List Label → Part → List Line
+part_begins labels p = flat_map (stay_begins labels p.words) p.values ++ flat_map (word_begins p.words) p.uses
+
+-- the row of a beginning, of a value that stays and of a word that is put early
+abbrev pub stay_begin : pure.Value → ℕ → List Line
+stay_begin v f = covers (First v.point f ∷ []) (Stay v.var f ∷ []) ∷ []
+
+abbrev pub word_begin : pure.Use → ℕ → List Line
+word_begin u f = covers (First u.point f ∷ []) (Dir u.point u.operand f ∷ Ear u.point u.operand f ∷ []) ∷ []
+
+-- the row of a way to serve a use, where that is from a slot
+abbrev pub service_read : pure.Use → Service → List Line
+service_read u s = if is_slot s.from then covers (map (PasL u.point) eight) (Srv u.point u.operand s.from s.at ∷ []) ∷ [] else []
 
 -- a register, where an access may begin there
 abbrev pub beginning : Mem → ℕ → ℕ → List ℕ
