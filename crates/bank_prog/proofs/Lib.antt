@@ -2,3 +2,4 @@ pub mod RowTerms
 pub mod Keys
 pub mod Loops
 pub mod FormLemmas
+pub mod Order
