@@ -1,6 +1,6 @@
 -- What the tables of a form say.
 use Rattle.std.proofs.Common.{◌≡◌, ℕ, zero, suc, Bool, true, false, not, cond, ◌||◌, ◌==◌, nat_eq, List, [], ◌∷◌, map, length, get_or, refl, sym, ap, subst, ◌∙◌, arith, rules, tests}
-use Rattle.std.specs.Prelude.{slice_get}
+use Rattle.std.specs.Prelude.{slice_get, Result, Ok, Err, IfOk}
 use Rattle.std.specs.List.{filter}
 use Rattle.std.proofs.lemmas.Bool.{false≢true}
 use Rattle.nv_base.specs.Sets.{is_in}
@@ -51,3 +51,7 @@ rows-alike number number' h (l ∷ ls) =
 
 pub same-program : (costs costs' : List ℕ) (rows rows' : List RowContents) → costs ≡ costs' → rows ≡ rows' → ◌≡◌ {A = Contents} (record { costs = costs; rows = rows }) (record { costs = costs'; rows = rows' })
 same-program costs costs' rows rows' h g = ap (λ cs. record { costs = cs; rows = rows }) h ∙ ap (λ rs. record { costs = costs'; rows = rs }) g
+
+pub if-ok : {A E : Type 0} (r : Result A E) (P Q : A → Type 0) → ((a : A) → P a → Q a) → IfOk r P → IfOk r Q
+if-ok (Ok a) P Q f h = f a h
+if-ok (Err e) P Q f h = h

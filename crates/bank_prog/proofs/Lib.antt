@@ -3,3 +3,4 @@ pub mod Keys
 pub mod Loops
 pub mod FormLemmas
 pub mod Order
+pub mod Tabled

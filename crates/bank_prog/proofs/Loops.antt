@@ -14,7 +14,7 @@ use Rattle.bank_prog.specs.inner.Form.{Part, part_of, beginning}
 
 -- ---- lists
 
-map-append : {A B : Type 0} (f : A → B) (xs ys : List A) → map f (xs ++ ys) ≡ map f xs ++ map f ys
+pub map-append : {A B : Type 0} (f : A → B) (xs ys : List A) → map f (xs ++ ys) ≡ map f xs ++ map f ys
 map-append f [] ys = refl
 map-append f (x ∷ xs) ys = ap (λ zs. f x ∷ zs) (map-append f xs ys)
 

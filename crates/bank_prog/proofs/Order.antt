@@ -52,6 +52,7 @@ elsewhere x z xs front back n h e = pick (in-either z front (x ∷ back) e)
   where
     here : nat_eq z x ≡ true → is_in z (front ++ back) ≡ true
     here q = absurd (false≢true (sym n ∙ ap (λ y. is_in y xs) (sym (same-number z x q)) ∙ h))
+
     pick : (is_in z front ≡ true) ⊎ (is_in z (x ∷ back) ≡ true) → is_in z (front ++ back) ≡ true
     pick (inl q) = in-left z front back q
     pick (inr q) = ⊎_elim here (λ (r : is_in z back ≡ true). in-right z front back r) (or_cases (nat_eq z x) (is_in z back) q)
@@ -86,8 +87,8 @@ pub row-ordered : (number : Numbers) (n : ℕ) (g : ℕ → List Column) (more :
 row-ordered number n g more row q h =
     let a = neg_ℤ (pos 1) in
     let same = terms-alone number a (flat_map g row ++ more) ∙ each-append number a (flat_map g row) more []
-        ∙ ordered number a g row q.before (add_each number a more []) h.once (λ x e. sym (h.members x) ∙ e) (sym h.count)
-        ∙ sym (each-append number a (flat_map g q.before) more []) ∙ sym (terms-alone number a (flat_map g q.before ++ more)) in
+    ∙ ordered number a g row q.before (add_each number a more []) h.once (λ x e. sym (h.members x) ∙ e) (sym h.count)
+    ∙ sym (each-append number a (flat_map g q.before) more []) ∙ sym (terms-alone number a (flat_map g q.before ++ more)) in
     ap (λ ts. record { terms = ts; least = neg_ℤ (pos n) }) same
 
 home-row : (number : Numbers) (n : ℕ) (h : Bank) (row : List ℕ) (q : Point) → IsRow row q → row_of number (at_most n (held_in row h)) ≡ row_of number (at_most n (held_in q.before h))

@@ -8,6 +8,7 @@ ghost use Rattle.place_ir.specs.Fits.{parameter};
 ghost use Rattle.bank_prog.specs.Columns.{sort_of, is_fetched};
 ghost use Rattle.bank_prog.specs.inner.Form.{AreTables, sort_view, use_view};
 
+use crate::tables::tables_of;
 use nv_base::{Mem, NoMemory};
 use ssu_ir::Ssu;
 use std::alloc::Global;
@@ -104,14 +105,6 @@ pub struct Form<'a> {
     pub ssu: &'a Ssu,
     pub tables: Tables,
     ghost right: { AreTables (labels_view ssu.now) tables },
-}
-
-/// The tables of a form.
-fn tables_of(alloc: Global, s: &Ssu) -> Result<Tables, NoMemory>
-    requires { single (labels_view s.now) ≡ true }
-    ensures { IfOk result (AreTables (labels_view s.now)) }
-{
-    Err(NoMemory)
 }
 
 /// A form with its tables.

@@ -17,6 +17,7 @@ mod owners;
 mod passes;
 pub mod program;
 mod services;
+mod tables;
 mod terms;
 
 pub use column::{Bank, Column, Service};

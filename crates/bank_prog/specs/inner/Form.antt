@@ -1,11 +1,12 @@
 -- What the code keeps of a form: lists of its values, uses and accesses, all together and point by point.
-use Rattle.std.specs.Prelude.{◌≡◌, ℕ, nat_eq, nat_le, length, Bool, List, [], ◌∷◌, ◌++◌, Option, Some, None, map, if◌then◌else◌}
+use Rattle.std.specs.Prelude.{◌≡◌, ℕ, suc, nat_eq, nat_le, length, Bool, List, [], ◌∷◌, ◌++◌, Option, Some, None, map, if◌then◌else◌}
 use Rattle.std.specs.HashMap.{get}
 use Rattle.std.specs.List.{flat_map, list_any}
 use Rattle.std.specs.declared.vec.Vec.{Vec}
 use Rattle.std.specs.declared.alloc.Global.{Global}
-use Rattle.ssu_ir.specs.Tree.{Label}
-use Rattle.ssu_ir.specs.Points.{Point, points}
+use Rattle.ssu_ir.specs.Tree.{Label, Node}
+use Rattle.ssu_ir.specs.Points.{Names, Place, Entry, At, Point, points}
+use Rattle.place_ir.specs.inner.Parts.{place_names}
 use Rattle.place_ir.specs.Uses as pure
 use Rattle.place_ir.specs.Uses.{values, uses, accesses, uses_of, is_used, place_values, place_roles, reads_at, writes_at}
 use Rattle.bank_prog.specs.Columns.{Priced, each_point, sort_of, point_uses, place_words, dir_columns, stay_columns, ear_columns, for_eight, may_begin, has_bank, eight}
@@ -132,6 +133,68 @@ known_sort None = pure.Result
 abbrev pub known_uses : Option (Vec Use Global) → List pure.Use
 known_uses (Some us) = map use_view us.items
 known_uses None = []
+
+-- ---- how the tables are made
+
+abbrev pub at_node : Node → Place
+at_node n = At n
+
+abbrev pub at_entry : ℕ → List ℕ → Place
+at_entry l xs = Entry l xs
+
+abbrev pub node_words : Node → ℕ
+node_words n = place_words (At n)
+
+-- one use
+abbrev pub use_of : Names → ℕ → ℕ → ℕ → pure.Role → List pure.Use
+use_of of k i x role = record { point = k; operand = i; value = of x; role = role } ∷ []
+
+-- the uses of these names, from operand i and word j on
+abbrev pub uses_from : Names → ℕ → ℕ → (ℕ → pure.Role) → ℕ → List ℕ → List pure.Use
+uses_from of k i role j [] = []
+uses_from of k i role j (x ∷ xs) = use_of of k i x (role j) ++ uses_from of k (suc i) role (suc j) xs
+
+abbrev pub one_access : ℕ → Mem → ℕ → List pure.Access
+one_access k m n = record { point = k; mem = m; words = n } ∷ []
+
+-- what is kept of a place
+abbrev pub part_at : Names → ℕ → Place → Part
+part_at of k q = record {
+  point = k;
+  words = place_words q;
+  two = two_operands (place_roles q);
+  busy = nat_le 1 (length (place_names q));
+  values = place_values k q;
+  uses = pure.uses_at k 0 (map of (place_names q)) (place_roles q);
+  reads = reads_at k q;
+  writes = writes_at k q;
+}
+
+abbrev pub parts_at : Names → ℕ → Place → List Part
+parts_at of k q = part_at of k q ∷ []
+
+abbrev pub part_values : Part → List pure.Value
+part_values p = p.values
+
+abbrev pub part_uses : Part → List pure.Use
+part_uses p = p.uses
+
+abbrev pub part_accesses : Part → List pure.Access
+part_accesses p = p.reads ++ p.writes
+
+-- how a value comes, where it is found
+abbrev pub sort_found : Option Sort → Option pure.Sort
+sort_found (Some s) = Some (sort_view s)
+sort_found None = None
+
+-- it is noted where it wasn't found
+abbrev pub sort_noted : Option pure.Sort → pure.Value → ℕ → Option pure.Sort
+sort_noted (Some s) v x = Some s
+sort_noted None v x = if nat_eq v.var x then Some v.sort else None
+
+-- the use, where it is one of this value
+abbrev pub used_by : ℕ → pure.Use → List pure.Use
+used_by x u = if nat_eq u.value x then u ∷ [] else []
 
 -- all that is kept of a form is so
 pub record AreTables (labels : List Label) (f : Tables) : Type 0 where

@@ -15,5 +15,5 @@ returns c =
     let labels = labels_view c.args.f.now.ssu.now in
     on-ok c.push_begins.result _ _
     (λ h. adds-as (get same_column c.args.numbers.now) c.args.rows.now.items c.push_begins.new.rows.items (flat_map (part_begins labels) (map stop_view c.deref.result.now)) (adjacency labels) h
-        (ap (λ xs. flat_map (part_begins labels) (map stop_view xs)) c.deref.ensures.value ∙ ap (flat_map (part_begins labels)) c.args.f.now.right.stops ∙ each-parts (part_begins labels) (begins_at labels) (λ k q. refl) 0 (points labels)))
+    (ap (λ xs. flat_map (part_begins labels) (map stop_view xs)) c.deref.ensures.value ∙ ap (flat_map (part_begins labels)) c.args.f.now.right.stops ∙ each-parts (part_begins labels) (begins_at labels) (λ k q. refl) 0 (points labels)))
     c.push_begins.ensures
