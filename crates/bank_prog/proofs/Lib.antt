@@ -4,3 +4,4 @@ pub mod Loops
 pub mod FormLemmas
 pub mod Order
 pub mod Tabled
+pub mod OwnerSteps

@@ -91,6 +91,12 @@ row-ordered number n g more row q h =
     ∙ sym (each-append number a (flat_map g q.before) more []) ∙ sym (terms-alone number a (flat_map g q.before ++ more)) in
     ap (λ ts. record { terms = ts; least = neg_ℤ (pos n) }) same
 
+pub alone-ordered : (number : Numbers) (n : ℕ) (g : ℕ → List Column) (row : List ℕ) (q : Point) → IsRow row q → row_of number (at_most n (flat_map g row)) ≡ row_of number (at_most n (flat_map g q.before))
+alone-ordered number n g row q r =
+    let a = neg_ℤ (pos 1) in
+    let same = terms-alone number a (flat_map g row) ∙ ordered number a g row q.before [] r.once (λ x e. sym (r.members x) ∙ e) (sym r.count) ∙ sym (terms-alone number a (flat_map g q.before)) in
+    ap (λ ts. record { terms = ts; least = neg_ℤ (pos n) }) same
+
 home-row : (number : Numbers) (n : ℕ) (h : Bank) (row : List ℕ) (q : Point) → IsRow row q → row_of number (at_most n (held_in row h)) ≡ row_of number (at_most n (held_in q.before h))
 home-row number n h row q r =
     let a = neg_ℤ (pos 1) in

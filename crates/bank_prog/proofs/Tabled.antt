@@ -73,12 +73,24 @@ no-endings i (x ∷ xs) = refl
 part-same : (of : Names) (k : ℕ) (q : Point) → IsNamed of q → part_at of k q.place ≡ part_of k q
 part-same of k q h =
     ap (λ b. record {
-      point = k; words = place_words q.place; two = two_operands (place_roles q.place); busy = b;
-      values = place_values k q.place; uses = uses_at k 0 (map of (place_names q.place)) (place_roles q.place); reads = reads_at k q.place; writes = writes_at k q.place;
+      point = k;
+      words = place_words q.place;
+      two = two_operands (place_roles q.place);
+      busy = b;
+      values = place_values k q.place;
+      uses = uses_at k 0 (map of (place_names q.place)) (place_roles q.place);
+      reads = reads_at k q.place;
+      writes = writes_at k q.place;
     }) (ap (nat_le 1) (sym (length-map of (place_names q.place)) ∙ ap length (sym h)))
     ∙ ap (λ us. record {
-      point = k; words = place_words q.place; two = two_operands (place_roles q.place); busy = nat_le 1 (length q.uses);
-      values = place_values k q.place; uses = uses_at k 0 us (place_roles q.place); reads = reads_at k q.place; writes = writes_at k q.place;
+      point = k;
+      words = place_words q.place;
+      two = two_operands (place_roles q.place);
+      busy = nat_le 1 (length q.uses);
+      values = place_values k q.place;
+      uses = uses_at k 0 us (place_roles q.place);
+      reads = reads_at k q.place;
+      writes = writes_at k q.place;
     }) (sym h)
 
 pub parts-gathered : (of : Names) (k : ℕ) (ps : List Point) → Each (IsNamed of) ps → gather (parts_at of) k (map (λ p. p.place) ps) ≡ each_point (λ k q. part_of k q ∷ []) k ps

@@ -16,9 +16,11 @@ mod operands;
 mod owners;
 mod passes;
 pub mod program;
+mod refills;
 mod services;
 mod tables;
 mod terms;
+mod waiting;
 
 pub use column::{Bank, Column, Service};
 pub use error::BankError;

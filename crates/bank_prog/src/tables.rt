@@ -24,7 +24,7 @@ use std::alloc::Global;
 use std::collections::HashMap;
 
 /// A number that fits.
-fn short(n: usize) -> Result<u32, NoMemory>
+pub fn short(n: usize) -> Result<u32, NoMemory>
     ensures { IfOk result (λ k. k ≡ n) }
 {
     match u32::try_from(n) {

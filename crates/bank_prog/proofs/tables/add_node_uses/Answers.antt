@@ -34,4 +34,3 @@ returns-in_ok-add_endings-in-Halt c =
     c.in_ok-add_endings-in-Halt.ensures
     ∙ ap (λ us. old ++ us) (ap (λ xs. form.uses_from of c.args.k 0 (pure.Ending) 0 xs) c.deref-in-Halt.ensures ∙ uses-run of c.args.k 0 (pure.Ending) 0 c.in-Halt.xs.items)
     ∙ sym (ap (λ n. old ++ pure.uses_at c.args.k 0 (map of (node_uses (node_of n))) (pure.node_roles (node_of n))) c.in-Halt.is)
-

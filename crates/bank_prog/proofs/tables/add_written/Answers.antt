@@ -13,7 +13,7 @@ loop-i-preserved c =
     uses-more of c.args.k (c.loop-i.i + 1) (pure.Written c.args.m) c.loop-i.i c.args.xs.now 0 (map use_view c.loop-i.uses.items) (map use_view c.add_use.new.uses.items)
     (map use_view c.args.uses.now.items ++ form.uses_from of c.args.k 1 (pure.Written c.args.m) 0 c.args.xs.now) (omega arith)
     (c.in_ok-add_use.ensures ∙ ap (λ (z : ℕ). map use_view c.loop-i.uses.items ++ form.use_of of c.args.k z (get_or c.args.xs.now c.loop-i.i 0) (pure.Written c.args.m c.in_ok-word.word)) c.in_ok-short.ensures
-        ∙ ap (λ (z : ℕ). map use_view c.loop-i.uses.items ++ form.use_of of c.args.k (c.loop-i.i + 1) (get_or c.args.xs.now c.loop-i.i 0) (pure.Written c.args.m z)) c.in_ok-word.ensures) c.loop-i.invariant
+    ∙ ap (λ (z : ℕ). map use_view c.loop-i.uses.items ++ form.use_of of c.args.k (c.loop-i.i + 1) (get_or c.args.xs.now c.loop-i.i 0) (pure.Written c.args.m z)) c.in_ok-word.ensures) c.loop-i.invariant
 
 pub returns : goal.returns
 returns c =

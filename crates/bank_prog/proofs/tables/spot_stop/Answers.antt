@@ -19,7 +19,7 @@ returns-in_ok-short-in-Some c =
     let params = c.deref-in-Some.result.now in
     let there = slice_get_read ls (length ls) l c.in-Some.label.now refl c.in-Some.ensures.lookup.3.0 c.in-Some.ensures.lookup.1 in
     let here : Entry c.in_ok-short-in-Some.field-0 params ≡ spot_place s c.args.spot =
-        ap (λ (k : ℕ). Entry k params) c.in_ok-short-in-Some.ensures ∙ ap (Entry l) c.deref-in-Some.ensures.value
-        ∙ ap (λ o. Entry l (params_of o)) (sym there ∙ ap (λ xs. slice_get xs l) c.deref.ensures.value) ∙ ap (spot_place s) (sym c.in-Entry.is) in
+    ap (λ (k : ℕ). Entry k params) c.in_ok-short-in-Some.ensures ∙ ap (Entry l) c.deref-in-Some.ensures.value
+    ∙ ap (λ o. Entry l (params_of o)) (sym there ∙ ap (λ xs. slice_get xs l) c.deref.ensures.value) ∙ ap (spot_place s) (sym c.in-Entry.is) in
     if-ok c.entry_stop.result (λ (t : Stop). (of : Names) → stop_view t ≡ part_at of c.args.k (Entry c.in_ok-short-in-Some.field-0 params)) (λ (t : Stop). stop_view t ≡ part_at of c.args.k (spot_place s c.args.spot))
     (λ t h. h of ∙ ap (part_at of c.args.k) here) c.entry_stop.ensures

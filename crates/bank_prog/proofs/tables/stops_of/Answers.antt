@@ -14,8 +14,8 @@ loop-k-preserved c =
     let f = parts_at (value_by (get nat_eq c.args.copies.now)) in
     gather-more f (spot_place c.args.s.now) c.args.spots.now c.loop-k.k (Entry 0) (map stop_view c.loop-k.stops.items) (map stop_view c.push.new.self.items) (gather f 0 (map (spot_place c.args.s.now) c.args.spots.now))
     (omega arith) (ap (map stop_view) c.in_ok-push.ensures.items ∙ map-append stop_view c.loop-k.stops.items (_ ∷ [])
-        ∙ ap (λ p. map stop_view c.loop-k.stops.items ++ p ∷ []) (c.in_ok-spot_stop.ensures
-            ∙ ap (λ (z : ℕ). part_at (value_by (get nat_eq c.args.copies.now)) z (spot_place c.args.s.now (get_or c.args.spots.now c.loop-k.k (Entry 0)))) c.in_ok-short.ensures)) c.loop-k.invariant
+    ∙ ap (λ p. map stop_view c.loop-k.stops.items ++ p ∷ []) (c.in_ok-spot_stop.ensures
+    ∙ ap (λ (z : ℕ). part_at (value_by (get nat_eq c.args.copies.now)) z (spot_place c.args.s.now (get_or c.args.spots.now c.loop-k.k (Entry 0)))) c.in_ok-short.ensures)) c.loop-k.invariant
 
 pub returns : goal.returns
 returns c =

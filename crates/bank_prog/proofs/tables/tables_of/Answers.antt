@@ -20,13 +20,13 @@ returns c =
     let of = value_by (get nat_eq c.in_ok-copies.copies) in
     let named = points-named c.args.s.now (get nat_eq c.in_ok-copies.copies) c.requires c.in_ok-copies.ensures in
     let stops : map stop_view c.in_ok-stops.stops.items ≡ form.parts labels =
-        c.in_ok-stops.ensures ∙ ap (gather (parts_at of) 0) (ap (map (spot_place c.args.s.now)) c.deref.ensures.value ∙ c.in_ok-spots.ensures) ∙ parts-gathered of 0 (points labels) named in
+    c.in_ok-stops.ensures ∙ ap (gather (parts_at of) 0) (ap (map (spot_place c.args.s.now)) c.deref.ensures.value ∙ c.in_ok-spots.ensures) ∙ parts-gathered of 0 (points labels) named in
     let values : map value_view c.in_ok-values.values.items ≡ pure.values labels =
-        c.in_ok-values.ensures ∙ ap (flat_map part_values) (ap (map stop_view) c.deref-2.ensures.value ∙ stops) ∙ values-parts labels in
+    c.in_ok-values.ensures ∙ ap (flat_map part_values) (ap (map stop_view) c.deref-2.ensures.value ∙ stops) ∙ values-parts labels in
     let uses : map use_view c.in_ok-uses.uses.items ≡ pure.uses labels =
-        c.in_ok-uses.ensures ∙ ap (flat_map part_uses) (ap (map stop_view) c.deref-3.ensures.value ∙ stops) ∙ uses-parts labels in
+    c.in_ok-uses.ensures ∙ ap (flat_map part_uses) (ap (map stop_view) c.deref-3.ensures.value ∙ stops) ∙ uses-parts labels in
     let accesses : map access_view c.in_ok-accesses.accesses.items ≡ pure.accesses labels =
-        c.in_ok-accesses.ensures ∙ ap (flat_map part_accesses) (ap (map stop_view) c.deref-4.ensures.value ∙ stops) ∙ accesses-parts labels in
+    c.in_ok-accesses.ensures ∙ ap (flat_map part_accesses) (ap (map stop_view) c.deref-4.ensures.value ∙ stops) ∙ accesses-parts labels in
     record {
       stops = stops;
       values = values;
