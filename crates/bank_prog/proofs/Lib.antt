@@ -5,3 +5,5 @@ pub mod FormLemmas
 pub mod Order
 pub mod Tabled
 pub mod OwnerSteps
+pub mod Fills
+pub mod WriteSteps

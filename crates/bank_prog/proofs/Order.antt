@@ -19,7 +19,7 @@ use Rattle.bank_prog.proofs.RowTerms.{named-swap, terms-alone}
 
 -- ---- columns change places
 
-each-append : (number : Numbers) (a : ℤ) (cs ds : List Column) (ts : Terms) → add_each number a (cs ++ ds) ts ≡ add_each number a cs (add_each number a ds ts)
+pub each-append : (number : Numbers) (a : ℤ) (cs ds : List Column) (ts : Terms) → add_each number a (cs ++ ds) ts ≡ add_each number a cs (add_each number a ds ts)
 each-append number a [] ds ts = refl
 each-append number a (c ∷ cs) ds ts = ap (add_named (number c) a) (each-append number a cs ds ts)
 
