@@ -1,13 +1,12 @@
 -- Rows of reads: what is held behind a read is held at the next point.
-use Rattle.std.proofs.Common.{◌≡◌, ℕ, zero, suc, ◌+◌, ◌<◌, ◌≤◌, Bool, true, false, if◌then◌else◌, List, [], ◌∷◌, ◌++◌, map, length, drop, get_or, refl, sym, ap, subst, ◌∙◌, append_assoc, arith, ℤ, pos, neg_ℤ}
+use Rattle.std.proofs.Common.{◌≡◌, ℕ, zero, suc, ◌+◌, ◌<◌, ◌≤◌, Bool, true, false, if◌then◌else◌, List, [], ◌∷◌, ◌++◌, map, length, drop, get_or, refl, sym, ap, subst, ◌∙◌, append_assoc, arith, pos, neg_ℤ}
 use Rattle.std.specs.List.{flat_map, AllZip}
 use Rattle.std.proofs.lemmas.Bool.{false≢true}
 use Rattle.std.proofs.lemmas.List.{at_drop_more, at_drop_all, append-nil, drop_all}
-use Rattle.nv_base.specs.declared.term.Mem.{Mem}
 use Rattle.nv_base.specs.Sets.{is_in, all_different, Within, without}
 use Rattle.zo_model.specs.declared.program.Row.{Row}
 use Rattle.zo_model.specs.Contents.{RowContents, row_contents}
-use Rattle.ssu_ir.specs.Tree.{Step, Lit, Una, Bin, Clone, Read, Write, Tree, Do, If, End, Label, Node, Does, Forks, Ends, step_values}
+use Rattle.ssu_ir.specs.Tree.{Lit, Una, Bin, Clone, Read, Write, Tree, Do, If, End, Label, Does, Forks, Ends, step_values}
 use Rattle.ssu_ir.specs.Points.{Names, own, names_after, held, Place, Entry, At, Point, tree_points, points_from, points}
 use Rattle.place_ir.specs.Held.{Kept, IsRow, items_of}
 use Rattle.place_ir.specs.Uses as pure
@@ -15,7 +14,7 @@ use Rattle.place_ir.specs.Uses.{reads_at}
 use Rattle.place_ir.specs.Fits.{point_values}
 use Rattle.bank_prog.specs.declared.column.Column.{Column}
 use Rattle.bank_prog.specs.Columns.{each_point, eight}
-use Rattle.bank_prog.specs.Rows.{Line, at_most, stays_at, covering, is_sdram, access_owners, fill_owners}
+use Rattle.bank_prog.specs.Rows.{at_most, stays_at, covering, is_sdram, access_owners, fill_owners}
 use Rattle.bank_prog.specs.Program.{Numbers, row_of}
 use Rattle.bank_prog.specs.inner.Adds.{Adds, add_each}
 use Rattle.bank_prog.specs.inner.Form as form

@@ -1,5 +1,5 @@
 -- Rows of owners, point by point.
-use Rattle.std.proofs.Common.{◌≡◌, ℕ, zero, suc, ◌+◌, ◌<◌, ◌≤◌, Bool, true, false, List, [], ◌∷◌, ◌++◌, map, length, drop, get_or, refl, sym, ap, ◌∙◌, append_assoc, arith, ℤ, pos, neg_ℤ}
+use Rattle.std.proofs.Common.{◌≡◌, ℕ, suc, ◌+◌, ◌<◌, ◌≤◌, true, false, List, [], ◌∷◌, ◌++◌, map, length, drop, get_or, refl, sym, ap, ◌∙◌, append_assoc, arith}
 use Rattle.std.specs.List.{flat_map, AllZip}
 use Rattle.std.proofs.lemmas.List.{at_drop_more, at_drop_all, append-nil}
 use Rattle.zo_model.specs.declared.program.Row.{Row}
@@ -7,7 +7,6 @@ use Rattle.zo_model.specs.Contents.{RowContents, row_contents}
 use Rattle.ssu_ir.specs.Tree.{Label}
 use Rattle.ssu_ir.specs.Points.{Point}
 use Rattle.place_ir.specs.Held.{Kept, IsRow, items_of}
-use Rattle.bank_prog.specs.declared.column.Column.{Column}
 use Rattle.bank_prog.specs.declared.column.Column.TheVariants.{PasL}
 use Rattle.bank_prog.specs.Columns.{each_point, eight}
 use Rattle.bank_prog.specs.Rows.{Line, at_most, stays_at, read_owners}

@@ -1,6 +1,6 @@
 -- The tables of a form are made in one walk over its points.
-use Rattle.std.proofs.Common.{◌≡◌, ℕ, zero, suc, ◌+◌, ◌<◌, ◌≤◌, Bool, true, false, if◌then◌else◌, nat_eq, nat_le, List, [], ◌∷◌, ◌++◌, length, map, drop, get_or, Option, Some, None, refl, sym, ap, ◌∙◌, append_assoc, arith}
-use Rattle.std.specs.List.{flat_map, filter}
+use Rattle.std.proofs.Common.{◌≡◌, ℕ, suc, ◌+◌, ◌<◌, ◌≤◌, Bool, true, false, if◌then◌else◌, nat_eq, nat_le, List, [], ◌∷◌, ◌++◌, length, map, drop, get_or, Option, Some, None, refl, sym, ap, ◌∙◌, append_assoc, arith}
+use Rattle.std.specs.List.{flat_map}
 use Rattle.std.proofs.lemmas.List.{at_drop_more, at_drop_all, append-nil}
 use Rattle.ssu_ir.specs.Tree.{Label}
 use Rattle.ssu_ir.specs.Points.{Names, Place, Point, points}
@@ -14,7 +14,7 @@ use Rattle.bank_prog.specs.Rows.{two_operands}
 use Rattle.bank_prog.specs.declared.form.Sort.{Sort}
 use Rattle.bank_prog.specs.inner.Form as form
 use Rattle.bank_prog.specs.inner.Form.{Part, part_of, part_at, parts_at, part_values, part_uses, part_accesses, sort_view, sort_found, sort_noted, known_sort, used_by, use_of}
-use Rattle.bank_prog.proofs.Loops.{each-parts, flat-filter, map-itself, map-append}
+use Rattle.bank_prog.proofs.Loops.{each-parts, flat-filter, map-itself}
 use Rattle.bank_prog.proofs.FormLemmas.{length-map}
 
 -- ---- numbered pieces

@@ -14,7 +14,7 @@ use Rattle.place_ir.specs.Uses.{Role, Operand, Address, Written, Argument, Endin
 use Rattle.bank_prog.specs.declared.column.Column.TheVariants.{PasS}
 use Rattle.bank_prog.specs.declared.form.Use.{Use}
 use Rattle.bank_prog.specs.Columns.{each_point, eight}
-use Rattle.bank_prog.specs.Rows.{Line, at_most, role_early, early_at, side_covering, waiting, is_written, write_owners}
+use Rattle.bank_prog.specs.Rows.{at_most, role_early, early_at, side_covering, waiting, is_written, write_owners}
 use Rattle.bank_prog.specs.Program.{Numbers, row_of}
 use Rattle.bank_prog.specs.inner.Adds.{Adds}
 use Rattle.bank_prog.specs.inner.Form as form

@@ -5,7 +5,7 @@ use Rattle.zo_model.specs.Program.{total, where_one, cost_where}
 use Rattle.bank_prog.specs.declared.column.Column.{Column}
 use Rattle.bank_prog.specs.Columns.{Priced}
 use Rattle.bank_prog.specs.Rows.{Line}
-use Rattle.bank_prog.specs.Program.{Numbers, number_of}
+use Rattle.bank_prog.specs.Program.{number_of}
 
 -- which columns are 1, by name; one that isn't there is 0
 abbrev pub Chosen : Type 0

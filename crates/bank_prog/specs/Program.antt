@@ -1,5 +1,5 @@
 -- The bank program of a form: its columns' costs, and its rows over the columns' numbers.
-use Rattle.std.specs.Prelude.{◌≡◌, ℕ, zero, suc, ◌<◌, ◌≤◌, ◌^◌, nat_eq, nat_lt, Bool, true, false, ◌&&◌, List, [], ◌∷◌, map, length, Option, Some, None, ℤ, ◌+ℤ◌, ◌⊎◌, if◌then◌else◌}
+use Rattle.std.specs.Prelude.{◌≡◌, ℕ, suc, ◌<◌, ◌≤◌, ◌^◌, nat_eq, nat_lt, Bool, true, false, ◌&&◌, List, [], ◌∷◌, map, length, Option, Some, None, ℤ, ◌+ℤ◌, ◌⊎◌, if◌then◌else◌}
 use Rattle.ssu_ir.specs.Tree.{Label}
 use Rattle.zo_model.specs.Contents.{Contents, RowContents}
 use Rattle.bank_prog.specs.declared.column.Bank.{Bank}

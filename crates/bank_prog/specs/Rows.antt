@@ -1,18 +1,17 @@
 -- The rows of the bank program, over columns by name: seven families, and in a family sentence by sentence.
-use Rattle.std.specs.Prelude.{ℕ, ◌+◌, ◌-◌, nat_eq, nat_lt, nat_le, Bool, true, false, not, ◌&&◌, List, [], ◌∷◌, ◌++◌, map, filter, ℤ, pos, neg_ℤ, if◌then◌else◌}
+use Rattle.std.specs.Prelude.{ℕ, ◌+◌, ◌-◌, nat_lt, nat_le, Bool, true, false, not, ◌&&◌, List, [], ◌∷◌, ◌++◌, map, filter, ℤ, pos, neg_ℤ, if◌then◌else◌}
 use Rattle.std.specs.List.{flat_map}
 use Rattle.nv_base.specs.declared.term.Mem.{Mem}
 use Rattle.nv_base.specs.declared.term.Mem.TheVariants.{Sram, Sdram, Scratch}
 use Rattle.nv_base.specs.Sets.{is_in, without}
 use Rattle.ssu_ir.specs.Tree.{Label}
 use Rattle.ssu_ir.specs.Points.{Point, points}
-use Rattle.place_ir.specs.Uses.{Access, accesses, reads_at, writes_at, Sort, Parameter, Result, Fetched, Value, values, place_values, Role, Operand, Address, Written, Argument, Ending, Use, uses, place_roles, uses_of, is_used}
+use Rattle.place_ir.specs.Uses.{Access, accesses, reads_at, writes_at, Sort, Parameter, Result, Fetched, Value, values, place_values, Role, Operand, Written, Argument, Use, uses, place_roles, uses_of, is_used}
 use Rattle.place_ir.specs.Fits.{is_result, parameter, point_values}
 use Rattle.bank_prog.specs.declared.column.Bank.{Bank}
 use Rattle.bank_prog.specs.declared.column.Bank.TheVariants.{A, B, M, T, L, A15, W}
 use Rattle.bank_prog.specs.declared.column.Column.{Column}
 use Rattle.bank_prog.specs.declared.column.Column.TheVariants.{Def, Dir, Fill, Stay, Ear, First, Srv, PasL, PasS}
-use Rattle.bank_prog.specs.declared.column.Service.{Service}
 use Rattle.bank_prog.specs.Columns.{each_point, sort_of, is_fetched, eight, point_uses, place_words, role_beginnings, sort_beginnings, services}
 
 -- ---- rows by names

@@ -1,8 +1,6 @@
-use Rattle.std.proofs.Common.{◌≡◌, ◌++◌, map, arith, get_or, refl}
+use Rattle.std.proofs.Common.{◌++◌, map, arith}
 use Rattle.std.specs.List.{flat_map}
-use Rattle.bank_prog.specs.Columns as columns
 use Rattle.bank_prog.specs.Rows as lines
-use Rattle.bank_prog.specs.inner.Form as form
 use Rattle.bank_prog.specs.inner.Form.{use_view}
 use Rattle.bank_prog.proofs.Loops.{out-more, out-all}
 use Rattle.bank_prog.proofs.choice.add_dirs.Goals as goal

@@ -1,4 +1,4 @@
-use Rattle.std.proofs.Common.{◌≡◌, ◌∙◌, sym, map, drop, arith}
+use Rattle.std.proofs.Common.{◌∙◌, sym, map, arith}
 use Rattle.std.specs.List.{list_any}
 use Rattle.ssu_ir.specs.View.{labels_view}
 use Rattle.place_ir.specs.Uses as pure

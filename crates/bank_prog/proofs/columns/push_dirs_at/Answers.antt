@@ -1,4 +1,4 @@
-use Rattle.std.proofs.Common.{◌≡◌, ◌++◌, map, arith}
+use Rattle.std.proofs.Common.{◌++◌, map, arith}
 use Rattle.bank_prog.specs.declared.column.Column.TheVariants as column
 use Rattle.std.proofs.Common.{ℕ}
 use Rattle.bank_prog.proofs.Loops.{map-more, map-all}

@@ -1,7 +1,6 @@
-use Rattle.std.proofs.Common.{◌≡◌, ◌++◌, ◌∙◌, ap, map, arith}
+use Rattle.std.proofs.Common.{◌++◌, ◌∙◌, ap, map, arith}
 use Rattle.std.specs.List.{flat_map}
 use Rattle.bank_prog.specs.Columns as columns
-use Rattle.bank_prog.specs.Rows as lines
 use Rattle.bank_prog.specs.inner.Form as form
 use Rattle.bank_prog.specs.inner.Form.{stop_view}
 use Rattle.bank_prog.proofs.Loops.{out-more, out-all}

@@ -1,8 +1,6 @@
 use Rattle.std.proofs.Common.{◌≡◌, ◌++◌, map, drop}
 use Rattle.std.specs.List.{flat_map}
 use Rattle.bank_prog.specs.Columns as columns
-use Rattle.bank_prog.specs.Rows as lines
-use Rattle.bank_prog.specs.inner.Form as form
 use Rattle.bank_prog.specs.inner.Form.{use_view}
 use Rattle.ssu_ir.specs.View.{labels_view}
 use Rattle.bank_prog.proofs.columns.push_srvs.Given as goal

@@ -1,7 +1,6 @@
-use Rattle.std.proofs.Common.{◌≡◌, ◌++◌, ◌∙◌, ap, map, arith}
+use Rattle.std.proofs.Common.{◌++◌, ◌∙◌, ap, map, arith}
 use Rattle.std.specs.List.{flat_map}
 use Rattle.bank_prog.specs.Columns as columns
-use Rattle.bank_prog.specs.Rows as lines
 use Rattle.bank_prog.specs.inner.Form as form
 use Rattle.bank_prog.specs.inner.Form.{stop_view}
 use Rattle.ssu_ir.specs.View.{labels_view}

@@ -1,10 +1,10 @@
-use Rattle.std.proofs.Common.{◌≡◌, ◌∙◌, sym, ap, refl, List, [], ◌∷◌, ◌++◌, map, pos, neg_ℤ, ℤ, to_z, of_z, w32, rules}
+use Rattle.std.proofs.Common.{◌∙◌, sym, ap, refl, map, pos, neg_ℤ}
 use Rattle.std.specs.HashMap.{get}
-use Rattle.bank_prog.specs.Program.{same_column, terms_of}
+use Rattle.bank_prog.specs.Program.{same_column}
 use Rattle.bank_prog.specs.Rows as lines
 use Rattle.bank_prog.specs.inner.Adds as adds
 use Rattle.bank_prog.proofs.RowTerms.{terms-alone, terms-each}
-use Rattle.bank_prog.proofs.Loops.{pushed, adds-both}
+use Rattle.bank_prog.proofs.Loops.{pushed}
 use Rattle.bank_prog.proofs.lines.push_covers.Goals as goal
 
 pub returns : goal.returns

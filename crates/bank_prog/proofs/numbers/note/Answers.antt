@@ -1,9 +1,6 @@
-use Rattle.std.proofs.Common.{◌≡◌, ◌∙◌, ℕ, Bool, true, false, cond, ap, sym, subst, refl, None, Some, Option, is_some, if◌then◌else◌, rules}
+use Rattle.std.proofs.Common.{◌≡◌, ◌∙◌, true, cond, ap, sym, None, Some, is_some}
 use Rattle.std.specs.HashMap.{get, get_by}
-use Rattle.std.specs.Option.{option_copied}
-use Rattle.bank_prog.specs.declared.column.Column.{Column}
 use Rattle.bank_prog.specs.Program.{same_column}
-use Rattle.bank_prog.specs.inner.Adds.{either}
 use Rattle.bank_prog.specs.contracts.column.ColumnPartialEq.TheImpl.{eq-value}
 use Rattle.bank_prog.proofs.Keys.{alike, compare, column-true, noted, kept, copied-some, copied-none}
 use Rattle.bank_prog.proofs.numbers.note.Goals as goal

@@ -1,6 +1,4 @@
-use Rattle.std.proofs.Common.{◌≡◌, ◌∙◌, ◌+◌, ℕ, ap, sym, None, Some, if◌then◌else◌, map, take, get_or, List, arith}
-use Rattle.std.specs.HashMap.{get}
-use Rattle.bank_prog.specs.declared.column.Column.{Column}
+use Rattle.std.proofs.Common.{◌∙◌, ap, sym, None, Some, if◌then◌else◌, map, take, get_or, arith}
 use Rattle.bank_prog.specs.declared.column.Column.TheVariants.{Def}
 use Rattle.bank_prog.specs.declared.column.Bank.TheVariants.{A}
 use Rattle.bank_prog.specs.Columns.{Priced}

@@ -1,4 +1,4 @@
-use Rattle.std.proofs.Common.{◌≡◌, ◌≤◌, take, map, length}
+use Rattle.std.proofs.Common.{◌≡◌, take, map}
 use Rattle.std.specs.HashMap.{get}
 use Rattle.bank_prog.specs.declared.column.Column as column
 use Rattle.bank_prog.specs.Program.{same_column, number_in}

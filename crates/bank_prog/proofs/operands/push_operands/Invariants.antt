@@ -3,7 +3,6 @@ use Rattle.std.specs.HashMap.{get}
 use Rattle.std.specs.List.{flat_map}
 use Rattle.zo_model.specs.Contents.{row_contents}
 use Rattle.bank_prog.specs.Program.{same_column, row_of}
-use Rattle.bank_prog.specs.Rows as lines
 use Rattle.bank_prog.specs.inner.Form.{stop_view}
 use Rattle.bank_prog.specs.inner.Form as form
 use Rattle.bank_prog.proofs.operands.push_operands.Given as goal

@@ -1,4 +1,4 @@
-use Rattle.std.proofs.Common.{◌≡◌, ◌∙◌, ◌++◌, ap, map, sym, get_or, arith}
+use Rattle.std.proofs.Common.{◌∙◌, ◌++◌, ap, map}
 use Rattle.std.specs.HashMap.{get}
 use Rattle.zo_model.specs.Contents.{row_contents}
 use Rattle.ssu_ir.specs.Points.{points}
@@ -6,7 +6,7 @@ use Rattle.ssu_ir.specs.View.{labels_view}
 use Rattle.place_ir.specs.Held.{items_of}
 use Rattle.place_ir.proofs.RowSteps.{on-ok}
 use Rattle.bank_prog.specs.Columns.{each_point}
-use Rattle.bank_prog.specs.Program.{same_column, row_of}
+use Rattle.bank_prog.specs.Program.{same_column}
 use Rattle.bank_prog.specs.Rows.{read_owners, fill_owners, write_owners}
 use Rattle.bank_prog.specs.inner.Adds.{Adds}
 use Rattle.bank_prog.proofs.Loops.{adds-both}

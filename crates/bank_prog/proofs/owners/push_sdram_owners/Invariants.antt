@@ -3,8 +3,6 @@ use Rattle.std.specs.HashMap.{get}
 use Rattle.std.specs.List.{flat_map}
 use Rattle.zo_model.specs.Contents.{row_contents}
 use Rattle.bank_prog.specs.Program.{same_column, row_of}
-use Rattle.bank_prog.specs.Rows as lines
-use Rattle.bank_prog.specs.inner.Form as form
 use Rattle.bank_prog.specs.inner.Owners as owners
 use Rattle.ssu_ir.specs.View.{labels_view}
 use Rattle.bank_prog.proofs.owners.push_sdram_owners.Given as goal

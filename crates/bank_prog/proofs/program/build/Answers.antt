@@ -1,7 +1,7 @@
-use Rattle.std.proofs.Common.{◌≡◌, ◌∙◌, ◌<◌, ◌≤◌, ◌^◌, ℕ, ap, sym, subst, inl, inr, List, map, length, arith}
+use Rattle.std.proofs.Common.{◌≡◌, ◌∙◌, ℕ, ap, sym, inr, map, length, arith}
 use Rattle.std.specs.HashMap.{get}
 use Rattle.ssu_ir.specs.View.{labels_view}
-use Rattle.zo_model.specs.Contents.{RowContents, row_contents}
+use Rattle.zo_model.specs.Contents.{row_contents}
 use Rattle.bank_prog.specs.declared.column.Column.{Column}
 use Rattle.bank_prog.specs.Columns.{priced, columns, costs}
 use Rattle.bank_prog.specs.Program as program

@@ -1,7 +1,5 @@
-use Rattle.std.proofs.Common.{◌≡◌, ◌++◌, map, arith, get_or, refl}
+use Rattle.std.proofs.Common.{◌++◌, arith}
 use Rattle.std.specs.List.{flat_map}
-use Rattle.bank_prog.specs.Columns as columns
-use Rattle.bank_prog.specs.Rows as lines
 use Rattle.bank_prog.specs.inner.Form as form
 use Rattle.bank_prog.specs.inner.Owners as owners
 use Rattle.bank_prog.proofs.Loops.{plain-more, plain-all}

@@ -1,7 +1,6 @@
-use Rattle.std.proofs.Common.{◌≡◌, ◌∙◌, ◌++◌, ap, map}
+use Rattle.std.proofs.Common.{◌∙◌, ◌++◌, ap, map}
 use Rattle.std.specs.HashMap.{get}
 use Rattle.zo_model.specs.Contents.{row_contents}
-use Rattle.ssu_ir.specs.Points.{points}
 use Rattle.ssu_ir.specs.View.{labels_view}
 use Rattle.place_ir.specs.Held.{items_of}
 use Rattle.place_ir.proofs.RowSteps.{on-ok}

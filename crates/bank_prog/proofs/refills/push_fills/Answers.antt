@@ -1,4 +1,4 @@
-use Rattle.std.proofs.Common.{◌≡◌, ◌∙◌, ◌++◌, ◌+◌, ap, map, sym, drop, get_or, arith}
+use Rattle.std.proofs.Common.{◌∙◌, ◌++◌, ◌+◌, ap, map, sym, drop, arith}
 use Rattle.std.specs.HashMap.{get}
 use Rattle.zo_model.specs.Contents.{row_contents}
 use Rattle.ssu_ir.specs.View.{labels_view}

@@ -1,4 +1,4 @@
-use Rattle.std.proofs.Common.{◌≡◌, ◌∙◌, ◌++◌, ◌∷◌, [], map, nat_eq, sym, ap, append_assoc}
+use Rattle.std.proofs.Common.{◌∙◌, ◌++◌, map, nat_eq, sym, ap, append_assoc}
 use Rattle.std.specs.HashMap.{get}
 use Rattle.ssu_ir.specs.Slots.{node_of}
 use Rattle.ssu_ir.specs.Tree.{node_uses}

@@ -1,4 +1,4 @@
-use Rattle.std.proofs.Common.{◌≡◌, ◌∙◌, ◌++◌, ◌+◌, ◌∷◌, [], ℕ, map, drop, ap, sym, nat_eq, get_or, arith}
+use Rattle.std.proofs.Common.{◌∙◌, ◌++◌, ◌+◌, ℕ, map, ap, nat_eq, get_or, arith}
 use Rattle.std.specs.HashMap.{get}
 use Rattle.place_ir.specs.Uses as pure
 use Rattle.place_ir.specs.inner.Live.{value_by}

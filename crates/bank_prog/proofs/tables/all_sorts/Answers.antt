@@ -1,5 +1,5 @@
-use Rattle.std.proofs.Common.{◌≡◌, ◌∙◌, ◌++◌, ◌+◌, ◌∷◌, [], ℕ, map, drop, ap, sym, nat_eq, get_or, arith}
-use Rattle.std.proofs.Common.{None, refl, rules}
+use Rattle.std.proofs.Common.{◌≡◌, map, ap, nat_eq, arith}
+use Rattle.std.proofs.Common.{None, rules}
 use Rattle.std.specs.HashMap.{get}
 use Rattle.bank_prog.specs.Columns.{sort_in}
 use Rattle.bank_prog.specs.inner.Form.{value_view, sort_found}

@@ -1,4 +1,4 @@
-use Rattle.std.proofs.Common.{◌≡◌, ◌∙◌, ◌++◌, ◌+◌, ◌∷◌, [], ℕ, map, drop, ap, sym, nat_eq, get_or, arith}
+use Rattle.std.proofs.Common.{◌∙◌, ◌++◌, map, ap, arith}
 use Rattle.std.specs.List.{flat_map}
 use Rattle.bank_prog.specs.inner.Form.{use_view, part_uses, stop_view}
 use Rattle.bank_prog.proofs.Loops.{out-more, out-all}

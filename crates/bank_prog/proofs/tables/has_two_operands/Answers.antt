@@ -1,4 +1,4 @@
-use Rattle.std.proofs.Common.{◌≡◌, ◌∙◌, sym, ap}
+use Rattle.std.proofs.Common.{◌∙◌, sym, ap}
 use Rattle.ssu_ir.specs.Slots.{node_of}
 use Rattle.place_ir.specs.Uses.{node_roles}
 use Rattle.bank_prog.specs.Rows.{two_operands}

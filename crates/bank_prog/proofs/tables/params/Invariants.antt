@@ -1,4 +1,4 @@
-use Rattle.std.proofs.Common.{◌≡◌, ◌∙◌, ◌++◌, ◌+◌, ◌∷◌, [], ℕ, map, drop, ap, sym, nat_eq, get_or, arith}
+use Rattle.std.proofs.Common.{◌≡◌, ◌++◌, map, drop}
 use Rattle.place_ir.specs.Uses as pure
 use Rattle.bank_prog.specs.inner.Form.{value_view}
 use Rattle.bank_prog.proofs.tables.params.Given as goal

@@ -1,4 +1,4 @@
-use Rattle.std.proofs.Common.{◌≡◌, ◌∙◌, ◌++◌, ◌+◌, ◌∷◌, [], ℕ, map, drop, ap, sym, nat_eq, get_or, arith}
+use Rattle.std.proofs.Common.{◌≡◌, ◌∙◌, map, ap, nat_eq}
 use Rattle.std.specs.HashMap.{get}
 use Rattle.std.specs.List.{flat_map}
 use Rattle.ssu_ir.specs.Points.{points}

@@ -1,4 +1,4 @@
-use Rattle.std.proofs.Common.{◌≡◌, ℤ, ◌∙◌, sym, ap, subst, take, get_or, arith, to_z, of_z, w32}
+use Rattle.std.proofs.Common.{ℤ, ◌∙◌, sym, ap, subst, take, get_or, arith, to_z, of_z, w32}
 use Rattle.std.specs.HashMap.{get}
 use Rattle.std.proofs.Math.Facts.{to_z-of_z}
 use Rattle.std.proofs.lemmas.List.{take_more, take_all}

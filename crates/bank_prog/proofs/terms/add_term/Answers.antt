@@ -1,4 +1,4 @@
-use Rattle.std.proofs.Common.{◌≡◌, ◌≤◌, ◌<◌, ◌≢◌, ℕ, List, ℤ, length, ◌∙◌, sym, ap, subst, refl, arith, get_or, set, pos, ◌+ℤ◌, SFits, to_z, of_z, w32, rules}
+use Rattle.std.proofs.Common.{◌≡◌, ◌≤◌, ◌<◌, ◌≢◌, ℕ, ℤ, length, ◌∙◌, sym, ap, subst, refl, arith, get_or, set, pos, ◌+ℤ◌, SFits, to_z, of_z, w32, rules}
 use Rattle.std.proofs.Math.Facts.{to_z-of_z}
 use Rattle.std.specs.List.{insert}
 use Rattle.std.proofs.lemmas.List.{get_or_default}

@@ -1,8 +1,5 @@
 use Rattle.std.proofs.Common.{◌≡◌, ◌++◌, map, drop}
 use Rattle.std.specs.List.{flat_map}
-use Rattle.bank_prog.specs.Columns as columns
-use Rattle.bank_prog.specs.Rows as lines
-use Rattle.bank_prog.specs.inner.Form as form
 use Rattle.bank_prog.specs.inner.Form.{use_view}
 use Rattle.bank_prog.specs.inner.Waiting as waits
 use Rattle.bank_prog.proofs.waiting.add_words.Given as goal

@@ -1,10 +1,8 @@
-use Rattle.std.proofs.Common.{◌≡◌, ◌++◌, map, arith}
+use Rattle.std.proofs.Common.{◌++◌, map, arith}
 use Rattle.std.specs.HashMap.{get}
 use Rattle.std.specs.List.{flat_map}
 use Rattle.zo_model.specs.Contents.{row_contents}
 use Rattle.bank_prog.specs.Program.{same_column, row_of}
-use Rattle.bank_prog.specs.Rows as lines
-use Rattle.bank_prog.specs.inner.Form as form
 use Rattle.bank_prog.specs.inner.Waiting as waits
 use Rattle.bank_prog.specs.inner.Form.{use_view, access_view}
 use Rattle.bank_prog.proofs.Loops.{adds-plain-more, adds-plain-all}

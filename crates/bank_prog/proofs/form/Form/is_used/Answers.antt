@@ -1,4 +1,4 @@
-use Rattle.std.proofs.Common.{◌≡◌, ◌∙◌, ◌==◌, ap, sym, not, length}
+use Rattle.std.proofs.Common.{◌∙◌, ◌==◌, ap, sym, not, length}
 use Rattle.ssu_ir.specs.View.{labels_view}
 use Rattle.place_ir.specs.Uses.{uses}
 use Rattle.bank_prog.specs.inner.Form.{use_view}

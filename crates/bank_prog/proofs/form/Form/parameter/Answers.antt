@@ -1,6 +1,6 @@
-use Rattle.std.proofs.Common.{◌≡◌, ◌∙◌, ap, sym, get_or, unwrap_or, Some, None, arith}
+use Rattle.std.proofs.Common.{◌∙◌, ap, sym, get_or, unwrap_or, Some, None, arith}
 use Rattle.ssu_ir.proofs.Keeps.{view_at, some_from, none_from}
-use Rattle.place_ir.specs.Fits.{label_param, param_at}
+use Rattle.place_ir.specs.Fits.{label_param}
 use Rattle.bank_prog.proofs.FormLemmas.{param-got}
 use Rattle.bank_prog.proofs.form.Form.parameter.Goals as goal
 
