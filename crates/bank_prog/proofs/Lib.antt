@@ -7,3 +7,6 @@ pub mod Tabled
 pub mod OwnerSteps
 pub mod Fills
 pub mod WriteSteps
+pub mod Above
+pub mod Below
+pub mod Waits

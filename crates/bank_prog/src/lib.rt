@@ -18,6 +18,7 @@ mod passes;
 pub mod program;
 mod refills;
 mod services;
+mod spans;
 mod tables;
 mod terms;
 mod waiting;
