@@ -1,12 +1,12 @@
 -- Which values are defined at a point or above it: those whose point has it below.
-use Rattle.std.proofs.Common.{◌≡◌, ℕ, zero, suc, ◌+◌, ◌<◌, ◌≤◌, Bool, true, false, not, ◌&&◌, ◌||◌, if◌then◌else◌, nat_eq, nat_lt, nat_le, List, [], ◌∷◌, ◌++◌, length, length-append, map, get_or, Option, Some, None, refl, sym, ap, subst, ◌∙◌, append_assoc, arith, rules, tests}
+use Rattle.std.proofs.Common.{◌≡◌, ℕ, suc, ◌+◌, ◌<◌, ◌≤◌, Bool, true, false, ◌&&◌, ◌||◌, if◌then◌else◌, nat_eq, nat_le, List, [], ◌∷◌, ◌++◌, length, map, get_or, Option, Some, refl, sym, ap, subst, ◌∙◌, arith, rules, tests}
 use Rattle.std.proofs.Math.Bool.{or-false}
 use Rattle.std.proofs.lemmas.List.{append-nil}
-use Rattle.std.proofs.lemmas.Bool.{and_parts, false≢true}
+use Rattle.std.proofs.lemmas.Bool.{false≢true}
 use Rattle.nv_base.specs.Sets.{is_in, all_different}
 use Rattle.nv_base.proofs.Sets.{in-append}
-use Rattle.ssu_ir.specs.Tree.{Step, Lit, Una, Bin, Clone, Read, Write, Tree, Do, If, End, Label, Node, Does, Forks, Ends, step_values}
-use Rattle.ssu_ir.specs.Points.{Names, own, names_after, Place, Entry, At, Point, place_values, nodes, tree_points, label_points, points_from, points}
+use Rattle.ssu_ir.specs.Tree.{Lit, Una, Bin, Clone, Read, Write, Tree, Do, If, End, Label, Does, Forks, Ends, step_values}
+use Rattle.ssu_ir.specs.Points.{Names, own, names_after, Place, Entry, At, Point, place_values, nodes, tree_points, label_points, points_from}
 use Rattle.ssu_ir.proofs.PointLemmas.{length-tree_points}
 use Rattle.place_ir.specs.Uses as pure
 use Rattle.place_ir.specs.Uses.{Sort, Parameter, Fetched, numbered, values_from}

@@ -1,5 +1,5 @@
 -- How many points lie below each, by those of the points behind it.
-use Rattle.std.proofs.Common.{◌≡◌, ℕ, zero, suc, ◌+◌, ◌<◌, ◌≤◌, List, [], ◌∷◌, ◌++◌, length, length-append, map, get_or, set, Option, Some, refl, sym, ap, subst, ◌∙◌, append_assoc, arith}
+use Rattle.std.proofs.Common.{◌≡◌, ℕ, zero, suc, ◌+◌, ◌<◌, ◌≤◌, List, [], ◌∷◌, ◌++◌, length, map, get_or, set, refl, sym, ap, subst, ◌∙◌, append_assoc, arith}
 use Rattle.ssu_ir.specs.Tree.{Tree, Do, If, End, Label, step_values}
 use Rattle.ssu_ir.specs.Points.{Names, own, names_after, Place, Point, nodes, tree_points, points_from, points}
 use Rattle.ssu_ir.proofs.PointLemmas.{length-tree_points}

@@ -1,5 +1,5 @@
 -- The written words that wait at each point.
-use Rattle.std.proofs.Common.{◌≡◌, ℕ, zero, suc, ◌+◌, ◌<◌, ◌≤◌, Bool, true, false, cond, if◌then◌else◌, ◌&&◌, nat_eq, nat_lt, nat_le, List, [], ◌∷◌, ◌++◌, length, map, drop, get_or, Option, Some, None, refl, sym, ap, ◌∙◌, append_assoc, arith}
+use Rattle.std.proofs.Common.{◌≡◌, ℕ, suc, ◌+◌, ◌<◌, ◌≤◌, Bool, true, false, cond, if◌then◌else◌, ◌&&◌, nat_eq, nat_lt, nat_le, List, [], ◌∷◌, ◌++◌, length, map, drop, get_or, Option, Some, None, refl, sym, ap, ◌∙◌, append_assoc, arith}
 use Rattle.std.specs.List.{flat_map, filter}
 use Rattle.std.proofs.lemmas.List.{at_drop_more, at_drop_all, append-nil}
 use Rattle.nv_base.specs.Sets.{is_in, all_different}
@@ -13,7 +13,7 @@ use Rattle.bank_prog.specs.Columns.{each_point}
 use Rattle.bank_prog.specs.Rows.{waiting, is_written}
 use Rattle.bank_prog.specs.inner.Form.{part_of}
 use Rattle.bank_prog.specs.inner.Adds.{either}
-use Rattle.bank_prog.specs.inner.Waiting.{waiting_from, all_waiting, point_in, covers, is_below, waits_by, kept_waiting, each_waiting, read_from}
+use Rattle.bank_prog.specs.inner.Waiting.{waiting_from, all_waiting, point_in, covers, waits_by, kept_waiting, each_waiting, read_from}
 use Rattle.bank_prog.proofs.Loops.{flat-filter, map-itself}
 use Rattle.bank_prog.proofs.Below.{counts}
 use Rattle.bank_prog.proofs.Above.{under, Tested, tested-as, all-tested, first-covers}

@@ -3,7 +3,7 @@ use Rattle.std.specs.Prelude.{ℕ, zero, suc, ◌+◌, nat_eq, nat_lt, nat_le, �
 use Rattle.std.specs.List.{flat_map}
 use Rattle.std.specs.declared.vec.Vec.{Vec}
 use Rattle.std.specs.declared.alloc.Global.{Global}
-use Rattle.ssu_ir.specs.Tree.{Label, Node, Does, Forks, Ends}
+use Rattle.ssu_ir.specs.Tree.{Label, Does, Forks, Ends}
 use Rattle.ssu_ir.specs.Points.{Place, Entry, At, Point, points}
 use Rattle.place_ir.specs.Uses as pure
 use Rattle.bank_prog.specs.declared.column.Column.{Column}

@@ -1,4 +1,4 @@
-use Rattle.std.proofs.Common.{◌≡◌, ◌≤◌, ◌<◌, ◌-◌, ℕ, ◌∙◌, ap, sym, length, map, get_or, set, arith, rules}
+use Rattle.std.proofs.Common.{◌≡◌, ◌<◌, ◌-◌, ℕ, ◌∙◌, ap, sym, length, map, get_or, arith, rules}
 use Rattle.std.proofs.lemmas.List.{ext_get_or, length-set}
 use Rattle.ssu_ir.specs.Points.{Point, points}
 use Rattle.ssu_ir.specs.View.{labels_view}

@@ -1,4 +1,4 @@
-use Rattle.std.proofs.Common.{◌≡◌, ◌≤◌, ℕ, length, map, get_or}
+use Rattle.std.proofs.Common.{◌≡◌, ◌≤◌, ℕ, length, get_or}
 use Rattle.ssu_ir.specs.Points.{points}
 use Rattle.ssu_ir.specs.View.{labels_view}
 use Rattle.bank_prog.proofs.Below.{counts}

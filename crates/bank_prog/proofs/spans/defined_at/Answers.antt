@@ -1,4 +1,4 @@
-use Rattle.std.proofs.Common.{◌≡◌, ℕ, nat_eq, None, map, drop, ap, arith, rules}
+use Rattle.std.proofs.Common.{◌≡◌, nat_eq, None, map, ap, arith, rules}
 use Rattle.std.specs.HashMap.{get}
 use Rattle.bank_prog.specs.inner.Adds.{either}
 use Rattle.bank_prog.specs.inner.Form.{value_view}

@@ -8,7 +8,6 @@ use Rattle.bank_prog.specs.inner.Form.{stop_view}
 use Rattle.bank_prog.specs.inner.Waiting.{writes, lists_of}
 use Rattle.bank_prog.proofs.Loops.{adds-as}
 use Rattle.bank_prog.proofs.WriteSteps.{all-written}
-use Rattle.bank_prog.proofs.Above.{first-covers}
 use Rattle.bank_prog.proofs.waiting.push_write_owners.Goals as goal
 
 pub returns : goal.returns

@@ -1,4 +1,4 @@
-use Rattle.std.proofs.Common.{◌≡◌, nat_eq, map, arith}
+use Rattle.std.proofs.Common.{nat_eq, map, arith}
 use Rattle.std.specs.HashMap.{get}
 use Rattle.std.specs.List.{flat_map}
 use Rattle.bank_prog.specs.inner.Form.{use_view}
