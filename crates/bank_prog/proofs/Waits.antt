@@ -13,7 +13,7 @@ use Rattle.bank_prog.specs.Columns.{each_point}
 use Rattle.bank_prog.specs.Rows.{waiting, is_written}
 use Rattle.bank_prog.specs.inner.Form.{part_of}
 use Rattle.bank_prog.specs.inner.Adds.{either}
-use Rattle.bank_prog.specs.inner.Waiting.{waiting_from, all_waiting, point_in, covers, waits_by, kept_waiting, each_waiting, read_from}
+use Rattle.bank_prog.specs.inner.Waiting.{waiting_from, all_waiting, point_in, covers, is_below, waits_by, written_only, kept_waiting, each_waiting, read_from}
 use Rattle.bank_prog.proofs.Loops.{flat-filter, map-itself}
 use Rattle.bank_prog.proofs.Below.{counts}
 use Rattle.bank_prog.proofs.Above.{under, Tested, tested-as, all-tested, first-covers}
@@ -117,3 +117,20 @@ all-words labels below point xs n d b p =
 pub length-parts : (k : ℕ) (ps : List Point) → length (each_point (λ k q. part_of k q ∷ []) k ps) ≡ length ps
 length-parts k [] = refl
 length-parts k (q ∷ ps) = ap suc (length-parts (suc k) ps)
+
+-- ---- only written words wait
+
+only-written : (below : List ℕ) (point : ℕ → Option ℕ) (k : ℕ) (us : List pure.Use) → flat_map (kept_waiting below point k) (flat_map written_only us) ≡ flat_map (kept_waiting below point k) us
+only-written below point k [] = refl
+only-written below point k (u ∷ us) = pick (is_written u.role) refl (only-written below point k us)
+  where
+    pick : (b : Bool) → is_written u.role ≡ b → flat_map (kept_waiting below point k) (flat_map written_only us) ≡ flat_map (kept_waiting below point k) us
+        → flat_map (kept_waiting below point k) ((if b then u ∷ [] else []) ++ flat_map written_only us) ≡ kept_waiting below point k u ++ flat_map (kept_waiting below point k) us
+    pick true e h = ap (λ ws. kept_waiting below point k u ++ ws) h
+    pick false e h =
+        h ∙ ap (λ b. (if b && (covers (read_from below) (point u.value) k && is_below (read_from below) k u.point) then u ∷ [] else []) ++ flat_map (kept_waiting below point k) us) (sym e)
+
+pub each-written : {V : Type 0} (below : List ℕ) (point : ℕ → Option ℕ) (us : List pure.Use) (k : ℕ) (xs : List V) → each_waiting below point (flat_map written_only us) k xs ≡ each_waiting below point us k xs
+each-written below point us k [] = refl
+each-written below point us k (x ∷ xs) =
+    ap (λ ws. ws ∷ each_waiting below point (flat_map written_only us) (suc k) xs) (only-written below point k us) ∙ ap (λ rest. flat_map (kept_waiting below point k) us ∷ rest) (each-written below point us (suc k) xs)

@@ -21,6 +21,8 @@ mod services;
 mod spans;
 mod tables;
 mod terms;
+#[cfg(test)]
+mod tests;
 mod waiting;
 
 pub use column::{Bank, Column, Service};

@@ -49,6 +49,26 @@ fn is_written(role: Role) -> bool
     }
 }
 
+fn keep_written(kept: &mut Vec<Use>, u: Use) -> Result<(), NoMemory>
+    ensures { OnOk result (map use_view kept.new.items ≡ map use_view kept.old.items ++ waits.written_only (use_view u)) }
+{
+    if is_written(u.role) {
+        kept.push(u)?;
+    }
+    Ok(())
+}
+
+/// The written words among these uses.
+fn written_words(alloc: Global, uses: &[Use]) -> Result<Vec<Use>, NoMemory>
+    ensures { IfOk result (λ v. map use_view v.items ≡ flat_map waits.written_only (map use_view uses.now)) }
+{
+    let mut kept = Vec::new(alloc);
+    for u in uses {
+        keep_written(&mut kept, *u)?;
+    }
+    Ok(kept)
+}
+
 /// Whether a point has another below.
 fn is_below(below: &[u32], k: u32, point: u32) -> bool
     ensures { result ≡ waits.is_below (waits.read_from below.now) k point }
@@ -120,7 +140,8 @@ fn waiting_words(alloc: Global, f: &Form<'_>) -> Result<Vec<Vec<Use>>, NoMemory>
     let spots = spots_of(alloc, f.ssu)?;
     let below = belows(alloc, f.ssu, &spots)?;
     let defined = defined_at(alloc, &f.tables.values)?;
-    words_of_points(alloc, &below, &defined, &f.tables.uses, &f.tables.stops)
+    let written = written_words(alloc, &f.tables.uses)?;
+    words_of_points(alloc, &below, &defined, &written, &f.tables.stops)
 }
 
 /// The columns that a word is put early into register r, where it can.

@@ -72,6 +72,9 @@ is_below below k point = nat_lt k point && nat_le point (k + below k)
 abbrev pub waits_by : List ℕ → (ℕ → Option ℕ) → ℕ → pure.Use → Bool
 waits_by below point k u = is_written u.role && (covers (read_from below) (point u.value) k && is_below (read_from below) k u.point)
 
+abbrev pub written_only : pure.Use → List pure.Use
+written_only u = if is_written u.role then u ∷ [] else []
+
 abbrev pub kept_waiting : List ℕ → (ℕ → Option ℕ) → ℕ → pure.Use → List pure.Use
 kept_waiting below point k u = if waits_by below point k u then u ∷ [] else []
 
