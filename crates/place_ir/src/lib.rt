@@ -24,6 +24,8 @@ mod values;
 mod words;
 
 pub use checking::fits;
+pub use copies::{Copies, copies_of, value_of};
 pub use place::{First, Home, Pass, Place, PlaceError, Placement, Serve};
 pub use rows::{held, peak};
 pub use spill::spill_all;
+pub use spots::{Spot, spots_of};

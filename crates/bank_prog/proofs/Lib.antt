@@ -1,0 +1,12 @@
+pub mod RowTerms
+pub mod Keys
+pub mod Loops
+pub mod FormLemmas
+pub mod Order
+pub mod Tabled
+pub mod OwnerSteps
+pub mod Fills
+pub mod WriteSteps
+pub mod Above
+pub mod Below
+pub mod Waits

@@ -1,0 +1,5 @@
+pub mod Columns
+pub mod Rows
+pub mod Program
+pub mod Meaning
+pub mod inner

@@ -1,0 +1,4 @@
+pub mod Form
+pub mod Adds
+pub mod Owners
+pub mod Waiting

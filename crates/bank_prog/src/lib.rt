@@ -1,0 +1,30 @@
+//! The 0-1 program that chooses where the values of a program in single-use form stand.
+#![tactic(auto)]
+
+mod begins;
+mod capacity;
+mod choice;
+pub mod column;
+mod columns;
+mod cover;
+pub mod error;
+mod form;
+mod lines;
+mod names;
+mod numbers;
+mod operands;
+mod owners;
+mod passes;
+pub mod program;
+mod refills;
+mod services;
+mod spans;
+mod tables;
+mod terms;
+#[cfg(test)]
+mod tests;
+mod waiting;
+
+pub use column::{Bank, Column, Service};
+pub use error::BankError;
+pub use program::build;
