@@ -1,12 +1,12 @@
 -- The form and the code of a program, through all passes.
-use Rattle.std.proofs.Common.{◌≡◌, ℕ, ◌+◌, ◌*◌, ◌<◌, ◌≤◌, ◌^◌, ◌⊎◌, inl, inr, Bool, true, false, ◌&&◌, List, Option, None, Some, length, refl, sym, subst, arith}
+use Rattle.std.proofs.Common.{◌≡◌, ℕ, ◌+◌, ◌<◌, ◌≤◌, ◌^◌, ◌⊎◌, inl, inr, Bool, true, false, ◌&&◌, List, Option, None, Some, sym, subst, arith}
 use Rattle.std.specs.Prelude.{slice_get}
 use Rattle.std.specs.List.{list_all}
 use Rattle.std.proofs.Math.Nat.{le_trans}
 use Rattle.nv_ast.specs.Sizes.{expanded_size, main_words, room}
 use Rattle.nv_ast.specs.Tree.{ProgramTree}
 use Rattle.nv_base.specs.Meanings.{KeepsOutcomes}
-use Rattle.nv_base.specs.Measures.{Bulk, IsAtMost, of_size}
+use Rattle.nv_base.specs.Measures.{IsAtMost, of_size}
 use Rattle.nv_base.proofs.MemoryLemmas.{seen_follows}
 use Rattle.nv_base.proofs.Same.{keeps-trans}
 use Rattle.nv_meaning.specs.Meaning.{source}

@@ -5,7 +5,7 @@ use Rattle.std.proofs.lemmas.List.Elements.{All-nil, All-cons}
 use Rattle.nv_ast.specs.Sizes.{main_words}
 use Rattle.nv_ast.specs.Tree.{ProgramTree}
 use Rattle.nv_base.specs.Memories.{Memories, HasSizes}
-use Rattle.nv_base.specs.Meanings.{FullOutcome, IsOver, seen}
+use Rattle.nv_base.specs.Meanings.{FullOutcome, IsOver}
 use Rattle.nv_base.specs.declared.outcome.Outcome.{Outcome}
 use Rattle.nv_base.specs.declared.outcome.Outcome.TheVariants.{Ended}
 use Rattle.nv_meaning.specs.Meaning.{source}

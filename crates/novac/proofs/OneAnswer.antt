@@ -1,5 +1,5 @@
 -- The contents of a command's inputs decide the answer.
-use Rattle.std.proofs.Common.{◌≡◌, ℕ, ◌+◌, ◌*◌, ◌<◌, ◌≤◌, ◌^◌, ◌⊎◌, inl, inr, List, [], ◌∷◌, Ok, Err, length, refl, ap, sym, ◌∙◌, subst, codes, arith}
+use Rattle.std.proofs.Common.{◌≡◌, ℕ, ◌<◌, ◌≤◌, ◌^◌, ◌⊎◌, inl, inr, List, [], ◌∷◌, Ok, Err, length, refl, ap, sym, ◌∙◌, subst, codes, arith}
 use Rattle.nv_memtext.specs.MemoryText.{Gives, IsBad}
 use Rattle.nv_memtext.proofs.ExactLemmas.{gives_one, gives_not_large, large_one, given_answer, bad_answer}
 use Rattle.nv_memtext.specs.declared.read.MemError.TheVariants.{Bad}

@@ -1,6 +1,5 @@
 -- A source's text decides whether, and why, it isn't compiled.
 use Rattle.std.proofs.Common.{◌≡◌, ℕ, List, refl, ap, sym, ◌∙◌, subst, ◌⊎◌, inl, inr}
-use Rattle.nv_ast.specs.declared.token.Span.{Span}
 use Rattle.nv_ast.specs.Tree.{ProgramTree}
 use Rattle.nv_text.specs.declared.error.TextError.{TextError}
 use Rattle.nv_text.specs.declared.error.TextError.TheVariants as text

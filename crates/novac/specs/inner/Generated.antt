@@ -2,8 +2,6 @@
 use Rattle.std.specs.Prelude.{◌≡◌, ℕ, List, [], ◌∷◌}
 use Rattle.nv_ast.specs.Sizes.{main_words}
 use Rattle.nv_ast.specs.Tree.{ProgramTree}
-use Rattle.uc_isa.specs.Code.{CodeView}
-use Rattle.novac.specs.Forms.{IsCodeFor}
 use Rattle.novac.specs.Generating.{MeansWord}
 
 -- the program takes two words, and means some word on the arguments 1 and 2
