@@ -7,3 +7,5 @@ pub mod Tabled
 pub mod OwnerSteps
 pub mod Fills
 pub mod WriteSteps
+pub mod LawsRows
+pub mod LawsColumns
