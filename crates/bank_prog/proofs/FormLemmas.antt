@@ -17,7 +17,7 @@ pub length-map : {X Y : Type 0} (f : X → Y) (xs : List X) → length (map f xs
 length-map f [] = refl
 length-map f (x ∷ xs) = ap suc (length-map f xs)
 
-turned : (x y : ℕ) → nat_eq x y ≡ nat_eq y x
+pub turned : (x y : ℕ) → nat_eq x y ≡ nat_eq y x
 turned x y = pick (nat_eq x y) refl
   where
     pick : (b : Bool) → nat_eq x y ≡ b → nat_eq x y ≡ nat_eq y x

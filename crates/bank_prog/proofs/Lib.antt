@@ -9,3 +9,6 @@ pub mod Fills
 pub mod WriteSteps
 pub mod LawsRows
 pub mod LawsColumns
+pub mod Above
+pub mod Below
+pub mod Waits

@@ -19,8 +19,11 @@ mod passes;
 pub mod program;
 mod refills;
 mod services;
+mod spans;
 mod tables;
 mod terms;
+#[cfg(test)]
+mod tests;
 mod waiting;
 
 pub use column::{Bank, Column, Service};

@@ -1,7 +1,7 @@
 //! Rows of the fifth family, third sentence: a write register belongs to a word that waits, to a slot that is
 //! written through it, or to the write here.
 
-ghost use Rattle.std.specs.Prelude.{◌≡◌, ◌++◌, map, drop, true, IfOk, OnOk};
+ghost use Rattle.std.specs.Prelude.{◌≡◌, ◌++◌, nat_eq, map, drop, true, IfOk, OnOk};
 ghost use Rattle.std.specs.HashMap.{get};
 ghost use Rattle.std.specs.List.{flat_map};
 ghost use Rattle.ssu_ir.specs.Points.{points};
@@ -20,16 +20,128 @@ use crate::lines::push_at_most;
 use crate::numbers::Numbers;
 use crate::owners::{is_on_side, run_at};
 use crate::refills::add_coverings;
+use crate::spans::{Defined, belows, defined_at, item};
+use crate::tables::short;
 use nv_base::NoMemory;
+use place_ir::spots_of;
 use std::alloc::Global;
 use zo_model::Row;
+
+/// Whether a value that is defined at this point is so at k or above.
+fn is_covered(below: &[u32], at: Option<u32>, k: u32) -> bool
+    ensures { result ≡ waits.covers (waits.read_from below.now) at k }
+{
+    match at {
+        Some(d) => { d <= k && u64::from(k) <= u64::from(d) + u64::from(item(below, d as usize)) }
+        None => false,
+    }
+}
+
+fn is_written(role: Role) -> bool
+    ensures { result ≡ lines.is_written (role_view role) }
+{
+    match role {
+        Role::Operand => false,
+        Role::Address => false,
+        Role::Written(_, _) => true,
+        Role::Argument(_, _) => false,
+        Role::Ending(_) => false,
+    }
+}
+
+fn keep_written(kept: &mut Vec<Use>, u: Use) -> Result<(), NoMemory>
+    ensures { OnOk result (map use_view kept.new.items ≡ map use_view kept.old.items ++ waits.written_only (use_view u)) }
+{
+    if is_written(u.role) {
+        kept.push(u)?;
+    }
+    Ok(())
+}
+
+/// The written words among these uses.
+fn written_words(alloc: Global, uses: &[Use]) -> Result<Vec<Use>, NoMemory>
+    ensures { IfOk result (λ v. map use_view v.items ≡ flat_map waits.written_only (map use_view uses.now)) }
+{
+    let mut kept = Vec::new(alloc);
+    for u in uses {
+        keep_written(&mut kept, *u)?;
+    }
+    Ok(kept)
+}
+
+/// Whether a point has another below.
+fn is_below(below: &[u32], k: u32, point: u32) -> bool
+    ensures { result ≡ waits.is_below (waits.read_from below.now) k point }
+{
+    k < point && u64::from(point) <= u64::from(k) + u64::from(item(below, k as usize))
+}
+
+/// Whether a use is a written word that waits at point k.
+fn is_waiting(below: &[u32], defined: &Defined, k: u32, u: Use) -> bool
+    ensures { result ≡ waits.waits_by below.now (get nat_eq defined.now) k (use_view u) }
+{
+    is_written(u.role)
+        && (is_covered(below, defined.get(&u.value).copied(), k) && is_below(below, k, u.point))
+}
+
+fn keep_waiting(
+    kept: &mut Vec<Use>,
+    below: &[u32],
+    defined: &Defined,
+    k: u32,
+    u: Use,
+) -> Result<(), NoMemory>
+    ensures { OnOk result (map use_view kept.new.items ≡ map use_view kept.old.items ++ waits.kept_waiting below.now (get nat_eq defined.now) k (use_view u)) }
+{
+    if is_waiting(below, defined, k, u) {
+        kept.push(u)?;
+    }
+    Ok(())
+}
+
+/// The written words that wait at point k.
+fn words_of_point(
+    alloc: Global,
+    below: &[u32],
+    defined: &Defined,
+    k: u32,
+    uses: &[Use],
+) -> Result<Vec<Use>, NoMemory>
+    ensures { IfOk result (λ v. map use_view v.items ≡ flat_map (waits.kept_waiting below.now (get nat_eq defined.now) k) (map use_view uses.now)) }
+{
+    let mut kept = Vec::new(alloc);
+    for u in uses {
+        keep_waiting(&mut kept, below, defined, k, *u)?;
+    }
+    Ok(kept)
+}
+
+fn words_of_points(
+    alloc: Global,
+    below: &[u32],
+    defined: &Defined,
+    uses: &[Use],
+    stops: &[Stop],
+) -> Result<Vec<Vec<Use>>, NoMemory>
+    ensures { IfOk result (λ v. waits.lists_of v.items ≡ waits.each_waiting below.now (get nat_eq defined.now) (map use_view uses.now) 0 stops.now) }
+{
+    let mut words = Vec::new(alloc);
+    for k in 0..stops.len() {
+        words.push(words_of_point(alloc, below, defined, short(k)?, uses)?)?;
+    }
+    Ok(words)
+}
 
 /// Of each point the written words that wait there.
 fn waiting_words(alloc: Global, f: &Form<'_>) -> Result<Vec<Vec<Use>>, NoMemory>
     requires single { single (labels_view f.now.ssu.now) ≡ true }
     ensures { IfOk result (λ v. waits.lists_of v.items ≡ waits.all_waiting (labels_view f.now.ssu.now)) }
 {
-    Err(NoMemory)
+    let spots = spots_of(alloc, f.ssu)?;
+    let below = belows(alloc, f.ssu, &spots)?;
+    let defined = defined_at(alloc, &f.tables.values)?;
+    let written = written_words(alloc, &f.tables.uses)?;
+    words_of_points(alloc, &below, &defined, &written, &f.tables.stops)
 }
 
 /// The columns that a word is put early into register r, where it can.

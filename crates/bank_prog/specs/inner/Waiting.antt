@@ -1,10 +1,10 @@
 -- Words that wait in write registers, as the code goes over them.
-use Rattle.std.specs.Prelude.{ℕ, suc, Bool, true, false, List, [], ◌∷◌, ◌++◌, map, filter}
+use Rattle.std.specs.Prelude.{ℕ, zero, suc, ◌+◌, nat_eq, nat_lt, nat_le, ◌&&◌, if◌then◌else◌, slice_index_or, Option, Some, None, Bool, true, false, List, [], ◌∷◌, ◌++◌, map, filter}
 use Rattle.std.specs.List.{flat_map}
 use Rattle.std.specs.declared.vec.Vec.{Vec}
 use Rattle.std.specs.declared.alloc.Global.{Global}
-use Rattle.ssu_ir.specs.Tree.{Label}
-use Rattle.ssu_ir.specs.Points.{Point, points}
+use Rattle.ssu_ir.specs.Tree.{Label, Does, Forks, Ends}
+use Rattle.ssu_ir.specs.Points.{Place, Entry, At, Point, points}
 use Rattle.place_ir.specs.Uses as pure
 use Rattle.bank_prog.specs.declared.column.Column.{Column}
 use Rattle.bank_prog.specs.declared.column.Column.TheVariants.{PasS}
@@ -48,3 +48,52 @@ rest_lists (us ∷ rest) = rest
 abbrev pub writes : List Part → List (List pure.Use) → List Line
 writes [] lists = []
 writes (p ∷ ps) lists = part_writes p (first_list lists) ++ writes ps (rest_lists lists)
+
+-- ---- where values are defined
+
+-- the point of the first of these values that has the variable
+abbrev pub point_in : List pure.Value → ℕ → Option ℕ
+point_in [] x = None
+point_in (v ∷ vs) x = if nat_eq v.var x then Some v.point else point_in vs x
+
+-- whether that point is this one or has it below
+abbrev pub covers : (ℕ → ℕ) → Option ℕ → ℕ → Bool
+covers below None k = false
+covers below (Some d) k = nat_le d k && nat_le k (d + below d)
+
+abbrev pub read_from : List ℕ → ℕ → ℕ
+read_from below k = slice_index_or below k 0
+
+-- whether point k has another below
+abbrev pub is_below : (ℕ → ℕ) → ℕ → ℕ → Bool
+is_below below k point = nat_lt k point && nat_le point (k + below k)
+
+-- a written word that waits at point k
+abbrev pub waits_by : List ℕ → (ℕ → Option ℕ) → ℕ → pure.Use → Bool
+waits_by below point k u = is_written u.role && (covers (read_from below) (point u.value) k && is_below (read_from below) k u.point)
+
+abbrev pub written_only : pure.Use → List pure.Use
+written_only u = if is_written u.role then u ∷ [] else []
+
+abbrev pub kept_waiting : List ℕ → (ℕ → Option ℕ) → ℕ → pure.Use → List pure.Use
+kept_waiting below point k u = if waits_by below point k u then u ∷ [] else []
+
+-- of each of so many points, from k on, the words that wait
+abbrev pub each_waiting : {V : Type 0} → List ℕ → (ℕ → Option ℕ) → List pure.Use → ℕ → List V → List (List pure.Use)
+each_waiting below point us k [] = []
+each_waiting below point us k (x ∷ xs) = flat_map (kept_waiting below point k) us ∷ each_waiting below point us (suc k) xs
+
+-- ---- how many points lie below each
+
+-- how many nodes follow directly
+abbrev pub arms : Place → ℕ
+arms (Entry l params) = 1
+arms (At (Does s)) = 1
+arms (At (Forks c x y)) = 2
+arms (At (Ends l)) = 0
+
+-- by those of the points behind it
+abbrev pub below_at : ℕ → (ℕ → ℕ) → ℕ → ℕ
+below_at zero below k = 0
+below_at (suc zero) below k = 1 + below (k + 1)
+below_at (suc (suc n)) below k = 2 + (below (k + 1) + below (k + 2 + below (k + 1)))

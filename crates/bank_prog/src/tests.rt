@@ -1,0 +1,32 @@
+// The program of the sum of two parameters.
+
+use crate::build;
+use nv_base::{Bin, NoMemory, Vars};
+use ssu_ir::{Ssu, SsuBuild, SsuLabel, SsuNode, single};
+use std::alloc::Global;
+use std::test::Fail;
+
+/// The sum of two parameters.
+fn sum(alloc: Global) -> Result<Ssu, NoMemory> {
+    let words = Vars::from_slice(alloc, &[2])?;
+    let params = Vec::from_array(alloc, [0, 1])?;
+    let mut b = SsuBuild::new(alloc);
+    let end = b.add(SsuNode::Halt(0, words))?;
+    let body = b.add(SsuNode::Bin(2, Bin::Add, 0, 1, end))?;
+    let labels = Vec::from_array(alloc, [SsuLabel { params, body }])?;
+    Ok(b.finish(labels))
+}
+
+#[test]
+fn a_sum_has_a_program(rt: HostRuntime) -> Result<(), Fail> {
+    let s = sum(rt.alloc())?;
+    assert!(rt; single(&s));
+    match build(rt.alloc(), &s, 128) {
+        Ok(z) => {
+            assert_eq!(rt; z.costs.len(), 63);
+            assert_eq!(rt; z.rows.len(), 156);
+        }
+        Err(_) => assert!(rt; false),
+    }
+    Ok(())
+}
