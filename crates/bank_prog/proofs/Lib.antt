@@ -12,3 +12,6 @@ pub mod LawsColumns
 pub mod Above
 pub mod Below
 pub mod Waits
+pub mod Distinct
+pub mod Families
+pub mod LawsCost
