@@ -1,5 +1,9 @@
 // The program of the sum of two parameters.
 
+ghost use Rattle.std.specs.Prelude.{◌≡◌, IfOk};
+ghost use Rattle.ssu_ir.specs.Examples.{sum_of_two};
+ghost use Rattle.ssu_ir.specs.View.{labels_view};
+
 use crate::build;
 use nv_base::{Bin, NoMemory, Vars};
 use ssu_ir::{Ssu, SsuBuild, SsuLabel, SsuNode, single};
@@ -7,7 +11,9 @@ use std::alloc::Global;
 use std::test::Fail;
 
 /// The sum of two parameters.
-fn sum(alloc: Global) -> Result<Ssu, NoMemory> {
+fn sum(alloc: Global) -> Result<Ssu, NoMemory>
+    ensures { IfOk result (λ s. labels_view s ≡ sum_of_two) }
+{
     let words = Vars::from_slice(alloc, &[2])?;
     let params = Vec::from_array(alloc, [0, 1])?;
     let mut b = SsuBuild::new(alloc);
