@@ -1,8 +1,8 @@
 -- The columns of the bank program are all different.
-use Rattle.std.proofs.Common.{◌≡◌, ℕ, zero, suc, ◌+◌, ◌*◌, ◌<◌, ◌≤◌, Bool, true, false, not, cond, ◌&&◌, if◌then◌else◌, nat_eq, nat_le, ◌||◌, List, [], ◌∷◌, ◌++◌, map, length, refl, sym, ap, subst, ◌∙◌, arith}
+use Rattle.std.proofs.Common.{◌≡◌, ℕ, zero, suc, ◌+◌, ◌*◌, ◌≤◌, Bool, true, false, not, cond, ◌&&◌, if◌then◌else◌, nat_eq, nat_le, ◌||◌, List, [], ◌∷◌, ◌++◌, map, length, refl, sym, ap, subst, ◌∙◌, arith}
 use Rattle.std.specs.Prelude.{slice_get}
 use Rattle.std.specs.List.{flat_map, filter, list_any, list_all}
-use Rattle.std.proofs.lemmas.Bool.{and_parts, false≢true}
+use Rattle.std.proofs.lemmas.Bool.{and_parts}
 use Rattle.std.proofs.lemmas.List.{append-nil}
 use Rattle.nv_base.specs.declared.term.Mem.{Mem}
 use Rattle.nv_base.specs.Sets.{is_in, all_different}
@@ -10,10 +10,10 @@ use Rattle.ssu_ir.specs.Tree.{Lit, Una, Bin, Clone, Read, Write, Label, Does, Fo
 use Rattle.ssu_ir.specs.Points.{Place, Entry, At, Point, place_values, points}
 use Rattle.ssu_ir.specs.Single.{single, is_entry, is_single, all_defined}
 use Rattle.place_ir.specs.Uses as pure
-use Rattle.place_ir.specs.Uses.{Access, Sort, Parameter, Result, Fetched, Value, values, values_from, numbered, Role, Operand, Address, Written, Argument, Ending, Use, uses, uses_from, uses_at, place_roles, is_used, accesses, accesses_from, place_accesses}
+use Rattle.place_ir.specs.Uses.{Access, Sort, Parameter, Result, Fetched, Value, values, values_from, Role, Operand, Address, Written, Argument, Ending, Use, uses, uses_at, place_roles, is_used, accesses, place_accesses}
 use Rattle.place_ir.specs.Fits.{is_result}
 use Rattle.place_ir.specs.inner.Numbers.{values_among}
-use Rattle.place_ir.proofs.Scoped.{different-filter, in-filter}
+use Rattle.place_ir.proofs.Scoped.{different-filter}
 use Rattle.place_ir.proofs.Numbering.{places-of-labels, different-labels}
 use Rattle.place_ir.proofs.Sound.{Each, each-append}
 use Rattle.place_ir.proofs.Spilled.{each-weaker}
@@ -22,8 +22,10 @@ use Rattle.bank_prog.specs.declared.column.Bank.TheVariants.{A, B, M, T, L, A15,
 use Rattle.bank_prog.specs.declared.column.Column.{Column}
 use Rattle.bank_prog.specs.declared.column.Column.TheVariants.{Def, Dir, Fill, Stay, Ear, First, Srv, PasL, PasS}
 use Rattle.bank_prog.specs.declared.column.Service.{Service}
-use Rattle.bank_prog.specs.Columns.{Priced, each_point, sort_of, is_fetched, point_uses, place_words, eight, may_begin, beginnings, role_beginnings, sort_beginnings, sort_defs, def_columns, dir_columns, point_dirs, fill_columns, stay_columns, point_stays, ear_columns, point_ears, first_columns, services, has_bank, use_services, srv_columns, for_eight, pas_l_columns, pas_s_columns, all_dirs, all_stays, all_ears, all_pas_l, all_pas_s, priced}
+use Rattle.bank_prog.specs.Columns.{Priced, sort_of, is_fetched, point_uses, place_words, eight, may_begin, beginnings, role_beginnings, sort_beginnings, sort_defs, def_columns, dir_columns, point_dirs, fill_columns, stay_columns, point_stays, ear_columns, point_ears, first_columns, services, has_bank, srv_columns, for_eight, pas_l_columns, pas_s_columns, all_dirs, all_stays, all_ears, all_pas_l, all_pas_s, priced}
 use Rattle.bank_prog.proofs.Loops.{map-append}
+use Rattle.bank_prog.proofs.Tabled.{uses-each, accesses-each}
+use Rattle.bank_prog.proofs.Waits.{place-vars}
 use Rattle.bank_prog.proofs.Distinct.{Distinct, or-false, not-true, each-flat, each-points, each-map, flat-points, join, by-keys, by-register, by-point, by-use, uses-point, values-in, by-value, by-definition}
 
 -- ---- what tells columns apart
@@ -181,21 +183,6 @@ stays-var labels n v = chosen-each (λ p. var_of p.0 ≡ v.var) (is_used labels 
 stays-family : (labels : List Label) (n : ℕ) (v : Value) → Each (λ p. family p.0 ≡ 3) (stay_columns labels n v)
 stays-family labels n v = chosen-each (λ p. family p.0 ≡ 3) (is_used labels v.var) (λ f. (Stay v.var f, 0)) (sort_beginnings n v.sort) (λ r. refl)
 
-numbered-vars : (j : ℕ) (sort : ℕ → Sort) (i : ℕ) (xs : List ℕ) → map (λ v. v.var) (numbered j sort i xs) ≡ xs
-numbered-vars j sort i [] = refl
-numbered-vars j sort i (x ∷ xs) = ap (λ ys. x ∷ ys) (numbered-vars j sort (suc i) xs)
-
-place-vars : (j : ℕ) (p : Place) → map (λ v. v.var) (pure.place_values j p) ≡ place_values p
-place-vars j (Entry l params) = numbered-vars j (Parameter l) 0 params
-place-vars j (At (Does (Lit v n))) = refl
-place-vars j (At (Does (Una v op y))) = refl
-place-vars j (At (Does (Bin v op y z))) = refl
-place-vars j (At (Does (Clone xs y))) = refl
-place-vars j (At (Does (Read m xs y))) = numbered-vars j (Fetched m) 0 xs
-place-vars j (At (Does (Write m y xs))) = refl
-place-vars j (At (Forks c y z)) = refl
-place-vars j (At (Ends l)) = refl
-
 values-vars : (k : ℕ) (ps : List Point) → map (λ v. v.var) (values_from k ps) ≡ values_among (map (λ q. q.place) ps)
 values-vars k [] = refl
 values-vars k (q ∷ ps) =
@@ -309,14 +296,6 @@ eight-distinct true make h = by-register spot_of (λ r. (make r, 0)) h eight ref
 eight-distinct false make h = tt
 
 -- ---- all
-
-uses-each : (k : ℕ) (ps : List Point) → each_point (λ k q. uses_at k 0 q.uses (place_roles q.place)) k ps ≡ uses_from k ps
-uses-each k [] = refl
-uses-each k (q ∷ ps) = ap (λ us. uses_at k 0 q.uses (place_roles q.place) ++ us) (uses-each (suc k) ps)
-
-accesses-each : (k : ℕ) (ps : List Point) → each_point (λ k q. place_accesses k q.place) k ps ≡ accesses_from k ps
-accesses-each k [] = refl
-accesses-each k (q ∷ ps) = ap (λ as'. place_accesses k q.place ++ as') (accesses-each (suc k) ps)
 
 srvs-all : (labels : List Label) → Distinct (flat_map (srv_columns labels) (uses labels))
 srvs-all labels =

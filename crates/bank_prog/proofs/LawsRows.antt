@@ -1,5 +1,5 @@
 -- A row over the columns' numbers says what its line says by name.
-use Rattle.std.proofs.Common.{◌≡◌, ◌↔◌, ℕ, zero, suc, nat_eq, nat_lt, Bool, true, false, if◌then◌else◌, List, [], ◌∷◌, map, Option, Some, None, ℤ, pos, ◌+ℤ◌, ◌≤ℤ◌, All, refl, sym, ap, subst, ◌∙◌, arith}
+use Rattle.std.proofs.Common.{◌≡◌, ◌↔◌, ℕ, nat_eq, nat_lt, Bool, true, false, if◌then◌else◌, List, [], ◌∷◌, map, Option, Some, None, ℤ, ◌+ℤ◌, ◌≤ℤ◌, All, refl, sym, ap, subst, ◌∙◌}
 use Rattle.std.proofs.Math.IntN.{+ℤ_idl, +ℤ_comm, +ℤ_assoc}
 use Rattle.std.proofs.lemmas.List.Elements.{All-nil, All-cons, All-head, All-tail}
 use Rattle.nv_base.proofs.Sets.{same-number}
@@ -9,7 +9,7 @@ use Rattle.zo_model.specs.declared.program.ZeroOne.{ZeroOne}
 use Rattle.zo_model.specs.Contents.{RowContents, row_contents, contents}
 use Rattle.zo_model.specs.Program.{total, where_one, terms_sum, Meets, Feasible}
 use Rattle.bank_prog.specs.declared.column.Column.{Column}
-use Rattle.bank_prog.specs.Meaning.{Chosen, number_on, on, named_sum, Holds}
+use Rattle.bank_prog.specs.Meaning.{number_on, on, named_sum, Holds}
 use Rattle.bank_prog.specs.Program.{Numbers, Terms, add_term, add_named, terms_of, row_of, number_of, bank_program}
 use Rattle.bank_prog.specs.Rows.{Line, lines}
 
