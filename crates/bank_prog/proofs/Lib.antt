@@ -7,6 +7,11 @@ pub mod Tabled
 pub mod OwnerSteps
 pub mod Fills
 pub mod WriteSteps
+pub mod LawsRows
+pub mod LawsColumns
 pub mod Above
 pub mod Below
 pub mod Waits
+pub mod Distinct
+pub mod Families
+pub mod LawsCost

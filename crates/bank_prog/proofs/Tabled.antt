@@ -101,11 +101,11 @@ values-each : (k : ℕ) (ps : List Point) → each_point (λ k q. place_values k
 values-each k [] = refl
 values-each k (q ∷ ps) = ap (λ vs. place_values k q.place ++ vs) (values-each (suc k) ps)
 
-uses-each : (k : ℕ) (ps : List Point) → each_point (λ k q. uses_at k 0 q.uses (place_roles q.place)) k ps ≡ uses_from k ps
+pub uses-each : (k : ℕ) (ps : List Point) → each_point (λ k q. uses_at k 0 q.uses (place_roles q.place)) k ps ≡ uses_from k ps
 uses-each k [] = refl
 uses-each k (q ∷ ps) = ap (λ us. uses_at k 0 q.uses (place_roles q.place) ++ us) (uses-each (suc k) ps)
 
-accesses-each : (k : ℕ) (ps : List Point) → each_point (λ k q. place_accesses k q.place) k ps ≡ accesses_from k ps
+pub accesses-each : (k : ℕ) (ps : List Point) → each_point (λ k q. place_accesses k q.place) k ps ≡ accesses_from k ps
 accesses-each k [] = refl
 accesses-each k (q ∷ ps) = ap (λ as'. place_accesses k q.place ++ as') (accesses-each (suc k) ps)
 

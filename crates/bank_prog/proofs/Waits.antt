@@ -73,7 +73,7 @@ numbered-vars : (j : ℕ) (sort : ℕ → Sort) (i : ℕ) (xs : List ℕ) → ma
 numbered-vars j sort i [] = refl
 numbered-vars j sort i (x ∷ xs) = ap (λ ys. x ∷ ys) (numbered-vars j sort (suc i) xs)
 
-place-vars : (j : ℕ) (p : Place) → map (λ v. v.var) (pure.place_values j p) ≡ place_values p
+pub place-vars : (j : ℕ) (p : Place) → map (λ v. v.var) (pure.place_values j p) ≡ place_values p
 place-vars j (Entry l params) = numbered-vars j (Parameter l) 0 params
 place-vars j (At (Does (Lit v n))) = refl
 place-vars j (At (Does (Una v op y))) = refl

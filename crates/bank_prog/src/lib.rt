@@ -9,6 +9,7 @@ mod columns;
 mod cover;
 pub mod error;
 mod form;
+pub mod laws;
 mod lines;
 mod names;
 mod numbers;

@@ -1,0 +1,92 @@
+-- What a vector costs, by the columns' names.
+use Rattle.std.proofs.Common.{◌≡◌, ℕ, zero, suc, ◌+◌, Bool, true, if◌then◌else◌, ◌&&◌, nat_eq, List, [], ◌∷◌, map, length, Some, refl, sym, ap, ◌∙◌, arith}
+use Rattle.std.proofs.lemmas.Bool.{and_from}
+use Rattle.ssu_ir.specs.Tree.{Label}
+use Rattle.ssu_ir.specs.Single.{single}
+use Rattle.place_ir.proofs.Scoped.{in-itself}
+use Rattle.place_ir.proofs.Sound.{Each}
+use Rattle.zo_model.specs.declared.program.ZeroOne.{ZeroOne}
+use Rattle.zo_model.specs.Contents.{contents}
+use Rattle.zo_model.specs.Program.{cost_where, cost_below, costs_of, cost_of}
+use Rattle.bank_prog.specs.declared.column.Bank.{Bank}
+use Rattle.bank_prog.specs.declared.column.Bank.TheVariants.{A, B, M, T, L, A15, W}
+use Rattle.bank_prog.specs.declared.column.Column.{Column}
+use Rattle.bank_prog.specs.declared.column.Column.TheVariants.{Def, Dir, Fill, Stay, Ear, First, Srv, PasL, PasS}
+use Rattle.bank_prog.specs.Columns.{Priced, priced, costs, columns}
+use Rattle.bank_prog.specs.Meaning.{Chosen, number_on, on, named_cost}
+use Rattle.bank_prog.specs.Program.{Numbers, same_bank, same_column, number_in, number_of, bank_program}
+use Rattle.bank_prog.proofs.Distinct.{Apart, Distinct}
+use Rattle.bank_prog.proofs.Families.{priced-distinct}
+
+-- ---- a column is the same as itself
+
+bank-itself : (h : Bank) → same_bank h h ≡ true
+bank-itself A = refl
+bank-itself B = refl
+bank-itself M = refl
+bank-itself T = refl
+bank-itself L = refl
+bank-itself A15 = refl
+bank-itself W = refl
+
+column-itself : (c : Column) → same_column c c ≡ true
+column-itself (Def x h) = and_from (nat_eq x x) (same_bank h h) (in-itself x) (bank-itself h)
+column-itself (Dir k i f) = and_from (nat_eq k k) (nat_eq i i && nat_eq f f) (in-itself k) (and_from (nat_eq i i) (nat_eq f f) (in-itself i) (in-itself f))
+column-itself (Fill x h) = and_from (nat_eq x x) (same_bank h h) (in-itself x) (bank-itself h)
+column-itself (Stay x f) = and_from (nat_eq x x) (nat_eq f f) (in-itself x) (in-itself f)
+column-itself (Ear k i f) = and_from (nat_eq k k) (nat_eq i i && nat_eq f f) (in-itself k) (and_from (nat_eq i i) (nat_eq f f) (in-itself i) (in-itself f))
+column-itself (First k f) = and_from (nat_eq k k) (nat_eq f f) (in-itself k) (in-itself f)
+column-itself (Srv k i h p) =
+    and_from (nat_eq k k) (nat_eq i i && (same_bank h h && same_bank p p)) (in-itself k)
+    (and_from (nat_eq i i) (same_bank h h && same_bank p p) (in-itself i) (and_from (same_bank h h) (same_bank p p) (bank-itself h) (bank-itself p)))
+column-itself (PasL k r) = and_from (nat_eq k k) (nat_eq r r) (in-itself k) (in-itself r)
+column-itself (PasS k r) = and_from (nat_eq k k) (nat_eq r r) (in-itself k) (in-itself r)
+
+-- ---- the columns are on as the vector says
+
+abbrev Says : Chosen → (ℕ → Bool) → List Priced → Type 0
+Says on y [] = Unit {0}
+Says on y (p ∷ ps) = (on p.0 ≡ y 0) × Says on (λ i. y (suc i)) ps
+
+-- a column's number is the one that it has among these, counted from j
+abbrev Found : Numbers → ℕ → List Priced → Priced → Type 0
+Found number j ps p = number p.0 ≡ number_in j (map (λ c. c.0) ps) p.0
+
+found-later : (number : Numbers) (j : ℕ) (p : Priced) (ps qs : List Priced) → Each (Apart p) qs → Each (Found number j (p ∷ ps)) qs → Each (Found number (suc j) ps) qs
+found-later number j p ps [] d h = tt
+found-later number j p ps (q ∷ qs) d h = (
+  h.0 ∙ ap (λ b. if b then Some j else number_in (suc j) (map (λ c. c.0) ps) q.0) d.0,
+  found-later number j p ps qs d.1 h.1,
+)
+
+says : (number : Numbers) (x y : ℕ → Bool) (j : ℕ) (ps : List Priced) → ((i : ℕ) → y i ≡ x (j + i)) → Distinct ps → Each (Found number j ps) ps → Says (λ c. number_on x (number c)) y ps
+says number x y j [] s d h = tt
+says number x y j (p ∷ ps) s d h =
+    let zeroth : j ≡ j + 0 = omega arith in (
+      ap (number_on x) (h.0 ∙ ap (λ b. if b then Some j else number_in (suc j) (map (λ c. c.0) ps) p.0) (column-itself p.0)) ∙ ap x zeroth ∙ sym (s 0),
+      says number x (λ i. y (suc i)) (suc j) ps (λ i. let n : j + suc i ≡ suc j + i = omega arith in s (suc i) ∙ ap x n) d.1 (found-later number j p ps ps d.0 h.1),
+    )
+
+found-all : (number : Numbers) (j : ℕ) (ps qs : List Priced) → ((c : Column) → number c ≡ number_in j (map (λ c. c.0) ps) c) → Each (Found number j ps) qs
+found-all number j ps [] h = tt
+found-all number j ps (q ∷ qs) h = (h q.0, found-all number j ps qs h)
+
+-- ---- sums
+
+first-cost : (n c : ℕ) (cs : List ℕ) (y : ℕ → Bool) → cost_below (suc n) (c ∷ cs) y ≡ cost_where (y 0) c + cost_below n cs (λ i. y (suc i))
+first-cost zero c cs y = omega arith
+first-cost (suc n) c cs y =
+    let h = first-cost n c cs y in
+    omega (arith, h)
+
+named-sum : (on : Chosen) (y : ℕ → Bool) (ps : List Priced) → Says on y ps → costs_of (map (λ c. c.1) ps) y ≡ named_cost on ps
+named-sum on y [] h = refl
+named-sum on y (p ∷ ps) h =
+    first-cost (length (map (λ c. c.1) ps)) p.1 (map (λ c. c.1) ps) y ∙ ap (λ b. cost_where b p.1 + costs_of (map (λ c. c.1) ps) (λ i. y (suc i))) (sym h.0)
+    ∙ ap (λ n. cost_where (on p.0) p.1 + n) (named-sum on (λ i. y (suc i)) ps h.1)
+
+pub cost-by-name : (z : ZeroOne) (labels : List Label) (slots : ℕ) (x : ℕ → Bool) → single labels ≡ true → contents z ≡ bank_program labels slots → cost_of z x ≡ named_cost (on labels x) (priced labels)
+cost-by-name z labels slots x s e =
+    let ps = priced labels in
+    ap (λ cs. costs_of cs x) (ap (λ c. c.costs) e)
+    ∙ named-sum (on labels x) x ps (says (number_of labels) x x 0 ps (λ i. let n : i ≡ 0 + i = omega arith in ap x n) (priced-distinct labels s) (found-all (number_of labels) 0 ps ps (λ c. refl)))

@@ -1,0 +1,28 @@
+//! Laws of the definitions in specs/: each is the contract of a function that does nothing.
+
+ghost use Rattle.std.specs.Prelude.{◌≡◌, ◌↔◌, ℕ, Bool, true, List, All, Contains};
+ghost use Rattle.ssu_ir.specs.Single.{single};
+ghost use Rattle.ssu_ir.specs.Tree.{Label};
+ghost use Rattle.zo_model.specs.Contents.{contents};
+ghost use Rattle.zo_model.specs.Program.{cost_of, Feasible};
+ghost use Rattle.zo_model.specs.declared.program.ZeroOne as program;
+ghost use Rattle.bank_prog.specs.Columns.{columns, priced};
+ghost use Rattle.bank_prog.specs.Meaning.{on, named_cost, Holds};
+ghost use Rattle.bank_prog.specs.Program.{bank_program};
+ghost use Rattle.bank_prog.specs.Rows.{lines};
+ghost use Rattle.bank_prog.specs.declared.column.Column as column;
+
+/// A vector meets the rows of the program of the banks exactly where each line holds by name.
+pub fn rows_hold_by_name()
+    ensures { (z : program.ZeroOne) (labels : List Label) (slots : ℕ) (x : ℕ → Bool) → contents z ≡ bank_program labels slots → Feasible z x ↔ All (Holds (on labels x)) (lines labels slots) }
+{}
+
+/// Only columns that are there are 1.
+pub fn only_columns_are_on()
+    ensures { (labels : List Label) (x : ℕ → Bool) (c : column.Column) → on labels x c ≡ true → Contains (columns labels) c }
+{}
+
+/// What a vector costs is the sum of the costs of the columns that are 1 by name.
+pub fn costs_by_name()
+    ensures { (z : program.ZeroOne) (labels : List Label) (slots : ℕ) (x : ℕ → Bool) → single labels ≡ true → contents z ≡ bank_program labels slots → cost_of z x ≡ named_cost (on labels x) (priced labels) }
+{}
