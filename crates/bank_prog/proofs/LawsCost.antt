@@ -12,7 +12,7 @@ use Rattle.bank_prog.specs.declared.column.Bank.{Bank}
 use Rattle.bank_prog.specs.declared.column.Bank.TheVariants.{A, B, M, T, L, A15, W}
 use Rattle.bank_prog.specs.declared.column.Column.{Column}
 use Rattle.bank_prog.specs.declared.column.Column.TheVariants.{Def, Dir, Fill, Stay, Ear, First, Srv, PasL, PasS}
-use Rattle.bank_prog.specs.Columns.{Priced, priced, costs, columns}
+use Rattle.bank_prog.specs.Columns.{Priced, priced}
 use Rattle.bank_prog.specs.Meaning.{Chosen, number_on, on, named_cost}
 use Rattle.bank_prog.specs.Program.{Numbers, same_bank, same_column, number_in, number_of, bank_program}
 use Rattle.bank_prog.proofs.Distinct.{Apart, Distinct}
