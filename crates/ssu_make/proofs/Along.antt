@@ -6,9 +6,8 @@ use Rattle.std.proofs.lemmas.List.{take_all}
 use Rattle.nv_base.specs.declared.term.Atom.{Atom}
 use Rattle.nv_base.specs.Sets.{is_in}
 use Rattle.nv_base.proofs.Sets.{in-append, same-number}
-use Rattle.flow_ir.specs.declared.flow.Tree.{Tree as Boxed, size-Tree}
+use Rattle.flow_ir.specs.declared.flow.Tree.{Tree as Boxed}
 use Rattle.flow_ir.specs.Tree.{Tree, Let, Read, Write, If, Jump, Halt, Label}
-use Rattle.flow_ir.specs.View.{tree_view}
 use Rattle.flow_ir.specs.Formed.{defined}
 use Rattle.ssu_ir.specs.declared.build.SsuBuild.{SsuBuild}
 use Rattle.ssu_ir.specs.declared.node.SsuLabel.{SsuLabel}
@@ -19,7 +18,7 @@ use Rattle.ssu_ir.specs.Tree as ssu
 use Rattle.ssu_make.specs.declared.tree.Part.{Part}
 use Rattle.ssu_make.specs.inner.Uses.{Counts, occurs, outside, all_uses}
 use Rattle.ssu_make.specs.inner.Made.{names, all_taken, literals, clones, IsMade}
-use Rattle.ssu_make.specs.inner.Making.{IsRoot, Becomes, MadeTo, Leads, tops, AreWithin}
+use Rattle.ssu_make.specs.inner.Making.{HasRoots, IsRoot, Becomes, tops, Builds, Stacked}
 
 -- ---- functions that are equal everywhere
 
@@ -97,19 +96,11 @@ pub record ClonesOn (old new : SsuBuild) (from id : ℕ) (base r : Counts) (xs :
 
 -- ---- along a tree
 
-pub record Goes (t : Boxed) (steps : List (Bor Boxed)) (cur : Boxed) (first build : SsuBuild) (n d : ℕ) : Type 0 where
-  pub leads : Leads (tops steps) (tree_view t) (tree_view cur)
-  pub sizes : AreWithin (size-Tree t) steps
-  pub size : size-Tree cur ≤ size-Tree t
-  pub same : build ≡ first
-  pub fresh : d ≡ n
-
-pub record OnWay (base : Counts) (n : ℕ) (t : Boxed) (steps : List (Bor Boxed)) (old new : SsuBuild) (d : ℕ) (part : Part) : Type 0 where
-  pub cur : Tree
-  pub leads : Leads (tops steps) (tree_view t) cur
-  pub sizes : AreWithin (size-Tree t) steps
-  pub root : IsRoot new part.root.0
-  pub made : MadeTo base n cur old new d part
+pub record OnWay (base : Counts) (n : ℕ) (t : Tree) (order : List (Bor Boxed)) (old new : SsuBuild) (d : ℕ) (parts : List Part) : Type 0 where
+  pub stack : List Tree
+  pub builds : Builds (tops order) stack t
+  pub roots : HasRoots old
+  pub stacked : Stacked base n stack old new d (reverse parts)
 
 -- ---- a survey
 

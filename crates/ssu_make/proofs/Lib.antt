@@ -11,6 +11,7 @@ pub mod Scoped
 pub mod Results
 pub mod Rules
 pub mod Along
+pub mod Stack
 pub mod Turns
 pub mod NodeForms
 pub mod Held

@@ -1,15 +1,11 @@
 -- One turn of each loop, and the nodes that are added.
-use Rattle.std.proofs.Common.{◌≡◌, ℕ, zero, suc, ◌+◌, ◌<◌, ◌≤◌, nat_lt, List, [], ◌∷◌, ◌++◌, map, refl, sym, ap, subst, ◌∙◌, length, get_or, drop, reverse, append_assoc, arith}
+use Rattle.std.proofs.Common.{◌≡◌, ℕ, zero, suc, ◌+◌, ◌<◌, nat_lt, List, [], ◌∷◌, ◌++◌, map, refl, sym, ap, subst, ◌∙◌, length, get_or, drop, reverse, append_assoc, arith}
 use Rattle.std.specs.Borrow.{Bor}
 use Rattle.std.specs.List.{range_with_len}
 use Rattle.std.proofs.lemmas.List.{append-nil, at_drop_more, reverse-append}
-use Rattle.std.proofs.lemmas.List.Elements.{All-nil, All-cons, All-head, All-tail, All-append}
 use Rattle.nv_base.specs.declared.term.Atom.{Atom}
-use Rattle.nv_base.specs.declared.term.Primitive.{Primitive}
-use Rattle.nv_base.specs.declared.term.Mem.{Mem}
 use Rattle.nv_base.specs.declared.term.Cmp.{Cmp}
-use Rattle.flow_ir.specs.declared.flow.Tree.{Tree as Boxed, size-Tree}
-use Rattle.flow_ir.specs.declared.flow.Tree.TheVariants as boxed
+use Rattle.flow_ir.specs.declared.flow.Tree.{Tree as Boxed}
 use Rattle.flow_ir.specs.Tree.{Tree, Let, Read, Write, If, Jump, Halt}
 use Rattle.flow_ir.specs.View.{tree_view}
 use Rattle.flow_ir.specs.Formed.{defined}
@@ -18,11 +14,10 @@ use Rattle.ssu_ir.specs.declared.node.SsuNode.{SsuNode}
 use Rattle.ssu_ir.specs.Build.{Holds, CanTake, Grown}
 use Rattle.ssu_ir.specs.Slots.{over, node_of, kids_of}
 use Rattle.ssu_ir.specs.Tree as ssu
-use Rattle.ssu_make.specs.declared.tree.Part.{Part}
-use Rattle.ssu_make.specs.inner.Uses.{Counts, here, occurs, operands, outside, uses, all_uses}
-use Rattle.ssu_make.specs.inner.Made.{name, names, taken, all_taken, literals, atom_literal, clone_step, clones, most, spent, made, made_let, made_read, made_write, made_if}
-use Rattle.ssu_make.specs.inner.Making.{counted, HasRoots, IsRoot, AreRoots, Becomes, Joined, Adds, MadeTo, Reaches, Leads, rest_of, tops, AreWithin, kids, node_operands, node_defined}
-use Rattle.ssu_make.proofs.Along.{same-everywhere, Named, LiteralsOn, ClonesOn, Goes, OnWay, weight, weights, sum_uses, defined_in, Surveys}
+use Rattle.ssu_make.specs.inner.Uses.{Counts, here, occurs, all_uses}
+use Rattle.ssu_make.specs.inner.Made.{name, names, taken, all_taken, literals, atom_literal, clone_step, clones}
+use Rattle.ssu_make.specs.inner.Making.{HasRoots, IsRoot, AreRoots, Becomes, Joined, Adds, tops, kids, node_operands, node_defined}
+use Rattle.ssu_make.proofs.Along.{same-everywhere, Named, LiteralsOn, ClonesOn, weight, weights, sum_uses, defined_in, Surveys}
 
 -- ---- lists
 
@@ -65,16 +60,6 @@ joined-root old new i j k f b r = record { tree = f r.first r.second; rest = r.r
 
 pub adds-root : (old new : SsuBuild) (i : ℕ) (t : ssu.Tree) → Adds old new i t → HasRoots old → IsRoot new i
 adds-root old new i t b r = record { tree = t; rest = r.roots; holds = b.by r.roots r.holds }
-
-pub root-roots : (b : SsuBuild) (i : ℕ) → IsRoot b i → HasRoots b
-root-roots b i r = record { roots = (i, r.tree) ∷ r.rest; holds = r.holds }
-
--- a root that is added beside one
-pub beside-root : (old new : SsuBuild) (i j : ℕ) (t : ssu.Tree) → Adds old new i t → IsRoot old j → AreRoots new i j
-beside-root old new i j t b r = record { first = t; second = r.tree; rest = r.rest; holds = b.by ((j, r.tree) ∷ r.rest) r.holds }
-
-pub becomes-same : (b : SsuBuild) (i : ℕ) → Becomes b b i i (λ t. t)
-becomes-same b i = record { by = λ t rest h. h }
 
 pub becomes-trans : (a b c : SsuBuild) (i j k : ℕ) (f g : ssu.Tree → ssu.Tree) → Becomes a b i j f → Becomes b c j k g → Becomes a c i k (λ t. g (f t))
 becomes-trans a b c i j k f g p q = record { by = λ t rest h. q.by (f t) rest (p.by t rest h) }
@@ -150,35 +135,6 @@ clones-more old mid new from id id' base r i j xs dflt x h ei ea b =
       becomes = subst (Becomes old new from id') whole (becomes-trans old mid new from id id' (clones base r (drop i xs)) f h.becomes b);
     }
 
--- ---- a node of a flow before a tree
-
--- the tree of a node before a tree, where so many uses of each variable follow and new names go on at n
-abbrev pub made_node : Counts → ℕ → Tree → Counts → ssu.Tree → ssu.Tree
-made_node base n (Let x p t) r u = made_let base n x p r u
-made_node base n (Read m xs a t) r u = made_read base n m xs a r u
-made_node base n (Write m a bs t) r u = made_write base n m a bs r u
-made_node base n (If c a b t s) r u = made_if base (n + spent t) c a b (most (uses t) r) (made base n t) u
-made_node base n (Jump l bs) r u = u
-made_node base n (Halt e bs) r u = u
-
--- its uses and those that follow
-abbrev pub node_uses : Tree → Counts → Counts
-node_uses (Let x p t) r y = occurs (operands p) y + outside (x ∷ []) r y
-node_uses (Read m xs a t) r y = occurs (a ∷ []) y + outside xs r y
-node_uses (Write m a bs t) r y = occurs (a ∷ bs) y + r y
-node_uses (If c a b t u) r y = occurs (a ∷ b ∷ []) y + most (uses t) r y
-node_uses (Jump l bs) r y = r y
-node_uses (Halt e bs) r y = r y
-
--- how many new names it takes, with a first arm
-abbrev pub node_spent : Tree → ℕ
-node_spent (Let x p t) = all_taken (operands p)
-node_spent (Read m xs a t) = all_taken (a ∷ [])
-node_spent (Write m a bs t) = all_taken (a ∷ bs)
-node_spent (If c a b t u) = spent t + all_taken (a ∷ b ∷ [])
-node_spent (Jump l bs) = 0
-node_spent (Halt e bs) = 0
-
 -- ---- along a tree
 
 pub tops-last : (ss : List (Bor Boxed)) (s : Bor Boxed) → tops (ss ++ s ∷ []) ≡ tree_view s.now ∷ tops ss
@@ -187,153 +143,6 @@ tops-last ss s = ap reverse (map-last ss s) ∙ reverse-append (map (λ t. tree_
     map-last : (ss : List (Bor Boxed)) (s : Bor Boxed) → map (λ t. tree_view t.now) (ss ++ s ∷ []) ≡ map (λ t. tree_view t.now) ss ++ tree_view s.now ∷ []
     map-last [] s = refl
     map-last (x ∷ ss) s = ap (λ l. tree_view x.now ∷ l) (map-last ss s)
-
-pub within-last : (n : ℕ) (ss : List (Bor Boxed)) (s : Bor Boxed) → AreWithin n ss → size-Tree s.now ≤ n → AreWithin n (ss ++ s ∷ [])
-within-last n ss s h le = All-append (λ t. size-Tree t.now ≤ n) ss (s ∷ []) h (All-cons (λ t. size-Tree t.now ≤ n) s [] le (All-nil (λ t. size-Tree t.now ≤ n)))
-
-pub within-parts : (n : ℕ) (ss : List (Bor Boxed)) (s : Bor Boxed) → AreWithin n (ss ++ s ∷ []) → AreWithin n ss × (size-Tree s.now ≤ n)
-within-parts n [] s h = (All-nil (λ t. size-Tree t.now ≤ n), All-head (λ t. size-Tree t.now ≤ n) s [] h)
-within-parts n (x ∷ ss) s h =
-    let rest = within-parts n ss s (All-tail (λ t. size-Tree t.now ≤ n) x (ss ++ s ∷ []) h) in
-    (All-cons (λ t. size-Tree t.now ≤ n) x ss (All-head (λ t. size-Tree t.now ≤ n) x (ss ++ s ∷ []) h) rest.0, rest.1)
-
-pub goes-step : (t cur rest : Boxed) (steps steps' : List (Bor Boxed)) (s : Bor Boxed) (first build : SsuBuild) (n d : ℕ) → Goes t steps cur first build n d → s.now ≡ cur → steps' ≡ steps ++ s ∷ [] → rest_of (tree_view cur) ≡ tree_view rest → size-Tree rest ≤ size-Tree cur
-    → Goes t steps' rest first build n d
-goes-step t cur rest steps steps' s first build n d h es e er le = record {
-  leads = subst (λ l. Leads l (tree_view t) (tree_view rest)) (sym (ap tops e ∙ tops-last steps s ∙ ap (λ c. tree_view c ∷ tops steps) es)) (er, h.leads);
-  sizes = subst (AreWithin (size-Tree t)) (sym e) (within-last (size-Tree t) steps s h.sizes (subst (λ c. size-Tree c ≤ size-Tree t) (sym es) h.size));
-  size = let a = h.size in omega arith;
-  same = h.same;
-  fresh = h.fresh;
-}
-
--- the tree of a node over that of what follows
-pub made-over : (base : Counts) (n : ℕ) (t : Tree) → made base n t ≡ made_node base (n + spent (rest_of t)) t (uses (rest_of t)) (made base n (rest_of t))
-made-over base n (Let x p t) = refl
-made-over base n (Read m xs a t) = refl
-made-over base n (Write m a bs t) = refl
-made-over base n (If c a b t u) =
-    let e : n + (spent u + spent t) ≡ n + spent u + spent t = omega arith in ap (λ k. made_if base k c a b (most (uses t) (uses u)) (made base (n + spent u) t) (made base n u)) e
-made-over base n (Jump l bs) = refl
-made-over base n (Halt e bs) = refl
-
-pub uses-over : (t : Tree) (y : ℕ) → uses t y ≡ node_uses t (uses (rest_of t)) y
-uses-over (Let x p t) y = refl
-uses-over (Read m xs a t) y = refl
-uses-over (Write m a bs t) y = refl
-uses-over (If c a b t u) y = refl
-uses-over (Jump l bs) y = refl
-uses-over (Halt e bs) y = refl
-
-pub spent-over : (t : Tree) → spent t ≡ spent (rest_of t) + node_spent t
-spent-over (Let x p t) = refl
-spent-over (Read m xs a t) = refl
-spent-over (Write m a bs t) = refl
-spent-over (If c a b t u) = omega arith
-spent-over (Jump l bs) = omega arith
-spent-over (Halt e bs) = omega arith
-
-pub way-step : (base : Counts) (n d d' : ℕ) (t : Boxed) (steps ss : List (Bor Boxed)) (s : Bor Boxed) (old mid new : SsuBuild) (part part' : Part) → OnWay base n t steps old mid d part → steps ≡ ss ++ s ∷ []
-    → Becomes mid new part.root.0 part'.root.0 (made_node base d (tree_view s.now) (counted part.counts)) → ((y : ℕ) → counted part'.counts y ≡ node_uses (tree_view s.now) (counted part.counts) y) → d' ≡ d + node_spent (tree_view s.now)
-    → OnWay base n t ss old new d' part'
-way-step base n d d' t steps ss s old mid new part part' h e b ec ed =
-    let v = tree_view s.now in
-    let leads : Leads (v ∷ tops ss) (tree_view t) h.cur = subst (λ l. Leads l (tree_view t) h.cur) (ap tops e ∙ tops-last ss s) h.leads in
-    let counts : counted part.counts ≡ uses h.cur = same-everywhere (counted part.counts) (uses h.cur) h.made.counts in
-    let all : made_node base d v (counted part.counts) (made base n h.cur) ≡ made base n v =
-    ap (λ r. made_node base d v r (made base n h.cur)) counts
-    ∙ ap (λ k. made_node base k v (uses h.cur) (made base n h.cur)) h.made.fresh
-    ∙ ap (λ c. made_node base (n + spent c) v (uses c) (made base n c)) (sym leads.0)
-    ∙ sym (made-over base n v) in
-    record {
-      cur = v;
-      leads = leads.1;
-      sizes = (within-parts (size-Tree t) ss s (subst (AreWithin (size-Tree t)) e h.sizes)).0;
-      root = becomes-root mid new part.root.0 part'.root.0 (made_node base d v (counted part.counts)) b h.root;
-      made = record {
-        adds = subst (Adds old new part'.root.0) all (adds-becomes old mid new part.root.0 part'.root.0 (made base n h.cur) (made_node base d v (counted part.counts)) h.made.adds b);
-        counts = λ y. ec y ∙ ap (λ r. node_uses v r y) counts ∙ ap (λ c. node_uses v (uses c) y) (sym leads.0) ∙ sym (uses-over v y);
-        fresh = ed ∙ ap (λ k. k + node_spent v) h.made.fresh ∙ ap (λ c. n + spent c + node_spent v) (sym leads.0) ∙ (let s : n + spent (rest_of v) + node_spent v ≡ n + (spent (rest_of v) + node_spent v) = omega arith in s) ∙ ap (λ k. n + k) (sym (spent-over v));
-      };
-    }
-
--- an arm that was made beside a tree, and both under an `If`
-pub if-becomes : (base : Counts) (d e : ℕ) (c : Cmp) (a b : Atom) (first : Tree) (rest : Tree) (mid mid' new : SsuBuild) (arm part : Part) (id : ℕ) → MadeTo base d first mid mid' e arm
-    → Joined mid' new arm.root.0 part.root.0 id (made_if base e c a b (most (counted arm.counts) (counted part.counts))) → Becomes mid new part.root.0 id (made_node base d (If c a b first rest) (counted part.counts))
-if-becomes base d e c a b first rest mid mid' new arm part id m j =
-    let r = counted part.counts in
-    let counts : counted arm.counts ≡ uses first = same-everywhere (counted arm.counts) (uses first) m.counts in
-    let same : made_if base e c a b (most (counted arm.counts) r) (made base d first) ≡ made_if base (d + spent first) c a b (most (uses first) r) (made base d first) =
-    ap (λ k. made_if base k c a b (most (counted arm.counts) r) (made base d first)) m.fresh ∙ ap (λ f. made_if base (d + spent first) c a b (most f r) (made base d first)) counts in
-    record { by = λ t roots h. subst (λ f. Holds new ((id, f t) ∷ roots)) same (j.by (made base d first) t roots (m.adds.by ((part.root.0, t) ∷ roots) h)) }
-
-pub way-start : (base : Counts) (n d : ℕ) (t : Boxed) (steps : List (Bor Boxed)) (old new : SsuBuild) (part : Part) → HasRoots old → Reaches base n t steps old new d part → OnWay base n t steps old new d part
-way-start base n d t steps old new part h r = record {
-  cur = r.last;
-  leads = r.leads;
-  sizes = r.sizes;
-  root = adds-root old new part.root.0 (made base n r.last) r.made.adds h;
-  made = r.made;
-}
-
-pub way-end : (base : Counts) (n d : ℕ) (t : Boxed) (steps : List (Bor Boxed)) (old new : SsuBuild) (part : Part) → steps ≡ [] → OnWay base n t steps old new d part → MadeTo base n (tree_view t) old new d part
-way-end base n d t steps old new part e w =
-    let same : tree_view t ≡ w.cur = subst (λ l. Leads (tops l) (tree_view t) w.cur) e w.leads in
-    subst (λ c. MadeTo base n c old new d part) (sym same) w.made
-
-pub way-let : (base : Counts) (n d d' : ℕ) (t : Boxed) (steps ss : List (Bor Boxed)) (s : Bor Boxed) (old mid new : SsuBuild) (part part' : Part) (x : ℕ) (p : Primitive) (q : _) (r : Boxed) → OnWay base n t steps old mid d part → steps ≡ ss ++ s ∷ [] → s.now ≡ boxed.Let' x p q r
-    → Becomes mid new part.root.0 part'.root.0 (made_let base d x p (counted part.counts)) → ((y : ℕ) → counted part'.counts y ≡ occurs (operands p) y + outside (x ∷ []) (counted part.counts) y) → d' ≡ d + all_taken (operands p)
-    → OnWay base n t ss old new d' part'
-way-let base n d d' t steps ss s old mid new part part' x p q r w e is b ec ed =
-    let v : tree_view s.now ≡ Let x p (tree_view r) = ap tree_view is in
-    way-step base n d d' t steps ss s old mid new part part' w e
-    (subst (λ c. Becomes mid new part.root.0 part'.root.0 (made_node base d c (counted part.counts))) (sym v) b)
-    (λ y. ec y ∙ ap (λ c. node_uses c (counted part.counts) y) (sym v)) (ed ∙ ap (λ c. d + node_spent c) (sym v))
-
-pub way-read : (base : Counts) (n d d' : ℕ) (t : Boxed) (steps ss : List (Bor Boxed)) (s : Bor Boxed) (old mid new : SsuBuild) (part part' : Part) (m : Mem) (xs : _) (a : Atom) (q : _) (r : Boxed) (l : List ℕ) → OnWay base n t steps old mid d part → steps ≡ ss ++ s ∷ [] → s.now ≡ boxed.Read' m xs a q r → l ≡ xs.items
-    → Becomes mid new part.root.0 part'.root.0 (made_read base d m l a (counted part.counts)) → ((y : ℕ) → counted part'.counts y ≡ occurs (a ∷ []) y + outside l (counted part.counts) y) → d' ≡ d + all_taken (a ∷ [])
-    → OnWay base n t ss old new d' part'
-way-read base n d d' t steps ss s old mid new part part' m xs a q r l w e is el b ec ed =
-    let v : tree_view s.now ≡ Read m l a (tree_view r) = ap tree_view is ∙ ap (λ k. Read m k a (tree_view r)) (sym el) in
-    way-step base n d d' t steps ss s old mid new part part' w e
-    (subst (λ c. Becomes mid new part.root.0 part'.root.0 (made_node base d c (counted part.counts))) (sym v) b)
-    (λ y. ec y ∙ ap (λ c. node_uses c (counted part.counts) y) (sym v)) (ed ∙ ap (λ c. d + node_spent c) (sym v))
-
-pub way-write : (base : Counts) (n d d' : ℕ) (t : Boxed) (steps ss : List (Bor Boxed)) (s : Bor Boxed) (old mid new : SsuBuild) (part part' : Part) (m : Mem) (a : Atom) (bs : _) (q : _) (r : Boxed) (l : List Atom) → OnWay base n t steps old mid d part → steps ≡ ss ++ s ∷ [] → s.now ≡ boxed.Write' m a bs q r → l ≡ bs.items
-    → Becomes mid new part.root.0 part'.root.0 (made_write base d m a l (counted part.counts)) → ((y : ℕ) → counted part'.counts y ≡ occurs (a ∷ l) y + counted part.counts y) → d' ≡ d + all_taken (a ∷ l)
-    → OnWay base n t ss old new d' part'
-way-write base n d d' t steps ss s old mid new part part' m a bs q r l w e is el b ec ed =
-    let v : tree_view s.now ≡ Write m a l (tree_view r) = ap tree_view is ∙ ap (λ k. Write m a k (tree_view r)) (sym el) in
-    way-step base n d d' t steps ss s old mid new part part' w e
-    (subst (λ c. Becomes mid new part.root.0 part'.root.0 (made_node base d c (counted part.counts))) (sym v) b)
-    (λ y. ec y ∙ ap (λ c. node_uses c (counted part.counts) y) (sym v)) (ed ∙ ap (λ c. d + node_spent c) (sym v))
-
-pub way-if : (base : Counts) (n d k d' : ℕ) (t : Boxed) (steps ss : List (Bor Boxed)) (s : Bor Boxed) (old mid mid' new : SsuBuild) (arm part part' : Part) (c : Cmp) (a b : Atom) (q q' : _) (f r first : Boxed) → OnWay base n t steps old mid d part → steps ≡ ss ++ s ∷ [] → s.now ≡ boxed.If' c a b q f q' r → first ≡ f
-    → MadeTo base d (tree_view first) mid mid' k arm → Joined mid' new arm.root.0 part.root.0 part'.root.0 (made_if base k c a b (most (counted arm.counts) (counted part.counts)))
-    → ((y : ℕ) → counted part'.counts y ≡ occurs (a ∷ b ∷ []) y + most (counted arm.counts) (counted part.counts) y) → d' ≡ k + all_taken (a ∷ b ∷ []) → OnWay base n t ss old new d' part'
-way-if base n d k d' t steps ss s old mid mid' new arm part part' c a b q q' f r first w e is ef m j ec ed =
-    let v : tree_view s.now ≡ If c a b (tree_view first) (tree_view r) = ap tree_view is ∙ ap (λ z. If c a b (tree_view z) (tree_view r)) (sym ef) in
-    let counts : counted arm.counts ≡ uses (tree_view first) = same-everywhere (counted arm.counts) (uses (tree_view first)) m.counts in
-    let more : k + all_taken (a ∷ b ∷ []) ≡ d + (spent (tree_view first) + all_taken (a ∷ b ∷ [])) = ap (λ z. z + all_taken (a ∷ b ∷ [])) m.fresh ∙ omega arith in
-    way-step base n d d' t steps ss s old mid new part part' w e
-    (subst (λ z. Becomes mid new part.root.0 part'.root.0 (made_node base d z (counted part.counts))) (sym v) (if-becomes base d k c a b (tree_view first) (tree_view r) mid mid' new arm part part'.root.0 m j))
-    (λ y. ec y ∙ ap (λ g. occurs (a ∷ b ∷ []) y + most g (counted part.counts) y) counts ∙ ap (λ z. node_uses z (counted part.counts) y) (sym v)) (ed ∙ more ∙ ap (λ z. d + node_spent z) (sym v))
-
-pub way-jump : (base : Counts) (n d : ℕ) (t : Boxed) (steps ss : List (Bor Boxed)) (s : Bor Boxed) (old mid : SsuBuild) (part : Part) (l : ℕ) (bs : _) → OnWay base n t steps old mid d part → steps ≡ ss ++ s ∷ [] → s.now ≡ boxed.Jump l bs → OnWay base n t ss old mid d part
-way-jump base n d t steps ss s old mid part l bs w e is =
-    let v : tree_view s.now ≡ Jump l bs.items = ap tree_view is in
-    let none : d ≡ d + 0 = omega arith in
-    way-step base n d d t steps ss s old mid mid part part w e
-    (subst (λ c. Becomes mid mid part.root.0 part.root.0 (made_node base d c (counted part.counts))) (sym v) (becomes-same mid part.root.0))
-    (λ y. ap (λ c. node_uses c (counted part.counts) y) (sym v)) (none ∙ ap (λ c. d + node_spent c) (sym v))
-
-pub way-halt : (base : Counts) (n d : ℕ) (t : Boxed) (steps ss : List (Bor Boxed)) (s : Bor Boxed) (old mid : SsuBuild) (part : Part) (k : ℕ) (bs : _) → OnWay base n t steps old mid d part → steps ≡ ss ++ s ∷ [] → s.now ≡ boxed.Halt k bs → OnWay base n t ss old mid d part
-way-halt base n d t steps ss s old mid part k bs w e is =
-    let v : tree_view s.now ≡ Halt k bs.items = ap tree_view is in
-    let none : d ≡ d + 0 = omega arith in
-    way-step base n d d t steps ss s old mid mid part part w e
-    (subst (λ c. Becomes mid mid part.root.0 part.root.0 (made_node base d c (counted part.counts))) (sym v) (becomes-same mid part.root.0))
-    (λ y. ap (λ c. node_uses c (counted part.counts) y) (sym v)) (none ∙ ap (λ c. d + node_spent c) (sym v))
 
 -- ---- a survey
 

@@ -1,10 +1,10 @@
 // Trees of a label, each from its end up.
 
-ghost use Rattle.std.specs.Prelude.{◌≡◌, ℕ, ◌+◌, [], ◌∷◌, length, slice_index, IfOk};
+ghost use Rattle.std.specs.Prelude.{◌≡◌, ℕ, ◌+◌, ◌<◌, [], ◌∷◌, ◌++◌, length, slice_index, IfOk, OnOk};
 ghost use Rattle.flow_ir.specs.View.{tree_view};
 ghost use Rattle.ssu_ir.specs.Tree as ssu;
 ghost use Rattle.ssu_ir.specs.Slots.{node_of, kids_of};
-ghost use Rattle.ssu_make.specs.inner.Making.{counted, HasRoots, IsRoot, AreRoots, Becomes, Joined, Adds, MadeTo, Reaches};
+ghost use Rattle.ssu_make.specs.inner.Making.{counted, HasRoots, IsRoot, AreRoots, Becomes, Joined, Adds, MadeTo, tops, kids, Builds, CanMake, IsOver};
 ghost use Rattle.ssu_make.specs.inner.Made.{all_taken, most, spent, made, made_let, made_read, made_write, made_if, made_jump, made_halt, prim_step};
 ghost use Rattle.ssu_make.specs.inner.Uses.{occurs, outside, uses};
 ghost use Rattle.ssu_make.specs.inner.Uses as spec;
@@ -201,46 +201,78 @@ fn make_halt(
     Ok(Part { root, counts })
 }
 
-// Goes on to the end of a tree, through second arms: the nodes on the way, and the end made.
-fn make_end<'a>(
+/// Adds what follows a node, the first arm of an `If` on top.
+pub fn push_kids<'a>(t: &'a Tree, work: &mut Vec<&'a Tree>) -> Result<(), NoMemory>
+    ensures { OnOk result (tops work.new.items ≡ kids (tree_view t.now) ++ tops work.old.items) }
+{
+    match t {
+        Tree::Let(_, _, rest) => work.push(rest)?,
+        Tree::Read(_, _, _, rest) => work.push(rest)?,
+        Tree::Write(_, _, _, rest) => work.push(rest)?,
+        Tree::If(_, _, _, first, second) => {
+            work.push(second)?;
+            work.push(first)?;
+        }
+        Tree::Jump(_, _) => {}
+        Tree::Halt(_, _) => {}
+    }
+    Ok(())
+}
+
+// The nodes of a tree, each before what follows it, and first arms before second ones.
+fn tree_order<'a>(alloc: Global, t: &'a Tree) -> Result<Vec<&'a Tree>, NoMemory>
+    ensures { IfOk result (λ v. Builds (tops v.items) [] (tree_view t.now)) }
+{
+    let mut order = Vec::new(alloc);
+    let mut work = Vec::new(alloc);
+    work.push(t)?;
+    'walk: while let Some(s) = work.pop() {
+        order.push(s)?;
+        push_kids(s, &mut work)?;
+    }
+    Ok(order)
+}
+
+// The top of a stack.
+fn take_part(parts: &mut Vec<Part>) -> Part
+    requires { 0 < length parts.old.items }
+    ensures { parts.old.items ≡ parts.new.items ++ result ∷ [] }
+{
+    parts.pop().unwrap()
+}
+
+// A node, over what follows it, which is on top of a stack.
+fn make_node(
     alloc: Global,
     build: &mut SsuBuild,
     bases: &Counts,
     fresh: &mut u32,
-    t: &'a Tree,
-) -> Result<(Vec<&'a Tree>, Part), NoMemory>
-    requires { HasRoots build.old }
-    ensures { IfOk result (λ r. Reaches (counted bases.now) fresh.old t.now r.0.items build.old build.new fresh.new r.1) }
+    t: &Tree,
+    parts: &mut Vec<Part>,
+) -> Result<Part, NoMemory>
+    requires { CanMake (counted bases.now) (tree_view t.now) build.old fresh.old parts.old.items }
+    ensures { IfOk result (λ r. IsOver (counted bases.now) (tree_view t.now) build.old build.new fresh.old fresh.new parts.old.items parts.new.items r) }
 {
-    let mut steps = Vec::new(alloc);
-    let mut cur = t;
-    'spine: loop {
-        match cur {
-            Tree::Let(_, _, rest) => {
-                steps.push(cur)?;
-                cur = rest;
-            }
-            Tree::Read(_, _, _, rest) => {
-                steps.push(cur)?;
-                cur = rest;
-            }
-            Tree::Write(_, _, _, rest) => {
-                steps.push(cur)?;
-                cur = rest;
-            }
-            Tree::If(_, _, _, _, second) => {
-                steps.push(cur)?;
-                cur = second;
-            }
-            Tree::Jump(l, bs) => {
-                let part = make_jump(alloc, build, bases, fresh, *l, bs)?;
-                return Ok((steps, part));
-            }
-            Tree::Halt(e, bs) => {
-                let part = make_halt(alloc, build, bases, fresh, *e, bs)?;
-                return Ok((steps, part));
-            }
+    match t {
+        Tree::Let(x, p, _) => {
+            let rest = take_part(parts);
+            make_let(alloc, build, bases, fresh, *x, *p, rest)
         }
+        Tree::Read(m, xs, a, _) => {
+            let rest = take_part(parts);
+            make_read(alloc, build, bases, fresh, *m, xs, *a, rest)
+        }
+        Tree::Write(m, a, bs, _) => {
+            let rest = take_part(parts);
+            make_write(alloc, build, bases, fresh, *m, *a, bs, rest)
+        }
+        Tree::If(c, a, b, _, _) => {
+            let first = take_part(parts);
+            let second = take_part(parts);
+            make_if(alloc, build, bases, fresh, *c, *a, *b, first, second)
+        }
+        Tree::Jump(l, bs) => make_jump(alloc, build, bases, fresh, *l, bs),
+        Tree::Halt(e, bs) => make_halt(alloc, build, bases, fresh, *e, bs),
     }
 }
 
@@ -255,25 +287,11 @@ pub fn make_tree(
     requires { HasRoots build.old }
     ensures { IfOk result (λ r. MadeTo (counted bases.now) fresh.old (tree_view t.now) build.old build.new fresh.new r) }
 {
-    let (mut steps, mut part) = make_end(alloc, build, bases, fresh, t)?;
-    while let Some(s) = steps.pop() {
-        match s {
-            Tree::Let(x, p, _) => {
-                part = make_let(alloc, build, bases, fresh, *x, *p, part)?;
-            }
-            Tree::Read(m, xs, a, _) => {
-                part = make_read(alloc, build, bases, fresh, *m, xs, *a, part)?;
-            }
-            Tree::Write(m, a, bs, _) => {
-                part = make_write(alloc, build, bases, fresh, *m, *a, bs, part)?;
-            }
-            Tree::If(c, a, b, first, _) => {
-                let arm = make_tree(alloc, build, bases, fresh, first)?;
-                part = make_if(alloc, build, bases, fresh, *c, *a, *b, arm, part)?;
-            }
-            Tree::Jump(_, _) => {}
-            Tree::Halt(_, _) => {}
-        }
+    let mut order = tree_order(alloc, t)?;
+    let mut parts = Vec::new(alloc);
+    'walk: while let Some(s) = order.pop() {
+        let part = make_node(alloc, build, bases, fresh, s, &mut parts)?;
+        parts.push(part)?;
     }
-    Ok(part)
+    Ok(take_part(&mut parts))
 }

@@ -1,8 +1,8 @@
 -- What the steps of making a form say of builders, counts and trees.
-use Rattle.std.specs.Prelude.{◌≡◌, ℕ, ◌+◌, ◌≤◌, List, [], ◌∷◌, map, reverse, All}
+use Rattle.std.specs.Prelude.{◌≡◌, ℕ, ◌+◌, ◌≤◌, ⊤, List, [], ◌∷◌, ◌++◌, map, reverse}
 use Rattle.std.specs.Borrow.{Bor}
 use Rattle.nv_base.specs.declared.term.Atom.{Atom}
-use Rattle.flow_ir.specs.declared.flow.Tree.{Tree as Boxed, size-Tree}
+use Rattle.flow_ir.specs.declared.flow.Tree.{Tree as Boxed}
 use Rattle.flow_ir.specs.Tree.{Tree, Let, Read, Write, If, Jump, Halt, Label}
 use Rattle.flow_ir.specs.View.{tree_view}
 use Rattle.ssu_ir.specs.declared.build.SsuBuild.{SsuBuild}
@@ -46,49 +46,12 @@ pub record Joined (old new : SsuBuild) (i j k : ℕ) (f : ssu.Tree → ssu.Tree 
 pub record Adds (old new : SsuBuild) (i : ℕ) (t : ssu.Tree) : Type 0 where
   pub by : (rest : List Rooted) → Holds old rest → Holds new ((i, t) ∷ rest)
 
--- ---- trees of a flow, along what follows
-
--- what follows a node, the second arm of an `If`
-abbrev pub rest_of : Tree → Tree
-rest_of (Let x p t) = t
-rest_of (Read m xs a t) = t
-rest_of (Write m a bs t) = t
-rest_of (If c a b t u) = u
-rest_of (Jump l bs) = Jump l bs
-rest_of (Halt e bs) = Halt e bs
-
--- these trees, the last one first, go from the first tree to the second: each follows the one before
-abbrev pub Leads : List Tree → Tree → Tree → Type 0
-Leads [] from to = from ≡ to
-Leads (t ∷ ts) from to = (rest_of t ≡ to) × Leads ts from t
-
 -- the two numbers are roots'
 pub record AreRoots (b : SsuBuild) (i j : ℕ) : Type 0 where
   pub first : ssu.Tree
   pub second : ssu.Tree
   pub rest : List Rooted
   pub holds : Holds b ((i, first) ∷ (j, second) ∷ rest)
-
--- a tree of a flow was made: one root more, with the uses of its variables
-pub record MadeTo (base : number.Counts) (n : ℕ) (t : Tree) (old new : SsuBuild) (d : ℕ) (part : Part) : Type 0 where
-  pub adds : Adds old new part.root.0 (made base n t)
-  pub counts : (y : ℕ) → counted part.counts y ≡ uses t y
-  pub fresh : d ≡ n + spent t
-
--- the trees that references point to, the last one first
-abbrev pub tops : List (Bor Boxed) → List Tree
-tops ts = reverse (map (λ t. tree_view t.now) ts)
-
--- none of these is larger
-abbrev pub AreWithin : ℕ → List (Bor Boxed) → Type 0
-AreWithin n ts = All (λ t. size-Tree t.now ≤ n) ts
-
--- these nodes lead from a tree to one that was made
-pub record Reaches (base : number.Counts) (n : ℕ) (t : Boxed) (steps : List (Bor Boxed)) (old new : SsuBuild) (d : ℕ) (part : Part) : Type 0 where
-  pub last : Tree
-  pub leads : Leads (tops steps) (tree_view t) last
-  pub sizes : AreWithin (size-Tree t) steps
-  pub made : MadeTo base n last old new d part
 
 -- ---- what a label has
 
@@ -99,6 +62,15 @@ kids (Write m a bs t) = t ∷ []
 kids (If c a b t u) = t ∷ u ∷ []
 kids (Jump l bs) = []
 kids (Halt e bs) = []
+
+-- the trees that references point to, the last one first
+abbrev pub tops : List (Bor Boxed) → List Tree
+tops ts = reverse (map (λ t. tree_view t.now) ts)
+
+-- These nodes, one by one, turn a stack of trees into one tree: each takes what follows it from the top, and is the top then.
+abbrev pub Builds : List Tree → List Tree → Tree → Type 0
+Builds [] stack t = stack ≡ t ∷ []
+Builds (s ∷ nodes) stack t = (rest : List Tree) × (stack ≡ kids s ++ rest) × Builds nodes (s ∷ rest) t
 
 abbrev pub node_operands : Tree → List Atom
 node_operands (Let x p t) = operands p
@@ -119,6 +91,50 @@ node_defined (Halt e bs) = []
 pub record LaidOut (base size : number.Counts) (c d : ℕ) (xs : List ℕ) : Type 0 where
   pub after : c ≤ d
   pub laid : Laid base size c d xs
+
+-- ---- trees of a flow that were made
+
+-- a tree of a flow was made: one root more, with the uses of its variables
+pub record MadeTo (base : number.Counts) (n : ℕ) (t : Tree) (old new : SsuBuild) (d : ℕ) (part : Part) : Type 0 where
+  pub adds : Adds old new part.root.0 (made base n t)
+  pub counts : (y : ℕ) → counted part.counts y ≡ uses t y
+  pub fresh : d ≡ n + spent t
+
+-- where new names go on behind these trees, the first one last
+abbrev pub next_after : ℕ → List Tree → ℕ
+next_after n [] = n
+next_after n (t ∷ ts) = next_after n ts + spent t
+
+-- their roots
+abbrev pub roots_of : number.Counts → ℕ → List Tree → List Part → List Rooted
+roots_of base n [] parts = []
+roots_of base n (t ∷ ts) [] = []
+roots_of base n (t ∷ ts) (part ∷ parts) = (part.root.0, made base (next_after n ts) t) ∷ roots_of base n ts parts
+
+-- each of these parts has the uses of a tree
+abbrev pub AreCounted : List Tree → List Part → Type 0
+AreCounted [] [] = ⊤
+AreCounted [] (part ∷ parts) = ⊥
+AreCounted (t ∷ ts) [] = ⊥
+AreCounted (t ∷ ts) (part ∷ parts) = ((y : ℕ) → counted part.counts y ≡ uses t y) × AreCounted ts parts
+
+-- The parts on a stack, the top first, are these trees, which were made one behind the other, the top last.
+pub record Stacked (base : number.Counts) (n : ℕ) (ts : List Tree) (old new : SsuBuild) (d : ℕ) (parts : List Part) : Type 0 where
+  pub adds : (rest : List Rooted) → Holds old rest → Holds new (roots_of base n ts parts ++ rest)
+  pub counts : AreCounted ts parts
+  pub fresh : d ≡ next_after n ts
+
+-- what follows a node is on top of a stack
+pub record CanMake (base : number.Counts) (t : Tree) (b : SsuBuild) (d : ℕ) (parts : List Part) : Type 0 where
+  pub old : SsuBuild
+  pub roots : HasRoots old
+  pub first : ℕ
+  pub rest : List Tree
+  pub stacked : Stacked base first (kids t ++ rest) old b d (reverse parts)
+
+-- a part is a node over what was taken from the top of a stack
+pub record IsOver (base : number.Counts) (t : Tree) (b b' : SsuBuild) (d d' : ℕ) (parts parts' : List Part) (part : Part) : Type 0 where
+  pub by : (old : SsuBuild) (n : ℕ) (rest : List Tree) → Stacked base n (kids t ++ rest) old b d (reverse parts) → Stacked base n (t ∷ rest) old b' d' (part ∷ reverse parts')
 
 -- ---- labels
 
