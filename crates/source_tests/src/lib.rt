@@ -13,6 +13,8 @@ mod lowering;
 #[cfg(test)]
 mod names;
 #[cfg(test)]
+mod placed;
+#[cfg(test)]
 mod single_use;
 #[cfg(test)]
 mod texts;
