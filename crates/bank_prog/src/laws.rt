@@ -7,14 +7,14 @@ ghost use Rattle.zo_model.specs.Contents.{contents};
 ghost use Rattle.zo_model.specs.Program.{cost_of, Feasible};
 ghost use Rattle.zo_model.specs.declared.program.ZeroOne as program;
 ghost use Rattle.bank_prog.specs.Columns.{columns, priced};
-ghost use Rattle.bank_prog.specs.Meaning.{on, named_cost, Holds};
+ghost use Rattle.bank_prog.specs.Meaning.{on, named_cost, Holds, IsFeasible};
 ghost use Rattle.bank_prog.specs.Program.{bank_program};
 ghost use Rattle.bank_prog.specs.Rows.{lines};
 ghost use Rattle.bank_prog.specs.declared.column.Column as column;
 
 /// A vector meets the rows of the program of the banks exactly where each line holds by name.
 pub fn rows_hold_by_name()
-    ensures { (z : program.ZeroOne) (labels : List Label) (slots : ℕ) (x : ℕ → Bool) → contents z ≡ bank_program labels slots → Feasible z x ↔ All (Holds (on labels x)) (lines labels slots) }
+    ensures { (z : program.ZeroOne) (labels : List Label) (slots : ℕ) (x : ℕ → Bool) → contents z ≡ bank_program labels slots → Feasible z x ↔ IsFeasible labels slots x }
 {}
 
 /// Only columns that are there are 1.

@@ -11,6 +11,7 @@ pub mod error;
 mod form;
 pub mod laws;
 mod lines;
+mod named;
 mod names;
 mod numbers;
 mod operands;
@@ -28,4 +29,6 @@ mod waiting;
 
 pub use column::{Bank, Column, Service};
 pub use error::BankError;
+pub use named::{column_names, column_numbers};
+pub use numbers::{Numbers, number};
 pub use program::build;

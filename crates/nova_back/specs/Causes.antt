@@ -1,49 +1,92 @@
--- Code of a form in single use, and why it has none.
-use Rattle.std.specs.Prelude.{◌≡◌, ◌≤◌, ◌<◌, ◌^◌, ℕ, List, length}
+-- What the back end makes of a form in single use: lawful code and a true report, and why it makes none.
+use Rattle.std.specs.Prelude.{◌≡◌, ◌≤◌, ◌<◌, ◌+◌, ◌-◌, ◌^◌, ℕ, List, length, ⊤}
 use Rattle.ssu_ir.specs.Meaning.{ssu_meaning, ssu_params}
-use Rattle.ssu_ir.specs.Measures.{peak, size}
+use Rattle.ssu_ir.specs.Measures.{peak, code_bound}
 use Rattle.ssu_ir.specs.Tree.{Label}
 use Rattle.uc_isa.specs.Agrees.{Agrees}
 use Rattle.uc_isa.specs.Code.{CodeView}
 use Rattle.uc_isa.specs.Lawful.{IsLawful}
-use Rattle.nova_back.specs.declared.error.SpillError.{SpillError}
-use Rattle.nova_back.specs.declared.error.SpillError.TheVariants.{NoMemory, TooLarge, TooFew, StoreFull}
+use Rattle.zo_model.specs.Contents.{contents}
+use Rattle.zo_model.specs.Program.{columns, cost_of, vector}
+use Rattle.zo_cert.specs.Certificate.{IsTreeWith, branches}
+use Rattle.zo_cert.specs.Report.{IsValidReport, IsTrueReport}
+use Rattle.zo_cert.specs.Searched.{IsSearched}
+use Rattle.zo_cert.specs.declared.cert.Claim.{Claim}
+use Rattle.zo_cert.specs.declared.cert.Claim.TheVariants.{Least, Nothing}
+use Rattle.zo_cert.specs.declared.report.Report.{Report}
+use Rattle.zo_cert.specs.declared.report.Verdict.{Verdict}
+use Rattle.zo_cert.specs.declared.report.Verdict.TheVariants.{Optimal, Feasible, Infeasible, Spent}
+use Rattle.bank_prog.specs.Program.{bank_program, IsTooLarge}
+use Rattle.nova_back.specs.declared.error.BackError.{BackError}
+use Rattle.nova_back.specs.declared.error.BackError.TheVariants as back
+
+-- ---- code
 
 -- lawful code that does what the form says
 pub record IsCodeOf (labels : List Label) (c : CodeView) : Type 0 where
   pub lawful : IsLawful c.list
   pub agrees : Agrees (ssu_params labels) (ssu_meaning labels) c
 
--- the form's size is this, and over 2^20
-pub record IsLarge (labels : List Label) (n : ℕ) : Type 0 where
-  pub counted : n ≡ size labels
-  pub large : 2 ^ 20 < n
+-- ---- reports
 
--- the form isn't too large, and so many values are held at some point, over 128
-pub record IsCrowded (labels : List Label) (n : ℕ) : Type 0 where
-  pub small : size labels ≤ 2 ^ 20
-  pub counted : n ≡ peak labels
-  pub crowded : 128 < n
+-- what the report's vector costs
+abbrev pub report_cost : Report → ℕ
+report_cost r = cost_of r.z (vector r.x.on.items)
 
--- the form is neither too large nor too crowded, and its code has so many instructions, more than were allowed
+-- the claim that the closed leaves of a report's tree are closed for
+abbrev pub claim_of : Verdict → Report → Claim
+claim_of Optimal r = Least (report_cost r)
+claim_of Feasible r = Least (report_cost r)
+claim_of Infeasible r = Nothing
+claim_of Spent r = Nothing
+
+-- the report has a vector that meets the rows
+abbrev pub HasVector : Verdict → Type 0
+HasVector Optimal = ⊤
+HasVector Feasible = ⊤
+HasVector Infeasible = ⊥
+HasVector Spent = ⊥
+
+-- the search came to its end
+abbrev pub IsEnded : Verdict → Type 0
+IsEnded Optimal = ⊤
+IsEnded Feasible = ⊥
+IsEnded Infeasible = ⊤
+IsEnded Spent = ⊥
+
+-- a true report on the program of the banks of a form, with a tree that was searched within the budget. A budget for every tree of the
+-- program's columns ends every search
+pub record IsReportOn (labels : List Label) (slots budget : ℕ) (r : Report) : Type 0 where
+  pub valid : IsValidReport r
+  pub holds : IsTrueReport r
+  pub program : contents r.z ≡ bank_program labels slots
+  pub slots_are : r.slots ≡ slots
+  pub budget_is : r.budget ≡ budget
+  pub searched : IsTreeWith (IsSearched r.z (claim_of r.verdict r)) r.tree
+  pub within_budget : branches r.tree.nodes.items ≤ budget
+  pub ended : 2 ^ (columns r.z + 1) - 1 ≤ budget → IsEnded r.verdict
+
+-- ---- causes
+
+-- a report without a vector: so many values are held at some point that they fit neither a bank nor the slots
+pub record IsWithout (labels : List Label) (slots budget : ℕ) (verdict : Verdict) (r : Report) : Type 0 where
+  pub report : IsReportOn labels slots budget r
+  pub says : r.verdict ≡ verdict
+  pub over_bank : 15 < peak labels
+  pub over_slots : slots < peak labels
+
+-- the form's code has so many instructions, more than were allowed
 pub record IsLong (labels : List Label) (store n : ℕ) : Type 0 where
-  pub small : size labels ≤ 2 ^ 20
-  pub few : peak labels ≤ 128
   pub c : CodeView
   pub code : IsCodeOf labels c
   pub counted : n ≡ length c.list
+  pub bounded : n ≤ code_bound labels
   pub long : store < n
 
 -- why a form has no code of at most so many instructions
-abbrev pub IsCause : List Label → ℕ → SpillError → Type 0
-IsCause labels store NoMemory = ⊥
-IsCause labels store (TooLarge n) = IsLarge labels n
-IsCause labels store (TooFew n) = IsCrowded labels n
-IsCause labels store (StoreFull n) = IsLong labels store n
-
--- the causes that the form alone decides; the length is that of the code that was made
-abbrev pub IsDecided : List Label → SpillError → Type 0
-IsDecided labels NoMemory = ⊥
-IsDecided labels (TooLarge n) = IsLarge labels n
-IsDecided labels (TooFew n) = IsCrowded labels n
-IsDecided labels (StoreFull n) = ⊥
+abbrev pub IsCause : List Label → ℕ → ℕ → ℕ → BackError → Type 0
+IsCause labels slots budget store back.NoMemory = ⊥
+IsCause labels slots budget store (back.TooLarge n) = IsTooLarge labels slots n
+IsCause labels slots budget store (back.Infeasible r) = IsWithout labels slots budget Infeasible r
+IsCause labels slots budget store (back.Spent r) = IsWithout labels slots budget Spent r
+IsCause labels slots budget store (back.StoreFull n) = IsLong labels store n

@@ -1,26 +1,29 @@
 // Why a form has no code.
 
 ghost use Rattle.std.specs.Prelude.{◌≡◌};
-ghost use Rattle.nova_back.specs.declared.error.SpillError.TheVariants.{NoMemory as WantOfMemory};
+ghost use Rattle.nova_back.specs.declared.error.BackError.TheVariants.{NoMemory as WantOfMemory};
 
 use nv_base::NoMemory;
+use zo_cert::Report;
 
-/// Why a form has no code with its values in slots.
-#[derive(Clone, Copy, Debug, PartialEq, Eq)]
-pub enum SpillError {
+/// Why a form has no code.
+#[derive(Drop)]
+pub enum BackError {
     NoMemory,
-    /// The size of the form, its points, values and uses together, which is over 2^20.
+    /// The number of columns of the form's program of the banks, or else that of its rows, which is over 2^26.
     TooLarge(u64),
-    /// The greatest number of values that are held at a point, which is over 128.
-    TooFew(u32),
+    /// No choice of banks meets the rows: the report proves it.
+    Infeasible(Report),
+    /// The budget of branches was spent before a choice of banks was found: the report has the tree that was searched.
+    Spent(Report),
     /// The number of instructions of the code, which is over what was allowed.
     StoreFull(u32),
 }
 
-impl From<NoMemory> for SpillError {
+impl From<NoMemory> for BackError {
     ghost from_gives = { λ _ e. e ≡ WantOfMemory };
 
-    fn from(_error: NoMemory) -> SpillError {
-        SpillError::NoMemory
+    fn from(_error: NoMemory) -> BackError {
+        BackError::NoMemory
     }
 }

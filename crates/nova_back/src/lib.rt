@@ -1,10 +1,9 @@
-//! The back end: from the single-use form to code.
+//! The back end: from the single-use form to code, with banks chosen by a 0-1 program.
 #![tactic(auto)]
 
+mod back;
 mod error;
-mod spilled;
-#[cfg(test)]
-mod tests;
+mod paired;
 
-pub use error::SpillError;
-pub use spilled::{Spilled, back_spilled};
+pub use back::{Built, back};
+pub use error::BackError;

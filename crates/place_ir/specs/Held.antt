@@ -1,5 +1,5 @@
 -- Rows of values that are held at points.
-use Rattle.std.specs.Prelude.{◌≡◌, ℕ, true, List, length, map}
+use Rattle.std.specs.Prelude.{◌≡◌, ◌<◌, ℕ, Bool, true, ◌&&◌, Option, Some, List, length, map, filter}
 use Rattle.std.specs.declared.vec.Vec.{Vec}
 use Rattle.std.specs.declared.alloc.Global.{Global}
 use Rattle.nv_base.specs.Sets.{is_in, all_different}
@@ -10,6 +10,17 @@ pub record IsRow (row : List ℕ) (p : Point) : Type 0 where
   pub once : all_different row ≡ true
   pub members : (x : ℕ) → is_in x row ≡ is_in x p.before
   pub count : length row ≡ length p.before
+
+-- a row has each value that is held at a point and passes a test, once, and no other
+pub record IsRowOf (keep : ℕ → Bool) (row : List ℕ) (p : Point) : Type 0 where
+  pub once : all_different row ≡ true
+  pub members : (x : ℕ) → is_in x row ≡ (keep x && is_in x p.before)
+  pub count : length row ≡ length (filter keep p.before)
+
+-- the values that are held at a point and pass a test have numbers below n, no two the same
+pub record HaveNumbers (keep : ℕ → Bool) (number : ℕ → Option ℕ) (n : ℕ) (p : Point) : Type 0 where
+  pub given : (x : ℕ) → keep x ≡ true → is_in x p.before ≡ true → (k : ℕ) × (number x ≡ Some k) × (k < n)
+  pub apart : (x y k : ℕ) → keep x ≡ true → keep y ≡ true → is_in x p.before ≡ true → is_in y p.before ≡ true → (x ≡ y → ⊥) → number x ≡ Some k → number y ≡ Some k → ⊥
 
 abbrev pub Kept : Type 0
 Kept = Vec ℕ Global

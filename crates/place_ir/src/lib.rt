@@ -6,6 +6,7 @@ mod copies;
 mod keeps;
 mod laws;
 mod lookups;
+mod numbers;
 mod parts;
 mod parts_homes;
 mod parts_passes;
@@ -25,7 +26,9 @@ mod words;
 
 pub use checking::fits;
 pub use copies::{Copies, copies_of, value_of};
+pub use numbers::row_numbers;
 pub use place::{First, Home, Pass, Place, PlaceError, Placement, Serve};
 pub use rows::{held, peak};
+pub use slots::Slots;
 pub use spill::spill_all;
 pub use spots::{Spot, spots_of};

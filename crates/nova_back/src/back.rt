@@ -1,0 +1,60 @@
+// Code whose banks are chosen by the 0-1 program.
+
+ghost use Rattle.std.specs.Prelude.{◌≡◌, ◌≤◌, ◌+◌, ◌*◌, ◌^◌, ◌⊎◌, ℕ, true, length, IfOk, IfErr, MatchResult};
+ghost use Rattle.ssu_ir.specs.Measures.{peak};
+ghost use Rattle.ssu_ir.specs.Single.{single};
+ghost use Rattle.ssu_ir.specs.View.{labels_view};
+ghost use Rattle.place_ir.specs.Uses.{values, uses};
+ghost use Rattle.bank_prog.specs.Columns.{columns};
+ghost use Rattle.bank_prog.specs.Program.{rows, IsTooLarge};
+ghost use Rattle.uc_isa.specs.Moves.{moves};
+ghost use Rattle.nova_back.specs.Causes.{IsCodeOf, IsReportOn, HasVector, IsCause, report_cost};
+
+use crate::error::BackError;
+use ssu_ir::Ssu;
+use std::alloc::Global;
+use uc_isa::Code;
+use zo_cert::Report;
+
+/// A form in single use, the report on its banks, and its code.
+#[derive(Drop)]
+pub struct Built {
+    pub ssu: Ssu,
+    /// What the search found, with the program of the banks and the certificate.
+    pub report: Report,
+    pub code: Code,
+}
+
+/// The code of a form in single use, of at most `store` instructions, with each value in the banks that the 0-1 program
+/// of the form and `slots` spill slots chooses in a search of at most `budget` branches.
+///
+/// # Errors
+///
+/// The size of the program is looked at first, then whether the search found a choice, and last how long the code is.
+pub fn back(
+    alloc: Global,
+    s: Ssu,
+    slots: u32,
+    budget: u32,
+    store: u32,
+) -> Result<Built, BackError>
+    requires single { single (labels_view s) ≡ true }
+    requires slots { slots ≤ 128 }
+    requires some { 1 ≤ budget }
+    requires budget { budget ≤ 1000000 }
+    ensures form { IfOk result (λ b. labels_view b.ssu ≡ labels_view s) }
+    ensures code { IfOk result (λ b. IsCodeOf (labels_view s) b.code) }
+    ensures short { IfOk result (λ b. length b.code.list ≤ store) }
+    ensures report { IfOk result (λ b. IsReportOn (labels_view s) slots budget b.report) }
+    ensures found { IfOk result (λ b. HasVector b.report.verdict) }
+    // The code's moves cost at most what the report's vector does.
+    ensures light { IfOk result (λ b. moves b.code.list [] [] ≤ report_cost b.report) }
+    // Where all values that are held at once fit a bank, at most two copies a value, and one a use.
+    ensures cheap { peak (labels_view s) ≤ 15 → IfOk result (λ b. report_cost b.report ≤ 2 * length (values (labels_view s)) + length (uses (labels_view s))) }
+    ensures few { IfOk result (λ _. length (columns (labels_view s)) ≤ 2 ^ 26) }
+    ensures few_rows { IfOk result (λ _. length (rows (labels_view s) slots) ≤ 2 ^ 26) }
+    ensures refused { IfErr result (λ e. (e ≡ BackError.NoMemory) ⊎ IsCause (labels_view s) slots budget store e) }
+    ensures only_large { (n : ℕ) → IsTooLarge (labels_view s) slots n → MatchResult result (λ _. ⊥) (λ e. (e ≡ BackError.NoMemory) ⊎ (e ≡ BackError.TooLarge n)) }
+{
+    Err(BackError::NoMemory)
+}

@@ -1,0 +1,28 @@
+//! The vector of a placement.
+
+ghost use Rattle.std.specs.Prelude.{◌≡◌, true, length, IfOk};
+ghost use Rattle.ssu_ir.specs.Single.{single};
+ghost use Rattle.ssu_ir.specs.View.{labels_view};
+ghost use Rattle.place_ir.specs.Costs as costs;
+ghost use Rattle.place_ir.specs.Fits.{Fits};
+ghost use Rattle.place_ir.specs.Plan.{plan_view};
+ghost use Rattle.zo_model.specs.Program.{vector, costs_of};
+ghost use Rattle.bank_prog.specs.Columns as columns;
+ghost use Rattle.bank_prog.specs.Meaning.{IsFeasible};
+
+use nv_base::NoMemory;
+use place_ir::Placement;
+use ssu_ir::Ssu;
+use std::alloc::Global;
+use zo_model::Assignment;
+
+/// The vector of the bank program that stands for a placement: it meets the rows, and costs what the placement does.
+pub fn from_placement(alloc: Global, s: &Ssu, p: &Placement) -> Result<Assignment, NoMemory>
+    requires single { single (labels_view s.now) ≡ true }
+    requires fits { Fits (labels_view s.now) (plan_view p.now) }
+    ensures columns { IfOk result (λ x. length x.on.items ≡ length (columns.columns (labels_view s.now))) }
+    ensures feasible { IfOk result (λ x. IsFeasible (labels_view s.now) p.now.slots (vector x.on.items)) }
+    ensures cost { IfOk result (λ x. costs_of (columns.costs (labels_view s.now)) (vector x.on.items) ≡ costs.cost (labels_view s.now) (plan_view p.now)) }
+{
+    Err(NoMemory)
+}

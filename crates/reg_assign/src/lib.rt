@@ -1,0 +1,8 @@
+//! Registers and slots for the values of a form, by a vector of its bank program.
+#![tactic(auto)]
+
+mod assigned;
+mod chosen;
+
+pub use assigned::assign;
+pub use chosen::from_placement;
