@@ -21,3 +21,6 @@ pub mod ChosenForm
 pub mod ChosenRoom
 pub mod ChosenAfter
 pub mod ChosenOwners
+pub mod ChosenCostValues
+pub mod ChosenCostUses
+pub mod ChosenCostAll
