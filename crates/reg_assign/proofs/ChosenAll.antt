@@ -68,9 +68,9 @@ begins-hold labels p on k q g at =
     let H : Line → Type 0 = Holds on in
     let n = place_words q.place in
     each-append H (flat_map (stay_begins labels n) (place_values k q.place)) (flat_map (word_begins n) (point_uses k q))
-    (flat-each H (stay_begins labels n) (place_values k q.place) (each-from _ (place_values k q.place) (λ v i.
+    (flat-each H (stay_begins labels n) (place_values k q.place) (each-from (λ v. Each H (stay_begins labels n v)) (place_values k q.place) (λ v i.
     stay-lines labels p on v (value-stands labels k q v at i) g (value-among labels k q v at i))))
-    (flat-each H (word_begins n) (point_uses k q) (each-from _ (point_uses k q) (λ u i.
+    (flat-each H (word_begins n) (point_uses k q) (each-from (λ u. Each H (word_begins n u)) (point_uses k q) (λ u i.
     begin-lines labels p on u (use-stands labels k q u at i) g (use-among labels k q u at i))))
 
 adjacency-holds : (labels : List Label) (p : Plan) (on : Chosen) → Placed labels p on → Each (Holds on) (adjacency labels)

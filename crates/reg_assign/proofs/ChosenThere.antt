@@ -85,7 +85,7 @@ one-at v k x h = ⊎_elim
     (λ z. absurd z)
     h
 
-value-here : (v : Value) (k : ℕ) (q : Place) → In v (place_values k q) → v.point ≡ k
+pub value-here : (v : Value) (k : ℕ) (q : Place) → In v (place_values k q) → v.point ≡ k
 value-here v k (Entry l ps) i = (numbered-at v k (Parameter l) 0 ps i).0
 value-here v k (At (Does (Lit x n))) i = (one-at v k x i).0
 value-here v k (At (Does (Una x op y))) i = (one-at v k x i).0
