@@ -29,6 +29,8 @@ mod waiting;
 
 pub use column::{Bank, Column, Service};
 pub use error::BankError;
+pub use form::{Access, Form, Role, Sort, Stop, Tables, Use, Value, form_of};
 pub use named::{column_names, column_numbers};
 pub use numbers::{Numbers, number};
 pub use program::build;
+pub use services::services;
