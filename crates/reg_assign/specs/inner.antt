@@ -1,3 +1,4 @@
 pub mod Facts
 pub mod ReadOff
 pub mod Chosen
+pub mod PlanTables
