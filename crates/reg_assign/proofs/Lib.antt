@@ -30,5 +30,4 @@ pub mod ChosenOwners
 pub mod ChosenCostValues
 pub mod ChosenCostUses
 pub mod ChosenCostAll
-pub mod ChosenThere
 pub mod ChosenOperands
