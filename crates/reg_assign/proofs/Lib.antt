@@ -23,6 +23,7 @@ pub mod ChosenSource
 pub mod ChosenServes
 pub mod ChosenValues
 pub mod ChosenUses
+pub mod ChosenOperands
 pub mod ChosenAll
 pub mod ChosenRoom
 pub mod ChosenAfter
