@@ -1,20 +1,17 @@
 -- The columns that a placement stands for cost what it does.
-use Rattle.std.proofs.Common.{◌≡◌, ℕ, zero, suc, ◌+◌, ◌*◌, ◌≤◌, ◌%◌, nat_eq, nat_le, Bool, true, false, not, ◌&&◌, Some, List, [], ◌∷◌, ◌++◌, length, map, refl, sym, ap, subst, inl, inr, ⊎_elim, ◌∙◌, arith}
+use Rattle.std.proofs.Common.{◌≡◌, ℕ, zero, suc, ◌+◌, nat_eq, nat_le, Bool, true, false, not, ◌&&◌, Some, List, [], ◌∷◌, ◌++◌, length, map, refl, sym, ap, subst, inl, inr, ⊎_elim, ◌∙◌, arith}
 use Rattle.std.specs.Prelude.{slice_get}
 use Rattle.std.specs.List.{flat_map}
-use Rattle.std.proofs.lemmas.Bool.{false≢true, and_parts, and_from, or_cases, eq-eqb}
+use Rattle.std.proofs.lemmas.Bool.{false≢true, and_parts, and_from, or_cases}
 use Rattle.std.proofs.lemmas.List.Elements.{All-contains}
-use Rattle.std.proofs.lemmas.Nat.{mod-mul-add}
 use Rattle.nv_base.specs.Sets.{is_in, all_different}
 use Rattle.nv_base.proofs.Sets.{same-number}
-use Rattle.nv_base.specs.declared.term.Mem.{Mem}
-use Rattle.nv_base.specs.declared.term.Mem.TheVariants.{Sram, Sdram, Scratch}
-use Rattle.ssu_ir.specs.Tree.{Label, Lit, Una, Bin, Clone, Read, Write, Jump, Halt, Does, Forks, Ends}
-use Rattle.ssu_ir.specs.Points.{Place as Spot, Entry, At, Point, points}
+use Rattle.ssu_ir.specs.Tree.{Label}
+use Rattle.ssu_ir.specs.Points.{Point, points}
 use Rattle.ssu_ir.specs.Single.{single}
 use Rattle.place_ir.specs.Costs.{cost}
 use Rattle.place_ir.specs.Plan.{Plan, first}
-use Rattle.place_ir.specs.Uses.{Access, place_accesses, accesses_from, accesses, Value, values, Role, Operand, Address, Written, Argument, Ending, Use, uses, uses_from, roles, place_roles}
+use Rattle.place_ir.specs.Uses.{Access, accesses, Value, values, Role, Operand, Address, Written, Argument, Ending, Use, uses, uses_from}
 use Rattle.place_ir.specs.Fits.{IsFirst, is_early, Fits}
 use Rattle.place_ir.proofs.Scoped.{in-itself, different-filter}
 use Rattle.place_ir.proofs.Sound.{Each}
@@ -25,15 +22,15 @@ use Rattle.bank_prog.specs.Columns.{Priced, each_point, eight, point_uses, place
 use Rattle.bank_prog.specs.Meaning.{Chosen, named_cost}
 use Rattle.reg_assign.specs.inner.Facts.{count}
 use Rattle.reg_assign.specs.inner.Chosen.{waits, goes_there, chosen, IsChosen}
-use Rattle.reg_assign.proofs.Counts.{In, contained-in, in-left, in-right, kept-in, map-in, some-counted, each-from}
-use Rattle.reg_assign.proofs.FactsThere.{uses-among, point-of}
+use Rattle.reg_assign.proofs.Counts.{In, contained-in, map-in, some-counted, each-from}
 use Rattle.reg_assign.proofs.FactsAll.{values-differ}
-use Rattle.reg_assign.proofs.FactsPoints.{le-test, below-eight, role-among, role-word, no-operand, no-address, no-argument, no-ending}
 use Rattle.reg_assign.proofs.CostSums.{sum_of, sum-append, cost-append, by_value, one-more, none-more}
 use Rattle.reg_assign.proofs.ChosenHolds.{flat-each, if-each, points-each, in-test, unsaid, only-most, counted-one}
 use Rattle.reg_assign.proofs.ChosenForm.{early-written, use-there}
 use Rattle.reg_assign.proofs.ChosenCostValues.{early_price, values-priced}
-use Rattle.reg_assign.proofs.ChosenCostUses.{uses-priced, uses-by-point, use-value}
+use Rattle.reg_assign.proofs.ChosenThere.{use-among, use-stands, place_access, word-access, access-words, first-begins}
+use Rattle.reg_assign.proofs.ChosenSource.{use-value}
+use Rattle.reg_assign.proofs.ChosenCostUses.{uses-priced}
 
 -- ---- columns without a cost
 
@@ -120,86 +117,26 @@ beginnings-differ n (Written m i) = different-filter (may_begin m n) eight refl
 beginnings-differ n (Argument l i) = refl
 beginnings-differ n (Ending i) = refl
 
-pub first-may : (m : Mem) (n f : ℕ) → IsFirst m n f → may_begin m n f ≡ true
-first-may Sram n f h = le-test (f + n) 8 h
-first-may Sdram n f h =
-    let half = h.1.0 in
-    let g = h.1.1 in
-    let e : f ≡ half * 2 + 0 = omega (arith, g) in
-    and_from (nat_le (f + n) 8) (nat_eq (f % 2) 0) (le-test (f + n) 8 h.0) (eq-eqb (f % 2) 0 (ap (λ x. x % 2) e ∙ mod-mul-add half 2 0 (omega arith)))
-first-may Scratch n f h = le-test (f + n) 8 h
-
-pub first-end : (m : Mem) (n f : ℕ) → IsFirst m n f → f + n ≤ 8
-first-end Sram n f h = h
-first-end Sdram n f h = h.0
-first-end Scratch n f h = h
-
--- the write of a written word
-record IsWrite (k : ℕ) (q : Spot) (m : Mem) : Type 0 where
-  access : Access
-  among : In access (place_accesses k q)
-  point : access.point ≡ k
-  mem : access.mem ≡ m
-  words : access.words ≡ place_words q
-
-written-mem : (m n : Mem) (i j : ℕ) (xs : List ℕ) → In (Written n j) (roles (Written m) i xs) → m ≡ n
-written-mem m n i j [] h = absurd h
-written-mem m n i j (x ∷ xs) h = ⊎_elim
-    (λ (e : Written m i ≡ Written n j). let same : m ≡ n = cc in same)
-    (λ (r : In (Written n j) (roles (Written m) (suc i) xs)). written-mem m n (suc i) j xs r)
-    h
-
-write-of : (k : ℕ) (q : Spot) (m : Mem) (j : ℕ) → In (Written m j) (place_roles q) → IsWrite k q m
-write-of k (Entry l ps) m j h = absurd h
-write-of k (At (Does (Lit x v))) m j h = absurd h
-write-of k (At (Does (Una x op y))) m j h = ⊎_elim (λ e. absurd (no-operand m j e)) (λ z. absurd z) h
-write-of k (At (Does (Bin x op y z))) m j h = ⊎_elim (λ e. absurd (no-operand m j e)) (λ r. ⊎_elim (λ e. absurd (no-operand m j e)) (λ w. absurd w) r) h
-write-of k (At (Does (Clone xs y))) m j h = absurd h
-write-of k (At (Does (Read n xs y))) m j h = ⊎_elim (λ e. absurd (no-address m j e)) (λ z. absurd z) h
-write-of k (At (Does (Write n y xs))) m j h = ⊎_elim
-    (λ e. absurd (no-address m j e))
-    (λ (r : In (Written m j) (roles (Written n) 0 xs)). record { access = record { point = k; mem = n; words = length xs }; among = inl refl; point = refl; mem = written-mem n m 0 j xs r; words = refl })
-    h
-write-of k (At (Forks c x y)) m j h = ⊎_elim (λ e. absurd (no-operand m j e)) (λ r. ⊎_elim (λ e. absurd (no-operand m j e)) (λ w. absurd w) r) h
-write-of k (At (Ends (Jump l xs))) m j h = absurd (no-argument l 0 xs m j h)
-write-of k (At (Ends (Halt e xs))) m j h = absurd (no-ending 0 xs m j h)
-
-accesses-among : (a : Access) (j i k : ℕ) (ps : List Point) (q : Point) → k ≡ j + i → slice_get ps i ≡ Some q → In a (place_accesses k q.place) → In a (accesses_from j ps)
-accesses-among a j i k [] q e g h = absurd (cc)
-accesses-among a j zero k (p ∷ ps) q e g h =
-    let same : q ≡ p = cc in
-    let at : k ≡ j = omega (arith, e) in
-    in-left a (place_accesses j p.place) (accesses_from (suc j) ps) (subst (λ (z : Point). In a (place_accesses j z.place)) same (subst (λ n. In a (place_accesses n q.place)) at h))
-accesses-among a j (suc i) k (p ∷ ps) q e g h =
-    in-right a (place_accesses j p.place) (accesses_from (suc j) ps) (accesses-among a (suc j) i k ps q (omega (arith, e)) g h)
-
 -- the write of a word begins at one of the registers where it may
-begins-among : (labels : List Label) (p : Plan) (k : ℕ) (q : Point) (u : Use) → Fits labels p → slice_get (points labels) k ≡ Some q → In u (point_uses k q) → is_early p u ≡ true → In (first p k) (role_beginnings (place_words q.place) u.role)
-begins-among labels p k q u f at i e =
+begins-among : (labels : List Label) (p : Plan) (k : ℕ) (q : Point) (u : Use) → single labels ≡ true → Fits labels p → slice_get (points labels) k ≡ Some q → In u (point_uses k q) → is_early p u ≡ true → In (first p u.point) (role_beginnings (place_words q.place) u.role)
+begins-among labels p k q u s f at i e =
     let n = place_words q.place in
-    let w = early-written labels p u f (uses-among u 0 k k (points labels) q (omega arith) at i) e in
-    let m = w.0 in
-    let role : In (Written m w.1) (place_roles q.place) = subst (λ r. In r (place_roles q.place)) w.2 (role-among k 0 q.uses (place_roles q.place) u i) in
-    let a = write-of k q.place m w.1 role in
-    let there = accesses-among a.access 0 k k (points labels) q (omega arith) at a.among in
-    let fits : IsFirst a.access.mem a.access.words (first p a.access.point) = All-contains (λ (a : Access). IsFirst a.mem a.words (first p a.point)) (accesses labels) a.access f.registers (contained-in a.access (accesses labels) there) in
-    let here : IsFirst m n (first p k) = subst (λ z. IsFirst m n (first p z)) a.point (subst (λ z. IsFirst m z (first p a.access.point)) a.words (subst (λ z. IsFirst z a.access.words (first p a.access.point)) a.mem fits)) in
-    let low = first-end m n (first p k) here in
-    let some = role-word q.place m w.1 role in
-    subst (λ r. In (first p k) (role_beginnings n r)) (sym w.2)
-    (kept-in (may_begin m n) (first p k) eight (below-eight (first p k) (omega (arith, low, some))) (first-may m n (first p k) here))
+    let w = early-written labels p u f (use-among labels k q u at i) e in
+    let a = place_access u.point w.0 q.place in
+    let there = word-access labels u w.0 w.1 (use-stands labels k q u at i) w.2 in
+    let fits = All-contains (λ (a : Access). IsFirst a.mem a.words (first p a.point)) (accesses labels) a f.registers (contained-in a (accesses labels) there) in
+    subst (λ r. In (first p u.point) (role_beginnings n r)) (sym w.2) (first-begins w.0 n (first p u.point) (access-words labels a s there) fits)
 
-ear-cost : (labels : List Label) (p : Plan) (k : ℕ) (q : Point) (u : Use) → Fits labels p → slice_get (points labels) k ≡ Some q → In u (point_uses k q) → named_cost (chosen labels p) (ear_columns (place_words q.place) u) ≡ early_price p u
-ear-cost labels p k q u f at i =
+ear-cost : (labels : List Label) (p : Plan) (k : ℕ) (q : Point) (u : Use) → single labels ≡ true → Fits labels p → slice_get (points labels) k ≡ Some q → In u (point_uses k q) → named_cost (chosen labels p) (ear_columns (place_words q.place) u) ≡ early_price p u
+ear-cost labels p k q u s f at i =
     let rs = role_beginnings (place_words q.place) u.role in
     let b = waits p u.point u.operand && not (goes_there p u.value) in
-    let there = use-there labels u (uses-among u 0 k k (points labels) q (omega arith) at i) in
-    let point = point-of u k 0 q.uses (place_roles q.place) i in
+    let there = use-there labels u (use-among labels k q u at i) in
     unit-count (chosen labels p) (Ear u.point u.operand) rs
     ∙ one-of (chosen labels p) (Ear u.point u.operand) (first p u.point) b rs
     (λ r. ap (λ (w : Use). nat_eq (first p u.point) r && (waits p u.point u.operand && not (goes_there p w.value))) there)
     (beginnings-differ (place_words q.place) u.role)
-    (λ e. subst (λ n. In (first p n) rs) (sym point) (begins-among labels p k q u f at i (and_parts (waits p u.point u.operand) (not (goes_there p u.value)) e).0))
+    (λ e. begins-among labels p k q u s f at i (and_parts (waits p u.point u.operand) (not (goes_there p u.value)) e).0)
 
 flat-cost : (on : Chosen) (f : Use → List Priced) (g : Use → ℕ) (us : List Use) → ((u : Use) → In u us → named_cost on (f u) ≡ g u) → named_cost on (flat_map f us) ≡ sum_of g us
 flat-cost on f g [] h = refl
@@ -219,9 +156,9 @@ points-cost on f g j (p ∷ ps) h =
     let d = sum-append g (point_uses j p) (uses_from (suc j) ps) in
     omega (arith, a, b, c, d)
 
-ears-cost : (labels : List Label) (p : Plan) → Fits labels p → named_cost (chosen labels p) (all_ears labels) ≡ sum_of (early_price p) (uses labels)
-ears-cost labels p f = points-cost (chosen labels p) (λ k q u. ear_columns (place_words q.place) u) (early_price p) 0 (points labels) (λ i k q e s u j.
-    ear-cost labels p k q u f (subst (λ n. slice_get (points labels) n ≡ Some q) (let n : i ≡ k = omega (arith, e) in n) s) j)
+ears-cost : (labels : List Label) (p : Plan) → single labels ≡ true → Fits labels p → named_cost (chosen labels p) (all_ears labels) ≡ sum_of (early_price p) (uses labels)
+ears-cost labels p s f = points-cost (chosen labels p) (λ k q u. ear_columns (place_words q.place) u) (early_price p) 0 (points labels) (λ i k q e at u j.
+    ear-cost labels p k q u s f (subst (λ n. slice_get (points labels) n ≡ Some q) (let n : i ≡ k = omega (arith, e) in n) at) j)
 
 -- ---- the uses of the values are all uses
 
@@ -256,9 +193,9 @@ all-found g (u ∷ us) vs d h =
     omega (arith, a, b)
 
 by-values : (labels : List Label) (g : Use → ℕ) → single labels ≡ true → by_value g (uses labels) (values labels) ≡ sum_of g (uses labels)
-by-values labels g s = all-found g (uses labels) (values labels) (values-differ labels s) (uses-by-point labels (λ u. is_in u.value (map (λ v. v.var) (values labels)) ≡ true) (λ k q u at i.
-    let w = use-value labels k q u s at i in
-    subst (λ x. is_in x (map (λ v. v.var) (values labels)) ≡ true) w.2 (in-test w.0.var (map (λ v. v.var) (values labels)) (map-in (λ (v : Value). v.var) w.0 (values labels) w.1))))
+by-values labels g s = all-found g (uses labels) (values labels) (values-differ labels s) (each-from (λ u. is_in u.value (map (λ v. v.var) (values labels)) ≡ true) (uses labels) (λ u i.
+    let w = use-value labels u s i in
+    subst (λ x. is_in x (map (λ v. v.var) (values labels)) ≡ true) w.var (in-test w.value.var (map (λ v. v.var) (values labels)) (map-in (λ (v : Value). v.var) w.value (values labels) w.there))))
 
 -- ---- the whole
 
@@ -272,6 +209,6 @@ cost-same labels p on s f c =
     let families = families-cost (chosen labels p) labels in
     let vs = values-priced labels p (values labels) s f (λ v i. i) in
     let each = by-values labels (early_price p) s in
-    let ears = ears-cost labels p f in
+    let ears = ears-cost labels p s f in
     let us = uses-priced labels p s f in
     omega (arith, same, families, vs, each, ears, us)

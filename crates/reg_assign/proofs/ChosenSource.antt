@@ -226,7 +226,7 @@ label-param-among : (P : List ℕ) (n i : ℕ) (o : Option Label) → ((l : Labe
 label-param-among P n i (Some l) h e b = let same = same-number (length l.params) n e in h l refl (param_at (slice_get l.params i)) (param-among l.params i (omega (arith, same, b)))
 label-param-among P n i None h e b = absurd (false≢true e)
 
-roles-below : (r : Role) (role : ℕ → Role) (i : ℕ) (xs : List ℕ) → In r (roles role i xs) → (j : ℕ) × (j < i + length xs) × (role j ≡ r)
+pub roles-below : (r : Role) (role : ℕ → Role) (i : ℕ) (xs : List ℕ) → In r (roles role i xs) → (j : ℕ) × (j < i + length xs) × (role j ≡ r)
 roles-below r role i [] h = absurd h
 roles-below r role i (x ∷ xs) h = ⊎_elim
     (λ (e : role i ≡ r). (i, omega arith, e))

@@ -31,3 +31,4 @@ pub mod ChosenOwners
 pub mod ChosenCostValues
 pub mod ChosenCostUses
 pub mod ChosenCostAll
+pub mod ChosenOperands

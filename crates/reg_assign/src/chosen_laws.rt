@@ -8,7 +8,7 @@ ghost use Rattle.place_ir.specs.Fits.{Fits};
 ghost use Rattle.place_ir.specs.Plan.{Plan};
 ghost use Rattle.bank_prog.specs.Columns.{priced};
 ghost use Rattle.bank_prog.specs.Meaning.{Chosen, Holds, named_cost};
-ghost use Rattle.bank_prog.specs.Rows.{capacity, owners};
+ghost use Rattle.bank_prog.specs.Rows.{operand_banks, capacity, owners};
 ghost use Rattle.reg_assign.specs.inner.Chosen.{IsChosen};
 
 // No more values are held in a bank than it has room for.
@@ -24,4 +24,9 @@ fn chosen_owners_hold()
 // The columns cost what the placement does.
 fn chosen_costs()
     ensures { (labels : List Label) (p : Plan) (on : Chosen) → single labels ≡ true → Fits labels p → IsChosen labels p on → named_cost on (priced labels) ≡ costs.cost labels p }
+{}
+
+// The two operands of an instruction come from different groups of registers.
+fn chosen_operands_differ()
+    ensures { (labels : List Label) (p : Plan) (on : Chosen) → single labels ≡ true → Fits labels p → IsChosen labels p on → All (Holds on) (operand_banks labels) }
 {}
