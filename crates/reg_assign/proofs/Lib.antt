@@ -31,4 +31,5 @@ pub mod ChosenOwners
 pub mod ChosenCostValues
 pub mod ChosenCostUses
 pub mod ChosenCostAll
-pub mod ChosenOperands
+pub mod TableSteps
+pub mod ChosenVector

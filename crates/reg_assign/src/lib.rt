@@ -4,6 +4,10 @@
 mod assigned;
 mod chosen;
 mod chosen_laws;
+mod plan_columns;
+mod plan_tables;
+#[cfg(test)]
+mod tests;
 
 pub use assigned::assign;
 pub use chosen::from_placement;

@@ -232,7 +232,8 @@ fn goes_there(t: &PlanTables, x: u32) -> bool
 fn has_copy(t: &PlanTables, x: u32, h: Bank) -> bool
     ensures { result ≡ list_any (chosen.is_in_bank h) (tables.copied_told t.now x) }
 {
-    for q in copied_of(t, x) {
+    let qs = copied_of(t, x);
+    for q in qs {
         if is_in_bank(h, *q) {
             return true;
         }

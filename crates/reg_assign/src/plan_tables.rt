@@ -80,15 +80,15 @@ fn serves_by(alloc: Global, serves: &[Serve]) -> Result<HashMap<(u32, u32), Serv
     while n > 0 {
         n -= 1;
         let s = serves[n];
-        table.insert((s.point, u32::from(s.operand)), s)?;
+        table.insert((s.point, s.operand as u32), s)?;
     }
     Ok(table)
 }
 
 /// The pass of each point.
 fn passes_by(alloc: Global, passes: &[Pass]) -> Result<HashMap<u32, Pass>, NoMemory>
-    ensures l { IfOk result (λ m. (k : ℕ) → known_l (get nat_eq m k) ≡ (pass_in passes.now k).l) }
-    ensures s { IfOk result (λ m. (k : ℕ) → known_s (get nat_eq m k) ≡ (pass_in passes.now k).s) }
+    ensures read { IfOk result (λ m. (k : ℕ) → known_l (get nat_eq m k) ≡ (pass_in passes.now k).l) }
+    ensures written { IfOk result (λ m. (k : ℕ) → known_s (get nat_eq m k) ≡ (pass_in passes.now k).s) }
 {
     let mut table = HashMap::new(alloc);
     let mut i = passes.len();
