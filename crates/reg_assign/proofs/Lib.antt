@@ -31,4 +31,3 @@ pub mod ChosenOwners
 pub mod ChosenCostValues
 pub mod ChosenCostUses
 pub mod ChosenCostAll
-pub mod ChosenOperands
