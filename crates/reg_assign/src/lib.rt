@@ -3,7 +3,6 @@
 
 mod assigned;
 mod chosen;
-mod chosen_laws;
 mod plan_columns;
 mod plan_tables;
 #[cfg(test)]
