@@ -1,8 +1,8 @@
 -- Which columns there are: the columns that each value, use, access and point of a form has.
-use Rattle.std.proofs.Common.{◌≡◌, ℕ, zero, suc, ◌+◌, ◌*◌, ◌<◌, ◌≤◌, Bool, true, false, ◌&&◌, ◌||◌, if◌then◌else◌, nat_eq, Some, List, [], ◌∷◌, ◌++◌, length, map, filter, refl, sym, ap, subst, ◌∙◌, inl, inr, ⊎_elim, arith}
+use Rattle.std.proofs.Common.{◌≡◌, ℕ, zero, suc, ◌+◌, ◌*◌, ◌<◌, ◌≤◌, true, false, ◌||◌, nat_eq, Some, List, [], ◌∷◌, ◌++◌, length, map, refl, sym, ap, subst, ◌∙◌, inl, inr, ⊎_elim, arith}
 use Rattle.std.specs.Prelude.{◌%◌, ◌==◌, nat_le, slice_get, Contains}
-use Rattle.std.specs.List.{flat_map, list_any}
-use Rattle.std.proofs.lemmas.Bool.{false≢true, and_parts, and_from, or_cases, le-leb, leb-true, eq-eqb}
+use Rattle.std.specs.List.{list_any}
+use Rattle.std.proofs.lemmas.Bool.{and_parts, and_from, or_cases, le-leb, leb-true, eq-eqb}
 use Rattle.nv_base.specs.Access.{can_move}
 use Rattle.nv_base.specs.declared.term.Mem.{Mem}
 use Rattle.nv_base.specs.declared.term.Mem.TheVariants.{Sram, Sdram, Scratch}
@@ -16,11 +16,9 @@ use Rattle.place_ir.specs.inner.Numbers.{values_among}
 use Rattle.place_ir.proofs.Sound.{place_ok, Sound, sound-points, uses_among}
 use Rattle.place_ir.proofs.Spilled.{each-at}
 use Rattle.bank_prog.specs.declared.column.Bank.{Bank}
-use Rattle.bank_prog.specs.declared.column.Bank.TheVariants.{A, B, M}
-use Rattle.bank_prog.specs.declared.column.Column.{Column}
 use Rattle.bank_prog.specs.declared.column.Column.TheVariants.{Def, Dir, Fill, Stay, Ear, First, Srv, PasL, PasS}
 use Rattle.bank_prog.specs.declared.column.Service.{Service}
-use Rattle.bank_prog.specs.Columns.{each_point, may_begin, sort_of, is_fetched, point_uses, place_words, eight, beginnings, role_beginnings, sort_beginnings, Priced, sort_defs, def_columns, dir_columns, point_dirs, fill_columns, stay_columns, point_stays, ear_columns, point_ears, first_columns, services, has_bank, srv_columns, for_eight, pas_l_columns, pas_s_columns, all_dirs, all_stays, all_ears, all_pas_l, all_pas_s, priced, columns}
+use Rattle.bank_prog.specs.Columns.{each_point, may_begin, sort_of, is_fetched, point_uses, place_words, eight, beginnings, role_beginnings, sort_beginnings, services, has_bank, columns}
 use Rattle.bank_prog.specs.Rows.{homes}
 use Rattle.bank_prog.proofs.Present as present
 use Rattle.bank_prog.proofs.Tabled.{uses-each, accesses-each}

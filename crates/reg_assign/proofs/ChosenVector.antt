@@ -4,7 +4,7 @@ use Rattle.std.specs.List.{list_any}
 use Rattle.ssu_ir.specs.Tree.{Label}
 use Rattle.ssu_ir.specs.Single.{single}
 use Rattle.zo_model.specs.Program.{vector, costs_of}
-use Rattle.place_ir.specs.Plan.{Plan, home, first, serve}
+use Rattle.place_ir.specs.Plan.{Plan, first, serve}
 use Rattle.place_ir.specs.Costs.{cost}
 use Rattle.place_ir.specs.Uses.{Use, uses_of}
 use Rattle.place_ir.specs.Fits.{is_read_register, is_write_register, served, Fits}
@@ -18,7 +18,7 @@ use Rattle.bank_prog.proofs.LawsColumns.{on-there, chosen-on}
 use Rattle.bank_prog.proofs.LawsCost.{costs-by-name}
 use Rattle.reg_assign.specs.declared.plan_tables.PlanTables.{PlanTables}
 use Rattle.reg_assign.specs.inner.Chosen.{use_at, value_at, bank_of, is_in_bank, wanted_bank, waits, goes_there, names, chosen, IsChosen}
-use Rattle.reg_assign.specs.inner.PlanTables.{defined_told, first_told, from_told, at_told, value_told, role_told, point_told, waits_told, goes_told, stays_told, told, AreTold}
+use Rattle.reg_assign.specs.inner.PlanTables.{first_told, from_told, at_told, value_told, role_told, point_told, waits_told, goes_told, stays_told, told, AreTold}
 use Rattle.reg_assign.proofs.FitWords.{map-same}
 use Rattle.reg_assign.proofs.ChosenAll.{lines-hold}
 use Rattle.reg_assign.proofs.ChosenCostAll.{cost-same}

@@ -1,4 +1,4 @@
-use Rattle.std.proofs.Common.{ℕ, ◌≡◌, ◌+◌, ◌-◌, ◌<◌, ◌&&◌, nat_eq, List, length, map, refl, arith}
+use Rattle.std.proofs.Common.{◌≡◌, ◌+◌, ◌-◌, ◌<◌, ◌&&◌, nat_eq, length, map, refl, arith}
 use Rattle.std.specs.HashMap.{get}
 use Rattle.place_ir.specs.Uses as pure
 use Rattle.bank_prog.specs.declared.form.Use.{Use}
