@@ -54,7 +54,7 @@ in-without x (y ∷ ys) gone i e = by (λ j. in-without x ys gone j e) (is_in y 
         j
     by f false g j = ⊎_elim (λ (s : y ≡ x). inl s) (λ (k : In x ys). inr (f k)) j
 
-below-eight : (r : ℕ) → r < 8 → In r eight
+pub below-eight : (r : ℕ) → r < 8 → In r eight
 below-eight zero l = inl refl
 below-eight (suc zero) l = inr (inl refl)
 below-eight (suc (suc zero)) l = inr (inr (inl refl))
