@@ -85,7 +85,7 @@ one-at v k x h = ⊎_elim
     (λ z. absurd z)
     h
 
-value-here : (v : Value) (k : ℕ) (q : Place) → In v (place_values k q) → v.point ≡ k
+pub value-here : (v : Value) (k : ℕ) (q : Place) → In v (place_values k q) → v.point ≡ k
 value-here v k (Entry l ps) i = (numbered-at v k (Parameter l) 0 ps i).0
 value-here v k (At (Does (Lit x n))) i = (one-at v k x i).0
 value-here v k (At (Does (Una x op y))) i = (one-at v k x i).0
@@ -111,6 +111,27 @@ value-point labels v i =
       at = moved (0 + k) v.point (sym here) labels k q refl w.2;
       here = subst (λ n. In v (place_values n q.place)) (sym here) w.3;
     }
+
+-- a value or use of a point is one of the form, and stands there
+pub value-among : (labels : List Label) (k : ℕ) (q : Point) (v : Value) → slice_get (points labels) k ≡ Some q → In v (place_values k q.place) → In v (values labels)
+value-among labels k q v g h = subst (In v) (values-each 0 (points labels)) (point-in v (λ k (q : Point). place_values k q.place) k (points labels) q g h)
+
+pub use-among : (labels : List Label) (k : ℕ) (q : Point) (u : Use) → slice_get (points labels) k ≡ Some q → In u (point_uses k q) → In u (uses labels)
+use-among labels k q u g h = subst (In u) (uses-each 0 (points labels)) (point-in u point_uses k (points labels) q g h)
+
+abbrev pub value-stands : (labels : List Label) (k : ℕ) (q : Point) (v : Value) → slice_get (points labels) k ≡ Some q → In v (place_values k q.place) → ValuePoint labels v
+value-stands labels k q v g h = record {
+  point = q;
+  at = subst (λ n. slice_get (points labels) n ≡ Some q) (sym (value-here v k q.place h)) g;
+  here = subst (λ n. In v (place_values n q.place)) (sym (value-here v k q.place h)) h;
+}
+
+abbrev pub use-stands : (labels : List Label) (k : ℕ) (q : Point) (u : Use) → slice_get (points labels) k ≡ Some q → In u (point_uses k q) → UsePoint labels u
+use-stands labels k q u g h = record {
+  point = q;
+  at = subst (λ n. slice_get (points labels) n ≡ Some q) (sym (point-of u k 0 q.uses (place_roles q.place) h)) g;
+  here = subst (λ n. In u (point_uses n q)) (sym (point-of u k 0 q.uses (place_roles q.place) h)) h;
+}
 
 -- ---- the access of a read value, and that of a written word
 
@@ -139,7 +160,7 @@ value-read v m i k (At (Does (Write n y xs))) h e = absurd h
 value-read v m i k (At (Forks c x y)) h e = absurd h
 value-read v m i k (At (Ends l)) h e = absurd h
 
-role-among : (u : Use) (k i : ℕ) (xs : List ℕ) (rs : List Role) → In u (uses_at k i xs rs) → In u.role rs
+pub role-among : (u : Use) (k i : ℕ) (xs : List ℕ) (rs : List Role) → In u (uses_at k i xs rs) → In u.role rs
 role-among u k i [] rs h = absurd h
 role-among u k i (x ∷ xs) [] h = absurd h
 role-among u k i (x ∷ xs) (r ∷ rs) h = ⊎_elim
