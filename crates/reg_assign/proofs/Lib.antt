@@ -16,3 +16,10 @@ pub mod CostSums
 pub mod CostUses
 pub mod CostValues
 pub mod CostAll
+pub mod FitRead
+pub mod FitKnown
+pub mod FitStaying
+pub mod FitWanted
+pub mod FitOperands
+pub mod FitPasses
+pub mod FitAll
