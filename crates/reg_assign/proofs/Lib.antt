@@ -12,10 +12,6 @@ pub mod FitHoused
 pub mod FitServed
 pub mod FitHeld
 pub mod FitPoints
-pub mod CostSums
-pub mod CostUses
-pub mod CostValues
-pub mod CostAll
 pub mod FitRead
 pub mod FitKnown
 pub mod FitStaying
@@ -23,3 +19,15 @@ pub mod FitWanted
 pub mod FitOperands
 pub mod FitPasses
 pub mod FitAll
+pub mod CostSums
+pub mod CostUses
+pub mod CostValues
+pub mod CostAll
+pub mod ChosenHolds
+pub mod ChosenForm
+pub mod ChosenRoom
+pub mod ChosenAfter
+pub mod ChosenOwners
+pub mod ChosenCostValues
+pub mod ChosenCostUses
+pub mod ChosenCostAll

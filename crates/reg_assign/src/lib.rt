@@ -3,6 +3,7 @@
 
 mod assigned;
 mod chosen;
+mod chosen_laws;
 mod laws;
 
 pub use assigned::assign;
