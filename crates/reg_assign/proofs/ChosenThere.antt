@@ -139,7 +139,7 @@ value-read v m i k (At (Does (Write n y xs))) h e = absurd h
 value-read v m i k (At (Forks c x y)) h e = absurd h
 value-read v m i k (At (Ends l)) h e = absurd h
 
-role-among : (u : Use) (k i : ℕ) (xs : List ℕ) (rs : List Role) → In u (uses_at k i xs rs) → In u.role rs
+pub role-among : (u : Use) (k i : ℕ) (xs : List ℕ) (rs : List Role) → In u (uses_at k i xs rs) → In u.role rs
 role-among u k i [] rs h = absurd h
 role-among u k i (x ∷ xs) [] h = absurd h
 role-among u k i (x ∷ xs) (r ∷ rs) h = ⊎_elim

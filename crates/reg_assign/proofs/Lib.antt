@@ -25,6 +25,12 @@ pub mod CostValues
 pub mod CostAll
 pub mod ChosenHolds
 pub mod ChosenForm
+pub mod ChosenThere
+pub mod ChosenSource
+pub mod ChosenServes
+pub mod ChosenValues
+pub mod ChosenUses
+pub mod ChosenAll
 pub mod ChosenRoom
 pub mod ChosenAfter
 pub mod ChosenOwners
