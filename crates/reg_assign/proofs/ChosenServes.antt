@@ -285,6 +285,11 @@ ear-at labels p on u g i f e =
     let w = and_parts (nat_eq (first p u.point) f) (is_early p u && not (goes_there p u.value)) (sym (ear-chosen labels p u f i) ∙ chosen-on labels p on g (Ear u.point u.operand f) e) in
     sym (same-number (first p u.point) f w.0)
 
+pub dir-goes : (labels : List Label) (p : Plan) (on : Chosen) (u : Use) → Placed labels p on → In u (uses labels) → (f : ℕ) → on (Dir u.point u.operand f) ≡ true → goes_there p u.value ≡ true
+dir-goes labels p on u g i f e =
+    let w = and_parts (nat_eq (first p u.point) f) (is_early p u && goes_there p u.value) (sym (dir-chosen labels p u f i) ∙ chosen-on labels p on g (Dir u.point u.operand f) e) in
+    (and_parts (is_early p u) (goes_there p u.value) w.1).1
+
 -- a word that is copied early waits, and isn't put there by the definition of its value
 pub ear-on : (labels : List Label) (p : Plan) (on : Chosen) (u : Use) → Placed labels p on → In u (uses labels) → (f : ℕ) → on (Ear u.point u.operand f) ≡ true → (is_early p u ≡ true) × (goes_there p u.value ≡ false)
 ear-on labels p on u g i f e =

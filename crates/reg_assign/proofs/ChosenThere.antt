@@ -112,6 +112,27 @@ value-point labels v i =
       here = subst (λ n. In v (place_values n q.place)) (sym here) w.3;
     }
 
+-- a value or use of a point is one of the form, and stands there
+pub value-among : (labels : List Label) (k : ℕ) (q : Point) (v : Value) → slice_get (points labels) k ≡ Some q → In v (place_values k q.place) → In v (values labels)
+value-among labels k q v g h = subst (In v) (values-each 0 (points labels)) (point-in v (λ k (q : Point). place_values k q.place) k (points labels) q g h)
+
+pub use-among : (labels : List Label) (k : ℕ) (q : Point) (u : Use) → slice_get (points labels) k ≡ Some q → In u (point_uses k q) → In u (uses labels)
+use-among labels k q u g h = subst (In u) (uses-each 0 (points labels)) (point-in u point_uses k (points labels) q g h)
+
+abbrev pub value-stands : (labels : List Label) (k : ℕ) (q : Point) (v : Value) → slice_get (points labels) k ≡ Some q → In v (place_values k q.place) → ValuePoint labels v
+value-stands labels k q v g h = record {
+  point = q;
+  at = subst (λ n. slice_get (points labels) n ≡ Some q) (sym (value-here v k q.place h)) g;
+  here = subst (λ n. In v (place_values n q.place)) (sym (value-here v k q.place h)) h;
+}
+
+abbrev pub use-stands : (labels : List Label) (k : ℕ) (q : Point) (u : Use) → slice_get (points labels) k ≡ Some q → In u (point_uses k q) → UsePoint labels u
+use-stands labels k q u g h = record {
+  point = q;
+  at = subst (λ n. slice_get (points labels) n ≡ Some q) (sym (point-of u k 0 q.uses (place_roles q.place) h)) g;
+  here = subst (λ n. In u (point_uses n q)) (sym (point-of u k 0 q.uses (place_roles q.place) h)) h;
+}
+
 -- ---- the access of a read value, and that of a written word
 
 abbrev pub place_access : ℕ → Mem → Place → Access

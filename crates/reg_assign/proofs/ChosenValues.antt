@@ -105,7 +105,7 @@ defs-counted on x q (h ∷ hs) f =
 def-count : (labels : List Label) (p : Plan) (on : Chosen) (v : Value) → Placed labels p on → In v (values labels) → is_fetched v.sort ≡ false → count on (def v.var) ≡ tally (home p v.var).defined homes
 def-count labels p on v g i n = defs-counted on v.var (home p v.var).defined homes (λ h j. def-on labels p on v h g i n j)
 
-unfetched : (s : Sort) → is_parameter s ≡ true → is_fetched s ≡ false
+pub unfetched : (s : Sort) → is_parameter s ≡ true → is_fetched s ≡ false
 unfetched (Parameter l i) e = refl
 unfetched Result e = refl
 unfetched (Fetched m i) e = absurd (false≢true e)
@@ -232,7 +232,7 @@ register-bank p (place.LD k) g n = absurd g
 register-bank p (place.S k) g n = absurd g
 register-bank p (place.SD k) g n = absurd g
 
-in-bank : (h : Bank) (q : Place) → bank_of q ≡ h → is_in_bank h q ≡ true
+pub in-bank : (h : Bank) (q : Place) → bank_of q ≡ h → is_in_bank h q ≡ true
 in-bank h q e = subst (λ z. is_in_bank z q ≡ true) e (bank-itself (bank_of q))
 
 -- a value with a copy is first put into a register
