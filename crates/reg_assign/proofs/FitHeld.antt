@@ -167,7 +167,7 @@ same-read Scratch Scratch i j e = record { side = refl; number = same-number i j
 one-apart : (q r : Place) → same_place q r ≡ false → none_shared (q ∷ []) (r ∷ []) ≡ true
 one-apart q r e = and_from (not (same_place q r || false)) true (not_from_false (same_place q r || false) (or_from (same_place q r) false e refl)) refl
 
-none-with-nothing : (qs : List Place) → none_shared qs [] ≡ true
+pub none-with-nothing : (qs : List Place) → none_shared qs [] ≡ true
 none-with-nothing [] = refl
 none-with-nothing (q ∷ qs) = none-with-nothing qs
 

@@ -13,7 +13,6 @@ use Rattle.place_ir.specs.Fits.{IsGeneral, same_bank, maybe, AreFills}
 use Rattle.zo_model.specs.Program.{cost_where}
 use Rattle.bank_prog.specs.declared.column.Bank.{Bank}
 use Rattle.bank_prog.specs.declared.column.Bank.TheVariants.{A, B, M, T, L, A15, W}
-use Rattle.bank_prog.specs.declared.column.Column.{Column}
 use Rattle.bank_prog.specs.declared.column.Column.TheVariants.{Def, Fill}
 use Rattle.bank_prog.specs.Rows.{def, dir, ear, is_written}
 use Rattle.bank_prog.specs.Meaning.{Chosen}
@@ -21,6 +20,7 @@ use Rattle.place_ir.proofs.Sound.{Each}
 use Rattle.place_ir.proofs.Spilled.{each-all}
 use Rattle.reg_assign.specs.inner.Facts.{count}
 use Rattle.reg_assign.specs.inner.ReadOff.{Numbers, goes_early, def_bank, home_place, word_place, fill_at, fills_of, words_of, copies_of, put_home, unused_home, sort_home}
+use Rattle.reg_assign.proofs.Counts.{count-append}
 use Rattle.reg_assign.proofs.ReadParts.{count-none}
 use Rattle.reg_assign.proofs.FitWaiting.{any-either}
 
@@ -197,10 +197,6 @@ not-early on u d e = false_from_ne_true (goes_early on u) (λ g. pick (is_writte
     pick : (b : Bool) → list_any on (if b then dir u ++ ear u else []) ≡ true → ⊥
     pick false h = false≢true h
     pick true h = ⊎_elim (λ (k : list_any on (dir u) ≡ true). false≢true (sym d ∙ k)) (λ (k : list_any on (ear u) ≡ true). false≢true (sym e ∙ k)) (any-either on (dir u) (ear u) h)
-
-pub count-append : (on : Chosen) (a b : List Column) → count on (a ++ b) ≡ count on a + count on b
-count-append on [] b = omega arith
-count-append on (c ∷ a) b = let e = count-append on a b in omega arith
 
 pub dirs-off : (on : Chosen) (us : List Use) → count on (flat_map dir us) ≡ 0 → Each (λ u. list_any on (dir u) ≡ false) us
 dirs-off on [] e = tt

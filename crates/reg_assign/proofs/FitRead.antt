@@ -31,6 +31,7 @@ use Rattle.reg_assign.proofs.Counts.{In, contained-in, in-kept, each-in}
 use Rattle.reg_assign.proofs.FactsThere.{there}
 use Rattle.reg_assign.proofs.FactsValues.{same-value}
 use Rattle.reg_assign.proofs.FactsAll.{values-differ}
+use Rattle.reg_assign.proofs.CostValues.{vars-in}
 use Rattle.reg_assign.proofs.ReadParts.{eight-low, FirstsThere, begins-at, IsFound, serves-found}
 use Rattle.reg_assign.proofs.FitWords.{IsEarlySame, early-same}
 use Rattle.reg_assign.proofs.FitHomes.{is_home_bank}
@@ -86,16 +87,9 @@ pub record IsValue (labels : List Label) (x : ℕ) : Type 0 where
   pub wants : wants_home labels value ≡ true
   pub var : value.var ≡ x
 
-var-of : (x : ℕ) (vs : List Value) → is_in x (map (λ v. v.var) vs) ≡ true → (v : Value) × In v vs × (v.var ≡ x)
-var-of x [] e = absurd (false≢true e)
-var-of x (v ∷ vs) e = ⊎_elim
-    (λ (f : nat_eq x v.var ≡ true). (v, inl refl, sym (same-number x v.var f)))
-    (λ (f : is_in x (map (λ (w : Value). w.var) vs) ≡ true). let w = var-of x vs f in (w.0, inr w.1, w.2))
-    (or_cases (nat_eq x v.var) (is_in x (map (λ (w : Value). w.var) vs)) e)
-
 pub value-of : (labels : List Label) (x : ℕ) → is_in x (map (λ v. v.var) (filter (wants_home labels) (values labels))) ≡ true → IsValue labels x
 value-of labels x e =
-    let w = var-of x (filter (wants_home labels) (values labels)) e in
+    let w = vars-in x (filter (wants_home labels) (values labels)) e in
     let k = in-kept (wants_home labels) w.0 (values labels) w.1 in
     record { value = w.0; among = k.0; wants = k.1; var = w.2 }
 
