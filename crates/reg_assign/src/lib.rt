@@ -3,6 +3,7 @@
 
 mod assigned;
 mod chosen;
+mod laws;
 mod plan_columns;
 mod plan_tables;
 #[cfg(test)]
