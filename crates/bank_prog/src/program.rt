@@ -22,7 +22,7 @@ use crate::columns::columns_of;
 use crate::cover::push_homes_cover;
 use crate::error::BankError;
 use crate::form::{Form, form_of};
-use crate::numbers::{Numbers, number_columns};
+use crate::numbers::{COUNT_LIMIT, Numbers, number_columns};
 use crate::operands::push_operand_banks;
 use crate::owners::push_owners;
 use crate::passes::push_passes;
@@ -31,9 +31,6 @@ use place_ir::held;
 use ssu_ir::Ssu;
 use std::alloc::Global;
 use zo_model::{Row, ZeroOne};
-
-/// At most so many columns, and so many rows.
-const COUNT_LIMIT: usize = 1 << 26;
 
 /// The costs of the columns.
 fn costs_of(alloc: Global, priced: &[(Column, u32)]) -> Result<Vec<u32>, NoMemory>
