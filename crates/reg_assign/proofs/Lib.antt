@@ -16,3 +16,8 @@ pub mod CostSums
 pub mod CostUses
 pub mod CostValues
 pub mod CostAll
+pub mod ChosenHolds
+pub mod ChosenForm
+pub mod ChosenRoom
+pub mod ChosenAfter
+pub mod ChosenOwners

@@ -3,6 +3,7 @@
 
 mod assigned;
 mod chosen;
+mod laws;
 
 pub use assigned::assign;
 pub use chosen::from_placement;
