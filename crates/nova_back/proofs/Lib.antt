@@ -1,0 +1,5 @@
+pub mod PairedOn
+pub mod PairedRows
+pub mod PairedPoints
+pub mod PairedCost
+pub mod PairedAll
