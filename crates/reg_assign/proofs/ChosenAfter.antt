@@ -2,7 +2,7 @@
 use Rattle.std.proofs.Common.{◌≡◌, ℕ, zero, suc, true, List, [], ◌∷◌, ◌++◌, Some, refl, sym, ap, subst, ◌∙◌}
 use Rattle.std.specs.Prelude.{slice_get}
 use Rattle.nv_base.specs.Sets.{all_different}
-use Rattle.ssu_ir.specs.Tree.{Step, Lit, Una, Bin, Clone, Read, Write, Tree, Do, If, End, Label, Does, Forks, Ends, step_values}
+use Rattle.ssu_ir.specs.Tree.{Step, Tree, Do, If, End, Label, Does, Forks, Ends, step_values}
 use Rattle.ssu_ir.specs.Points.{Names, own, names_after, held, Place, Entry, At, Point, tree_points, label_points, points_from, points}
 use Rattle.ssu_ir.specs.Single.{single}
 use Rattle.place_ir.specs.Uses.{Access, reads_at}

@@ -1,5 +1,5 @@
 -- What a placement that fits says of the values and uses whose columns are chosen by it.
-use Rattle.std.proofs.Common.{◌≡◌, ◌≢◌, ℕ, ◌+◌, nat_eq, Bool, true, false, not, ◌&&◌, if◌then◌else◌, ◌⊎◌, inl, inr, ⊎_elim, Some, List, [], ◌∷◌, ◌++◌, map, refl, sym, ap, subst, ◌∙◌}
+use Rattle.std.proofs.Common.{◌≡◌, ◌≢◌, ℕ, ◌+◌, nat_eq, Bool, true, false, not, ◌&&◌, if◌then◌else◌, ◌⊎◌, inl, ⊎_elim, Some, List, [], ◌∷◌, ◌++◌, map, refl, sym, ap, subst, ◌∙◌}
 use Rattle.std.specs.Prelude.{slice_get}
 use Rattle.std.proofs.lemmas.List.Elements.{All-contains}
 use Rattle.std.proofs.lemmas.Bool.{false≢true, and_parts, and_from, or_cases, or_left, or_right}
@@ -42,7 +42,7 @@ chosen-on labels p on h c e = sym (h.is.same c (h.is.only c e)) ∙ e
 
 -- ---- a value is found by its variable, and a use by its point and operand
 
-pub value-found : (vs : List Value) (v : Value) → all_different (map (λ w. w.var) vs) ≡ true → In v vs → value_in vs v.var ≡ v
+value-found : (vs : List Value) (v : Value) → all_different (map (λ w. w.var) vs) ≡ true → In v vs → value_in vs v.var ≡ v
 value-found [] v d i = absurd i
 value-found (u ∷ vs) v d i = by (nat_eq u.var v.var) refl (λ j. value-found vs v (and_parts (not (is_in u.var (map (λ w. w.var) vs))) (all_different (map (λ w. w.var) vs)) d).1 j)
   where
@@ -56,7 +56,7 @@ value-found (u ∷ vs) v d i = by (nat_eq u.var v.var) refl (λ j. value-found v
 both-itself : (k i : ℕ) → (nat_eq k k && nat_eq i i) ≡ true
 both-itself k i = and_from (nat_eq k k) (nat_eq i i) (in-itself k) (in-itself i)
 
-pub use-found : (us : List Use) (u : Use) → Apart us → In u us → use_in us u.point u.operand ≡ u
+use-found : (us : List Use) (u : Use) → Apart us → In u us → use_in us u.point u.operand ≡ u
 use-found [] u d i = absurd i
 use-found (w ∷ us) u d i = by (nat_eq w.point u.point && nat_eq w.operand u.operand) refl (λ j. use-found us u d.1 j)
   where
@@ -133,7 +133,7 @@ word-is p u m i e = ap (role_register p u.point) e
 pub word-writes : (labels : List Label) (p : Plan) (u : Use) → Fits labels p → In u (uses labels) → is_early p u ≡ true → is_write_register (word_register p u) ≡ true
 word-writes labels p u f i e = let w = early-written labels p u f i e in ap is_write_register (word-is p u w.0 w.1 w.2) ∙ write-is w.0 (first p u.point + w.1)
 
-pub early-use : (labels : List Label) (p : Plan) (x : ℕ) (u : Use) → In u (early_uses labels p x) → In u (uses labels) × (u.value ≡ x) × (is_early p u ≡ true) × (is_used labels x ≡ true)
+early-use : (labels : List Label) (p : Plan) (x : ℕ) (u : Use) → In u (early_uses labels p x) → In u (uses labels) × (u.value ≡ x) × (is_early p u ≡ true) × (is_used labels x ≡ true)
 early-use labels p x u i =
     let k = in-kept (is_early p) u (uses_of labels x) i in
     let w = used-of labels u x k.0 in

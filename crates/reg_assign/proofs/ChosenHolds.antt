@@ -27,7 +27,7 @@ order-minus n m h = omega (arith, ints, h)
 order-both : (n m : ℕ) → m ≤ n → pos 0 ≤ℤ (pos n +ℤ neg_ℤ (pos m))
 order-both n m h = omega (arith, ints, h)
 
-pub least-holds : (on : Chosen) (n : ℕ) (cs : List Column) → n ≤ count on cs → Holds on (at_least n cs)
+least-holds : (on : Chosen) (n : ℕ) (cs : List Column) → n ≤ count on cs → Holds on (at_least n cs)
 least-holds on n cs h = subst (λ z. pos n ≤ℤ z) (sym (sum-plus on cs)) (order-plus n (count on cs) h)
 
 pub most-holds : (on : Chosen) (n : ℕ) (cs : List Column) → count on cs ≤ n → Holds on (at_most n cs)

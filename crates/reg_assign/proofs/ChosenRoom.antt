@@ -22,7 +22,7 @@ use Rattle.bank_prog.specs.declared.column.Bank.{Bank}
 use Rattle.bank_prog.specs.declared.column.Bank.TheVariants.{A, B, M, T, L, A15, W}
 use Rattle.bank_prog.specs.declared.column.Column.TheVariants.{Def, Fill}
 use Rattle.bank_prog.specs.Columns.{is_fetched}
-use Rattle.bank_prog.specs.Rows.{homes, home, held_in, room_lines, capacity}
+use Rattle.bank_prog.specs.Rows.{home, held_in, room_lines, capacity}
 use Rattle.bank_prog.specs.Meaning.{Chosen, Holds}
 use Rattle.reg_assign.specs.inner.Facts.{count, in_bank}
 use Rattle.reg_assign.specs.inner.ReadOff.{room}
@@ -33,6 +33,7 @@ use Rattle.reg_assign.proofs.FactsValues.{same-value}
 use Rattle.reg_assign.proofs.FactsAll.{values-differ}
 use Rattle.reg_assign.proofs.FitHomes.{is_home_bank}
 use Rattle.reg_assign.proofs.ChosenHolds.{most-holds, map-each, points-each, in-test, Pairs, pairs-different, pairs-map}
+use Rattle.reg_assign.proofs.ChosenSource.{in-any-place}
 use Rattle.reg_assign.proofs.ChosenForm.{Placed, chosen-on, held-value, point-held, Housing, put_general, put_read, put_early, put-writes, housing, IsCopy, copy_general, copy_word, copies-are, shared}
 
 -- ---- different numbers below n are at most n
@@ -120,13 +121,6 @@ first-in h (q ∷ qs) e = by (is_in_bank h q) refl e (first-in h qs)
     by : (b : Bool) → is_in_bank h q ≡ b → (b || list_any (is_in_bank h) qs) ≡ true → (list_any (is_in_bank h) qs ≡ true → FirstIn h qs) → FirstIn h (q ∷ qs)
     by true f g r = record { place_ = q; among = inl refl; bank = f; number = ap (λ c. if c then place_number q else bank_number h qs) f }
     by false f g r = let w = r g in record { place_ = w.place_; among = inr w.among; bank = w.bank; number = ap (λ c. if c then place_number q else bank_number h qs) f ∙ w.number }
-
-any-place : (h : Bank) (q : Place) (qs : List Place) → In q qs → is_in_bank h q ≡ true → list_any (is_in_bank h) qs ≡ true
-any-place h q [] i e = absurd i
-any-place h q (r ∷ qs) i e = ⊎_elim
-    (λ (s : r ≡ q). or_left (is_in_bank h r) (list_any (is_in_bank h) qs) (ap (is_in_bank h) s ∙ e))
-    (λ (j : In q qs). or_right (is_in_bank h r) (list_any (is_in_bank h) qs) (any-place h q qs j e))
-    i
 
 place-any : (h : Bank) (qs : List Place) → list_any (is_in_bank h) qs ≡ true → (q : Place) × In q qs × (is_in_bank h q ≡ true)
 place-any h qs e = let w = first-in h qs e in (w.place_, w.among, w.bank)
@@ -261,9 +255,6 @@ number-below W p q g i e = absurd (false≢true i)
 
 -- ---- a value that is chosen to be in a bank
 
-home-banks : (h : Bank) → In h homes → is_home_bank h ≡ true
-home-banks h i = each-in (λ h. is_home_bank h ≡ true) h homes (refl, (refl, (refl, tt))) i
-
 -- the general places of a value are general registers and slots that can be homes, and its copies are elsewhere than its first place
 record IsHoming (p : Plan) (h : Home) : Type 0 where
   general : (q : Place) → In q (h.defined ∷ h.copied) → is_general q ≡ true → IsGeneral p q
@@ -347,7 +338,7 @@ place-in labels p on v h g i b e =
     let homed = homing-of labels p on v h g i e in
     let w = place-any h all (bank-place labels p on v.var h g e) in
     let gen = bank-general h w.0 b w.2 in
-    let f = first-in h (general_places p v.var) (any-place h w.0 (general_places p v.var) (kept-in is_general w.0 all w.1 gen) w.2) in
+    let f = first-in h (general_places p v.var) (in-any-place (is_in_bank h) w.0 (general_places p v.var) (kept-in is_general w.0 all w.1 gen) w.2) in
     let k = in-kept is_general f.place_ all f.among in
     record { place_ = f.place_; among = f.among; bank = f.bank; general = homed.general f.place_ k.0 k.1; is_general_ = k.1; number = f.number }
 

@@ -18,6 +18,16 @@ pub mod CostValues
 pub mod CostAll
 pub mod ChosenHolds
 pub mod ChosenForm
+pub mod ChosenThere
+pub mod ChosenSource
+pub mod ChosenServes
+pub mod ChosenValues
+pub mod ChosenUses
+pub mod ChosenOperands
+pub mod ChosenAll
 pub mod ChosenRoom
 pub mod ChosenAfter
 pub mod ChosenOwners
+pub mod ChosenCostValues
+pub mod ChosenCostUses
+pub mod ChosenCostAll

@@ -3,7 +3,7 @@
 
 mod assigned;
 mod chosen;
-mod laws;
+mod chosen_laws;
 
 pub use assigned::assign;
 pub use chosen::from_placement;
