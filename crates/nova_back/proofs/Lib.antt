@@ -3,3 +3,5 @@ pub mod PairedRows
 pub mod PairedPoints
 pub mod PairedCost
 pub mod PairedAll
+pub mod Reported
+pub mod Sizes

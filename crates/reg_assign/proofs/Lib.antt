@@ -12,6 +12,13 @@ pub mod FitHoused
 pub mod FitServed
 pub mod FitHeld
 pub mod FitPoints
+pub mod FitRead
+pub mod FitKnown
+pub mod FitStaying
+pub mod FitWanted
+pub mod FitOperands
+pub mod FitPasses
+pub mod FitAll
 pub mod CostSums
 pub mod CostUses
 pub mod CostValues

@@ -4,6 +4,7 @@
 mod assigned;
 mod chosen;
 mod chosen_laws;
+mod laws;
 
 pub use assigned::assign;
 pub use chosen::from_placement;
