@@ -1,24 +1,18 @@
 -- The paired choice: each value, access and use is given one choice, and what covers what.
-use Rattle.std.proofs.Common.{◌≡◌, ℕ, zero, suc, ◌+◌, ◌≤◌, ◌<◌, nat_eq, nat_le, Bool, true, false, not, ◌&&◌, inl, inr, ⊎_elim, Option, Some, None, List, [], ◌∷◌, ◌++◌, length, map, refl, sym, ap, subst, ◌∙◌, arith}
-use Rattle.std.specs.Prelude.{slice_get, Contains, ◌%◌}
+use Rattle.std.proofs.Common.{◌≡◌, ℕ, suc, ◌+◌, ◌≤◌, nat_eq, nat_le, Bool, true, false, not, ◌&&◌, inl, List, [], ◌∷◌, ◌++◌, map, refl, sym, ap, subst, ◌∙◌, arith}
+use Rattle.std.specs.Prelude.{Contains, ◌%◌}
 use Rattle.std.specs.List.{flat_map}
-use Rattle.std.proofs.lemmas.Bool.{and_parts, and_from, or_cases, or_left, or_right, false≢true}
+use Rattle.std.proofs.lemmas.Bool.{and_parts, and_from, false≢true}
 use Rattle.nv_base.specs.Access.{can_move}
-use Rattle.nv_base.specs.Sets.{is_in, Within}
-use Rattle.nv_base.proofs.Sets.{same-number}
 use Rattle.nv_base.specs.declared.term.Mem.{Mem}
 use Rattle.nv_base.specs.declared.term.Mem.TheVariants.{Sram, Sdram, Scratch}
 use Rattle.ssu_ir.specs.Points.{Place, Entry, At, Point, points}
-use Rattle.ssu_ir.specs.Single.{single, takes_as_many}
-use Rattle.ssu_ir.specs.Tree.{Label, Lit, Una, Bin, Clone, Read, Write, Jump, Halt, Does, Forks, Ends}
-use Rattle.place_ir.specs.Fits.{is_result, param_at, label_param, parameter}
-use Rattle.place_ir.specs.Uses.{Access, place_accesses, accesses_from, accesses, Sort, Parameter, Result, Fetched, Value, values, Role, Operand, Address, Written, Argument, Ending, roles, Use, uses_at, uses_of, uses, place_roles, is_used}
+use Rattle.ssu_ir.specs.Tree.{Label, Lit, Una, Bin, Clone, Read, Write, Does, Forks, Ends}
+use Rattle.place_ir.specs.Fits.{is_result, parameter}
+use Rattle.place_ir.specs.Uses.{Access, place_accesses, accesses_from, accesses, Sort, Parameter, Result, Fetched, Value, values, Role, Operand, Address, Written, Argument, Ending, Use, uses_of, uses, is_used}
 use Rattle.place_ir.specs.inner.Numbers.{values_among}
-use Rattle.place_ir.proofs.Fitting.{entries-in, label-entry}
-use Rattle.place_ir.proofs.Scoped.{in-itself}
 use Rattle.place_ir.proofs.Slotted.{first-fits}
 use Rattle.place_ir.proofs.Sound.{Each, each-append, Sound, sound-points, place_ok, uses_among}
-use Rattle.place_ir.proofs.Spilled.{sort_param, param_vars}
 use Rattle.bank_prog.specs.declared.column.Bank.{Bank}
 use Rattle.bank_prog.specs.declared.column.Bank.TheVariants.{A, B, M, T, L, A15, W}
 use Rattle.bank_prog.specs.declared.column.Column.{Column}
@@ -30,9 +24,10 @@ use Rattle.bank_prog.specs.Program.{number_of}
 use Rattle.bank_prog.specs.Rows.{at_most, covers, exactly_one, homes, banks, def, home, stay, srv, srv_from, srv_at, dir, ear, early, is_parameter, is_written, parameter_choice, result_choice, access_choice, use_choice, served_home, use_stay, use_cover, in_register, fill, word_from_register, copy_lines, copy_cover, at_home, argument_lines, argument_cover}
 use Rattle.bank_prog.proofs.Present.{contains-beginning, first-there, srv-there}
 use Rattle.nova_back.specs.inner.Paired.{is_second, serves_a, serves_b, serves, paired}
-use Rattle.nova_back.proofs.PairedOn.{IsPaired, off, put, is_operand, first-use, not-both, count-off, count-none, first-most, first-one, each-any, use-at, point-sound, used-value, is-used, home-most, home-a-some, home-b-most, home-b-some, home-m-none, put-a}
+use Rattle.nova_back.proofs.PairedOn.{IsPaired, off, put, is_operand, first-use, not-both, count-off, count-none, first-most, first-one, each-any, used-value, is-used, home-most, home-a-some, home-b-most, home-b-some, home-m-none, put-a}
 use Rattle.reg_assign.specs.inner.Facts.{count}
 use Rattle.reg_assign.proofs.ChosenHolds.{most-holds, covers-hold, one-holds, flat-each, map-each, if-each, unsaid}
+use Rattle.reg_assign.proofs.ChosenSource.{argument-value}
 use Rattle.reg_assign.proofs.Counts.{In, contained-in, each-in, count-append, some-counted}
 use Rattle.reg_assign.proofs.FactsPoints.{le-test}
 
@@ -241,77 +236,6 @@ copies-lines labels on v g i =
 
 -- ---- arguments
 
--- the word for a parameter is one for a parameter that is there
-abbrev IsRoleIn : List Label → List ℕ → Role → Type 0
-IsRoleIn labels P Operand = Unit {0}
-IsRoleIn labels P Address = Unit {0}
-IsRoleIn labels P (Written m j) = Unit {0}
-IsRoleIn labels P (Argument l j) = is_in (parameter labels l j) P ≡ true
-IsRoleIn labels P (Ending j) = Unit {0}
-
-param-in : (xs : List ℕ) (i : ℕ) → i < length xs → is_in (param_at (slice_get xs i)) xs ≡ true
-param-in [] i l = absurd (omega arith)
-param-in (x ∷ xs) zero l = or_left (nat_eq x x) (is_in x xs) (in-itself x)
-param-in (x ∷ xs) (suc i) l = or_right (nat_eq (param_at (slice_get xs i)) x) (is_in (param_at (slice_get xs i)) xs) (param-in xs i (omega arith))
-
-label-param-in : (P : List ℕ) (n i : ℕ) (o : Option Label) → ((l : Label) → o ≡ Some l → Within l.params P) → takes_as_many n o ≡ true → i < n → is_in (label_param o i) P ≡ true
-label-param-in P n i (Some l) h e b = let same = same-number (length l.params) n e in h l refl (param_at (slice_get l.params i)) (param-in l.params i (omega arith))
-label-param-in P n i None h e b = absurd (false≢true e)
-
-written-in : (labels : List Label) (P : List ℕ) (m : Mem) (i : ℕ) (xs : List ℕ) → Each (IsRoleIn labels P) (roles (Written m) i xs)
-written-in labels P m i [] = tt
-written-in labels P m i (x ∷ xs) = (tt, written-in labels P m (suc i) xs)
-
-ending-in : (labels : List Label) (P : List ℕ) (i : ℕ) (xs : List ℕ) → Each (IsRoleIn labels P) (roles Ending i xs)
-ending-in labels P i [] = tt
-ending-in labels P i (x ∷ xs) = (tt, ending-in labels P (suc i) xs)
-
-arguments-in : (labels : List Label) (P : List ℕ) (l n i : ℕ) (xs : List ℕ) → ((m : Label) → slice_get labels l ≡ Some m → Within m.params P) → takes_as_many n (slice_get labels l) ≡ true → i + length xs ≤ n → Each (IsRoleIn labels P) (roles (Argument l) i xs)
-arguments-in labels P l n i [] g e b = tt
-arguments-in labels P l n i (x ∷ xs) g e b = (label-param-in P n i (slice_get labels l) g e (omega arith), arguments-in labels P l n (suc i) xs g e (omega arith))
-
-roles-in : (labels : List Label) (P : List ℕ) (q : Place) → ((l : ℕ) (m : Label) → slice_get labels l ≡ Some m → Within m.params P) → place_ok labels q ≡ true → Each (IsRoleIn labels P) (place_roles q)
-roles-in labels P (Entry l ps) g e = tt
-roles-in labels P (At (Does (Lit x v))) g e = tt
-roles-in labels P (At (Does (Una x op y))) g e = (tt, tt)
-roles-in labels P (At (Does (Bin x op y z))) g e = (tt, (tt, tt))
-roles-in labels P (At (Does (Clone xs y))) g e = tt
-roles-in labels P (At (Does (Read m xs y))) g e = (tt, tt)
-roles-in labels P (At (Does (Write m y xs))) g e = (tt, written-in labels P m 0 xs)
-roles-in labels P (At (Forks c x y)) g e = (tt, (tt, tt))
-roles-in labels P (At (Ends (Jump l xs))) g e = arguments-in labels P l (length xs) 0 xs (g l) (and_parts (nat_le 1 l) (takes_as_many (length xs) (slice_get labels l)) e).1 (omega arith)
-roles-in labels P (At (Ends (Halt n xs))) g e = ending-in labels P 0 xs
-
-role-in : (u : Use) (k i : ℕ) (xs : List ℕ) (rs : List Role) → In u (uses_at k i xs rs) → In u.role rs
-role-in u k i [] rs h = absurd h
-role-in u k i (x ∷ xs) [] h = absurd h
-role-in u k i (x ∷ xs) (r ∷ rs) h = ⊎_elim
-    (λ (e : ◌≡◌ {A = Use} (record { point = k; operand = i; value = x; role = r }) u). inl (ap (λ (z : Use). z.role) e))
-    (λ (j : In u (uses_at k (suc i) xs rs)). inr (role-in u k (suc i) xs rs j))
-    h
-
--- a parameter among the values
-param-value : (vs : List Value) (x : ℕ) → is_in x (param_vars vs) ≡ true → (v : Value) × In v vs × (v.var ≡ x) × (is_fetched v.sort ≡ false)
-param-value [] x e = absurd (false≢true e)
-param-value (v ∷ vs) x e = by v.sort refl e (λ f. param-value vs x f)
-  where
-    by : (s : Sort) → v.sort ≡ s → is_in x (sort_param s v.var ++ param_vars vs) ≡ true → (is_in x (param_vars vs) ≡ true → (w : Value) × In w vs × (w.var ≡ x) × (is_fetched w.sort ≡ false))
-        → (w : Value) × In w (v ∷ vs) × (w.var ≡ x) × (is_fetched w.sort ≡ false)
-    by (Parameter l i) t f more = ⊎_elim
-        (λ (a : nat_eq x v.var ≡ true). (v, inl refl, sym (same-number x v.var a), ap is_fetched t))
-        (λ (b : is_in x (param_vars vs) ≡ true). let w = more b in (w.0, inr w.1, w.2, w.3))
-        (or_cases (nat_eq x v.var) (is_in x (param_vars vs)) f)
-    by Result t f more = let w = more f in (w.0, inr w.1, w.2, w.3)
-    by (Fetched m i) t f more = let w = more f in (w.0, inr w.1, w.2, w.3)
-
-argument-value : (labels : List Label) (u : Use) (l j : ℕ) → single labels ≡ true → In u (uses labels) → u.role ≡ Argument l j → (v : Value) × In v (values labels) × (v.var ≡ parameter labels l j) × (is_fetched v.sort ≡ false)
-argument-value labels u l j s i e =
-    let w = use-at labels u i in
-    let P = param_vars (values labels) in
-    let here = roles-in labels P w.0.place (λ m d f. label-entry P 0 labels (entries-in 0 (points labels)) m d f) (point-sound labels u.point w.0 s w.1).node in
-    let mine = each-in (IsRoleIn labels P) u.role (place_roles w.0.place) here (role-in u u.point 0 w.0.uses (place_roles w.0.place) w.2) in
-    param-value (values labels) (parameter labels l j) (subst (IsRoleIn labels P) e mine)
-
 pub at-a : (labels : List Label) (on : Chosen) (k i : ℕ) → IsPaired labels on → count on (srv_at k i A) ≤ 1
 at-a labels on k i g =
     first-most on (Srv k i A A) (map (λ h. Srv k i h A) (B ∷ M ∷ T ∷ L ∷ A15 ∷ W ∷ []))
@@ -338,7 +262,7 @@ arguments-of labels on u (Argument l j) g i e =
     let k = u.point in
     let o = u.operand in
     let w = argument-value labels u l j g.form i e in
-    let here : on (Def y A) ≡ true = subst (λ z. on (Def z A) ≡ true) w.2 (put-a labels on w.0 g w.1 w.3) in
+    let here : on (Def y A) ≡ true = subst (λ z. on (Def z A) ≡ true) w.2 (put-a labels on w.0 g w.1 (parameter-plain w.0.sort w.3)) in
     let a = some-counted on (Def y A) (at_home y A) (inl refl) here in
     let b = at-a labels on k o g in
     let f = first-use labels u i (ap is_operand e) in (
