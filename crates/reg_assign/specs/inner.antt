@@ -1,2 +1,4 @@
 pub mod Facts
 pub mod ReadOff
+pub mod Reading
+pub mod Given

@@ -3,6 +3,13 @@
 
 mod assigned;
 mod chosen;
+mod columns;
+mod given;
+mod homes;
+mod numbers;
+mod places;
+mod reading;
+mod serves;
 
 pub use assigned::assign;
 pub use chosen::from_placement;
