@@ -27,3 +27,11 @@ impl From<NoMemory> for BackError {
         BackError::NoMemory
     }
 }
+
+impl From<zo_model::NoMemory> for BackError {
+    ghost from_gives = { λ _ e. e ≡ WantOfMemory };
+
+    fn from(_error: zo_model::NoMemory) -> BackError {
+        BackError::NoMemory
+    }
+}

@@ -1,9 +1,14 @@
 //! The back end: from the single-use form to code, with banks chosen by a 0-1 program.
 #![tactic(auto)]
 
-mod back;
+mod built;
+mod choice;
 mod error;
 mod paired;
+mod search;
+mod start;
+#[cfg(test)]
+mod tests;
 
-pub use back::{Built, back};
+pub use built::{Built, back};
 pub use error::BackError;

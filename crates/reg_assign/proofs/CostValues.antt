@@ -96,7 +96,7 @@ words-price on (u ∷ us) h = by (words-price on us h.1) (goes_early on u) refl
 
 -- ---- copies into banks
 
-copied-append : (a b : List Place) → all_copied_cost (a ++ b) ≡ all_copied_cost a + all_copied_cost b
+pub copied-append : (a b : List Place) → all_copied_cost (a ++ b) ≡ all_copied_cost a + all_copied_cost b
 copied-append [] b = omega arith
 copied-append (q ∷ a) b = let ih = copied-append a b in omega (arith, ih)
 
@@ -340,7 +340,7 @@ sorted-price labels on numbers v Result e f g h = by (is_used labels v.var)
 sorted-price labels on numbers v (Fetched m i) e f g h = fetched-price labels on numbers v m i (place.Slot 0) f g e
 
 -- a value without a home costs nothing
-missing : (hs : List Home) (x : ℕ) → is_in x (map (λ h. h.var) hs) ≡ false → all_copied_cost (home_in hs x).copied ≡ 0
+pub missing : (hs : List Home) (x : ℕ) → is_in x (map (λ h. h.var) hs) ≡ false → all_copied_cost (home_in hs x).copied ≡ 0
 missing [] x e = refl
 missing (h ∷ hs) x e = by (nat_eq x h.var) (nat_eq h.var x) refl refl (is_in x (map (λ h. h.var) hs)) refl e (λ n. missing hs x n)
   where
@@ -350,7 +350,7 @@ missing (h ∷ hs) x e = by (nat_eq x h.var) (nat_eq h.var x) refl refl (is_in x
     by false true p q false r n f = absurd (false≢true (sym p ∙ subst (λ y. nat_eq x y ≡ true) (sym (same-number h.var x q)) (in-itself x)))
     by false false p q false r n f = f r
 
-vars-in : (x : ℕ) (vs : List Value) → is_in x (map (λ v. v.var) vs) ≡ true → (v : Value) × In v vs × (v.var ≡ x)
+pub vars-in : (x : ℕ) (vs : List Value) → is_in x (map (λ v. v.var) vs) ≡ true → (v : Value) × In v vs × (v.var ≡ x)
 vars-in x [] e = absurd (false≢true e)
 vars-in x (v ∷ vs) e = ⊎_elim
     (λ (f : nat_eq x v.var ≡ true). (v, inl refl, sym (same-number x v.var f)))

@@ -14,6 +14,7 @@ use Rattle.zo_model.specs.Program.{vector, costs_of}
 use Rattle.bank_prog.specs.Columns.{priced, costs}
 use Rattle.bank_prog.specs.Meaning.{on, named_cost, IsFeasible}
 use Rattle.bank_prog.proofs.LawsColumns.{on-there}
+use Rattle.bank_prog.proofs.LawsCost.{costs-by-name}
 use Rattle.bank_prog.proofs.FormLemmas.{if-ok}
 use Rattle.reg_assign.specs.declared.given.Given.{Given}
 use Rattle.reg_assign.specs.declared.numbers.BankNumbers.{BankNumbers}
@@ -23,6 +24,7 @@ use Rattle.reg_assign.specs.inner.ReadOff.{Numbers, AreNumbered, read_off}
 use Rattle.reg_assign.specs.inner.Given.{labels_in, says_in, numbers_in}
 use Rattle.reg_assign.specs.inner.Reading.{labels_of, says, numbers_of, IsReadOff}
 use Rattle.reg_assign.proofs.CostAll.{plan-cost}
+use Rattle.reg_assign.proofs.FitAll.{read-off-fits}
 
 -- what is promised of the placement of a vector
 pub record IsAssigned (labels : List Label) (n : ℕ) (v : ℕ → Bool) (p : Placement) : Type 0 where
@@ -37,9 +39,9 @@ read-assigned labels n v numbers p form few rows numbered r =
     let only : OnlyThere labels (on labels v) = λ c e. on-there labels v c e in
     let paid = plan-cost labels n (on labels v) numbers hs form only rows r.homes in
     let same : cost labels (plan_view p) ≡ cost labels (read_off labels n (on labels v) numbers hs) = ap (cost labels) r.same in
-    let law : costs_of (costs labels) v ≡ named_cost (on labels v) (priced labels) = ? in
+    let law : costs_of (costs labels) v ≡ named_cost (on labels v) (priced labels) = costs-by-name labels v form in
     record {
-      fits = subst (λ (q : Plan). Fits labels q) (sym r.same) ?;
+      fits = subst (λ (q : Plan). Fits labels q) (sym r.same) (read-off-fits labels n (on labels v) numbers hs form few only rows r.homes numbered);
       slots = ap (λ (q : Plan). q.slots) r.same;
       paid = omega arith;
     }

@@ -2,3 +2,4 @@ pub mod Facts
 pub mod ReadOff
 pub mod Reading
 pub mod Given
+pub mod Chosen

@@ -3,9 +3,11 @@
 
 mod assigned;
 mod chosen;
+mod chosen_laws;
 mod columns;
 mod given;
 mod homes;
+mod laws;
 mod numbers;
 mod places;
 mod reading;

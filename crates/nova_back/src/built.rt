@@ -1,20 +1,27 @@
 // Code whose banks are chosen by the 0-1 program.
 
-ghost use Rattle.std.specs.Prelude.{◌≡◌, ◌≤◌, ◌+◌, ◌*◌, ◌^◌, ◌⊎◌, ℕ, true, length, IfOk, IfErr, MatchResult};
-ghost use Rattle.ssu_ir.specs.Measures.{peak};
+ghost use Rattle.std.specs.Prelude.{◌≡◌, ◌≤◌, ◌+◌, ◌*◌, ◌^◌, ◌⊎◌, ℕ, [], true, length, IfOk, IfErr, MatchResult};
+ghost use Rattle.ssu_ir.specs.Measures.{code_bound, peak};
 ghost use Rattle.ssu_ir.specs.Single.{single};
 ghost use Rattle.ssu_ir.specs.View.{labels_view};
 ghost use Rattle.place_ir.specs.Uses.{values, uses};
-ghost use Rattle.bank_prog.specs.Columns.{columns};
+ghost use Rattle.zo_model.specs.Program.{costs_of, vector};
+ghost use Rattle.bank_prog.specs.Columns.{columns, costs};
 ghost use Rattle.bank_prog.specs.Program.{rows, IsTooLarge};
 ghost use Rattle.uc_isa.specs.Moves.{moves};
 ghost use Rattle.nova_back.specs.Causes.{IsCodeOf, IsReportOn, HasVector, IsCause, report_cost};
+ghost use Rattle.nova_back.specs.inner.Search.{IsChoice};
 
+use crate::choice::choice_of;
 use crate::error::BackError;
+use nv_base::NoMemory;
+use reg_assign::assign;
 use ssu_ir::Ssu;
 use std::alloc::Global;
 use uc_isa::Code;
+use ucode_emit::emit;
 use zo_cert::Report;
+use zo_model::Assignment;
 
 /// A form in single use, the report on its banks, and its code.
 #[derive(Drop)]
@@ -25,19 +32,30 @@ pub struct Built {
     pub code: Code,
 }
 
+/// The code of a form whose values stand where a choice of banks has them.
+#[tactic(none)]
+fn code_of(alloc: Global, s: &Ssu, slots: u32, x: &Assignment) -> Result<Code, NoMemory>
+    requires single { single (labels_view s.now) ≡ true }
+    requires slots { slots ≤ 128 }
+    requires choice { IsChoice (labels_view s.now) slots x.now }
+    requires few { length (columns (labels_view s.now)) ≤ 2 ^ 26 }
+    requires few_rows { length (rows (labels_view s.now) slots) ≤ 2 ^ 26 }
+    ensures code { IfOk result (IsCodeOf (labels_view s.now)) }
+    ensures light { IfOk result (λ c. moves c.list [] [] ≤ costs_of (costs (labels_view s.now)) (vector x.now.on.items)) }
+    ensures short { IfOk result (λ c. length c.list ≤ code_bound (labels_view s.now)) }
+{
+    let placement = assign(alloc, s, slots, x)?;
+    emit(alloc, s, &placement)
+}
+
 /// The code of a form in single use, of at most `store` instructions, with each value in the banks that the 0-1 program
 /// of the form and `slots` spill slots chooses in a search of at most `budget` branches.
 ///
 /// # Errors
 ///
 /// The size of the program is looked at first, then whether the search found a choice, and last how long the code is.
-pub fn back(
-    alloc: Global,
-    s: Ssu,
-    slots: u32,
-    budget: u32,
-    store: u32,
-) -> Result<Built, BackError>
+#[tactic(none)]
+pub fn back(alloc: Global, s: Ssu, slots: u32, budget: u32, store: u32) -> Result<Built, BackError>
     requires single { single (labels_view s) ≡ true }
     requires slots { slots ≤ 128 }
     requires some { 1 ≤ budget }
@@ -56,5 +74,15 @@ pub fn back(
     ensures refused { IfErr result (λ e. (e ≡ BackError.NoMemory) ⊎ IsCause (labels_view s) slots budget store e) }
     ensures only_large { (n : ℕ) → IsTooLarge (labels_view s) slots n → MatchResult result (λ _. ⊥) (λ e. (e ≡ BackError.NoMemory) ⊎ (e ≡ BackError.TooLarge n)) }
 {
-    Err(BackError::NoMemory)
+    let report = choice_of(alloc, &s, slots, budget)?;
+    let code = code_of(alloc, &s, slots, &report.x)?;
+    let instructions = code.list().len();
+    if instructions > store as usize {
+        return Err(BackError::StoreFull(instructions as u32));
+    }
+    Ok(Built {
+        ssu: s,
+        report,
+        code,
+    })
 }

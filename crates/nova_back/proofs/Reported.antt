@@ -1,0 +1,164 @@
+-- What the report of a search says of the form whose program was searched.
+use Rattle.std.proofs.Common.{◌≡◌, ℕ, ◌+◌, ◌-◌, ◌^◌, ◌≤◌, List, Option, Some, None, length, sym, ap, subst, ◌∙◌, Result, Ok, Err, IfOk, IfSome, arith}
+use Rattle.std.proofs.lemmas.List.{length-map}
+use Rattle.ssu_ir.specs.Measures.{peak}
+use Rattle.ssu_ir.specs.Tree.{Label}
+use Rattle.zo_model.specs.Contents.{contents}
+use Rattle.zo_model.specs.Program.{Feasible as Meeting, cost_of, costs_of, vector}
+use Rattle.zo_model.specs.Program as zero_one
+use Rattle.zo_model.specs.declared.program.Assignment.{Assignment}
+use Rattle.zo_model.specs.declared.program.ZeroOne.{ZeroOne}
+use Rattle.zo_cert.specs.Certificate.{IsTreeWith, branches}
+use Rattle.zo_cert.specs.Report.{IsValidReport, IsTrueReport, VerdictHolds}
+use Rattle.zo_cert.specs.Searched.{IsSearched}
+use Rattle.zo_cert.specs.declared.cert.Claim.TheVariants.{Least}
+use Rattle.zo_cert.specs.declared.report.Report.{Report}
+use Rattle.zo_cert.specs.declared.report.Verdict.{Verdict}
+use Rattle.zo_cert.specs.declared.report.Verdict.TheVariants.{Optimal, Feasible, Infeasible, Spent}
+use Rattle.zo_solve.specs.Reported.{IsReportOf, verdict_of}
+use Rattle.zo_solve.specs.Solved as solved
+use Rattle.zo_solve.specs.Solved.{CostsAtMost, HadNoStart, IsDecided, OfVector, tree_of}
+use Rattle.zo_solve.specs.Vector.{IsVector, cost_at, start_cost}
+use Rattle.zo_solve.specs.declared.search.Solved.{Solved}
+use Rattle.zo_solve.specs.declared.search.Solved.TheVariants as answers
+use Rattle.bank_prog.specs.Columns.{columns, costs, priced}
+use Rattle.bank_prog.specs.Program.{bank_program}
+use Rattle.bank_prog.proofs.LawsRows.{feasible-by-name}
+use Rattle.nova_back.specs.Causes.{HasVector, IsEnded, IsReportOn, IsWithout, claim_of, report_cost}
+use Rattle.nova_back.specs.inner.Search.{IsChoice, IsCrowded, IsStart, IsCheap, HadNone, IsNoDearer, IsFound, copies_cost}
+
+-- ---- from an answer to its report
+
+claim-same : (z : ZeroOne) (s : Solved) (slots budget : ℕ) (r : Report) → IsReportOf z s slots budget r → claim_of r.verdict r ≡ solved.claim_of z s
+claim-same z (answers.Optimal x c) slots budget r h =
+    ap (λ v. claim_of v r) h.verdict_is ∙ ap (λ w. Least (cost_of w (vector r.x.on.items))) h.program ∙ ap (λ y. Least (cost_of z (vector y.on.items))) h.vector
+claim-same z (answers.Feasible x c) slots budget r h =
+    ap (λ v. claim_of v r) h.verdict_is ∙ ap (λ w. Least (cost_of w (vector r.x.on.items))) h.program ∙ ap (λ y. Least (cost_of z (vector y.on.items))) h.vector
+claim-same z (answers.Infeasible c) slots budget r h = ap (λ v. claim_of v r) h.verdict_is
+claim-same z (answers.Spent c) slots budget r h = ap (λ v. claim_of v r) h.verdict_is
+
+pub searched-for : (z : ZeroOne) (s : Solved) (slots budget : ℕ) (r : Report) → IsReportOf z s slots budget r → IsTreeWith (IsSearched z (solved.claim_of z s)) (tree_of s)
+    → IsTreeWith (IsSearched r.z (claim_of r.verdict r)) r.tree
+searched-for z s slots budget r h t =
+    subst (λ c. IsTreeWith (IsSearched r.z (claim_of r.verdict r)) c) (sym h.tree_is)
+    (subst (λ w. IsTreeWith (IsSearched w (claim_of r.verdict r)) (tree_of s)) (sym h.program)
+    (subst (λ k. IsTreeWith (IsSearched z k) (tree_of s)) (sym (claim-same z s slots budget r h)) t))
+
+decided-ends : (s : Solved) → IsDecided s → IsEnded (verdict_of s)
+decided-ends (answers.Optimal x c) h = tt
+decided-ends (answers.Feasible x c) h = h
+decided-ends (answers.Infeasible c) h = tt
+decided-ends (answers.Spent c) h = h
+
+pub ends-so : (z : ZeroOne) (s : Solved) (slots budget : ℕ) (r : Report) → IsReportOf z s slots budget r → (2 ^ (zero_one.columns z + 1) - 1 ≤ budget → IsDecided s) → 2 ^ (zero_one.columns r.z + 1) - 1 ≤ budget → IsEnded r.verdict
+ends-so z s slots budget r h d few = subst IsEnded (sym h.verdict_is) (decided-ends s (d (subst (λ w. 2 ^ (zero_one.columns w + 1) - 1 ≤ budget) h.program few)))
+
+none-had : (start : Option Assignment) (s : Solved) → HadNoStart start s → HadNone start (verdict_of s)
+none-had start (answers.Optimal x c) h = tt
+none-had start (answers.Feasible x c) h = tt
+none-had start (answers.Infeasible c) h = h
+none-had start (answers.Spent c) h = h
+
+pub had-none : (z : ZeroOne) (start : Option Assignment) (s : Solved) (slots budget : ℕ) (r : Report) → IsReportOf z s slots budget r → HadNoStart start s → HadNone start r.verdict
+had-none z start s slots budget r h g = subst (HadNone start) (sym h.verdict_is) (none-had start s g)
+
+cost-same : (z : ZeroOne) (x : Assignment) (r : Report) → r.z ≡ z → r.x ≡ x → report_cost r ≡ cost_at z x
+cost-same z x r e f = ap (λ w. cost_of w (vector r.x.on.items)) e ∙ ap (λ y. cost_of z (vector y.on.items)) f
+
+pub no-dearer : (z : ZeroOne) (start : Option Assignment) (s : Solved) (slots budget : ℕ) (r : Report) → IsReportOf z s slots budget r → OfVector (λ x. CostsAtMost (cost_at z x) (start_cost z start)) s → IsNoDearer z start r.verdict r
+no-dearer z start (answers.Optimal x c) slots budget r h g =
+    subst (λ v. IsNoDearer z start v r) (sym h.verdict_is) (subst (λ n. CostsAtMost n (start_cost z start)) (sym (cost-same z x r h.program h.vector)) g)
+no-dearer z start (answers.Feasible x c) slots budget r h g =
+    subst (λ v. IsNoDearer z start v r) (sym h.verdict_is) (subst (λ n. CostsAtMost n (start_cost z start)) (sym (cost-same z x r h.program h.vector)) g)
+no-dearer z start (answers.Infeasible c) slots budget r h g = subst (λ v. IsNoDearer z start v r) (sym h.verdict_is) tt
+no-dearer z start (answers.Spent c) slots budget r h g = subst (λ v. IsNoDearer z start v r) (sym h.verdict_is) tt
+
+pub found-report : {E : Type 0} (z : ZeroOne) (start : Option Assignment) (s : Solved) (slots budget : ℕ) (result : Result Report E) → IfOk result IsValidReport → IfOk result IsTrueReport → IfOk result (IsReportOf z s slots budget)
+    → IsTreeWith (IsSearched z (solved.claim_of z s)) (tree_of s) → branches (tree_of s).nodes.items ≤ budget → (2 ^ (zero_one.columns z + 1) - 1 ≤ budget → IsDecided s) → HadNoStart start s
+    → OfVector (λ x. CostsAtMost (cost_at z x) (start_cost z start)) s → IfOk result (IsFound z start slots budget)
+found-report z start s slots budget (Ok r) valid holds says tree within decided none dearer = record {
+  valid = valid;
+  holds = holds;
+  program = says.program;
+  slots_are = says.slots_are;
+  budget_is = says.budget_is;
+  searched = searched-for z s slots budget r says tree;
+  within_budget = subst (λ c. branches c.nodes.items ≤ budget) (sym says.tree_is) within;
+  ended = ends-so z s slots budget r says decided;
+  had_none = had-none z start s slots budget r says none;
+  no_dearer = no-dearer z start s slots budget r says dearer;
+}
+found-report z start s slots budget (Err e) valid holds says tree within decided none dearer = tt
+
+-- ---- from a choice to a vector of the program
+
+columns-same : (z : ZeroOne) (labels : List Label) (slots : ℕ) → contents z ≡ bank_program labels slots → zero_one.columns z ≡ length (columns labels)
+columns-same z labels slots e = ap (λ c. length c.costs) e ∙ length-map (priced labels) (λ c. c.1) ∙ sym (length-map (priced labels) (λ c. c.0))
+
+pub choice-vector : (z : ZeroOne) (labels : List Label) (slots : ℕ) (start : Option Assignment) → contents z ≡ bank_program labels slots → IsStart labels slots start → IfSome start (IsVector z)
+choice-vector z labels slots None e h = tt
+choice-vector z labels slots (Some x) e h = record {
+  one_a_column = h.one_a_column ∙ sym (columns-same z labels slots e);
+  feasible = (feasible-by-name z labels slots (vector x.on.items) e).1 h.feasible;
+}
+
+-- ---- from the report of a search to what it says of the form
+
+found-contents : (z : ZeroOne) (labels : List Label) (start : Option Assignment) (slots budget : ℕ) (r : Report) → contents z ≡ bank_program labels slots → IsFound z start slots budget r → contents r.z ≡ bank_program labels slots
+found-contents z labels start slots budget r e f = ap contents f.program ∙ e
+
+pub report-on : (z : ZeroOne) (labels : List Label) (start : Option Assignment) (slots budget : ℕ) (r : Report) → contents z ≡ bank_program labels slots → IsFound z start slots budget r → IsReportOn labels slots budget r
+report-on z labels start slots budget r e f = record {
+  valid = f.valid;
+  holds = f.holds;
+  program = found-contents z labels start slots budget r e f;
+  slots_are = f.slots_are;
+  budget_is = f.budget_is;
+  searched = f.searched;
+  within_budget = f.within_budget;
+  ended = f.ended;
+}
+
+vector-meets : (v : Verdict) (r : Report) → HasVector v → VerdictHolds v r → Meeting r.z (vector r.x.on.items)
+vector-meets Optimal r g h = h.0
+vector-meets Feasible r g h = h.0
+vector-meets Infeasible r g h = absurd g
+vector-meets Spent r g h = absurd g
+
+pub choice-of-report : (labels : List Label) (slots budget : ℕ) (r : Report) → IsReportOn labels slots budget r → HasVector r.verdict → IsChoice labels slots r.x
+choice-of-report labels slots budget r h g = record {
+  one_a_column = h.valid.one_a_column ∙ columns-same r.z labels slots h.program;
+  feasible = (feasible-by-name r.z labels slots (vector r.x.on.items) h.program).0 (vector-meets r.verdict r g h.holds.verdict_holds);
+}
+
+pub cost-of-report : (labels : List Label) (slots budget : ℕ) (r : Report) → IsReportOn labels slots budget r → report_cost r ≡ costs_of (costs labels) (vector r.x.on.items)
+cost-of-report labels slots budget r h = ap (λ c. costs_of c.costs (vector r.x.on.items)) h.program
+
+at-most-start : (z : ZeroOne) (start : Option Assignment) (v : Verdict) (r : Report) → HasVector v → IsNoDearer z start v r → CostsAtMost (report_cost r) (start_cost z start)
+at-most-start z start Optimal r g h = h
+at-most-start z start Feasible r g h = h
+at-most-start z start Infeasible r g h = absurd g
+at-most-start z start Spent r g h = absurd g
+
+cheap-start : (z : ZeroOne) (labels : List Label) (slots n : ℕ) (start : Option Assignment) → contents z ≡ bank_program labels slots → IsStart labels slots start → peak labels ≤ 15 → IsCheap labels start → CostsAtMost n (start_cost z start) → n ≤ copies_cost labels
+cheap-start z labels slots n None e s p c m = absurd (omega (arith, s.over_bank, p))
+cheap-start z labels slots n (Some x) e s p c m = omega (arith, m, ap (λ k. costs_of k.costs (vector x.on.items)) e, c)
+
+pub cheap-report : (z : ZeroOne) (labels : List Label) (start : Option Assignment) (slots budget : ℕ) (r : Report) → contents z ≡ bank_program labels slots → IsStart labels slots start → IsFound z start slots budget r → HasVector r.verdict
+    → peak labels ≤ 15 → IsCheap labels start → report_cost r ≤ copies_cost labels
+cheap-report z labels start slots budget r e s f g p c = cheap-start z labels slots (report_cost r) start e s p c (at-most-start z start r.verdict r g f.no_dearer)
+
+crowded : (labels : List Label) (slots : ℕ) (start : Option Assignment) → start ≡ None → IsStart labels slots start → IsCrowded labels slots
+crowded labels slots start e s = subst (IsStart labels slots) e s
+
+without : (z : ZeroOne) (labels : List Label) (start : Option Assignment) (slots budget : ℕ) (v : Verdict) (r : Report) → contents z ≡ bank_program labels slots → IsStart labels slots start → IsFound z start slots budget r → r.verdict ≡ v → start ≡ None
+    → IsWithout labels slots budget v r
+without z labels start slots budget v r e s f is none =
+    let w = crowded labels slots start none s in
+    record { report = report-on z labels start slots budget r e f; says = is; over_bank = w.over_bank; over_slots = w.over_slots }
+
+pub infeasible : (z : ZeroOne) (labels : List Label) (start : Option Assignment) (slots budget : ℕ) (r : Report) → contents z ≡ bank_program labels slots → IsStart labels slots start → IsFound z start slots budget r → r.verdict ≡ Infeasible → IsWithout labels slots budget Infeasible r
+infeasible z labels start slots budget r e s f is = without z labels start slots budget Infeasible r e s f is (subst (HadNone start) is f.had_none)
+
+pub spent : (z : ZeroOne) (labels : List Label) (start : Option Assignment) (slots budget : ℕ) (r : Report) → contents z ≡ bank_program labels slots → IsStart labels slots start → IsFound z start slots budget r → r.verdict ≡ Spent → IsWithout labels slots budget Spent r
+spent z labels start slots budget r e s f is = without z labels start slots budget Spent r e s f is (subst (HadNone start) is f.had_none)

@@ -1,0 +1,75 @@
+-- What the steps of the back end hand on: a vector to begin the search with, and the report of the search.
+use Rattle.std.specs.Prelude.{◌≡◌, ◌≤◌, ◌<◌, ◌+◌, ◌-◌, ◌*◌, ◌^◌, ℕ, List, Option, Some, None, length, ⊤}
+use Rattle.ssu_ir.specs.Measures.{peak}
+use Rattle.ssu_ir.specs.Tree.{Label}
+use Rattle.place_ir.specs.Uses.{values, uses}
+use Rattle.zo_model.specs.Program.{costs_of, vector}
+use Rattle.zo_model.specs.Program as zero_one
+use Rattle.zo_model.specs.declared.program.Assignment.{Assignment}
+use Rattle.zo_model.specs.declared.program.ZeroOne.{ZeroOne}
+use Rattle.zo_cert.specs.Certificate.{IsTreeWith, branches}
+use Rattle.zo_cert.specs.Report.{IsValidReport, IsTrueReport}
+use Rattle.zo_cert.specs.Searched.{IsSearched}
+use Rattle.zo_cert.specs.declared.report.Report.{Report}
+use Rattle.zo_cert.specs.declared.report.Verdict.{Verdict}
+use Rattle.zo_cert.specs.declared.report.Verdict.TheVariants.{Optimal, Feasible, Infeasible, Spent}
+use Rattle.zo_solve.specs.Solved.{CostsAtMost}
+use Rattle.zo_solve.specs.Vector.{start_cost}
+use Rattle.bank_prog.specs.Columns.{columns, costs}
+use Rattle.bank_prog.specs.Meaning.{IsFeasible}
+use Rattle.nova_back.specs.Causes.{IsEnded, claim_of, report_cost}
+
+-- ---- where a search begins
+
+-- one place for each column, and the vector meets the rows
+pub record IsChoice (labels : List Label) (slots : ℕ) (x : Assignment) : Type 0 where
+  pub one_a_column : length x.on.items ≡ length (columns labels)
+  pub feasible : IsFeasible labels slots (vector x.on.items)
+
+-- at some point more values are held than fit a bank, and more than fit the slots
+pub record IsCrowded (labels : List Label) (slots : ℕ) : Type 0 where
+  pub over_bank : 15 < peak labels
+  pub over_slots : slots < peak labels
+
+-- a choice to begin with; there is none only where the form is crowded
+abbrev pub IsStart : List Label → ℕ → Option Assignment → Type 0
+IsStart labels slots (Some x) = IsChoice labels slots x
+IsStart labels slots None = IsCrowded labels slots
+
+-- two copies a value, and one a use
+abbrev pub copies_cost : List Label → ℕ
+copies_cost labels = 2 * length (values labels) + length (uses labels)
+
+-- the choice to begin with costs at most those copies
+abbrev pub IsCheap : List Label → Option Assignment → Type 0
+IsCheap labels (Some x) = costs_of (costs labels) (vector x.on.items) ≤ copies_cost labels
+IsCheap labels None = ⊤
+
+-- ---- where it ends
+
+-- a search that was given a vector answers one
+abbrev pub HadNone : Option Assignment → Verdict → Type 0
+HadNone start Optimal = ⊤
+HadNone start Feasible = ⊤
+HadNone start Infeasible = start ≡ None
+HadNone start Spent = start ≡ None
+
+-- the report's vector is no dearer than that which the search was begun with
+abbrev pub IsNoDearer : ZeroOne → Option Assignment → Verdict → Report → Type 0
+IsNoDearer z start Optimal r = CostsAtMost (report_cost r) (start_cost z start)
+IsNoDearer z start Feasible r = CostsAtMost (report_cost r) (start_cost z start)
+IsNoDearer z start Infeasible r = ⊤
+IsNoDearer z start Spent r = ⊤
+
+-- the report of a search of this program that was begun so
+pub record IsFound (z : ZeroOne) (start : Option Assignment) (slots budget : ℕ) (r : Report) : Type 0 where
+  pub valid : IsValidReport r
+  pub holds : IsTrueReport r
+  pub program : r.z ≡ z
+  pub slots_are : r.slots ≡ slots
+  pub budget_is : r.budget ≡ budget
+  pub searched : IsTreeWith (IsSearched r.z (claim_of r.verdict r)) r.tree
+  pub within_budget : branches r.tree.nodes.items ≤ budget
+  pub ended : 2 ^ (zero_one.columns r.z + 1) - 1 ≤ budget → IsEnded r.verdict
+  pub had_none : HadNone start r.verdict
+  pub no_dearer : IsNoDearer z start r.verdict r
