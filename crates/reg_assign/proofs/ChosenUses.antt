@@ -209,12 +209,12 @@ word-begin-holds labels p on u f w g i b =
     small-covers on (First u.point f ∷ []) early (two-most on (Dir u.point u.operand f) (Ear u.point u.operand f) (not-both labels p on u f g i)) (λ h.
     let c = counted-some on early h in
     let at : f ≡ first p u.point = ⊎_elim
-    (λ (d : Dir u.point u.operand f ≡ c.0). dir-at labels p on u g i f (ap on d ∙ c.2))
-    (λ (r : In c.0 (Ear u.point u.operand f ∷ [])). ⊎_elim
-    (λ (d : Ear u.point u.operand f ≡ c.0). ear-at labels p on u g i f (ap on d ∙ c.2))
-    (λ z. absurd z)
-    r)
-    c.1 in
+        (λ (d : Dir u.point u.operand f ≡ c.0). dir-at labels p on u g i f (ap on d ∙ c.2))
+        (λ (r : In c.0 (Ear u.point u.operand f ∷ [])). ⊎_elim
+        (λ (d : Ear u.point u.operand f ≡ c.0). ear-at labels p on u g i f (ap on d ∙ c.2))
+        (λ z. absurd z)
+        r)
+        c.1 in
     some-counted on (First u.point f) (First u.point f ∷ []) (inl refl) (first-on labels p on u f w g b at))
 
 pub begin-lines : (labels : List Label) (p : Plan) (on : Chosen) (u : Use) (w : UsePoint labels u) → Placed labels p on → In u (uses labels) → Each (Holds on) (word_begins (place_words w.point.place) u)

@@ -348,7 +348,7 @@ def-comes labels p on v g u r e =
 
 pub written-lines : (labels : List Label) (p : Plan) (on : Chosen) (v : Value) (w : ValuePoint labels v) → Placed labels p on → Each (Holds on) (value_written labels v)
 written-lines labels p on v w g = if-each (Holds on) (is_used labels v.var) (slot_written v.point (Fill v.var M) ∷ result_written v) (λ u. (
-  covers-column on (map (PasS v.point) eight) (Fill v.var M) (λ e. comes-counted labels p on v w g (fill-comes labels p on v g u e)),
-  if-each (Holds on) (is_result v.sort) (slot_written v.point (Def v.var M) ∷ []) (λ r.
-      (covers-column on (map (PasS v.point) eight) (Def v.var M) (λ e. comes-counted labels p on v w g (def-comes labels p on v g u r e)), tt)),
+    covers-column on (map (PasS v.point) eight) (Fill v.var M) (λ e. comes-counted labels p on v w g (fill-comes labels p on v g u e)),
+    if-each (Holds on) (is_result v.sort) (slot_written v.point (Def v.var M) ∷ []) (λ r.
+    (covers-column on (map (PasS v.point) eight) (Def v.var M) (λ e. comes-counted labels p on v w g (def-comes labels p on v g u r e)), tt)),
 ))
