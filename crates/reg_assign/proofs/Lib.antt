@@ -28,7 +28,6 @@ pub mod Numbered
 pub mod HomesRead
 pub mod Placed
 pub mod Promised
-pub mod Pieces
 pub mod ChosenHolds
 pub mod ChosenForm
 pub mod ChosenThere

@@ -1,6 +1,6 @@
 -- The numbers of the values of each bank's rows are those that a placement asks for.
-use Rattle.std.proofs.Common.{◌≡◌, ℕ, suc, ◌+◌, ◌<◌, ◌≤◌, Bool, true, false, not, nat_eq, if◌then◌else◌, ◌||◌, ◌&&◌, ⊎_elim, Option, Some, None, List, [], ◌∷◌, ◌++◌, length, map, filter, unwrap_or, refl, sym, ap, subst, ◌∙◌, arith}
-use Rattle.std.specs.Prelude.{All, slice_get, nat_lt, Result as Outcome, Ok, Err, IfOk}
+use Rattle.std.proofs.Common.{◌≡◌, ℕ, if◌then◌else◌, suc, ◌+◌, ◌<◌, ◌≤◌, Bool, true, false, not, nat_eq, ◌||◌, ◌&&◌, ⊎_elim, Option, Some, None, List, [], ◌∷◌, length, map, filter, unwrap_or, refl, sym, ap, ◌∙◌, arith}
+use Rattle.std.specs.Prelude.{All, slice_get, Result as Outcome, Ok, Err, IfOk}
 use Rattle.std.specs.HashMap.{get}
 use Rattle.std.specs.List.{AllZip}
 use Rattle.std.specs.List.Sorted.{IsPermutation}
@@ -12,7 +12,7 @@ use Rattle.ssu_ir.specs.Tree.{Lit, Una, Bin, Clone, Read, Write, Label, Does, Fo
 use Rattle.ssu_ir.specs.Points.{Place as Spot, Entry, At, Point, points}
 use Rattle.ssu_ir.specs.Single.{single}
 use Rattle.place_ir.specs.Held.{IsRow, IsRowOf, HaveNumbers}
-use Rattle.place_ir.specs.Uses.{Sort, Parameter, Result, Fetched, Value, numbered, place_values, values_from, values, Use, uses, is_used}
+use Rattle.place_ir.specs.Uses.{Sort, Parameter, Fetched, Value, numbered, place_values, values_from, values, Use, uses, is_used}
 use Rattle.place_ir.specs.inner.Numbers.{values_among}
 use Rattle.place_ir.proofs.Scoped.{in-itself, in-filter, in-either, different-filter}
 use Rattle.place_ir.proofs.Sound.{Each, each-append, entry_params, Sound, uses_among, sound-points}
@@ -23,7 +23,7 @@ use Rattle.bank_prog.specs.declared.column.Bank.TheVariants.{A, B, M}
 use Rattle.bank_prog.specs.Rows.{homes, is_parameter}
 use Rattle.bank_prog.specs.Meaning.{Chosen}
 use Rattle.reg_assign.specs.declared.numbers.BankNumbers.{BankNumbers}
-use Rattle.reg_assign.specs.inner.Facts.{PointFacts, Facts}
+use Rattle.reg_assign.specs.inner.Facts.{Facts}
 use Rattle.reg_assign.specs.inner.ReadOff.{has_home, AreApart, is_held, IsBelow, AreNumbered, room}
 use Rattle.reg_assign.specs.inner.Reading.{number_in, numbers_of}
 

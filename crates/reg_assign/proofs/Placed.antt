@@ -1,5 +1,5 @@
 -- What the code puts together is the placement that is read off.
-use Rattle.std.proofs.Common.{◌≡◌, ℕ, suc, ◌+◌, ◌<◌, ◌≤◌, Bool, true, false, nat_eq, if◌then◌else◌, Option, Some, None, List, [], ◌∷◌, ◌++◌, length, map, drop, filter, get_or, refl, sym, ap, ◌∙◌, append_assoc}
+use Rattle.std.proofs.Common.{◌≡◌, ℕ, if◌then◌else◌, suc, ◌+◌, ◌<◌, ◌≤◌, Bool, true, false, nat_eq, Option, Some, None, List, [], ◌∷◌, ◌++◌, length, map, drop, filter, get_or, refl, sym, ap, ◌∙◌, append_assoc}
 use Rattle.std.specs.List.{flat_map}
 use Rattle.std.specs.List.Sorted.{IsPermutation, IsNonDecreasingBy}
 use Rattle.std.proofs.lemmas.List.{at_drop_more, at_drop_all, append-nil}
@@ -13,7 +13,7 @@ use Rattle.place_ir.specs.declared.place.Pass.{Pass}
 use Rattle.place_ir.specs.declared.place.Home.{Home as KeptHome}
 use Rattle.place_ir.specs.declared.place.Placement.{Placement}
 use Rattle.place_ir.specs.Held.{Kept, items_of}
-use Rattle.place_ir.specs.Plan.{Home, Plan, home_view, plan_view}
+use Rattle.place_ir.specs.Plan.{Home, Plan, home_view}
 use Rattle.place_ir.specs.Uses.{Value, values, accesses, Use, uses, uses_of}
 use Rattle.bank_prog.specs.declared.column.Bank.TheVariants.{A, B, M}
 use Rattle.bank_prog.specs.declared.form.Value.{Value as KeptValue}
@@ -22,7 +22,7 @@ use Rattle.bank_prog.specs.Meaning.{Chosen}
 use Rattle.bank_prog.specs.inner.Form.{value_view, use_view, access_view, stop_view, parts}
 use Rattle.bank_prog.proofs.Loops.{each-parts, flat-filter}
 use Rattle.reg_assign.specs.declared.given.Given.{Given}
-use Rattle.reg_assign.specs.inner.ReadOff.{Numbers, goes_early, word_place, sort_place, place_in, fill_at, fills_of, words_of, copies_of, access_first, use_serve, pass_l, pass_s, pass_by, passes_from, AreRead, read_off}
+use Rattle.reg_assign.specs.inner.ReadOff.{Numbers, goes_early, word_place, sort_place, place_in, fill_at, fills_of, copies_of, access_first, use_serve, pass_l, pass_s, pass_by, passes_from, read_off}
 use Rattle.reg_assign.specs.inner.Given.{labels_in, says_in, numbers_in}
 use Rattle.reg_assign.specs.inner.Reading.{known_place, place_noted, early_word, wanted_home, part_pass, IsReadOff}
 use Rattle.reg_assign.proofs.HomesRead.{homes-read}
@@ -79,6 +79,14 @@ map-more f view xs i d out out' goal l e h =
 
 pub map-all : {V W X : Type 0} (f : W → X) (view : V → W) (xs : List V) (i : ℕ) (out goal : List X) → length xs ≤ i → out ++ map f (map view (drop i xs)) ≡ goal → out ≡ goal
 map-all f view xs i out goal l h = sym (append-nil out) ∙ sym (at_drop_all (λ ys. out ++ map f (map view ys)) xs i l) ∙ h
+
+-- ---- accesses
+
+abbrev a_first : ℕ → ℕ → First
+a_first k f = record { point = k; first = f }
+
+pub first-same : (k f g : ℕ) → f ≡ g → a_first k f ≡ a_first k g
+first-same k f g e = ap (a_first k) e
 
 -- ---- copies
 

@@ -1,5 +1,5 @@
 -- What the code asks of a vector: the first column of a family that is on, whether a word is put early, and how a use is served.
-use Rattle.std.proofs.Common.{◌≡◌, ℕ, zero, suc, ◌+◌, ◌<◌, ◌≤◌, Bool, true, false, if◌then◌else◌, ◌||◌, ◌⊎◌, inl, inr, ⊎_elim, Option, Some, None, List, [], ◌∷◌, ◌++◌, length, map, drop, get_or, refl, sym, ap, ◌∙◌, arith}
+use Rattle.std.proofs.Common.{◌≡◌, ℕ, if◌then◌else◌, zero, suc, ◌+◌, ◌<◌, ◌≤◌, Bool, true, false, ◌||◌, ◌⊎◌, inl, inr, ⊎_elim, Option, Some, None, List, [], ◌∷◌, ◌++◌, length, map, drop, get_or, refl, sym, ap, ◌∙◌, arith}
 use Rattle.std.specs.Prelude.{is_some}
 use Rattle.std.specs.List.{list_any}
 use Rattle.std.proofs.lemmas.Bool.{false≢true}
@@ -90,9 +90,6 @@ early-written on u w =
     ∙ ap (λ b. list_any on (dir u) || b) (any-first (λ r. on (Ear u.point u.operand r)) eight ∙ any-column on (Ear u.point u.operand) eight)
     ∙ any-both on (dir u) (ear u)
     ∙ ap (λ b. list_any on (if b then dir u ++ ear u else [])) (sym w)
-
-pub early-other : (on : Chosen) (u : Use) → is_written u.role ≡ false → false ≡ goes_early on u
-early-other on u w = ap (λ b. list_any on (if b then dir u ++ ear u else [])) (sym w)
 
 -- ---- ways to serve a use
 

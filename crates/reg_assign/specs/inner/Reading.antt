@@ -1,8 +1,7 @@
 -- How the code keeps what a placement is read off from: a vector by the names of its columns, and the numbers of homes.
-use Rattle.std.specs.Prelude.{◌≡◌, ℕ, nat_eq, Bool, ◌++◌, List, [], ◌∷◌, map, filter, Option, Some, None, unwrap_or, All, if◌then◌else◌}
+use Rattle.std.specs.Prelude.{◌≡◌, ℕ, nat_eq, if◌then◌else◌, List, [], ◌∷◌, map, Option, Some, None, unwrap_or}
 use Rattle.std.specs.HashMap.{get}
 use Rattle.ssu_ir.specs.Tree.{Label}
-use Rattle.ssu_ir.specs.Points.{points}
 use Rattle.ssu_ir.specs.View.{labels_view}
 use Rattle.place_ir.specs.declared.place.Place.{Place}
 use Rattle.place_ir.specs.declared.place.Place.TheVariants as place
@@ -11,7 +10,7 @@ use Rattle.place_ir.specs.declared.place.Placement.{Placement}
 use Rattle.place_ir.specs.inner.Parts.{in_byte}
 use Rattle.place_ir.specs.Fits.{wants_home}
 use Rattle.place_ir.specs.Plan.{Home, home_view, plan_view}
-use Rattle.place_ir.specs.Uses.{Value, values, Use}
+use Rattle.place_ir.specs.Uses.{Value, Use}
 use Rattle.zo_model.specs.Program.{vector}
 use Rattle.bank_prog.specs.declared.column.Bank.{Bank}
 use Rattle.bank_prog.specs.declared.column.Bank.TheVariants.{A, B, M, T, L, A15, W}
@@ -23,7 +22,7 @@ use Rattle.reg_assign.specs.declared.columns.Family.{Family}
 use Rattle.reg_assign.specs.declared.columns.Family.TheVariants as family
 use Rattle.reg_assign.specs.declared.reading.Reading.{Reading}
 use Rattle.reg_assign.specs.declared.numbers.BankNumbers.{BankNumbers}
-use Rattle.reg_assign.specs.inner.ReadOff.{Numbers, has_home, goes_early, word_place, sort_place, fill_at, value_home, AreRead, read_off, pass_by, pass_l, pass_s}
+use Rattle.reg_assign.specs.inner.ReadOff.{Numbers, has_home, goes_early, word_place, value_home, AreRead, read_off, pass_by, pass_l, pass_s}
 
 -- ---- columns
 

@@ -2,8 +2,7 @@ use Rattle.std.proofs.Common.{◌∙◌, ◌++◌, ◌∷◌, [], ap, map, arith
 use Rattle.bank_prog.specs.inner.Form.{access_view}
 use Rattle.reg_assign.specs.inner.ReadOff.{access_first}
 use Rattle.reg_assign.specs.inner.Reading.{says}
-use Rattle.reg_assign.proofs.Pieces.{first-same}
-use Rattle.reg_assign.proofs.Placed.{map-more, map-all}
+use Rattle.reg_assign.proofs.Placed.{first-same, map-more, map-all}
 use Rattle.reg_assign.proofs.serves.firsts_of.Goals as goal
 
 pub loop-a-preserved : goal.loop-a-preserved
