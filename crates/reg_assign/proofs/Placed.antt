@@ -82,7 +82,7 @@ map-all f view xs i out goal l h = sym (append-nil out) ∙ sym (at_drop_all (λ
 
 -- ---- accesses
 
-abbrev a_first : ℕ → ℕ → First
+abbrev a_first : ℕ → ℕ → KeptFirst
 a_first k f = record { point = k; first = f }
 
 pub first-same : (k f g : ℕ) → f ≡ g → a_first k f ≡ a_first k g
