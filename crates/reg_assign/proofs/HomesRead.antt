@@ -12,7 +12,7 @@ use Rattle.ssu_ir.specs.Tree.{Label}
 use Rattle.ssu_ir.specs.Single.{single}
 use Rattle.place_ir.specs.declared.place.Home.{Home as KeptHome}
 use Rattle.place_ir.specs.Plan.{Home, home_in, home_view}
-use Rattle.place_ir.specs.Uses.{Sort, Parameter, Result, Fetched, Value, values, is_used}
+use Rattle.place_ir.specs.Uses.{Sort, Parameter, Result, Fetched, Value, values}
 use Rattle.place_ir.specs.Fits.{wants_home, Rises}
 use Rattle.place_ir.proofs.Scoped.{in-itself}
 use Rattle.place_ir.proofs.Sound.{Each}
@@ -20,7 +20,7 @@ use Rattle.place_ir.proofs.Spilled.{each-all, all-each, each-weaker, each-apply}
 use Rattle.bank_prog.specs.declared.column.Bank.{Bank}
 use Rattle.bank_prog.specs.Meaning.{Chosen}
 use Rattle.bank_prog.proofs.Loops.{flat-filter}
-use Rattle.reg_assign.specs.inner.ReadOff.{Numbers, def_bank, put_home, sort_home, unused_home, value_home, IsAtHome, AreRead}
+use Rattle.reg_assign.specs.inner.ReadOff.{Numbers, def_bank, put_home, sort_home, value_home, IsAtHome, AreRead}
 use Rattle.reg_assign.specs.inner.Reading.{wanted_home}
 use Rattle.reg_assign.proofs.FactsAll.{values-differ}
 use Rattle.reg_assign.proofs.Numbered.{still-different}
@@ -31,13 +31,9 @@ put-var : (labels : List Label) (on : Chosen) (numbers : Numbers) (x : ℕ) (o :
 put-var labels on numbers x (Some h) = refl
 put-var labels on numbers x None = refl
 
-result-var : (labels : List Label) (on : Chosen) (numbers : Numbers) (x : ℕ) (b : Bool) → (if b then put_home labels on numbers x (def_bank on x) else unused_home x).var ≡ x
-result-var labels on numbers x true = put-var labels on numbers x (def_bank on x)
-result-var labels on numbers x false = refl
-
 sort-var : (labels : List Label) (on : Chosen) (numbers : Numbers) (k x : ℕ) (sort : Sort) → (sort_home labels on numbers k x sort).var ≡ x
 sort-var labels on numbers k x (Parameter l i) = put-var labels on numbers x (def_bank on x)
-sort-var labels on numbers k x Result = result-var labels on numbers x (is_used labels x)
+sort-var labels on numbers k x Result = put-var labels on numbers x (def_bank on x)
 sort-var labels on numbers k x (Fetched m i) = refl
 
 -- ---- values differ by their variables

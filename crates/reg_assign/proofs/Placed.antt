@@ -71,10 +71,10 @@ rows-all f vs i out goal l h = sym (append-nil out) ∙ sym (at_drop_all (λ ws.
 
 -- ---- an element for each, by its view
 
-pub map-more : {V W X : Type 0} (f : W → X) (view : V → W) (xs : List V) (i : ℕ) (d : V) (out out' goal : List X) → i < length xs → out' ≡ out ++ f (view (get_or xs i d)) ∷ []
+pub map-more : {V W X : Type 0} (f : W → X) (view : V → W) (xs : List V) (i : ℕ) (d : V) (out out' : List X) (y : X) (goal : List X) → i < length xs → out' ≡ out ++ y ∷ [] → y ≡ f (view (get_or xs i d))
     → out ++ map f (map view (drop i xs)) ≡ goal → out' ++ map f (map view (drop (i + 1) xs)) ≡ goal
-map-more f view xs i d out out' goal l e h =
-    ap (λ o. o ++ map f (map view (drop (i + 1) xs))) e ∙ append_assoc out (f (view (get_or xs i d)) ∷ []) (map f (map view (drop (i + 1) xs)))
+map-more f view xs i d out out' y goal l e made h =
+    ap (λ o. o ++ map f (map view (drop (i + 1) xs))) (e ∙ ap (λ z. out ++ z ∷ []) made) ∙ append_assoc out (f (view (get_or xs i d)) ∷ []) (map f (map view (drop (i + 1) xs)))
     ∙ sym (at_drop_more (λ ys. out ++ map f (map view ys)) xs i d l) ∙ h
 
 pub map-all : {V W X : Type 0} (f : W → X) (view : V → W) (xs : List V) (i : ℕ) (out goal : List X) → length xs ≤ i → out ++ map f (map view (drop i xs)) ≡ goal → out ≡ goal

@@ -5,7 +5,6 @@ ghost use Rattle.std.specs.List.{flat_map};
 ghost use Rattle.std.specs.List.Sorted.{IsPermutation, IsNonDecreasingBy};
 ghost use Rattle.place_ir.specs.Fits as fits;
 ghost use Rattle.place_ir.specs.Plan.{home_view};
-ghost use Rattle.place_ir.specs.Uses as uses;
 ghost use Rattle.bank_prog.specs.inner.Form.{use_view, value_view};
 ghost use Rattle.reg_assign.specs.inner.ReadOff as pure;
 ghost use Rattle.reg_assign.specs.inner.Given.{labels_in, says_in, numbers_in};
@@ -89,28 +88,13 @@ fn put_home(alloc: Global, g: &Given<'_>, x: u32) -> Result<Home, NoMemory>
     }
 }
 
-/// The home of a result; one without a use is never held, and comes into the first register.
-fn result_home(alloc: Global, g: &Given<'_>, x: u32) -> Result<Home, NoMemory>
-    ensures { (k : ℕ) → IfOk result (λ h. home_view h ≡ pure.sort_home (labels_in g.now) (says_in g.now) (numbers_in g.now) k x uses.Result) }
-{
-    if g.reading.form.is_used(x) {
-        put_home(alloc, g, x)
-    } else {
-        Ok(Home {
-            var: x,
-            defined: Place::A(0),
-            copied: Vec::new(alloc),
-        })
-    }
-}
-
 /// The home of a value.
 fn value_home(alloc: Global, g: &Given<'_>, v: Value) -> Result<Home, NoMemory>
     ensures { IfOk result (λ h. home_view h ≡ pure.value_home (labels_in g.now) (says_in g.now) (numbers_in g.now) (value_view v)) }
 {
     match v.sort {
         Sort::Parameter(_, _) => put_home(alloc, g, v.var),
-        Sort::Result => result_home(alloc, g, v.var),
+        Sort::Result => put_home(alloc, g, v.var),
         Sort::Fetched(_, _) => Ok(Home {
             var: v.var,
             defined: sort_place(&g.reading, v)?,

@@ -1,4 +1,4 @@
-use Rattle.std.proofs.Common.{◌∙◌, ◌++◌, ◌∷◌, [], ap, map, arith}
+use Rattle.std.proofs.Common.{map, arith}
 use Rattle.bank_prog.specs.inner.Form.{access_view}
 use Rattle.reg_assign.specs.inner.ReadOff.{access_first}
 use Rattle.reg_assign.specs.inner.Reading.{says}
@@ -8,8 +8,7 @@ use Rattle.reg_assign.proofs.serves.firsts_of.Goals as goal
 pub loop-a-preserved : goal.loop-a-preserved
 loop-a-preserved c =
     let f = access_first (says c.args.r.now) in
-    map-more f access_view c.args.accesses.now c.loop-a.a-index _ c.loop-a.firsts.items c.push.new.self.items (map f (map access_view c.args.accesses.now)) (omega arith)
-    (c.in_ok-push.ensures.items ∙ ap (λ z. c.loop-a.firsts.items ++ z ∷ []) (first-same _ _ _ c.begins.ensures)) c.loop-a.invariant
+    map-more f access_view c.args.accesses.now c.loop-a.a-index _ c.loop-a.firsts.items c.push.new.self.items _ (map f (map access_view c.args.accesses.now)) (omega arith) c.in_ok-push.ensures.items (first-same _ _ _ c.begins.ensures) c.loop-a.invariant
 
 pub returns : goal.returns
 returns c =
