@@ -1,3 +1,5 @@
 pub mod Facts
 pub mod ReadOff
+pub mod Reading
+pub mod Given
 pub mod Chosen

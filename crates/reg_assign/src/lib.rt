@@ -4,7 +4,14 @@
 mod assigned;
 mod chosen;
 mod chosen_laws;
+mod columns;
+mod given;
+mod homes;
 mod laws;
+mod numbers;
+mod places;
+mod reading;
+mod serves;
 
 pub use assigned::assign;
 pub use chosen::from_placement;
