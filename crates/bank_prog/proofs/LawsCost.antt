@@ -1,46 +1,18 @@
 -- What a vector costs, by the columns' names.
-use Rattle.std.proofs.Common.{◌≡◌, ℕ, zero, suc, ◌+◌, Bool, true, if◌then◌else◌, ◌&&◌, nat_eq, List, [], ◌∷◌, map, length, Some, refl, sym, ap, ◌∙◌, arith}
-use Rattle.std.proofs.lemmas.Bool.{and_from}
+use Rattle.std.proofs.Common.{◌≡◌, ℕ, zero, suc, ◌+◌, Bool, true, if◌then◌else◌, List, [], ◌∷◌, map, length, Some, refl, sym, ap, ◌∙◌, arith}
 use Rattle.ssu_ir.specs.Tree.{Label}
 use Rattle.ssu_ir.specs.Single.{single}
-use Rattle.place_ir.proofs.Scoped.{in-itself}
 use Rattle.place_ir.proofs.Sound.{Each}
 use Rattle.zo_model.specs.declared.program.ZeroOne.{ZeroOne}
 use Rattle.zo_model.specs.Contents.{contents}
 use Rattle.zo_model.specs.Program.{cost_where, cost_below, costs_of, cost_of}
-use Rattle.bank_prog.specs.declared.column.Bank.{Bank}
-use Rattle.bank_prog.specs.declared.column.Bank.TheVariants.{A, B, M, T, L, A15, W}
 use Rattle.bank_prog.specs.declared.column.Column.{Column}
-use Rattle.bank_prog.specs.declared.column.Column.TheVariants.{Def, Dir, Fill, Stay, Ear, First, Srv, PasL, PasS}
-use Rattle.bank_prog.specs.Columns.{Priced, priced}
+use Rattle.bank_prog.specs.Columns.{Priced, priced, costs}
 use Rattle.bank_prog.specs.Meaning.{Chosen, number_on, on, named_cost}
-use Rattle.bank_prog.specs.Program.{Numbers, same_bank, same_column, number_in, number_of, bank_program}
+use Rattle.bank_prog.specs.Program.{Numbers, number_in, number_of, bank_program}
 use Rattle.bank_prog.proofs.Distinct.{Apart, Distinct}
 use Rattle.bank_prog.proofs.Families.{priced-distinct}
-
--- ---- a column is the same as itself
-
-bank-itself : (h : Bank) → same_bank h h ≡ true
-bank-itself A = refl
-bank-itself B = refl
-bank-itself M = refl
-bank-itself T = refl
-bank-itself L = refl
-bank-itself A15 = refl
-bank-itself W = refl
-
-column-itself : (c : Column) → same_column c c ≡ true
-column-itself (Def x h) = and_from (nat_eq x x) (same_bank h h) (in-itself x) (bank-itself h)
-column-itself (Dir k i f) = and_from (nat_eq k k) (nat_eq i i && nat_eq f f) (in-itself k) (and_from (nat_eq i i) (nat_eq f f) (in-itself i) (in-itself f))
-column-itself (Fill x h) = and_from (nat_eq x x) (same_bank h h) (in-itself x) (bank-itself h)
-column-itself (Stay x f) = and_from (nat_eq x x) (nat_eq f f) (in-itself x) (in-itself f)
-column-itself (Ear k i f) = and_from (nat_eq k k) (nat_eq i i && nat_eq f f) (in-itself k) (and_from (nat_eq i i) (nat_eq f f) (in-itself i) (in-itself f))
-column-itself (First k f) = and_from (nat_eq k k) (nat_eq f f) (in-itself k) (in-itself f)
-column-itself (Srv k i h p) =
-    and_from (nat_eq k k) (nat_eq i i && (same_bank h h && same_bank p p)) (in-itself k)
-    (and_from (nat_eq i i) (same_bank h h && same_bank p p) (in-itself i) (and_from (same_bank h h) (same_bank p p) (bank-itself h) (bank-itself p)))
-column-itself (PasL k r) = and_from (nat_eq k k) (nat_eq r r) (in-itself k) (in-itself r)
-column-itself (PasS k r) = and_from (nat_eq k k) (nat_eq r r) (in-itself k) (in-itself r)
+use Rattle.bank_prog.proofs.Itself.{column-itself}
 
 -- ---- the columns are on as the vector says
 
@@ -85,8 +57,10 @@ named-sum on y (p ∷ ps) h =
     first-cost (length (map (λ c. c.1) ps)) p.1 (map (λ c. c.1) ps) y ∙ ap (λ b. cost_where b p.1 + costs_of (map (λ c. c.1) ps) (λ i. y (suc i))) (sym h.0)
     ∙ ap (λ n. cost_where (on p.0) p.1 + n) (named-sum on (λ i. y (suc i)) ps h.1)
 
-pub cost-by-name : (z : ZeroOne) (labels : List Label) (slots : ℕ) (x : ℕ → Bool) → single labels ≡ true → contents z ≡ bank_program labels slots → cost_of z x ≡ named_cost (on labels x) (priced labels)
-cost-by-name z labels slots x s e =
+pub costs-by-name : (labels : List Label) (x : ℕ → Bool) → single labels ≡ true → costs_of (costs labels) x ≡ named_cost (on labels x) (priced labels)
+costs-by-name labels x s =
     let ps = priced labels in
-    ap (λ cs. costs_of cs x) (ap (λ c. c.costs) e)
-    ∙ named-sum (on labels x) x ps (says (number_of labels) x x 0 ps (λ i. let n : i ≡ 0 + i = omega arith in ap x n) (priced-distinct labels s) (found-all (number_of labels) 0 ps ps (λ c. refl)))
+    named-sum (on labels x) x ps (says (number_of labels) x x 0 ps (λ i. let n : i ≡ 0 + i = omega arith in ap x n) (priced-distinct labels s) (found-all (number_of labels) 0 ps ps (λ c. refl)))
+
+pub cost-by-name : (z : ZeroOne) (labels : List Label) (slots : ℕ) (x : ℕ → Bool) → single labels ≡ true → contents z ≡ bank_program labels slots → cost_of z x ≡ named_cost (on labels x) (priced labels)
+cost-by-name z labels slots x s e = ap (λ cs. costs_of cs x) (ap (λ c. c.costs) e) ∙ costs-by-name labels x s

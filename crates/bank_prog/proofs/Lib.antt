@@ -15,3 +15,5 @@ pub mod Waits
 pub mod Distinct
 pub mod Families
 pub mod LawsCost
+pub mod Itself
+pub mod Present

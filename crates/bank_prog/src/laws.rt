@@ -1,12 +1,12 @@
 //! Laws of the definitions in specs/: each is the contract of a function that does nothing.
 
-ghost use Rattle.std.specs.Prelude.{◌≡◌, ◌↔◌, ℕ, Bool, true, List, All, Contains};
+ghost use Rattle.std.specs.Prelude.{◌≡◌, ◌↔◌, ℕ, Bool, true, List, map, All, Contains};
 ghost use Rattle.ssu_ir.specs.Single.{single};
 ghost use Rattle.ssu_ir.specs.Tree.{Label};
 ghost use Rattle.zo_model.specs.Contents.{contents};
-ghost use Rattle.zo_model.specs.Program.{cost_of, Feasible};
+ghost use Rattle.zo_model.specs.Program.{vector, costs_of, cost_of, Feasible};
 ghost use Rattle.zo_model.specs.declared.program.ZeroOne as program;
-ghost use Rattle.bank_prog.specs.Columns.{columns, priced};
+ghost use Rattle.bank_prog.specs.Columns.{columns, costs, priced};
 ghost use Rattle.bank_prog.specs.Meaning.{on, named_cost, Holds, IsFeasible};
 ghost use Rattle.bank_prog.specs.Program.{bank_program};
 ghost use Rattle.bank_prog.specs.Rows.{lines};
@@ -25,4 +25,14 @@ pub fn only_columns_are_on()
 /// What a vector costs is the sum of the costs of the columns that are 1 by name.
 pub fn costs_by_name()
     ensures { (z : program.ZeroOne) (labels : List Label) (slots : ℕ) (x : ℕ → Bool) → single labels ≡ true → contents z ≡ bank_program labels slots → cost_of z x ≡ named_cost (on labels x) (priced labels) }
+{}
+
+/// The same of the costs alone.
+pub fn vector_costs_by_name()
+    ensures { (labels : List Label) (x : ℕ → Bool) → single labels ≡ true → costs_of (costs labels) x ≡ named_cost (on labels x) (priced labels) }
+{}
+
+/// Of a vector that is made over the columns each column that is there is on as it was chosen.
+pub fn chosen_columns_are_on()
+    ensures { (labels : List Label) (f : column.Column → Bool) (c : column.Column) → Contains (columns labels) c → on labels (vector (map f (columns labels))) c ≡ f c }
 {}

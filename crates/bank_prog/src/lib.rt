@@ -19,7 +19,7 @@ mod owners;
 mod passes;
 pub mod program;
 mod refills;
-mod services;
+pub mod services;
 mod spans;
 mod tables;
 mod terms;
@@ -29,6 +29,7 @@ mod waiting;
 
 pub use column::{Bank, Column, Service};
 pub use error::BankError;
+pub use form::{Access, Form, Role, Sort, Stop, Tables, Use, Value, form_of};
 pub use named::{column_names, column_numbers};
 pub use numbers::{Numbers, number};
 pub use program::build;

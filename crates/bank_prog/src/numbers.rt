@@ -11,6 +11,9 @@ use nv_base::NoMemory;
 use std::alloc::Global;
 use std::collections::HashMap;
 
+/// At most so many columns, and so many rows.
+pub const COUNT_LIMIT: usize = 1 << 26;
+
 /// Of each column that is there its number.
 pub type Numbers = HashMap<Column, u32>;
 

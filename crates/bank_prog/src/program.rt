@@ -8,6 +8,7 @@ ghost use Rattle.ssu_ir.specs.Single.{single};
 ghost use Rattle.ssu_ir.specs.View.{labels_view};
 ghost use Rattle.place_ir.specs.Held.{IsRow, items_of};
 ghost use Rattle.zo_model.specs.Contents.{contents, row_contents};
+ghost use Rattle.zo_model.specs.Program.{IsValid};
 ghost use Rattle.bank_prog.specs.Columns.{columns};
 ghost use Rattle.bank_prog.specs.Program as program;
 ghost use Rattle.bank_prog.specs.Program.{same_column, row_of, bank_program, IsTooLarge};
@@ -22,7 +23,7 @@ use crate::columns::columns_of;
 use crate::cover::push_homes_cover;
 use crate::error::BankError;
 use crate::form::{Form, form_of};
-use crate::numbers::{Numbers, number_columns};
+use crate::numbers::{COUNT_LIMIT, Numbers, number_columns};
 use crate::operands::push_operand_banks;
 use crate::owners::push_owners;
 use crate::passes::push_passes;
@@ -30,10 +31,7 @@ use nv_base::NoMemory;
 use place_ir::held;
 use ssu_ir::Ssu;
 use std::alloc::Global;
-use zo_model::{Row, ZeroOne};
-
-/// At most so many columns, and so many rows.
-const COUNT_LIMIT: usize = 1 << 26;
+use zo_model::{Row, ZeroOne, is_valid};
 
 /// The costs of the columns.
 fn costs_of(alloc: Global, priced: &[(Column, u32)]) -> Result<Vec<u32>, NoMemory>
@@ -66,15 +64,26 @@ fn rows_of(
     Ok(rows)
 }
 
+/// The program, where it keeps the limits of its kind.
+fn within_limits(z: ZeroOne) -> Result<ZeroOne, NoMemory>
+    ensures same { IfOk result (λ p. p ≡ z) }
+    ensures valid { IfOk result IsValid }
+{
+    if is_valid(&z) { Ok(z) } else { Err(NoMemory) }
+}
+
 /// The program of the banks, where so many slots may be used.
 ///
 /// # Errors
 ///
-/// `TooLarge` tells the number of columns, else that of rows, where it is above 2^26.
+/// `TooLarge` tells the number of columns, else that of rows, where it is above 2^26. The finished program is
+/// checked against the limits of 0-1 programs, and one outside them is answered as if there were no memory for
+/// it: the names in a row all differ, so no coefficient is ever anything but 1 or -1.
 pub fn build(alloc: Global, s: &Ssu, slots: u32) -> Result<ZeroOne, BankError>
     requires single { single (labels_view s.now) ≡ true }
     requires slots { slots ≤ 128 }
     ensures program { IfOk result (λ z. contents z ≡ bank_program (labels_view s.now) slots) }
+    ensures valid { IfOk result IsValid }
     ensures few { IfOk result (λ z. length (columns (labels_view s.now)) ≤ 2 ^ 26) }
     ensures rows { IfOk result (λ z. length (program.rows (labels_view s.now) slots) ≤ 2 ^ 26) }
     ensures many { (n : ℕ) → result ≡ Err (Exceeds n) → IsTooLarge (labels_view s.now) slots n }
@@ -91,5 +100,5 @@ pub fn build(alloc: Global, s: &Ssu, slots: u32) -> Result<ZeroOne, BankError>
         return Err(BankError::TooLarge(rows.len() as u64));
     }
     let costs = costs_of(alloc, &priced)?;
-    Ok(ZeroOne { costs, rows })
+    Ok(within_limits(ZeroOne { costs, rows })?)
 }

@@ -4,7 +4,7 @@ ghost use Rattle.std.specs.Prelude.{◌≡◌, IfOk};
 ghost use Rattle.ssu_ir.specs.Examples.{sum_of_two};
 ghost use Rattle.ssu_ir.specs.View.{labels_view};
 
-use crate::build;
+use crate::{Bank, Column, build, column_names, column_numbers, number};
 use nv_base::{Bin, NoMemory, Vars};
 use ssu_ir::{Ssu, SsuBuild, SsuLabel, SsuNode, single};
 use std::alloc::Global;
@@ -34,5 +34,17 @@ fn a_sum_has_a_program(rt: HostRuntime) -> Result<(), Fail> {
         }
         Err(_) => assert!(rt; false),
     }
+    Ok(())
+}
+
+#[test]
+fn a_sum_has_named_columns(rt: HostRuntime) -> Result<(), Fail> {
+    let s = sum(rt.alloc())?;
+    assert!(rt; single(&s));
+    let names = column_names(rt.alloc(), &s)?;
+    assert_eq!(rt; names.len(), 63);
+    let numbers = column_numbers(rt.alloc(), &s)?;
+    assert_eq!(rt; number(&numbers, Column::Def(0, Bank::B)), Some(1));
+    assert_eq!(rt; number(&numbers, Column::Def(3, Bank::B)), None);
     Ok(())
 }

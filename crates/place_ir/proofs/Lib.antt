@@ -24,4 +24,5 @@ pub mod Gathering
 pub mod Named
 pub mod Short
 pub mod Joined
+pub mod InSlots
 pub mod PartSteps

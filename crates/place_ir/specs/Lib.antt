@@ -1,5 +1,6 @@
 pub mod Places
 pub mod Plan
+pub mod InSlots
 pub mod Uses
 pub mod Fits
 pub mod Costs

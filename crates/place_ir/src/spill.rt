@@ -8,6 +8,7 @@ ghost use Rattle.ssu_ir.specs.Single.{single};
 ghost use Rattle.ssu_ir.specs.Slots.{bare_all};
 ghost use Rattle.ssu_ir.specs.View.{placed_of, labels_view};
 ghost use Rattle.place_ir.specs.Fits.{Fits};
+ghost use Rattle.place_ir.specs.InSlots.{AreInSlots};
 ghost use Rattle.place_ir.specs.Plan.{plan_view};
 ghost use Rattle.place_ir.specs.declared.place.PlaceError.TheVariants.{TooFew as WantsSlots};
 ghost use Rattle.place_ir.specs.inner.Live.{source_among};
@@ -75,6 +76,7 @@ fn placed(
     requires numbered { All (IsNumbered (get nat_eq numbers) slots) (points (labels_view s.now)) }
     requires enough { measures.peak (labels_view s.now) ≤ slots }
     ensures fits { IfOk result (λ p. Fits (labels_view s.now) (plan_view p)) }
+    ensures in_slots { IfOk result (λ p. AreInSlots (plan_view p)) }
     ensures slots { IfOk result (λ p. p.slots ≡ slots) }
 {
     let used = used_values(alloc, s, &copies, spots)?;
@@ -103,6 +105,7 @@ pub fn spill_all(alloc: Global, s: &Ssu, slots: u32) -> Result<Placement, PlaceE
     requires single { single (labels_view s.now) ≡ true }
     requires slots { slots ≤ 128 }
     ensures fits { IfOk result (λ p. Fits (labels_view s.now) (plan_view p)) }
+    ensures in_slots { IfOk result (λ p. AreInSlots (plan_view p)) }
     ensures slots { IfOk result (λ p. p.slots ≡ slots) }
     ensures enough { IfOk result (λ p. measures.peak (labels_view s.now) ≤ slots) }
     ensures few { (n : ℕ) → result ≡ Err (WantsSlots n) → (n ≡ measures.peak (labels_view s.now)) × (slots < n) }

@@ -65,14 +65,14 @@ of_value us x = filter (λ u. nat_eq u.value x) us
 abbrev pub by_value : (Use → ℕ) → List Use → List Value → ℕ
 by_value g us vs = sum_of (λ v. sum_of g (of_value us v.var)) vs
 
-one-more : (g : Use → ℕ) (u : Use) (us : List Use) (x : ℕ) (b : Bool) → nat_eq u.value x ≡ b → sum_of g (of_value (u ∷ us) x) ≡ cost_where b (g u) + sum_of g (of_value us x)
+pub one-more : (g : Use → ℕ) (u : Use) (us : List Use) (x : ℕ) (b : Bool) → nat_eq u.value x ≡ b → sum_of g (of_value (u ∷ us) x) ≡ cost_where b (g u) + sum_of g (of_value us x)
 one-more g u us x b e = subst (λ c. sum_of g (if c then u ∷ of_value us x else of_value us x) ≡ cost_where b (g u) + sum_of g (of_value us x)) (sym e) (by b)
   where
     by : (b : Bool) → sum_of g (if b then u ∷ of_value us x else of_value us x) ≡ cost_where b (g u) + sum_of g (of_value us x)
     by true = refl
     by false = omega arith
 
-none-more : (g : Use → ℕ) (u : Use) (us : List Use) (vs : List Value) → is_in u.value (map (λ v. v.var) vs) ≡ false → by_value g (u ∷ us) vs ≡ by_value g us vs
+pub none-more : (g : Use → ℕ) (u : Use) (us : List Use) (vs : List Value) → is_in u.value (map (λ v. v.var) vs) ≡ false → by_value g (u ∷ us) vs ≡ by_value g us vs
 none-more g u us [] e = refl
 none-more g u us (v ∷ vs) e = by (nat_eq u.value v.var) (is_in u.value (map (λ v. v.var) vs)) refl refl e
     (λ n. none-more g u us vs n)

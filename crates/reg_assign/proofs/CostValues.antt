@@ -26,7 +26,7 @@ use Rattle.bank_prog.specs.Columns.{sort_of, is_fetched, eight, sort_defs, def_c
 use Rattle.bank_prog.specs.Rows.{homes, def, dir, ear, srv, early, is_parameter, is_written}
 use Rattle.bank_prog.specs.Meaning.{Chosen, named_cost}
 use Rattle.reg_assign.specs.inner.Facts.{count, in_bank, IsIn, ValueFacts, UseFacts}
-use Rattle.reg_assign.specs.inner.ReadOff.{Numbers, begins, goes_early, def_bank, home_place, word_place, fills_of, words_of, copies_of, first_word, put_home, sort_home, IsAtHome, AreRead, read_off}
+use Rattle.reg_assign.specs.inner.ReadOff.{Numbers, begins, goes_early, def_bank, home_place, word_place, fills_of, words_of, copies_of, first_word, put_home, unused_home, sort_home, IsAtHome, AreRead, read_off}
 use Rattle.reg_assign.proofs.Counts.{In, contained-in, in-either, in-map, in-kept, in-if, map-in, each-in, some-counted, counted-some}
 use Rattle.reg_assign.proofs.FactsValues.{same-value, used-of}
 use Rattle.reg_assign.proofs.FactsPoints.{flat-in}
@@ -96,7 +96,7 @@ words-price on (u ∷ us) h = by (words-price on us h.1) (goes_early on u) refl
 
 -- ---- copies into banks
 
-copied-append : (a b : List Place) → all_copied_cost (a ++ b) ≡ all_copied_cost a + all_copied_cost b
+pub copied-append : (a b : List Place) → all_copied_cost (a ++ b) ≡ all_copied_cost a + all_copied_cost b
 copied-append [] b = omega arith
 copied-append (q ∷ a) b = let ih = copied-append a b in omega (arith, ih)
 
@@ -332,11 +332,15 @@ sorted-price : (labels : List Label) (on : Chosen) (numbers : Numbers) (v : Valu
 sorted-price labels on numbers v (Parameter l i) e f g h =
     subst (λ s. home_price s (put_home labels on numbers v.var (def_bank on v.var)) ≤ value_price labels on v) e
     (parameter-price labels on numbers v (def_bank on v.var) f g (ap is_parameter e) (ap is_fetched e) (ap is_result e) refl)
-sorted-price labels on numbers v Result e f g h = result-price labels on numbers v (def_bank on v.var) f g h e refl
+sorted-price labels on numbers v Result e f g h = by (is_used labels v.var)
+  where
+    by : (b : Bool) → home_price Result (if b then put_home labels on numbers v.var (def_bank on v.var) else unused_home v.var) ≤ value_price labels on v
+    by true = result-price labels on numbers v (def_bank on v.var) f g h e refl
+    by false = let z : home_price Result (unused_home v.var) ≡ 0 = refl in omega (arith, z)
 sorted-price labels on numbers v (Fetched m i) e f g h = fetched-price labels on numbers v m i (place.Slot 0) f g e
 
 -- a value without a home costs nothing
-missing : (hs : List Home) (x : ℕ) → is_in x (map (λ h. h.var) hs) ≡ false → all_copied_cost (home_in hs x).copied ≡ 0
+pub missing : (hs : List Home) (x : ℕ) → is_in x (map (λ h. h.var) hs) ≡ false → all_copied_cost (home_in hs x).copied ≡ 0
 missing [] x e = refl
 missing (h ∷ hs) x e = by (nat_eq x h.var) (nat_eq h.var x) refl refl (is_in x (map (λ h. h.var) hs)) refl e (λ n. missing hs x n)
   where
@@ -346,7 +350,7 @@ missing (h ∷ hs) x e = by (nat_eq x h.var) (nat_eq h.var x) refl refl (is_in x
     by false true p q false r n f = absurd (false≢true (sym p ∙ subst (λ y. nat_eq x y ≡ true) (sym (same-number h.var x q)) (in-itself x)))
     by false false p q false r n f = f r
 
-vars-in : (x : ℕ) (vs : List Value) → is_in x (map (λ v. v.var) vs) ≡ true → (v : Value) × In v vs × (v.var ≡ x)
+pub vars-in : (x : ℕ) (vs : List Value) → is_in x (map (λ v. v.var) vs) ≡ true → (v : Value) × In v vs × (v.var ≡ x)
 vars-in x [] e = absurd (false≢true e)
 vars-in x (v ∷ vs) e = ⊎_elim
     (λ (f : nat_eq x v.var ≡ true). (v, inl refl, sym (same-number x v.var f)))

@@ -25,18 +25,18 @@ step-minus : (b : Bool) (n : ℕ) → where_one b (neg_ℤ (pos 1)) +ℤ neg_ℤ
 step-minus true n = omega (arith, ints)
 step-minus false n = omega (arith, ints)
 
-sum-plus : (on : Chosen) (cs : List Column) → named_sum on (map plus cs) ≡ pos (count on cs)
+pub sum-plus : (on : Chosen) (cs : List Column) → named_sum on (map plus cs) ≡ pos (count on cs)
 sum-plus on [] = refl
 sum-plus on (c ∷ cs) = ap (λ z. where_one (on c) (pos 1) +ℤ z) (sum-plus on cs) ∙ step-plus (on c) (count on cs)
 
-sum-minus : (on : Chosen) (cs : List Column) → named_sum on (map minus cs) ≡ neg_ℤ (pos (count on cs))
+pub sum-minus : (on : Chosen) (cs : List Column) → named_sum on (map minus cs) ≡ neg_ℤ (pos (count on cs))
 sum-minus on [] = refl
 sum-minus on (c ∷ cs) = ap (λ z. where_one (on c) (neg_ℤ (pos 1)) +ℤ z) (sum-minus on cs) ∙ step-minus (on c) (count on cs)
 
 none-plus : (n : ℕ) → neg_ℤ (pos n) ≡ pos 0 +ℤ neg_ℤ (pos n)
 none-plus n = omega (arith, ints)
 
-sum-both : (on : Chosen) (cs ds : List Column) → named_sum on (map plus cs ++ map minus ds) ≡ pos (count on cs) +ℤ neg_ℤ (pos (count on ds))
+pub sum-both : (on : Chosen) (cs ds : List Column) → named_sum on (map plus cs ++ map minus ds) ≡ pos (count on cs) +ℤ neg_ℤ (pos (count on ds))
 sum-both on [] ds = sum-minus on ds ∙ none-plus (count on ds)
 sum-both on (c ∷ cs) ds =
     ap (λ z. where_one (on c) (pos 1) +ℤ z) (sum-both on cs ds)

@@ -36,7 +36,7 @@ flat-in f x y (z ∷ xs) i j = ⊎_elim
     (λ (k : In x xs). in-right y (f z) (flat_map f xs) (flat-in f x y xs k j))
     i
 
-in-is : (x : ℕ) (xs : List ℕ) → is_in x xs ≡ true → In x xs
+pub in-is : (x : ℕ) (xs : List ℕ) → is_in x xs ≡ true → In x xs
 in-is x [] e = absurd (false≢true e)
 in-is x (y ∷ ys) e = ⊎_elim
     (λ (f : nat_eq x y ≡ true). inl (sym (same-number x y f)))
@@ -54,7 +54,7 @@ in-without x (y ∷ ys) gone i e = by (λ j. in-without x ys gone j e) (is_in y 
         j
     by f false g j = ⊎_elim (λ (s : y ≡ x). inl s) (λ (k : In x ys). inr (f k)) j
 
-below-eight : (r : ℕ) → r < 8 → In r eight
+pub below-eight : (r : ℕ) → r < 8 → In r eight
 below-eight zero l = inl refl
 below-eight (suc zero) l = inr (inl refl)
 below-eight (suc (suc zero)) l = inr (inr (inl refl))
@@ -65,13 +65,13 @@ below-eight (suc (suc (suc (suc (suc (suc zero)))))) l = inr (inr (inr (inr (inr
 below-eight (suc (suc (suc (suc (suc (suc (suc zero))))))) l = inr (inr (inr (inr (inr (inr (inr (inl refl)))))))
 below-eight (suc (suc (suc (suc (suc (suc (suc (suc r)))))))) l = absurd (omega (arith, l))
 
-le-from : (m n : ℕ) → nat_le m n ≡ true → m ≤ n
+pub le-from : (m n : ℕ) → nat_le m n ≡ true → m ≤ n
 le-from m n e = search (tests, rules)
 
-le-test : (m n : ℕ) → m ≤ n → nat_le m n ≡ true
+pub le-test : (m n : ℕ) → m ≤ n → nat_le m n ≡ true
 le-test m n e = search (tests, rules)
 
-lt-test : (m n : ℕ) → m < n → nat_lt m n ≡ true
+pub lt-test : (m n : ℕ) → m < n → nat_lt m n ≡ true
 lt-test m n e = search (tests, rules)
 
 run-ends : (m : Mem) (n f : ℕ) → may_begin m n f ≡ true → f + n ≤ 8
@@ -79,7 +79,7 @@ run-ends Sram n f e = le-from (f + n) 8 e
 run-ends Sdram n f e = let p = and_parts (nat_le (f + n) 8) (nat_eq (f % 2) 0) e in le-from (f + n) 8 p.0
 run-ends Scratch n f e = le-from (f + n) 8 e
 
-begun : (m : Mem) (n f : ℕ) → In f (beginnings m n) → In f eight × (f + n ≤ 8)
+pub begun : (m : Mem) (n f : ℕ) → In f (beginnings m n) → In f eight × (f + n ≤ 8)
 begun m n f i = let w = in-kept (may_begin m n) f eight i in (w.0, run-ends m n f w.1)
 
 -- ---- words are numbered below their number
@@ -111,7 +111,7 @@ no-result k x v n j h e = ⊎_elim
     (λ z. absurd z)
     h
 
-value-word : (k : ℕ) (q : Place) (v : Value) (n : Mem) (j : ℕ) → In v (place_values k q) → v.sort ≡ Fetched n j → j < place_words q
+pub value-word : (k : ℕ) (q : Place) (v : Value) (n : Mem) (j : ℕ) → In v (place_values k q) → v.sort ≡ Fetched n j → j < place_words q
 value-word k (Entry l ps) v n j h e = absurd (no-parameter k l 0 ps v n j h e)
 value-word k (At (Does (Lit x w))) v n j h e = absurd (no-result k x v n j h e)
 value-word k (At (Does (Una x op y))) v n j h e = absurd (no-result k x v n j h e)
@@ -122,7 +122,7 @@ value-word k (At (Does (Write m y xs))) v n j h e = absurd h
 value-word k (At (Forks c x y)) v n j h e = absurd h
 value-word k (At (Ends l)) v n j h e = absurd h
 
-role-among : (k i : ℕ) (xs : List ℕ) (rs : List Role) (u : Use) → In u (uses_at k i xs rs) → In u.role rs
+pub role-among : (k i : ℕ) (xs : List ℕ) (rs : List Role) (u : Use) → In u (uses_at k i xs rs) → In u.role rs
 role-among k i [] rs u h = absurd h
 role-among k i (x ∷ xs) [] u h = absurd h
 role-among k i (x ∷ xs) (r ∷ rs) u h = ⊎_elim
@@ -137,27 +137,27 @@ written-word m i (x ∷ xs) n j h = ⊎_elim
     (λ (r : In (Written n j) (roles (Written m) (suc i) xs)). let l = written-word m (suc i) xs n j r in omega (arith, l))
     h
 
-no-argument : (l i : ℕ) (xs : List ℕ) (n : Mem) (j : ℕ) → In (Written n j) (roles (Argument l) i xs) → ⊥
+pub no-argument : (l i : ℕ) (xs : List ℕ) (n : Mem) (j : ℕ) → In (Written n j) (roles (Argument l) i xs) → ⊥
 no-argument l i [] n j h = h
 no-argument l i (x ∷ xs) n j h = ⊎_elim
     (λ (f : Argument l i ≡ Written n j). absurd (cc))
     (λ (r : In (Written n j) (roles (Argument l) (suc i) xs)). no-argument l (suc i) xs n j r)
     h
 
-no-ending : (i : ℕ) (xs : List ℕ) (n : Mem) (j : ℕ) → In (Written n j) (roles Ending i xs) → ⊥
+pub no-ending : (i : ℕ) (xs : List ℕ) (n : Mem) (j : ℕ) → In (Written n j) (roles Ending i xs) → ⊥
 no-ending i [] n j h = h
 no-ending i (x ∷ xs) n j h = ⊎_elim
     (λ (f : Ending i ≡ Written n j). absurd (cc))
     (λ (r : In (Written n j) (roles Ending (suc i) xs)). no-ending (suc i) xs n j r)
     h
 
-no-operand : (n : Mem) (j : ℕ) → Operand ≡ Written n j → ⊥
+pub no-operand : (n : Mem) (j : ℕ) → Operand ≡ Written n j → ⊥
 no-operand n j e = absurd (cc)
 
-no-address : (n : Mem) (j : ℕ) → Address ≡ Written n j → ⊥
+pub no-address : (n : Mem) (j : ℕ) → Address ≡ Written n j → ⊥
 no-address n j e = absurd (cc)
 
-role-word : (q : Place) (n : Mem) (j : ℕ) → In (Written n j) (place_roles q) → j < place_words q
+pub role-word : (q : Place) (n : Mem) (j : ℕ) → In (Written n j) (place_roles q) → j < place_words q
 role-word (Entry l ps) n j h = absurd h
 role-word (At (Does (Lit x w))) n j h = absurd h
 role-word (At (Does (Una x op y))) n j h = ⊎_elim (λ e. absurd (no-operand n j e)) (λ z. absurd z) h
@@ -261,19 +261,19 @@ groups-apart on k h p i j l e f (in_read a b) = both-in on k (L ∷ T ∷ []) h 
 
 -- ---- read registers
 
-own-side : (b d : Bool) → d ≡ b → same_side b d ≡ true
+pub own-side : (b d : Bool) → d ≡ b → same_side b d ≡ true
 own-side true d e = e
 own-side false true e = absurd (false≢true (sym e))
 own-side false false e = refl
 
-in-run : (r f i : ℕ) → r ≡ f + i → In f (run_at r i)
+pub in-run : (r f i : ℕ) → r ≡ f + i → In f (run_at r i)
 in-run r f i e = by (nat_le i r) (le-test i r (omega (arith, e)))
   where
     by : (b : Bool) → b ≡ true → In f (if b then (r - i) ∷ [] else [])
     by true g = inl (omega (arith, e))
     by false g = absurd (false≢true g)
 
-in-then : {X : Type 0} (x : X) (b : Bool) (xs : List X) → b ≡ true → In x xs → In x (if b then xs else [])
+pub in-then : {X : Type 0} (x : X) (b : Bool) (xs : List X) → b ≡ true → In x xs → In x (if b then xs else [])
 in-then x true xs e i = i
 in-then x false xs e i = absurd (false≢true e)
 

@@ -56,7 +56,7 @@ point-of u k i (x ∷ xs) (r ∷ rs) h = ⊎_elim
     (λ (j : In u (uses_at k (suc i) xs rs)). point-of u k (suc i) xs rs j)
     h
 
-values-among : (v : Value) (j i k : ℕ) (ps : List Point) (q : Point) → k ≡ j + i → slice_get ps i ≡ Some q → In v (place_values k q.place) → In v (values_from j ps)
+pub values-among : (v : Value) (j i k : ℕ) (ps : List Point) (q : Point) → k ≡ j + i → slice_get ps i ≡ Some q → In v (place_values k q.place) → In v (values_from j ps)
 values-among v j i k [] q e g h = absurd (cc)
 values-among v j zero k (p ∷ ps) q e g h =
     let same : q ≡ p = cc in

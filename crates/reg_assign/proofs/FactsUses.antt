@@ -24,7 +24,7 @@ use Rattle.reg_assign.proofs.FactsValues.{Known, one-on, on-one, two-or, same-us
 
 -- ---- accesses
 
-place-point : (a : Access) (k : ℕ) (q : Place) → In a (place_accesses k q) → a.point ≡ k
+pub place-point : (a : Access) (k : ℕ) (q : Place) → In a (place_accesses k q) → a.point ≡ k
 place-point a k (Entry l ps) i = absurd i
 place-point a k (At (Does (Lit x v))) i = absurd i
 place-point a k (At (Does (Una x op y))) i = absurd i

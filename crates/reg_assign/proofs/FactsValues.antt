@@ -146,7 +146,7 @@ role-written n f (Written m j) i = refl
 role-written n f (Argument l j) i = absurd i
 role-written n f (Ending j) i = absurd i
 
-used-value : (u : Use) (us : List Use) (x : ℕ) → In u us → nat_eq u.value x ≡ true → is_in x (map (λ u. u.value) us) ≡ true
+pub used-value : (u : Use) (us : List Use) (x : ℕ) → In u us → nat_eq u.value x ≡ true → is_in x (map (λ u. u.value) us) ≡ true
 used-value u [] x i e = absurd i
 used-value u (w ∷ us) x i e = ⊎_elim
     (λ (a : w ≡ u).

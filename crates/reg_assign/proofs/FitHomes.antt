@@ -8,19 +8,19 @@ use Rattle.ssu_ir.specs.Tree.{Label}
 use Rattle.place_ir.specs.declared.place.Place.{Place}
 use Rattle.place_ir.specs.declared.place.Place.TheVariants as place
 use Rattle.place_ir.specs.Plan.{Plan}
-use Rattle.place_ir.specs.Uses.{Use, uses_of}
+use Rattle.place_ir.specs.Uses.{Result, Use, uses_of, is_used}
 use Rattle.place_ir.specs.Fits.{IsGeneral, same_bank, maybe, AreFills}
 use Rattle.zo_model.specs.Program.{cost_where}
 use Rattle.bank_prog.specs.declared.column.Bank.{Bank}
 use Rattle.bank_prog.specs.declared.column.Bank.TheVariants.{A, B, M, T, L, A15, W}
-use Rattle.bank_prog.specs.declared.column.Column.{Column}
 use Rattle.bank_prog.specs.declared.column.Column.TheVariants.{Def, Fill}
 use Rattle.bank_prog.specs.Rows.{def, dir, ear, is_written}
 use Rattle.bank_prog.specs.Meaning.{Chosen}
 use Rattle.place_ir.proofs.Sound.{Each}
 use Rattle.place_ir.proofs.Spilled.{each-all}
 use Rattle.reg_assign.specs.inner.Facts.{count}
-use Rattle.reg_assign.specs.inner.ReadOff.{Numbers, goes_early, def_bank, home_place, word_place, fill_at, fills_of, words_of, copies_of}
+use Rattle.reg_assign.specs.inner.ReadOff.{Numbers, goes_early, def_bank, home_place, word_place, fill_at, fills_of, words_of, copies_of, put_home, unused_home, sort_home}
+use Rattle.reg_assign.proofs.Counts.{count-append}
 use Rattle.reg_assign.proofs.ReadParts.{count-none}
 use Rattle.reg_assign.proofs.FitWaiting.{any-either}
 
@@ -118,6 +118,10 @@ no-bank true b m n = absurd (omega arith)
 no-bank false true m n = absurd (omega arith)
 no-bank false false m n = refl
 
+-- the home of a result that is used
+pub result-home : (labels : List Label) (on : Chosen) (numbers : Numbers) (k x : ℕ) → is_used labels x ≡ true → sort_home labels on numbers k x Result ≡ put_home labels on numbers x (def_bank on x)
+result-home labels on numbers k x e = ap (λ b. if b then put_home labels on numbers x (def_bank on x) else unused_home x) e
+
 -- ---- copies
 
 pub fill-each : (P : Place → Type 0) (on : Chosen) (numbers : Numbers) (x : ℕ) (h : Bank) → (on (Fill x h) ≡ true → P (home_place numbers h x)) → Each P (fill_at on numbers x h)
@@ -193,10 +197,6 @@ not-early on u d e = false_from_ne_true (goes_early on u) (λ g. pick (is_writte
     pick : (b : Bool) → list_any on (if b then dir u ++ ear u else []) ≡ true → ⊥
     pick false h = false≢true h
     pick true h = ⊎_elim (λ (k : list_any on (dir u) ≡ true). false≢true (sym d ∙ k)) (λ (k : list_any on (ear u) ≡ true). false≢true (sym e ∙ k)) (any-either on (dir u) (ear u) h)
-
-pub count-append : (on : Chosen) (a b : List Column) → count on (a ++ b) ≡ count on a + count on b
-count-append on [] b = omega arith
-count-append on (c ∷ a) b = let e = count-append on a b in omega arith
 
 pub dirs-off : (on : Chosen) (us : List Use) → count on (flat_map dir us) ≡ 0 → Each (λ u. list_any on (dir u) ≡ false) us
 dirs-off on [] e = tt

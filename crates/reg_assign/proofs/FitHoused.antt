@@ -22,11 +22,12 @@ use Rattle.reg_assign.specs.inner.ReadOff.{Numbers, begins, goes_early, def_bank
 use Rattle.reg_assign.proofs.ReadParts.{any-count, count-any, on-none, FirstsThere, first-read}
 use Rattle.reg_assign.proofs.FitWords.{each-both, service-each, service-none, IsEarlySame, word-same, words-same}
 use Rattle.reg_assign.proofs.FitWaiting.{each-contained, any-of-map, any-either}
-use Rattle.reg_assign.proofs.FitHomes.{is_home_bank, def-bank-some, def-bank-none, bank-count, no-register, no-bank, fills-are, copies-none, uses-none, uses-value, not-early, dirs-off, dirs-count, one-use}
+use Rattle.reg_assign.proofs.FitHomes.{is_home_bank, def-bank-some, def-bank-none, bank-count, no-register, no-bank, result-home, fills-are, copies-none, uses-none, uses-value, not-early, dirs-off, dirs-count, one-use}
 
 -- what is known of a value
 pub record Known (labels : List Label) (slots : ℕ) (on : Chosen) (numbers : Numbers) (hs : List Home) (v : Value) : Type 0 where
   pub facts : ValueFacts labels on v
+  pub used : is_result v.sort ≡ true → is_used labels v.var ≡ true
   pub below : (h : Bank) → is_home_bank h ≡ true → in_bank on h v.var ≡ true → numbers h v.var < room slots h
   pub uses_known : Each (UseFacts labels on) (uses_of labels v.var)
   pub early_same : Each (IsEarlySame labels slots on numbers hs) (uses labels)
@@ -141,7 +142,7 @@ put-some labels slots on numbers hs v k n c d h e =
 
 -- ---- a result that is put early
 
-abbrev is_source : Bank → Bool
+abbrev pub is_source : Bank → Bool
 is_source A = true
 is_source B = true
 is_source M = true
@@ -150,7 +151,7 @@ is_source L = false
 is_source A15 = false
 is_source W = false
 
-all-sources : (role : Role) → Each (λ s. is_source s.from ≡ true) (services role)
+pub all-sources : (role : Role) → Each (λ s. is_source s.from ≡ true) (services role)
 all-sources Operand = (refl, (refl, (refl, (refl, (refl, (refl, (refl, tt)))))))
 all-sources Address = (refl, (refl, (refl, (refl, tt))))
 all-sources (Written m i) = (refl, (refl, (refl, (refl, tt))))
@@ -183,7 +184,7 @@ goes-direct on u e g = pick (is_written u.role) g
     pick false h = absurd (false≢true h)
     pick true h = ⊎_elim (λ (k : list_any on (dir u) ≡ true). any-count on (dir u) k) (λ (k : list_any on (ear u) ≡ true). absurd (false≢true (sym e ∙ k))) (any-either on (dir u) (ear u) h)
 
-put-early : (labels : List Label) (slots : ℕ) (on : Chosen) (numbers : Numbers) (hs : List Home) (v : Value) → Known labels slots on numbers hs v → is_fetched v.sort ≡ false → count on (def v.var) ≡ 0 → count on (flat_map dir (uses_of labels v.var)) ≡ 1 → ((g : Bank) → on (Def v.var g) ≡ false)
+pub put-early : (labels : List Label) (slots : ℕ) (on : Chosen) (numbers : Numbers) (hs : List Home) (v : Value) → Known labels slots on numbers hs v → is_fetched v.sort ≡ false → count on (def v.var) ≡ 0 → count on (flat_map dir (uses_of labels v.var)) ≡ 1 → ((g : Bank) → on (Def v.var g) ≡ false)
     → IsPutEarly labels (read_off labels slots on numbers hs) v.var (put_home labels on numbers v.var None)
 put-early labels slots on numbers hs v k n c d none =
     let p = read_off labels slots on numbers hs in
@@ -234,7 +235,7 @@ housed-by labels slots on numbers hs v k o (Parameter l i) e h =
 housed-by labels slots on numbers hs v k o Result e h =
     let p = read_off labels slots on numbers hs in
     let one = k.facts.result (ap is_result e) in
-    subst (λ (w : Home). (IsGeneral p w.defined × AreCopies labels p v.var w) ⊎ IsPutEarly labels p v.var w) (sym (h refl)) (pick (def_bank on v.var) refl one)
+    subst (λ (w : Home). (IsGeneral p w.defined × AreCopies labels p v.var w) ⊎ IsPutEarly labels p v.var w) (sym (h refl ∙ result-home labels on numbers v.point v.var (k.used (ap is_result e)))) (pick (def_bank on v.var) refl one)
   where
     off : count on (def v.var) ≡ 0 → (g : Bank) → on (Def v.var g) ≡ false
     off z A = let l = z in on-none (on (Def v.var A)) (omega arith)

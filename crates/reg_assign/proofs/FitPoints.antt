@@ -21,7 +21,7 @@ use Rattle.bank_prog.specs.Meaning.{Chosen}
 use Rattle.reg_assign.specs.inner.Facts.{some_on, Covers, StaysIn, PointFacts}
 use Rattle.reg_assign.specs.inner.ReadOff.{Numbers, first_on, pass_l, pass_s, read_off}
 use Rattle.reg_assign.proofs.ReadParts.{is-eighth, first-on-any, some-first-on}
-use Rattle.reg_assign.proofs.FitHeld.{Staying, same-read}
+use Rattle.reg_assign.proofs.FitHeld.{Staying, same-read, none-with-nothing}
 
 -- ---- a read fills no register in which a value stays
 
@@ -39,10 +39,6 @@ run-clear n q f (suc w) h =
     and_from (not (same_place (read_place n f) q || false)) (none_shared (run_of (read_place n) (suc f) w) (q ∷ []))
     (not_from_false (same_place (read_place n f) q || false) (or_from (same_place (read_place n f) q) false (h f (omega arith) (omega arith)) refl))
     (run-clear n q (suc f) w (λ g l m. h g (omega arith) (omega arith)))
-
-none-with-nothing : (qs : List Place) → none_shared qs [] ≡ true
-none-with-nothing [] = refl
-none-with-nothing (q ∷ qs) = none-with-nothing qs
 
 pub read-clear : (labels : List Label) (p : Plan) (on : Chosen) (x : ℕ) (a : Access) (f : ℕ) → first p a.point ≡ f → on (First a.point f) ≡ true → ((r : ℕ) → StaysIn labels on x (is_sdram a.mem) r → Covers on a r → ⊥) → (stays labels p x ≡ true → Staying labels p on x)
     → none_shared (run_of (read_place a.mem) (first p a.point) a.words) (read_places labels p x) ≡ true

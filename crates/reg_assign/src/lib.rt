@@ -3,6 +3,8 @@
 
 mod assigned;
 mod chosen;
+mod chosen_laws;
+mod laws;
 
 pub use assigned::assign;
 pub use chosen::from_placement;

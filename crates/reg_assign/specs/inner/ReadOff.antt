@@ -10,14 +10,14 @@ use Rattle.place_ir.specs.declared.place.First.{First as KeptFirst}
 use Rattle.place_ir.specs.declared.place.Serve.{Serve}
 use Rattle.place_ir.specs.declared.place.Pass.{Pass}
 use Rattle.place_ir.specs.Plan.{Home, Plan, home_in}
-use Rattle.place_ir.specs.Uses.{Access, accesses, Sort, Parameter, Result, Fetched, Value, values, Role, Operand, Address, Written, Argument, Ending, Use, uses, uses_of}
+use Rattle.place_ir.specs.Uses.{Access, accesses, Sort, Parameter, Result, Fetched, Value, values, Role, Operand, Address, Written, Argument, Ending, Use, uses, uses_of, is_used}
 use Rattle.place_ir.specs.Fits.{read_place, write_place, parameter, wants_home, Rises}
 use Rattle.bank_prog.specs.declared.column.Bank.{Bank}
 use Rattle.bank_prog.specs.declared.column.Bank.TheVariants.{A, B, M, T, L, A15, W}
 use Rattle.bank_prog.specs.declared.column.Column.TheVariants.{Def, Fill, First, Srv, PasL, PasS}
 use Rattle.bank_prog.specs.declared.column.Service.{Service}
 use Rattle.bank_prog.specs.Columns.{eight, services}
-use Rattle.bank_prog.specs.Rows.{homes, early}
+use Rattle.bank_prog.specs.Rows.{homes, early, is_parameter}
 use Rattle.bank_prog.specs.Meaning.{Chosen}
 
 -- the number of a value's register in bank A or B, or of its slot
@@ -114,9 +114,13 @@ abbrev pub put_home : List Label → Chosen → Numbers → ℕ → Option Bank 
 put_home labels on numbers x (Some h) = record { var = x; defined = home_place numbers h x; copied = copies_of labels on numbers x }
 put_home labels on numbers x None = record { var = x; defined = first_word on (uses_of labels x); copied = [] }
 
+-- a result without a use is never held: whatever the columns say, it comes into the first register
+abbrev pub unused_home : ℕ → Home
+unused_home x = record { var = x; defined = place.A 0; copied = [] }
+
 abbrev pub sort_home : List Label → Chosen → Numbers → ℕ → ℕ → Sort → Home
 sort_home labels on numbers k x (Parameter l i) = put_home labels on numbers x (def_bank on x)
-sort_home labels on numbers k x Result = put_home labels on numbers x (def_bank on x)
+sort_home labels on numbers k x Result = if is_used labels x then put_home labels on numbers x (def_bank on x) else unused_home x
 sort_home labels on numbers k x (Fetched m i) = record { var = x; defined = read_place m (begins on k + i); copied = copies_of labels on numbers x }
 
 abbrev pub value_home : List Label → Chosen → Numbers → Value → Home
@@ -199,9 +203,13 @@ room slots W = 0
 abbrev pub AreApart : Chosen → Numbers → List ℕ → Bank → Type 0
 AreApart on numbers row h = (x y : ℕ) → is_in x row ≡ true → is_in y row ≡ true → x ≢ y → has_home on x h ≡ true → has_home on y h ≡ true → numbers h x ≢ numbers h y
 
-abbrev pub IsBelow : ℕ → Chosen → Numbers → Bank → Value → Type 0
-IsBelow slots on numbers h v = has_home on v.var h ≡ true → numbers h v.var < room slots h
+-- a value that is held somewhere: a parameter, or a value with a use
+abbrev pub is_held : List Label → Value → Bool
+is_held labels v = is_used labels v.var || is_parameter v.sort
+
+abbrev pub IsBelow : List Label → ℕ → Chosen → Numbers → Bank → Value → Type 0
+IsBelow labels slots on numbers h v = is_held labels v ≡ true → has_home on v.var h ≡ true → numbers h v.var < room slots h
 
 pub record AreNumbered (labels : List Label) (slots : ℕ) (on : Chosen) (numbers : Numbers) : Type 0 where
   pub apart : All (λ q. All (AreApart on numbers q.before) homes) (points labels)
-  pub below : All (λ h. All (IsBelow slots on numbers h) (values labels)) homes
+  pub below : All (λ h. All (IsBelow labels slots on numbers h) (values labels)) homes

@@ -1,7 +1,7 @@
 use Rattle.std.proofs.Common.{◌≡◌, ◌∙◌, ℕ, ap, sym, inr, map, length, arith}
 use Rattle.std.specs.HashMap.{get}
 use Rattle.ssu_ir.specs.View.{labels_view}
-use Rattle.zo_model.specs.Contents.{row_contents}
+use Rattle.zo_model.specs.Contents.{row_contents, contents}
 use Rattle.bank_prog.specs.declared.column.Column.{Column}
 use Rattle.bank_prog.specs.Columns.{priced, columns, costs}
 use Rattle.bank_prog.specs.Program as program
@@ -30,7 +30,8 @@ returns-clause-program c =
     let all : c.in_ok-priced.priced.items ≡ priced labels = c.in_ok-priced.ensures ∙ ap priced here in
     let same : (x : Column) → get same_column c.in_ok-numbers.numbers x ≡ number_of labels x = λ x.
     c.in_ok-numbers.ensures x ∙ ap (λ ps. number_in 0 (map (λ (d : Column × ℕ). d.0) ps) x) (c.deref.ensures.value ∙ all) in
-    same-program c.in_ok-costs.costs.items (costs labels) (map row_contents c.in_ok-rows.rows.items) (program.rows labels c.args.slots)
+    ap contents c.in_ok-within_limits.ensures.same
+    ∙ same-program c.in_ok-costs.costs.items (costs labels) (map row_contents c.in_ok-rows.rows.items) (program.rows labels c.args.slots)
     (c.in_ok-costs.ensures ∙ ap (map (λ (d : Column × ℕ). d.1)) (c.deref-3.ensures.value ∙ all))
     (c.in_ok-rows.ensures ∙ ap (λ ls. map (row_of (get same_column c.in_ok-numbers.numbers)) (lines ls c.args.slots)) here ∙ rows-alike (get same_column c.in_ok-numbers.numbers) (number_of labels) same (lines labels c.args.slots))
 

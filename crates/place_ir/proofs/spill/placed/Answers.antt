@@ -5,6 +5,7 @@ use Rattle.ssu_ir.specs.View.{labels_view}
 use Rattle.place_ir.specs.declared.parts.Given.{Given}
 use Rattle.place_ir.specs.inner.Parts.{IsShort}
 use Rattle.place_ir.specs.inner.Spots.{spot_place}
+use Rattle.place_ir.proofs.InSlots.{placed-in-slots}
 use Rattle.place_ir.proofs.Joined.{placed-fits}
 use Rattle.place_ir.proofs.Short.{short-at-points}
 use Rattle.place_ir.proofs.spill.placed.Goals as goal
@@ -19,3 +20,9 @@ returns-clause-fits c =
     let given : Given = record { slots = c.args.numbers; copies = c.args.copies; used = c.in_ok-used.used } in
     placed-fits s given (map (spot_place s) c.args.spots.now) c.in_ok-parts.parts c.by_variable-homes.result.items c.args.slots c.requires.single c.requires.slots c.requires.numbered c.requires.copies
     c.in_ok-used.ensures c.requires.spots c.in_ok-parts.ensures c.by_variable-homes.ensures.same c.by_variable-homes.ensures.sorted
+
+pub returns-clause-in_slots : goal.returns-clause-in_slots
+returns-clause-in_slots c =
+    let s = c.args.s.now in
+    let given : Given = record { slots = c.args.numbers; copies = c.args.copies; used = c.in_ok-used.used } in
+    placed-in-slots (labels_view s) given (map (spot_place s) c.args.spots.now) c.in_ok-parts.parts c.by_variable-homes.result.items c.in_ok-parts.ensures c.by_variable-homes.ensures.same
