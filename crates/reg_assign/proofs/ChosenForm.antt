@@ -1,5 +1,5 @@
 -- What a placement that fits says of the values and uses whose columns are chosen by it.
-use Rattle.std.proofs.Common.{◌≡◌, ◌≢◌, ℕ, ◌+◌, nat_eq, Bool, true, false, not, ◌&&◌, if◌then◌else◌, ◌⊎◌, inl, ⊎_elim, Some, List, [], ◌∷◌, ◌++◌, map, refl, sym, ap, subst, ◌∙◌}
+use Rattle.std.proofs.Common.{◌≡◌, ℕ, ◌+◌, nat_eq, Bool, true, false, not, ◌&&◌, if◌then◌else◌, inl, ⊎_elim, Some, List, [], ◌∷◌, ◌++◌, map, refl, sym, ap, subst, ◌∙◌}
 use Rattle.std.specs.Prelude.{slice_get}
 use Rattle.std.proofs.lemmas.List.Elements.{All-contains}
 use Rattle.std.proofs.lemmas.Bool.{false≢true, and_parts, and_from, or_cases, or_left, or_right}
@@ -12,7 +12,6 @@ use Rattle.ssu_ir.specs.Points.{Point, points, IsHeld}
 use Rattle.ssu_ir.specs.Single.{single}
 use Rattle.ssu_ir.proofs.Held.{points_held}
 use Rattle.place_ir.specs.declared.place.Place.{Place}
-use Rattle.place_ir.specs.declared.place.Place.TheVariants as place
 use Rattle.place_ir.specs.Plan.{Home, Plan, home, first}
 use Rattle.place_ir.specs.Places.{same_place}
 use Rattle.place_ir.specs.Uses.{Sort, Parameter, Result, Fetched, Value, values, Role, Operand, Address, Written, Argument, Ending, Use, uses, uses_of, is_used}

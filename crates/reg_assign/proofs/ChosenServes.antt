@@ -1,5 +1,5 @@
 -- How many of the columns of a use are on: one way to serve it, or one place where its word is put early.
-use Rattle.std.proofs.Common.{◌≡◌, ℕ, zero, suc, ◌+◌, ◌≤◌, nat_eq, Bool, true, false, not, ◌&&◌, if◌then◌else◌, ◌⊎◌, inl, inr, ⊎_elim, Option, Some, List, [], ◌∷◌, ◌++◌, map, refl, sym, ap, subst, ◌∙◌, arith}
+use Rattle.std.proofs.Common.{◌≡◌, ℕ, ◌+◌, nat_eq, Bool, true, false, not, ◌&&◌, if◌then◌else◌, inl, inr, ⊎_elim, Option, List, [], ◌∷◌, ◌++◌, map, refl, sym, ap, subst, ◌∙◌, arith}
 use Rattle.std.proofs.lemmas.List.Elements.{All-contains}
 use Rattle.std.proofs.lemmas.Bool.{false≢true, and_parts, and_from, and_left, and_right}
 use Rattle.nv_base.proofs.Sets.{same-number}
@@ -11,16 +11,15 @@ use Rattle.ssu_ir.specs.Single.{single}
 use Rattle.zo_model.specs.Program.{cost_where}
 use Rattle.place_ir.specs.declared.place.Place.{Place}
 use Rattle.place_ir.specs.declared.place.Place.TheVariants as place
-use Rattle.place_ir.specs.declared.place.Serve.{Serve}
-use Rattle.place_ir.specs.Plan.{Plan, home, first, serve, pass}
+use Rattle.place_ir.specs.Plan.{Plan, home, first, pass}
 use Rattle.place_ir.specs.Uses.{Access, accesses, Sort, Parameter, Result, Fetched, Value, values, Role, Operand, Address, Written, Argument, Ending, Use, uses, is_used}
-use Rattle.place_ir.specs.Fits.{read_place, write_place, IsGeneral, is_write_register, is_result, IsHome, IsHoused, served, is_early, IsFirst, parameter, IsOperandAt, IsAddressAt, IsServedAt, IsServed, Fits}
+use Rattle.place_ir.specs.Fits.{read_place, write_place, IsGeneral, is_write_register, is_result, IsHome, IsHoused, served, is_early, IsFirst, parameter, IsOperandAt, IsAddressAt, IsServedAt, Fits}
 use Rattle.place_ir.proofs.Scoped.{in-itself}
 use Rattle.place_ir.proofs.Fitting.{apart-from}
 use Rattle.bank_prog.specs.declared.column.Bank.{Bank}
 use Rattle.bank_prog.specs.declared.column.Bank.TheVariants.{A, B, M, T, L, A15, W}
 use Rattle.bank_prog.specs.declared.column.Column.{Column}
-use Rattle.bank_prog.specs.declared.column.Column.TheVariants.{Dir, Ear, First, Srv}
+use Rattle.bank_prog.specs.declared.column.Column.TheVariants.{Dir, Ear, Srv}
 use Rattle.bank_prog.specs.declared.column.Service.{Service}
 use Rattle.bank_prog.specs.Columns.{sort_of, is_fetched, eight, place_words, beginnings, role_beginnings, services, has_bank}
 use Rattle.bank_prog.specs.Program.{same_bank}

@@ -1,8 +1,8 @@
 -- From where a placement that fits serves a use: from a home of the use's value, whose column is on.
-use Rattle.std.proofs.Common.{◌≡◌, ℕ, zero, suc, ◌+◌, ◌<◌, ◌≤◌, nat_eq, Bool, true, false, not, ◌&&◌, ◌||◌, ◌⊎◌, inl, inr, ⊎_elim, Option, Some, None, List, [], ◌∷◌, ◌++◌, length, map, refl, sym, ap, subst, ◌∙◌, arith}
+use Rattle.std.proofs.Common.{◌≡◌, ℕ, zero, suc, ◌+◌, ◌<◌, ◌≤◌, nat_eq, Bool, true, false, not, ◌||◌, ◌⊎◌, inl, inr, ⊎_elim, Option, Some, None, List, [], ◌∷◌, ◌++◌, length, map, refl, sym, ap, subst, ◌∙◌, arith}
 use Rattle.std.specs.Prelude.{slice_get, nat_le}
 use Rattle.std.specs.List.{list_any}
-use Rattle.std.proofs.lemmas.Bool.{false≢true, and_parts, and_from, or_cases, or_left, or_right}
+use Rattle.std.proofs.lemmas.Bool.{false≢true, and_parts, or_cases, or_left, or_right}
 use Rattle.nv_base.specs.Sets.{is_in, Within}
 use Rattle.nv_base.proofs.Sets.{same-number}
 use Rattle.nv_base.specs.declared.term.Mem.{Mem}
@@ -15,27 +15,27 @@ use Rattle.place_ir.specs.declared.place.Place.TheVariants as place
 use Rattle.place_ir.specs.Places.{same_place}
 use Rattle.place_ir.specs.Plan.{Plan, home, first}
 use Rattle.place_ir.specs.Uses.{Sort, Parameter, Result, Fetched, Value, values, Role, Operand, Address, Written, Argument, Ending, Use, uses, uses_at, uses_of, roles, place_roles, is_used}
-use Rattle.place_ir.specs.Fits.{read_place, IsGeneral, is_write_register, is_home, param_at, label_param, parameter, IsHoused, IsHome, Fits, AreCopies}
+use Rattle.place_ir.specs.Fits.{read_place, IsGeneral, is_write_register, is_home, param_at, label_param, parameter, Fits, AreCopies}
 use Rattle.place_ir.specs.inner.Numbers.{values_among}
 use Rattle.place_ir.proofs.Places.{same_place-true}
 use Rattle.place_ir.proofs.Scoped.{in-itself}
-use Rattle.place_ir.proofs.Sound.{Each, entry_params, place_ok, Sound, sound-points, uses_among}
+use Rattle.place_ir.proofs.Sound.{place_ok, Sound, sound-points, uses_among}
 use Rattle.place_ir.proofs.Spilled.{each-at, sort_param, param_vars}
 use Rattle.place_ir.proofs.Fitting.{entries-in, label-entry}
 use Rattle.bank_prog.specs.declared.column.Bank.{Bank}
 use Rattle.bank_prog.specs.declared.column.Bank.TheVariants.{A, B, M, T, L, A15, W}
 use Rattle.bank_prog.specs.declared.column.Column.TheVariants.{Def, Fill}
-use Rattle.bank_prog.specs.Columns.{sort_of, is_fetched, point_uses}
+use Rattle.bank_prog.specs.Columns.{sort_of, is_fetched}
 use Rattle.bank_prog.specs.Rows.{homes, home as home_columns, is_parameter}
 use Rattle.bank_prog.specs.Program.{same_bank}
 use Rattle.bank_prog.specs.Meaning.{Chosen}
 use Rattle.reg_assign.specs.inner.Facts.{count}
-use Rattle.reg_assign.specs.inner.Chosen.{bank_of, is_in_bank, chosen}
+use Rattle.reg_assign.specs.inner.Chosen.{bank_of, is_in_bank}
 use Rattle.reg_assign.proofs.Counts.{In, some-counted, each-in, kept-in}
 use Rattle.reg_assign.proofs.FactsAll.{values-differ}
 use Rattle.reg_assign.proofs.FactsValues.{sort-found, used-of}
 use Rattle.reg_assign.proofs.ChosenForm.{Placed, Housing, housing, held-value, put-writes, copies-are, IsCopy}
-use Rattle.reg_assign.proofs.ChosenThere.{UsePoint, use-point, role-among, def-there, fill-there}
+use Rattle.reg_assign.proofs.ChosenThere.{use-point, role-among, def-there, fill-there}
 
 -- ---- banks
 

@@ -1,8 +1,8 @@
 -- Which columns there are: the columns that each value, use, access and point of a form has.
-use Rattle.std.proofs.Common.{◌≡◌, ℕ, zero, suc, ◌+◌, ◌*◌, ◌<◌, ◌≤◌, Bool, true, false, ◌&&◌, ◌||◌, if◌then◌else◌, nat_eq, Some, List, [], ◌∷◌, ◌++◌, length, map, filter, refl, sym, ap, subst, ◌∙◌, inl, inr, ⊎_elim, arith}
+use Rattle.std.proofs.Common.{◌≡◌, ℕ, zero, suc, ◌+◌, ◌*◌, ◌<◌, ◌≤◌, true, false, ◌||◌, nat_eq, Some, List, [], ◌∷◌, ◌++◌, length, map, refl, sym, ap, subst, ◌∙◌, inl, inr, ⊎_elim, arith}
 use Rattle.std.specs.Prelude.{◌%◌, ◌==◌, nat_le, slice_get, Contains}
-use Rattle.std.specs.List.{flat_map, list_any}
-use Rattle.std.proofs.lemmas.Bool.{false≢true, and_parts, and_from, or_cases, le-leb, leb-true, eq-eqb}
+use Rattle.std.specs.List.{list_any}
+use Rattle.std.proofs.lemmas.Bool.{and_parts, and_from, or_cases, le-leb, leb-true, eq-eqb}
 use Rattle.nv_base.specs.Access.{can_move}
 use Rattle.nv_base.specs.declared.term.Mem.{Mem}
 use Rattle.nv_base.specs.declared.term.Mem.TheVariants.{Sram, Sdram, Scratch}
@@ -16,22 +16,17 @@ use Rattle.place_ir.specs.inner.Numbers.{values_among}
 use Rattle.place_ir.proofs.Sound.{place_ok, Sound, sound-points, uses_among}
 use Rattle.place_ir.proofs.Spilled.{each-at}
 use Rattle.bank_prog.specs.declared.column.Bank.{Bank}
-use Rattle.bank_prog.specs.declared.column.Bank.TheVariants.{A, B, M}
-use Rattle.bank_prog.specs.declared.column.Column.{Column}
 use Rattle.bank_prog.specs.declared.column.Column.TheVariants.{Def, Dir, Fill, Stay, Ear, First, Srv, PasL, PasS}
 use Rattle.bank_prog.specs.declared.column.Service.{Service}
-use Rattle.bank_prog.specs.Columns.{each_point, may_begin, sort_of, is_fetched, point_uses, place_words, eight, beginnings, role_beginnings, sort_beginnings, Priced, sort_defs, def_columns, dir_columns, point_dirs, fill_columns, stay_columns, point_stays, ear_columns, point_ears, first_columns, services, has_bank, srv_columns, for_eight, pas_l_columns, pas_s_columns, all_dirs, all_stays, all_ears, all_pas_l, all_pas_s, priced, columns}
+use Rattle.bank_prog.specs.Columns.{each_point, may_begin, sort_of, is_fetched, point_uses, place_words, eight, beginnings, role_beginnings, sort_beginnings, services, has_bank, columns}
 use Rattle.bank_prog.specs.Rows.{homes}
+use Rattle.bank_prog.proofs.Present as present
 use Rattle.bank_prog.proofs.Tabled.{uses-each, accesses-each}
-use Rattle.reg_assign.proofs.Counts.{In, contained-in, in-left, in-right, map-in, kept-in, in-points}
+use Rattle.reg_assign.proofs.Counts.{In, in-contained, contained-in, in-left, in-right, kept-in}
 use Rattle.reg_assign.proofs.FactsThere.{point-of}
-use Rattle.reg_assign.proofs.FactsPoints.{flat-in, below-eight}
+use Rattle.reg_assign.proofs.FactsPoints.{below-eight}
 
 -- ---- elements of a list that is made piece by piece
-
-if-in : {X : Type 0} (x : X) (b : Bool) (xs : List X) → b ≡ true → In x xs → In x (if b then xs else [])
-if-in x true xs e i = i
-if-in x false xs e i = absurd (false≢true e)
 
 points-in : {X : Type 0} (x : X) (f : ℕ → Point → List X) (j i k : ℕ) (ps : List Point) (q : Point) → k ≡ j + i → slice_get ps i ≡ Some q → In x (f k q) → In x (each_point f j ps)
 points-in x f j i k [] q e g h = absurd (cc)
@@ -57,60 +52,35 @@ pub record ValuePoint (labels : List Label) (v : Value) : Type 0 where
   pub at : slice_get (points labels) v.point ≡ Some point
   pub here : In v (place_values v.point point.place)
 
-moved : (k j : ℕ) → k ≡ j → (labels : List Label) (i : ℕ) (q : Point) → k ≡ 0 + i → slice_get (points labels) i ≡ Some q → slice_get (points labels) j ≡ Some q
-moved k j e labels i q f g = subst (λ n. slice_get (points labels) n ≡ Some q) (let s : i ≡ j = omega (arith, e, f) in s) g
-
 pub use-point : (labels : List Label) (u : Use) → In u (uses labels) → UsePoint labels u
 use-point labels u i =
-    let w = in-points u point_uses 0 (points labels) (subst (In u) (sym (uses-each 0 (points labels))) i) in
-    let k = w.0 in
-    let q = w.1 in
-    let here : u.point ≡ 0 + k = point-of u (0 + k) 0 q.uses (place_roles q.place) w.3 in
-    record {
-      point = q;
-      at = moved (0 + k) u.point (sym here) labels k q refl w.2;
-      here = subst (λ n. In u (point_uses n q)) (sym here) w.3;
-    }
+    let w = present.use-place labels u (contained-in u (uses labels) i) in
+    record { point = w.0; at = w.1; here = in-contained u (point_uses u.point w.0) w.2 }
 
-numbered-at : (v : Value) (k : ℕ) (sort : ℕ → Sort) (i : ℕ) (xs : List ℕ) → In v (numbered k sort i xs) → (v.point ≡ k) × ((j : ℕ) × (v.sort ≡ sort j))
-numbered-at v k sort i [] h = absurd h
-numbered-at v k sort i (x ∷ xs) h = ⊎_elim
-    (λ (e : ◌≡◌ {A = Value} (record { point = k; var = x; sort = sort i }) v). (ap (λ (w : Value). w.point) (sym e), (i, ap (λ (w : Value). w.sort) (sym e))))
-    (λ (j : In v (numbered k sort (suc i) xs)). numbered-at v k sort (suc i) xs j)
-    h
-
-one-at : (v : Value) (k x : ℕ) → In v (result k x) → (v.point ≡ k) × (v.sort ≡ Result)
-one-at v k x h = ⊎_elim
-    (λ (e : ◌≡◌ {A = Value} (record { point = k; var = x; sort = Result }) v). (ap (λ (w : Value). w.point) (sym e), ap (λ (w : Value). w.sort) (sym e)))
-    (λ z. absurd z)
-    h
+pub value-point : (labels : List Label) (v : Value) → In v (values labels) → ValuePoint labels v
+value-point labels v i =
+    let w = present.value-place labels v (contained-in v (values labels) i) in
+    record { point = w.0; at = w.1; here = in-contained v (place_values v.point w.0.place) w.2 }
 
 pub value-here : (v : Value) (k : ℕ) (q : Place) → In v (place_values k q) → v.point ≡ k
-value-here v k (Entry l ps) i = (numbered-at v k (Parameter l) 0 ps i).0
-value-here v k (At (Does (Lit x n))) i = (one-at v k x i).0
-value-here v k (At (Does (Una x op y))) i = (one-at v k x i).0
-value-here v k (At (Does (Bin x op y z))) i = (one-at v k x i).0
-value-here v k (At (Does (Clone xs y))) i = absurd i
-value-here v k (At (Does (Read m xs y))) i = (numbered-at v k (Fetched m) 0 xs i).0
-value-here v k (At (Does (Write m y xs))) i = absurd i
-value-here v k (At (Forks c x y)) i = absurd i
-value-here v k (At (Ends l)) i = absurd i
+value-here v k q i = present.value-point v k q (contained-in v (place_values k q) i)
+
+numbered-sort : (v : Value) (k : ℕ) (sort : ℕ → Sort) (i : ℕ) (xs : List ℕ) → In v (numbered k sort i xs) → (j : ℕ) × (v.sort ≡ sort j)
+numbered-sort v k sort i [] h = absurd h
+numbered-sort v k sort i (x ∷ xs) h = ⊎_elim
+    (λ (e : ◌≡◌ {A = Value} (record { point = k; var = x; sort = sort i }) v). (i, ap (λ (w : Value). w.sort) (sym e)))
+    (λ (j : In v (numbered k sort (suc i) xs)). numbered-sort v k sort (suc i) xs j)
+    h
+
+one-sort : (v : Value) (k x : ℕ) → In v (result k x) → v.sort ≡ Result
+one-sort v k x h = ⊎_elim
+    (λ (e : ◌≡◌ {A = Value} (record { point = k; var = x; sort = Result }) v). ap (λ (w : Value). w.sort) (sym e))
+    (λ z. absurd z)
+    h
 
 values-each : (k : ℕ) (ps : List Point) → each_point (λ k q. place_values k q.place) k ps ≡ values_from k ps
 values-each k [] = refl
 values-each k (q ∷ ps) = ap (λ vs. place_values k q.place ++ vs) (values-each (suc k) ps)
-
-pub value-point : (labels : List Label) (v : Value) → In v (values labels) → ValuePoint labels v
-value-point labels v i =
-    let w = in-points v (λ k (q : Point). place_values k q.place) 0 (points labels) (subst (In v) (sym (values-each 0 (points labels))) i) in
-    let k = w.0 in
-    let q = w.1 in
-    let here : v.point ≡ 0 + k = value-here v (0 + k) q.place w.3 in
-    record {
-      point = q;
-      at = moved (0 + k) v.point (sym here) labels k q refl w.2;
-      here = subst (λ n. In v (place_values n q.place)) (sym here) w.3;
-    }
 
 -- a value or use of a point is one of the form, and stands there
 pub value-among : (labels : List Label) (k : ℕ) (q : Point) (v : Value) → slice_get (points labels) k ≡ Some q → In v (place_values k q.place) → In v (values labels)
@@ -148,14 +118,14 @@ same-fetched : (m n : Mem) (i j : ℕ) → Fetched m i ≡ Fetched n j → m ≡
 same-fetched m n i j e = cc
 
 value-read : (v : Value) (m : Mem) (i k : ℕ) (q : Place) → In v (place_values k q) → v.sort ≡ Fetched m i → In (place_access k m q) (reads_at k q)
-value-read v m i k (Entry l ps) h e = let w = numbered-at v k (Parameter l) 0 ps h in not-parameter v.sort l w.1.0 m i w.1.1 e
-value-read v m i k (At (Does (Lit x n))) h e = sort-not v.sort m i (one-at v k x h).1 e
-value-read v m i k (At (Does (Una x op y))) h e = sort-not v.sort m i (one-at v k x h).1 e
-value-read v m i k (At (Does (Bin x op y z))) h e = sort-not v.sort m i (one-at v k x h).1 e
+value-read v m i k (Entry l ps) h e = let w = numbered-sort v k (Parameter l) 0 ps h in not-parameter v.sort l w.0 m i w.1 e
+value-read v m i k (At (Does (Lit x n))) h e = sort-not v.sort m i (one-sort v k x h) e
+value-read v m i k (At (Does (Una x op y))) h e = sort-not v.sort m i (one-sort v k x h) e
+value-read v m i k (At (Does (Bin x op y z))) h e = sort-not v.sort m i (one-sort v k x h) e
 value-read v m i k (At (Does (Clone xs y))) h e = absurd h
 value-read v m i k (At (Does (Read n xs y))) h e =
-    let w = numbered-at v k (Fetched n) 0 xs h in
-    inl (ap (λ a. place_access k a (At (Does (Read n xs y)))) (same-fetched n m w.1.0 i (sym w.1.1 ∙ e)))
+    let w = numbered-sort v k (Fetched n) 0 xs h in
+    inl (ap (λ a. place_access k a (At (Does (Read n xs y)))) (same-fetched n m w.0 i (sym w.1 ∙ e)))
 value-read v m i k (At (Does (Write n y xs))) h e = absurd h
 value-read v m i k (At (Forks c x y)) h e = absurd h
 value-read v m i k (At (Ends l)) h e = absurd h
@@ -250,9 +220,9 @@ some-word labels k (At (Ends l)) a e h = absurd h
 pub access-words : (labels : List Label) (a : Access) → single labels ≡ true → In a (accesses labels) → 1 ≤ a.words
 access-words labels a s i =
     let ps = points labels in
-    let w = in-points a (λ k (q : Point). place_accesses k q.place) 0 ps (subst (In a) (sym (accesses-each 0 ps)) i) in
-    let sound = each-at (Sound labels (values_among (map (λ (p : Point). p.place) ps)) (uses_among ps)) ps w.0 w.1 (sound-points labels s) w.2 in
-    some-word labels (0 + w.0) w.1.place a sound.node w.3
+    let w = present.access-place labels a (contained-in a (accesses labels) i) in
+    let sound = each-at (Sound labels (values_among (map (λ (p : Point). p.place) ps)) (uses_among ps)) ps a.point w.0 (sound-points labels s) w.1 in
+    some-word labels a.point w.0.place a sound.node (in-contained a (place_accesses a.point w.0.place) w.2)
 
 -- ---- where a run may begin
 
@@ -276,147 +246,32 @@ first-begins m n f l h =
 
 -- ---- columns
 
--- a column of a family is there
-named : (labels : List Label) (c : Priced) → In c (priced labels) → Contains (columns labels) c.0
-named labels c i = contained-in c.0 (columns labels) (map-in (λ (c : Priced). c.0) c (priced labels) i)
-
-abbrev from_pas_l : List Label → List Priced
-from_pas_l labels = all_pas_l labels ++ all_pas_s labels
-
-abbrev from_srvs : List Label → List Priced
-from_srvs labels = flat_map (srv_columns labels) (uses labels) ++ from_pas_l labels
-
-abbrev from_firsts : List Label → List Priced
-from_firsts labels = flat_map first_columns (accesses labels) ++ from_srvs labels
-
-abbrev from_ears : List Label → List Priced
-from_ears labels = all_ears labels ++ from_firsts labels
-
-abbrev from_stays : List Label → List Priced
-from_stays labels = all_stays labels ++ from_ears labels
-
-abbrev from_fills : List Label → List Priced
-from_fills labels = flat_map (fill_columns labels) (values labels) ++ from_stays labels
-
-abbrev from_dirs : List Label → List Priced
-from_dirs labels = all_dirs labels ++ from_fills labels
-
-in-dirs : (labels : List Label) (c : Priced) → In c (from_dirs labels) → In c (priced labels)
-in-dirs labels c i = in-right c (flat_map def_columns (values labels)) (from_dirs labels) i
-
-in-fills : (labels : List Label) (c : Priced) → In c (from_fills labels) → In c (priced labels)
-in-fills labels c i = in-dirs labels c (in-right c (all_dirs labels) (from_fills labels) i)
-
-in-stays : (labels : List Label) (c : Priced) → In c (from_stays labels) → In c (priced labels)
-in-stays labels c i = in-fills labels c (in-right c (flat_map (fill_columns labels) (values labels)) (from_stays labels) i)
-
-in-ears : (labels : List Label) (c : Priced) → In c (from_ears labels) → In c (priced labels)
-in-ears labels c i = in-stays labels c (in-right c (all_stays labels) (from_ears labels) i)
-
-in-firsts : (labels : List Label) (c : Priced) → In c (from_firsts labels) → In c (priced labels)
-in-firsts labels c i = in-ears labels c (in-right c (all_ears labels) (from_firsts labels) i)
-
-in-srvs : (labels : List Label) (c : Priced) → In c (from_srvs labels) → In c (priced labels)
-in-srvs labels c i = in-firsts labels c (in-right c (flat_map first_columns (accesses labels)) (from_srvs labels) i)
-
-in-pas-l : (labels : List Label) (c : Priced) → In c (from_pas_l labels) → In c (priced labels)
-in-pas-l labels c i = in-srvs labels c (in-right c (flat_map (srv_columns labels) (uses labels)) (from_pas_l labels) i)
-
--- the three homes, of which one is free
-three : (x : ℕ) (h : Bank) (a b m : ℕ) (cs : List Priced) → cs ≡ (Def x A, a) ∷ (Def x B, b) ∷ (Def x M, m) ∷ [] → In h homes → (n : ℕ) × In (Def x h, n) cs
-three x h a b m cs e i = ⊎_elim
-    (λ (f : A ≡ h). (a, subst (In (Def x h, a)) (sym e) (inl (ap (λ z. (Def x z, a)) f))))
-    (λ (j : In h (B ∷ M ∷ [])). ⊎_elim
-    (λ (f : B ≡ h). (b, subst (In (Def x h, b)) (sym e) (inr (inl (ap (λ z. (Def x z, b)) f)))))
-    (λ (k : In h (M ∷ [])). ⊎_elim
-    (λ (f : M ≡ h). (m, subst (In (Def x h, m)) (sym e) (inr (inr (inl (ap (λ z. (Def x z, m)) f))))))
-    (λ z. absurd z)
-    k)
-    j)
-    i
-
-sort-def : (x : ℕ) (h : Bank) (s : Sort) → is_fetched s ≡ false → In h homes → (n : ℕ) × In (Def x h, n) (sort_defs x s)
-sort-def x h (Parameter zero i) e j = three x h 0 1 17 (sort_defs x (Parameter zero i)) refl j
-sort-def x h (Parameter (suc l) i) e j = three x h 0 0 0 (sort_defs x (Parameter (suc l) i)) refl j
-sort-def x h Result e j = three x h 0 0 16 (sort_defs x Result) refl j
-sort-def x h (Fetched m i) e j = absurd (false≢true (sym e))
-
 pub def-there : (labels : List Label) (v : Value) (h : Bank) → In v (values labels) → is_fetched v.sort ≡ false → In h homes → Contains (columns labels) (Def v.var h)
-def-there labels v h i e j =
-    let w = sort-def v.var h v.sort e j in
-    named labels (Def v.var h, w.0) (in-left (Def v.var h, w.0) (flat_map def_columns (values labels)) (from_dirs labels) (flat-in def_columns v (Def v.var h, w.0) (values labels) i w.1))
+def-there labels v h i e j = present.def-there labels v h (contained-in v (values labels) i) e (contained-in h homes j)
 
 pub dir-there : (labels : List Label) (u : Use) (f : ℕ) (w : UsePoint labels u) → is_result (sort_of labels u.value) ≡ true → In f (role_beginnings (place_words w.point.place) u.role) → Contains (columns labels) (Dir u.point u.operand f)
 dir-there labels u f w e i =
-    let n = place_words w.point.place in
-    let c : Priced = (Dir u.point u.operand f, 0) in
-    named labels c (in-dirs labels c (in-left c (all_dirs labels) (from_fills labels) (point-in c (point_dirs labels) u.point (points labels) w.point w.at
-    (flat-in (dir_columns labels n) u c (point_uses u.point w.point) w.here
-    (if-in c (is_result (sort_of labels u.value)) (map (λ f. (Dir u.point u.operand f, 0)) (role_beginnings n u.role)) e
-    (map-in {Y = Priced} (λ f. (Dir u.point u.operand f, 0)) f (role_beginnings n u.role) i))))))
-
-fill-three : (x : ℕ) (h : Bank) → In h homes → (n : ℕ) × In {X = Priced} (Fill x h, n) ((Fill x A, 1) ∷ (Fill x B, 1) ∷ (Fill x M, 17) ∷ [])
-fill-three x h i = ⊎_elim
-    (λ (f : A ≡ h). (1, inl (ap (λ z. (Fill x z, 1)) f)))
-    (λ (j : In h (B ∷ M ∷ [])). ⊎_elim
-    (λ (f : B ≡ h). (1, inr (inl (ap (λ z. (Fill x z, 1)) f))))
-    (λ (k : In h (M ∷ [])). ⊎_elim
-    (λ (f : M ≡ h). (17, inr (inr (inl (ap (λ z. (Fill x z, 17)) f)))))
-    (λ z. absurd z)
-    k)
-    j)
-    i
+    present.dir-there labels u.point w.point u f w.at (contained-in u (point_uses u.point w.point) w.here) e (contained-in f (role_beginnings (place_words w.point.place) u.role) i)
 
 pub fill-there : (labels : List Label) (v : Value) (h : Bank) → In v (values labels) → is_used labels v.var ≡ true → In h homes → Contains (columns labels) (Fill v.var h)
-fill-there labels v h i e j =
-    let w = fill-three v.var h j in
-    let c : Priced = (Fill v.var h, w.0) in
-    named labels c (in-fills labels c (in-left c (flat_map (fill_columns labels) (values labels)) (from_stays labels) (flat-in (fill_columns labels) v c (values labels) i
-    (if-in c (is_used labels v.var) ((Fill v.var A, 1) ∷ (Fill v.var B, 1) ∷ (Fill v.var M, 17) ∷ []) e w.1))))
+fill-there labels v h i e j = present.fill-there labels v h (contained-in v (values labels) i) e (contained-in h homes j)
 
 pub stay-there : (labels : List Label) (v : Value) (f : ℕ) (w : ValuePoint labels v) → is_used labels v.var ≡ true → In f (sort_beginnings (place_words w.point.place) v.sort) → Contains (columns labels) (Stay v.var f)
 stay-there labels v f w e i =
-    let n = place_words w.point.place in
-    let c : Priced = (Stay v.var f, 0) in
-    named labels c (in-stays labels c (in-left c (all_stays labels) (from_ears labels) (point-in c (point_stays labels) v.point (points labels) w.point w.at
-    (flat-in (stay_columns labels n) v c (place_values v.point w.point.place) w.here
-    (if-in c (is_used labels v.var) (map (λ f. (Stay v.var f, 0)) (sort_beginnings n v.sort)) e
-    (map-in {Y = Priced} (λ f. (Stay v.var f, 0)) f (sort_beginnings n v.sort) i))))))
+    present.stay-there labels v.point w.point v f w.at (contained-in v (place_values v.point w.point.place) w.here) e (contained-in f (sort_beginnings (place_words w.point.place) v.sort) i)
 
 pub ear-there : (labels : List Label) (u : Use) (f : ℕ) (w : UsePoint labels u) → In f (role_beginnings (place_words w.point.place) u.role) → Contains (columns labels) (Ear u.point u.operand f)
 ear-there labels u f w i =
-    let n = place_words w.point.place in
-    let c : Priced = (Ear u.point u.operand f, 1) in
-    named labels c (in-ears labels c (in-left c (all_ears labels) (from_firsts labels) (point-in c point_ears u.point (points labels) w.point w.at
-    (flat-in (ear_columns n) u c (point_uses u.point w.point) w.here
-    (map-in {Y = Priced} (λ f. (Ear u.point u.operand f, 1)) f (role_beginnings n u.role) i)))))
+    present.ear-there labels u.point w.point u f w.at (contained-in u (point_uses u.point w.point) w.here) (contained-in f (role_beginnings (place_words w.point.place) u.role) i)
 
 pub first-there : (labels : List Label) (a : Access) (f : ℕ) → In a (accesses labels) → In f (beginnings a.mem a.words) → Contains (columns labels) (First a.point f)
-first-there labels a f i j =
-    let c : Priced = (First a.point f, 0) in
-    named labels c (in-firsts labels c (in-left c (flat_map first_columns (accesses labels)) (from_srvs labels) (flat-in first_columns a c (accesses labels) i
-    (map-in {Y = Priced} (λ f. (First a.point f, 0)) f (beginnings a.mem a.words) j))))
+first-there labels a f i j = present.first-there labels a f (contained-in a (accesses labels) i) (contained-in f (beginnings a.mem a.words) j)
 
 pub srv-there : (labels : List Label) (u : Use) (s : Service) → In u (uses labels) → In s (services u.role) → has_bank (is_fetched (sort_of labels u.value)) s.from ≡ true → Contains (columns labels) (Srv u.point u.operand s.from s.at)
-srv-there labels u s i j e =
-    let c : Priced = (Srv u.point u.operand s.from s.at, s.cost) in
-    let fetched = is_fetched (sort_of labels u.value) in
-    named labels c (in-srvs labels c (in-left c (flat_map (srv_columns labels) (uses labels)) (from_pas_l labels) (flat-in (srv_columns labels) u c (uses labels) i
-    (map-in {Y = Priced} (λ (s : Service). (Srv u.point u.operand s.from s.at, s.cost)) s (filter (λ (s : Service). has_bank fetched s.from) (services u.role))
-    (kept-in (λ (s : Service). has_bank fetched s.from) s (services u.role) j e)))))
-
-eight-in : (b : Bool) (column : ℕ → Column) (r : ℕ) → b ≡ true → In r eight → In (column r, 0) (for_eight b column)
-eight-in true column r e i = map-in {Y = Priced} (λ r. (column r, 0)) r eight i
-eight-in false column r e i = absurd (false≢true e)
+srv-there labels u s i j e = present.srv-there labels u s (contained-in u (uses labels) i) (contained-in s (services u.role) j) e
 
 pub pas-l-there : (labels : List Label) (k : ℕ) (q : Point) (r : ℕ) → slice_get (points labels) k ≡ Some q → 1 ≤ length q.uses → r < 8 → Contains (columns labels) (PasL k r)
-pas-l-there labels k q r g e l =
-    let c : Priced = (PasL k r, 0) in
-    named labels c (in-pas-l labels c (in-left c (all_pas_l labels) (all_pas_s labels) (point-in c pas_l_columns k (points labels) q g
-    (eight-in (nat_le 1 (length q.uses)) (PasL k) r (le-leb 1 (length q.uses) e) (below-eight r l)))))
+pas-l-there labels k q r g e l = present.pas-l-there labels k q r g (le-leb 1 (length q.uses) e) (present.contains-eight r l)
 
 pub pas-s-there : (labels : List Label) (k : ℕ) (q : Point) (r : ℕ) → slice_get (points labels) k ≡ Some q → list_any (λ v. is_used labels v.var) (place_values k q.place) ≡ true → r < 8 → Contains (columns labels) (PasS k r)
-pas-s-there labels k q r g e l =
-    let c : Priced = (PasS k r, 0) in
-    named labels c (in-pas-l labels c (in-right c (all_pas_l labels) (all_pas_s labels) (point-in c (pas_s_columns labels) k (points labels) q g
-    (eight-in (list_any (λ v. is_used labels v.var) (place_values k q.place)) (PasS k) r e (below-eight r l)))))
+pas-s-there labels k q r g e l = present.pas-s-there labels k q r g e (present.contains-eight r l)

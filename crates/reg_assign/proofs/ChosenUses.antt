@@ -1,18 +1,16 @@
 -- The lines of a use hold for a placement that fits: it is served from a home, and brought to where it is wanted.
-use Rattle.std.proofs.Common.{◌≡◌, ℕ, zero, suc, ◌+◌, ◌<◌, ◌≤◌, nat_eq, Bool, true, false, not, ◌&&◌, ◌||◌, if◌then◌else◌, ◌⊎◌, inl, inr, ⊎_elim, Some, List, [], ◌∷◌, ◌++◌, length, map, filter, refl, sym, ap, subst, ◌∙◌, arith}
-use Rattle.std.specs.Prelude.{slice_get}
+use Rattle.std.proofs.Common.{◌≡◌, ℕ, ◌+◌, ◌≤◌, nat_eq, Bool, true, false, ◌&&◌, inl, ⊎_elim, List, [], ◌∷◌, ◌++◌, map, filter, refl, sym, ap, subst, ◌∙◌, arith}
 use Rattle.std.specs.List.{list_any}
 use Rattle.std.proofs.lemmas.List.Elements.{All-contains}
 use Rattle.std.proofs.lemmas.Bool.{false≢true, and_parts, and_from, or_left, or_right}
 use Rattle.nv_base.specs.declared.term.Mem.{Mem}
 use Rattle.ssu_ir.specs.Tree.{Label}
-use Rattle.ssu_ir.specs.Points.{Point, points}
 use Rattle.zo_model.specs.Program.{cost_where}
 use Rattle.place_ir.specs.declared.place.Place.{Place}
 use Rattle.place_ir.specs.declared.place.Place.TheVariants as place
-use Rattle.place_ir.specs.Plan.{Plan, home, first, serve, pass}
+use Rattle.place_ir.specs.Plan.{Plan, home, first, pass}
 use Rattle.place_ir.specs.Uses.{Access, accesses, Sort, Parameter, Result, Fetched, Value, values, Role, Operand, Address, Written, Argument, Ending, Use, uses, uses_of, is_used}
-use Rattle.place_ir.specs.Fits.{is_slot, is_write_register, is_read_register, served, is_early, IsFirst, parameter, IsServedAt, stays, Fits}
+use Rattle.place_ir.specs.Fits.{is_slot, is_read_register, served, is_early, IsFirst, parameter, IsServedAt, stays, Fits}
 use Rattle.place_ir.proofs.Scoped.{in-itself}
 use Rattle.place_ir.proofs.Sound.{Each, each-append}
 use Rattle.bank_prog.specs.declared.column.Bank.{Bank}
@@ -22,17 +20,17 @@ use Rattle.bank_prog.specs.declared.column.Column.TheVariants.{Def, Dir, Stay, E
 use Rattle.bank_prog.specs.declared.column.Service.{Service}
 use Rattle.bank_prog.specs.Columns.{sort_of, is_fetched, eight, place_words, may_begin, beginnings, role_beginnings, sort_beginnings, services, point_uses}
 use Rattle.bank_prog.specs.Program.{same_bank}
-use Rattle.bank_prog.specs.Rows.{Line, covers, homes, banks, home as home_columns, stay, srv, early, srv_from, srv_at, use_choice, served_home, served_stay, use_stay, use_cover, at_home, argument_lines, argument_cover, is_parameter, word_begins, is_slot as is_slot_bank, slot_read}
+use Rattle.bank_prog.specs.Rows.{Line, covers, homes, banks, home as home_columns, stay, srv, early, srv_from, srv_at, use_choice, served_home, served_stay, use_stay, use_cover, at_home, argument_lines, argument_cover, word_begins, is_slot as is_slot_bank, slot_read}
 use Rattle.bank_prog.specs.Meaning.{Chosen, Holds}
 use Rattle.reg_assign.specs.inner.Facts.{count}
-use Rattle.reg_assign.specs.inner.Chosen.{use_at, value_at, bank_of, is_in_bank, wanted_bank, goes_there, names, chosen}
+use Rattle.reg_assign.specs.inner.Chosen.{bank_of, wanted_bank}
 use Rattle.reg_assign.proofs.Counts.{In, contained-in, in-kept, in-map, map-in, some-counted, counted-some, each-from}
 use Rattle.reg_assign.proofs.FactsPoints.{below-eight}
 use Rattle.reg_assign.proofs.ChosenHolds.{one-holds, map-each, if-each}
 use Rattle.reg_assign.proofs.ChosenForm.{Placed, chosen-on, value-there, use-there, use-served}
-use Rattle.reg_assign.proofs.ChosenThere.{UsePoint, use-point, ValuePoint, value-point, value-access, word-access, access-words, first-begins, place_access, def-there, stay-there, first-there, pas-l-there}
-use Rattle.reg_assign.proofs.ChosenSource.{bank-itself, bank-same, no-write-home, no-read-home, write-bank, general-bank, UseValue, use-value, of-value, sort-is, IsSource, source-on, argument-value}
-use Rattle.reg_assign.proofs.ChosenServes.{off, unsaid, from_bank, at_bank, use-source, argument-general, use-once, dir-at, ear-at, dir-goes, ear-on}
+use Rattle.reg_assign.proofs.ChosenThere.{UsePoint, use-point, value-point, value-access, word-access, access-words, first-begins, place_access, def-there, stay-there, first-there, pas-l-there}
+use Rattle.reg_assign.proofs.ChosenSource.{bank-same, no-write-home, write-bank, UseValue, use-value, of-value, sort-is, IsSource, source-on, argument-value}
+use Rattle.reg_assign.proofs.ChosenServes.{off, from_bank, at_bank, use-source, use-once, dir-at, ear-at, dir-goes, ear-on}
 use Rattle.reg_assign.proofs.ChosenValues.{small-covers, covers-column, two-most, named-register, in-bank, unfetched}
 
 pub choice-lines : (labels : List Label) (p : Plan) (on : Chosen) (u : Use) → Placed labels p on → In u (uses labels) → Each (Holds on) (use_choice u)
@@ -209,12 +207,12 @@ word-begin-holds labels p on u f w g i b =
     small-covers on (First u.point f ∷ []) early (two-most on (Dir u.point u.operand f) (Ear u.point u.operand f) (not-both labels p on u f g i)) (λ h.
     let c = counted-some on early h in
     let at : f ≡ first p u.point = ⊎_elim
-        (λ (d : Dir u.point u.operand f ≡ c.0). dir-at labels p on u g i f (ap on d ∙ c.2))
-        (λ (r : In c.0 (Ear u.point u.operand f ∷ [])). ⊎_elim
-        (λ (d : Ear u.point u.operand f ≡ c.0). ear-at labels p on u g i f (ap on d ∙ c.2))
-        (λ z. absurd z)
-        r)
-        c.1 in
+    (λ (d : Dir u.point u.operand f ≡ c.0). dir-at labels p on u g i f (ap on d ∙ c.2))
+    (λ (r : In c.0 (Ear u.point u.operand f ∷ [])). ⊎_elim
+    (λ (d : Ear u.point u.operand f ≡ c.0). ear-at labels p on u g i f (ap on d ∙ c.2))
+    (λ z. absurd z)
+    r)
+    c.1 in
     some-counted on (First u.point f) (First u.point f ∷ []) (inl refl) (first-on labels p on u f w g b at))
 
 pub begin-lines : (labels : List Label) (p : Plan) (on : Chosen) (u : Use) (w : UsePoint labels u) → Placed labels p on → In u (uses labels) → Each (Holds on) (word_begins (place_words w.point.place) u)

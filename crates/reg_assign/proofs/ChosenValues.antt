@@ -1,28 +1,27 @@
 -- The lines of a value hold for a placement that fits: its first place, its copies, its stay and the slots that it comes to.
-use Rattle.std.proofs.Common.{◌≡◌, ℕ, zero, suc, ◌+◌, ◌<◌, ◌≤◌, nat_eq, Bool, true, false, not, ◌&&◌, ◌||◌, if◌then◌else◌, ◌⊎◌, inl, inr, ⊎_elim, Option, Some, None, List, [], ◌∷◌, ◌++◌, length, map, filter, refl, sym, ap, subst, ◌∙◌, arith}
-use Rattle.std.specs.Prelude.{slice_get, is_some}
+use Rattle.std.proofs.Common.{◌≡◌, ℕ, zero, suc, ◌+◌, ◌<◌, ◌≤◌, nat_eq, Bool, true, false, not, ◌&&◌, ◌||◌, ◌⊎◌, inl, inr, ⊎_elim, Option, Some, None, List, [], ◌∷◌, ◌++◌, map, refl, sym, ap, subst, ◌∙◌, arith}
+use Rattle.std.specs.Prelude.{is_some}
 use Rattle.std.specs.List.{flat_map, list_any}
 use Rattle.std.proofs.lemmas.Bool.{false≢true, and_parts, and_from, or_cases, or_left, or_right}
 use Rattle.nv_base.specs.declared.term.Mem.{Mem}
 use Rattle.ssu_ir.specs.Tree.{Label}
-use Rattle.ssu_ir.specs.Points.{Point, points}
 use Rattle.zo_model.specs.Program.{cost_where}
 use Rattle.place_ir.specs.declared.place.Place.{Place}
 use Rattle.place_ir.specs.declared.place.Place.TheVariants as place
 use Rattle.place_ir.specs.Plan.{Plan, home, first, pass}
-use Rattle.place_ir.specs.Uses.{Sort, Parameter, Result, Fetched, Value, values, place_values, Use, uses, uses_of, is_used}
+use Rattle.place_ir.specs.Uses.{Sort, Parameter, Result, Fetched, Value, values, place_values, Use, uses_of, is_used}
 use Rattle.place_ir.specs.Fits.{IsGeneral, is_slot, is_write_register, word_register, is_early, early_uses, AreCopies, IsPutEarly, is_result, same_bank, comes_to_slot, IsEighth, Fits, stays}
 use Rattle.place_ir.proofs.Scoped.{in-itself}
 use Rattle.place_ir.proofs.Sound.{Each, each-append}
 use Rattle.bank_prog.specs.declared.column.Bank.{Bank}
-use Rattle.bank_prog.specs.declared.column.Bank.TheVariants.{A, B, M, W}
+use Rattle.bank_prog.specs.declared.column.Bank.TheVariants.{A, B, M}
 use Rattle.bank_prog.specs.declared.column.Column.{Column}
 use Rattle.bank_prog.specs.declared.column.Column.TheVariants.{Def, Fill, Stay, Ear, First, PasS}
 use Rattle.bank_prog.specs.Columns.{is_fetched, eight, place_words, beginnings, sort_beginnings}
-use Rattle.bank_prog.specs.Rows.{Line, at_most, covers, exactly_one, homes, def, home as home_columns, dir, ear, is_parameter, is_written, in_register, fill, word_from_register, copy_lines, copy_cover, parameter_choice, result_choice, stay_begins, slot_written, result_written, value_written}
+use Rattle.bank_prog.specs.Rows.{at_most, covers, exactly_one, homes, def, home as home_columns, dir, ear, is_parameter, is_written, in_register, fill, word_from_register, copy_lines, copy_cover, parameter_choice, result_choice, stay_begins, slot_written, result_written, value_written}
 use Rattle.bank_prog.specs.Meaning.{Chosen, Holds}
 use Rattle.reg_assign.specs.inner.Facts.{count}
-use Rattle.reg_assign.specs.inner.Chosen.{value_at, bank_of, is_in_bank, goes_there, names, chosen}
+use Rattle.reg_assign.specs.inner.Chosen.{value_at, bank_of, is_in_bank, goes_there, names}
 use Rattle.reg_assign.proofs.Counts.{In, kept-in, map-in, in-right, some-counted, count-append, each-in, each-from}
 use Rattle.reg_assign.proofs.FactsPoints.{below-eight}
 use Rattle.reg_assign.proofs.FactsValues.{used-of}
@@ -348,7 +347,7 @@ def-comes labels p on v g u r e =
 
 pub written-lines : (labels : List Label) (p : Plan) (on : Chosen) (v : Value) (w : ValuePoint labels v) → Placed labels p on → Each (Holds on) (value_written labels v)
 written-lines labels p on v w g = if-each (Holds on) (is_used labels v.var) (slot_written v.point (Fill v.var M) ∷ result_written v) (λ u. (
-    covers-column on (map (PasS v.point) eight) (Fill v.var M) (λ e. comes-counted labels p on v w g (fill-comes labels p on v g u e)),
-    if-each (Holds on) (is_result v.sort) (slot_written v.point (Def v.var M) ∷ []) (λ r.
-    (covers-column on (map (PasS v.point) eight) (Def v.var M) (λ e. comes-counted labels p on v w g (def-comes labels p on v g u r e)), tt)),
+  covers-column on (map (PasS v.point) eight) (Fill v.var M) (λ e. comes-counted labels p on v w g (fill-comes labels p on v g u e)),
+  if-each (Holds on) (is_result v.sort) (slot_written v.point (Def v.var M) ∷ []) (λ r.
+      (covers-column on (map (PasS v.point) eight) (Def v.var M) (λ e. comes-counted labels p on v w g (def-comes labels p on v g u r e)), tt)),
 ))

@@ -43,3 +43,5 @@ pub mod ChosenOwners
 pub mod ChosenCostValues
 pub mod ChosenCostUses
 pub mod ChosenCostAll
+pub mod TableSteps
+pub mod ChosenVector

@@ -3,3 +3,4 @@ pub mod ReadOff
 pub mod Reading
 pub mod Given
 pub mod Chosen
+pub mod PlanTables

@@ -10,6 +10,9 @@ ghost use Rattle.zo_model.specs.Program.{vector, costs_of};
 ghost use Rattle.bank_prog.specs.Columns as columns;
 ghost use Rattle.bank_prog.specs.Meaning.{IsFeasible};
 
+use crate::plan_columns::all_on;
+use crate::plan_tables::plan_tables;
+use bank_prog::{column_names, form_of};
 use nv_base::NoMemory;
 use place_ir::Placement;
 use ssu_ir::Ssu;
@@ -24,5 +27,9 @@ pub fn from_placement(alloc: Global, s: &Ssu, p: &Placement) -> Result<Assignmen
     ensures feasible { IfOk result (λ x. IsFeasible (labels_view s.now) p.now.slots (vector x.on.items)) }
     ensures cost { IfOk result (λ x. costs_of (columns.costs (labels_view s.now)) (vector x.on.items) ≡ costs.cost (labels_view s.now) (plan_view p.now)) }
 {
-    Err(NoMemory)
+    let f = form_of(alloc, s)?;
+    let t = plan_tables(alloc, &f, p)?;
+    let columns = column_names(alloc, s)?;
+    let on = all_on(alloc, &f, &t, &columns)?;
+    Ok(Assignment { on })
 }

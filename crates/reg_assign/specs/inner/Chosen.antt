@@ -48,16 +48,23 @@ bank_of (place.Slot k) = M
 abbrev pub is_in_bank : Bank → Place → Bool
 is_in_bank h q = same_bank h (bank_of q)
 
+-- a register of the first bank
+abbrev pub is_first : Place → Bool
+is_first (place.A k) = true
+is_first (place.B k) = false
+is_first (place.L k) = false
+is_first (place.LD k) = false
+is_first (place.S k) = false
+is_first (place.SD k) = false
+is_first (place.Slot k) = false
+
 -- an operand or an address is taken where it is, or brought into the compiler's own register, which is one of the first bank; a slot is
 -- read through a read register or into the compiler's own
 abbrev pub operand_bank : Bank → Place → Bank
 operand_bank A q = A
-operand_bank B (place.A k) = A15
-operand_bank B _ = B
-operand_bank M (place.A k) = A15
-operand_bank M _ = L
-operand_bank T (place.A k) = A15
-operand_bank T _ = T
+operand_bank B q = if is_first q then A15 else B
+operand_bank M q = if is_first q then A15 else L
+operand_bank T q = if is_first q then A15 else T
 operand_bank L q = W
 operand_bank A15 q = W
 operand_bank W q = W

@@ -1,0 +1,340 @@
+//! Which columns a placement has on.
+
+ghost use Rattle.std.specs.Prelude.{◌≡◌, nat_eq, not, ◌&&◌, map, if◌then◌else◌, IfOk};
+ghost use Rattle.std.specs.List.{list_any};
+ghost use Rattle.ssu_ir.specs.View.{labels_view};
+ghost use Rattle.place_ir.specs.Fits as fits;
+ghost use Rattle.place_ir.specs.Uses.{uses_of};
+ghost use Rattle.bank_prog.specs.Program as program;
+ghost use Rattle.bank_prog.specs.declared.column.Bank.TheVariants.{A15};
+ghost use Rattle.bank_prog.specs.inner.Form.{role_view, use_view};
+ghost use Rattle.reg_assign.specs.inner.Chosen as chosen;
+ghost use Rattle.reg_assign.specs.inner.PlanTables as tables;
+
+use crate::plan_tables::PlanTables;
+use bank_prog::{Bank, Column, Form, Role, Use};
+use nv_base::NoMemory;
+use place_ir::Place;
+use std::alloc::Global;
+
+// ---- places and banks
+
+fn same_bank(h: Bank, j: Bank) -> bool
+    ensures { result ≡ program.same_bank h j }
+{
+    h == j
+}
+
+/// The bank of a home, or of a write register in which a word waits.
+fn bank_of(q: Place) -> Bank
+    ensures { result ≡ chosen.bank_of q }
+{
+    match q {
+        Place::A(_) => Bank::A,
+        Place::B(_) => Bank::B,
+        Place::L(_) => Bank::T,
+        Place::LD(_) => Bank::T,
+        Place::S(_) => Bank::W,
+        Place::SD(_) => Bank::W,
+        Place::Slot(_) => Bank::M,
+    }
+}
+
+fn is_in_bank(h: Bank, q: Place) -> bool
+    ensures { result ≡ chosen.is_in_bank h q }
+{
+    same_bank(h, bank_of(q))
+}
+
+fn is_first(q: Place) -> bool
+    ensures { result ≡ chosen.is_first q }
+{
+    match q {
+        Place::A(_) => true,
+        Place::B(_) => false,
+        Place::L(_) => false,
+        Place::LD(_) => false,
+        Place::S(_) => false,
+        Place::SD(_) => false,
+        Place::Slot(_) => false,
+    }
+}
+
+fn is_write_register(q: Place) -> bool
+    ensures { result ≡ fits.is_write_register q }
+{
+    match q {
+        Place::A(_) => false,
+        Place::B(_) => false,
+        Place::L(_) => false,
+        Place::LD(_) => false,
+        Place::S(_) => true,
+        Place::SD(_) => true,
+        Place::Slot(_) => false,
+    }
+}
+
+fn is_read_register(q: Place) -> bool
+    ensures { result ≡ fits.is_read_register q }
+{
+    match q {
+        Place::A(_) => false,
+        Place::B(_) => false,
+        Place::L(_) => true,
+        Place::LD(_) => true,
+        Place::S(_) => false,
+        Place::SD(_) => false,
+        Place::Slot(_) => false,
+    }
+}
+
+/// The compiler's own register, where a word is brought into the first bank.
+fn brought(q: Place, h: Bank) -> Bank
+    ensures { result ≡ (if chosen.is_first q then A15 else h) }
+{
+    if is_first(q) { Bank::A15 } else { h }
+}
+
+/// Where an operand or an address is taken, from a bank at a place.
+fn operand_bank(h: Bank, q: Place) -> Bank
+    ensures { result ≡ chosen.operand_bank h q }
+{
+    match h {
+        Bank::A => Bank::A,
+        Bank::B => brought(q, Bank::B),
+        Bank::M => brought(q, Bank::L),
+        Bank::T => brought(q, Bank::T),
+        Bank::L => Bank::W,
+        Bank::A15 => Bank::W,
+        Bank::W => Bank::W,
+    }
+}
+
+/// Where a use wants its word.
+fn wanted_bank(role: Role, h: Bank, q: Place) -> Bank
+    ensures { result ≡ chosen.wanted_bank (role_view role) h q }
+{
+    match role {
+        Role::Operand => operand_bank(h, q),
+        Role::Address => operand_bank(h, q),
+        Role::Written(_, _) => Bank::W,
+        Role::Argument(_, _) => bank_of(q),
+        Role::Ending(_) => Bank::A,
+    }
+}
+
+// ---- what the tables say
+
+fn defined_of(t: &PlanTables, x: u32) -> Place
+    ensures { result ≡ tables.defined_told t.now x }
+{
+    match t.defined.get(&x) {
+        Some(q) => *q,
+        None => Place::Slot(0),
+    }
+}
+
+fn copied_of(t: &PlanTables, x: u32) -> &[Place]
+    ensures { result.now ≡ tables.copied_told t.now x }
+{
+    match t.copied.get(&x) {
+        Some(qs) => qs,
+        None => &[],
+    }
+}
+
+fn first_of(t: &PlanTables, k: u32) -> u8
+    ensures { result ≡ tables.first_told t.now k }
+{
+    match t.firsts.get(&k) {
+        Some(f) => *f,
+        None => 0,
+    }
+}
+
+fn from_of(t: &PlanTables, k: u32, i: u32) -> Place
+    ensures { result ≡ tables.from_told t.now k i }
+{
+    match t.serves.get(&(k, i)) {
+        Some(s) => s.from,
+        None => Place::Slot(0),
+    }
+}
+
+fn at_of(t: &PlanTables, k: u32, i: u32) -> Place
+    ensures { result ≡ tables.at_told t.now k i }
+{
+    match t.serves.get(&(k, i)) {
+        Some(s) => s.at,
+        None => Place::Slot(0),
+    }
+}
+
+fn l_of(t: &PlanTables, k: u32) -> Option<u8>
+    ensures { result ≡ tables.l_told t.now k }
+{
+    match t.passes.get(&k) {
+        Some(q) => q.l,
+        None => None,
+    }
+}
+
+fn s_of(t: &PlanTables, k: u32) -> Option<u8>
+    ensures { result ≡ tables.s_told t.now k }
+{
+    match t.passes.get(&k) {
+        Some(q) => q.s,
+        None => None,
+    }
+}
+
+fn value_of(t: &PlanTables, k: u32, i: u32) -> u32
+    ensures { result ≡ tables.value_told t.now k i }
+{
+    match t.uses.get(&(k, i)) {
+        Some(u) => u.value,
+        None => 0,
+    }
+}
+
+fn role_of(t: &PlanTables, k: u32, i: u32) -> Role
+    ensures { role_view result ≡ tables.role_told t.now k i }
+{
+    match t.uses.get(&(k, i)) {
+        Some(u) => u.role,
+        None => Role::Operand,
+    }
+}
+
+fn point_of(t: &PlanTables, x: u32) -> u32
+    ensures { result ≡ tables.point_told t.now x }
+{
+    match t.points.get(&x) {
+        Some(k) => *k,
+        None => 0,
+    }
+}
+
+// ---- columns
+
+fn waits(t: &PlanTables, k: u32, i: u32) -> bool
+    ensures { result ≡ tables.waits_told t.now k i }
+{
+    is_write_register(from_of(t, k, i))
+}
+
+fn goes_there(t: &PlanTables, x: u32) -> bool
+    ensures { result ≡ tables.goes_told t.now x }
+{
+    is_write_register(defined_of(t, x))
+}
+
+fn has_copy(t: &PlanTables, x: u32, h: Bank) -> bool
+    ensures { result ≡ list_any (chosen.is_in_bank h) (tables.copied_told t.now x) }
+{
+    let qs = copied_of(t, x);
+    for q in qs {
+        if is_in_bank(h, *q) {
+            return true;
+        }
+    }
+    false
+}
+
+fn stays(t: &PlanTables, us: &[Use]) -> bool
+    ensures { result ≡ tables.stays_told t.now (map use_view us.now) }
+{
+    for u in us {
+        if is_read_register(from_of(t, u.point, u.operand)) {
+            return true;
+        }
+    }
+    false
+}
+
+fn names(named: Option<u8>, r: u8) -> bool
+    ensures { result ≡ chosen.names named r }
+{
+    match named {
+        Some(n) => n == r,
+        None => false,
+    }
+}
+
+fn begins(t: &PlanTables, k: u32, f: u8) -> bool
+    ensures { result ≡ nat_eq (tables.first_told t.now k) f }
+{
+    first_of(t, k) == f
+}
+
+/// The definition of a value puts the word of a use into its write register.
+fn is_put(t: &PlanTables, k: u32, i: u32, f: u8) -> bool
+    ensures { result ≡ (nat_eq (tables.first_told t.now k) f && (tables.waits_told t.now k i && tables.goes_told t.now (tables.value_told t.now k i))) }
+{
+    let begun = begins(t, k, f);
+    let early = waits(t, k, i);
+    let there = goes_there(t, value_of(t, k, i));
+    begun && (early && there)
+}
+
+/// The word of a use is copied early into its write register.
+fn is_copied(t: &PlanTables, k: u32, i: u32, f: u8) -> bool
+    ensures { result ≡ (nat_eq (tables.first_told t.now k) f && (tables.waits_told t.now k i && not (tables.goes_told t.now (tables.value_told t.now k i)))) }
+{
+    let begun = begins(t, k, f);
+    let early = waits(t, k, i);
+    let there = goes_there(t, value_of(t, k, i));
+    begun && (early && !there)
+}
+
+/// A value stays in its read register.
+fn is_kept(f: &Form<'_>, t: &PlanTables, x: u32, n: u8) -> bool
+    ensures { result ≡ (nat_eq (tables.first_told t.now (tables.point_told t.now x)) n && tables.stays_told t.now (uses_of (labels_view f.now.ssu.now) x)) }
+{
+    let begun = begins(t, point_of(t, x), n);
+    let stay = stays(t, f.uses_of(x));
+    begun && stay
+}
+
+/// A use is served from one bank at another.
+fn is_way(t: &PlanTables, k: u32, i: u32, h: Bank, j: Bank) -> bool
+    ensures { result ≡ (chosen.is_in_bank h (tables.from_told t.now k i) && program.same_bank j (chosen.wanted_bank (tables.role_told t.now k i) (chosen.bank_of (tables.from_told t.now k i)) (tables.at_told t.now k i))) }
+{
+    let q = from_of(t, k, i);
+    let wanted = wanted_bank(role_of(t, k, i), bank_of(q), at_of(t, k, i));
+    let from = is_in_bank(h, q);
+    let at = same_bank(j, wanted);
+    from && at
+}
+
+fn is_on(f: &Form<'_>, t: &PlanTables, c: Column) -> bool
+    ensures { result ≡ tables.told (labels_view f.now.ssu.now) t.now c }
+{
+    match c {
+        Column::Def(x, h) => is_in_bank(h, defined_of(t, x)),
+        Column::Dir(k, i, n) => is_put(t, k, i, n),
+        Column::Fill(x, h) => has_copy(t, x, h),
+        Column::Stay(x, n) => is_kept(f, t, x, n),
+        Column::Ear(k, i, n) => is_copied(t, k, i, n),
+        Column::First(k, n) => begins(t, k, n),
+        Column::Srv(k, i, h, j) => is_way(t, k, i, h, j),
+        Column::PasL(k, r) => names(l_of(t, k), r),
+        Column::PasS(k, r) => names(s_of(t, k), r),
+    }
+}
+
+/// Of each of these columns whether it is on.
+pub fn all_on(
+    alloc: Global,
+    f: &Form<'_>,
+    t: &PlanTables,
+    columns: &[Column],
+) -> Result<Vec<bool>, NoMemory>
+    ensures { IfOk result (λ v. v.items ≡ map (tables.told (labels_view f.now.ssu.now) t.now) columns.now) }
+{
+    let mut on = Vec::new(alloc);
+    for c in columns {
+        on.push(is_on(f, t, *c))?;
+    }
+    Ok(on)
+}
