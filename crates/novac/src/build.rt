@@ -1,5 +1,5 @@
 //! From the text of a program to its code.
-ghost use Rattle.std.specs.Prelude.{◌≡◌, ◌≤◌, ◌+◌, ◌*◌, ◌⊎◌, [], ℕ, length, IfOk, IfErr, MatchResult};
+ghost use Rattle.std.specs.Prelude.{◌≡◌, ◌≤◌, ◌+◌, ◌*◌, ◌⊎◌, [], length, IfOk, IfErr, MatchResult};
 ghost use Rattle.nv_ast.specs.Tree.{ProgramTree};
 ghost use Rattle.nv_ast.specs.TypedView.{typed_program};
 ghost use Rattle.ssu_ir.specs.Measures.{peak};

@@ -144,6 +144,8 @@ fn report_output<'a>(alloc: Global, name: &'a str, report: &Report) -> Result<Ou
     ensures told { IfOk result IsTold }
     ensures report { IsReportOf (report_text (report_contents report.now)) report.now }
 {
-    let bytes = print_report(alloc, report)?;
-    Output::new(alloc, name, bytes)
+    match print_report(alloc, report) {
+        Ok(bytes) => Output::new(alloc, name, bytes),
+        Err(_) => Err(NoMemory),
+    }
 }
