@@ -35,14 +35,15 @@ def executed(where, name, source, memory, calls, status, output):
     row.files = {"s.nova": source.encode(), "s.mem": memory.encode()}
     row.calls = [Call(["exec", "s.nova", "s.mem", f"steps={calls}"], status, output.encode())]
     if status != STATUSES["going"]:
-        row.calls.append(Call(["compile", "s.nova", "s.obj", "store=1048576"], 0, ANY, {"s.obj": ANY}))
+        row.calls.append(Call(["compile", "s.nova", "s.obj", "s.rep", "store=1048576"], 0, ANY, {"s.obj": ANY, "s.rep": ANY}))
         row.calls.append(Call(["run", "s.obj", "s.mem", "steps=10000000"], status, output.encode()))
     return row
 
 
 PLAIN = "memory 4 2\nargs\n"
 STATUSES = {"ended": 0, "raised": 14, "fault": 15, "going": 16}
-REFUSALS = {"syntax": 6, "type": 7, "too": 8, "store": 11, "unbuilt": 20}
+REFUSALS = {"syntax": 6, "type": 7, "too": 8, "infeasible": 9, "budget": 10, "store": 11}
+SAVED = {0: {"s.obj": ANY, "s.rep": ANY}, 9: {"s.rep": ANY}, 10: {"s.rep": ANY}}
 
 
 def status_of(outcome):
@@ -71,10 +72,10 @@ def examples(top):
     return found
 
 
-def compiled(where, source, status, output, made=False):
+def compiled(where, source, status, output):
     row = Row(where, source or "the empty text")
     row.files = {"s.nova": source.encode()}
-    row.calls = [Call(["compile", "s.nova", "s.obj"], status, output, {"s.obj": ANY} if made else {})]
+    row.calls = [Call(["compile", "s.nova", "s.obj", "s.rep"], status, output, SAVED.get(status, {}))]
     return row
 
 
@@ -113,8 +114,7 @@ def language(top):
         elif fault and parts[0].startswith("fun ") and ".." not in parts[0]:
             found.append(compiled(where, parts[0], 6, f"syntax {fault[1].lower()} at {fault[2]}\n".encode()))
         elif len(parts) == 2 and status and parts[0].startswith("fun "):
-            made = status[1] == "0"
-            found.append(compiled(where, parts[0], int(status[1]), status[2].encode() + b"\n" if status[2] else ANY, made))
+            found.append(compiled(where, parts[0], int(status[1]), status[2].encode() + b"\n" if status[2] else ANY))
     return found
 
 

@@ -1,4 +1,4 @@
-"""Rows on what stands beside the program: the files for editors, and examples/packet."""
+"""Rows on what stands beside the program: the files for editors, examples/packet and examples/check_report."""
 import importlib.machinery
 import json
 import os
@@ -18,6 +18,32 @@ class ToolRow:
 
     def differences(self, novac, at):
         return self.body(self.top)
+
+
+class ReportRow:
+    """The report on an example's banks: a second checker says of it what novac says, and the moves of the code cost no more."""
+
+    where = "tests/tools.py"
+
+    def __init__(self, example, top):
+        self.name, self.example, self.top = f"the report on {example}", os.path.join(top, "examples", example), top
+
+    def differences(self, novac, at):
+        def said(*words):
+            return subprocess.run(words, cwd=at, capture_output=True, text=True, timeout=60).stdout
+
+        compiled = said(novac, "compile", self.example, "o", "r").split()
+        checked, again = said(novac, "check", "r"), said(sys.executable, os.path.join(self.top, "examples", "check_report"), "r")
+        found = [] if checked == again == " ".join(compiled[2:]) + "\n" else [f"{compiled}, {checked!r}, {again!r}"]
+        cost = sum(move_cost(line.split()) for line in said(novac, "dis", "o").splitlines())
+        return found if cost <= int(compiled[3]) else [*found, f"the moves cost {cost}, above {compiled[3]}"]
+
+
+def move_cost(words):
+    """What a line of a listing costs: a copy from one bank to another 1, but by A15 nothing, and an access to a slot 16."""
+    if words[0] == "un" and words[2] == "COPY" and words[1] != "none" and "A15" not in words:
+        return re.match(r"[A-Z]+", words[1])[0] != re.match(r"[A-Z]+", words[3])[0]
+    return 16 if words[0] in ("read", "write") and words[1] == "scratch" and words[4] == "B15" else 0
 
 
 def read(top, name):
@@ -104,4 +130,5 @@ def all_rows(top):
     rows = [("each keyword is coloured by both editors' files", highlighting), ("the editors' files are as made", as_made)]
     rows += [("the pages of nova_explain are those of docs/FAULTS.md", pages_as_made)]
     rows += [("a packet's hex dump and back", there_and_back), ("forms of hex dumps", dumps)]
-    return [ToolRow(name, body, top) for name, body in rows]
+    sources = sorted(it for it in os.listdir(os.path.join(top, "examples")) if it.endswith(".nova"))
+    return [ToolRow(name, body, top) for name, body in rows] + [ReportRow(it, top) for it in sources]

@@ -30,7 +30,7 @@ use Rattle.bank_prog.proofs.Distinct.{Distinct, or-false, not-true, each-flat, e
 
 -- ---- what tells columns apart
 
-abbrev family : Column → ℕ
+abbrev pub family : Column → ℕ
 family (Def x h) = 0
 family (Dir k i f) = 1
 family (Fill x h) = 2
@@ -41,13 +41,13 @@ family (Srv k i h p) = 6
 family (PasL k r) = 7
 family (PasS k r) = 8
 
-abbrev var_of : Column → ℕ
+abbrev pub var_of : Column → ℕ
 var_of (Def x h) = x
 var_of (Fill x h) = x
 var_of (Stay x f) = x
 var_of _ = 0
 
-abbrev point_of : Column → ℕ
+abbrev pub point_of : Column → ℕ
 point_of (Dir k i f) = k
 point_of (Ear k i f) = k
 point_of (First k f) = k
@@ -56,13 +56,13 @@ point_of (PasL k r) = k
 point_of (PasS k r) = k
 point_of _ = 0
 
-abbrev operand_of : Column → ℕ
+abbrev pub operand_of : Column → ℕ
 operand_of (Dir k i f) = i
 operand_of (Ear k i f) = i
 operand_of (Srv k i h p) = i
 operand_of _ = 0
 
-abbrev bank_number : Bank → ℕ
+abbrev pub bank_number : Bank → ℕ
 bank_number A = 0
 bank_number B = 1
 bank_number M = 2

@@ -81,7 +81,7 @@ tree-chained of above (If c x y t u) ps h = (
 )
 tree-chained of above (End l) ps h = ((λ e. absurd (false≢true e)), h)
 
-labels-chained : (k : ℕ) (ls : List Label) → Chained (points_from k ls)
+pub labels-chained : (k : ℕ) (ls : List Label) → Chained (points_from k ls)
 labels-chained k [] = tt
 labels-chained k (l ∷ ls) = ((λ e. absurd (false≢true e)), tree-chained own l.params l.body (points_from (suc k) ls) (labels-chained (suc k) ls))
 

@@ -17,3 +17,5 @@ pub mod Families
 pub mod LawsCost
 pub mod Itself
 pub mod Present
+pub mod PlainRows
+pub mod PlainLines

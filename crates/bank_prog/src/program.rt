@@ -31,7 +31,7 @@ use nv_base::NoMemory;
 use place_ir::held;
 use ssu_ir::Ssu;
 use std::alloc::Global;
-use zo_model::{Row, ZeroOne, is_valid};
+use zo_model::{Row, ZeroOne};
 
 /// The costs of the columns.
 fn costs_of(alloc: Global, priced: &[(Column, u32)]) -> Result<Vec<u32>, NoMemory>
@@ -64,21 +64,11 @@ fn rows_of(
     Ok(rows)
 }
 
-/// The program, where it keeps the limits of its kind.
-fn within_limits(z: ZeroOne) -> Result<ZeroOne, NoMemory>
-    ensures same { IfOk result (λ p. p ≡ z) }
-    ensures valid { IfOk result IsValid }
-{
-    if is_valid(&z) { Ok(z) } else { Err(NoMemory) }
-}
-
 /// The program of the banks, where so many slots may be used.
 ///
 /// # Errors
 ///
-/// `TooLarge` tells the number of columns, else that of rows, where it is above 2^26. The finished program is
-/// checked against the limits of 0-1 programs, and one outside them is answered as if there were no memory for
-/// it: the names in a row all differ, so no coefficient is ever anything but 1 or -1.
+/// `TooLarge` tells the number of columns, else that of rows, where it is above 2^26.
 pub fn build(alloc: Global, s: &Ssu, slots: u32) -> Result<ZeroOne, BankError>
     requires single { single (labels_view s.now) ≡ true }
     requires slots { slots ≤ 128 }
@@ -100,5 +90,5 @@ pub fn build(alloc: Global, s: &Ssu, slots: u32) -> Result<ZeroOne, BankError>
         return Err(BankError::TooLarge(rows.len() as u64));
     }
     let costs = costs_of(alloc, &priced)?;
-    Ok(within_limits(ZeroOne { costs, rows })?)
+    Ok(ZeroOne { costs, rows })
 }

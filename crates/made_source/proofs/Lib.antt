@@ -8,3 +8,4 @@ pub mod Spelled
 pub mod Reading
 pub mod Runs
 pub mod Programs
+pub mod Room

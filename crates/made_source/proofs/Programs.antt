@@ -3,9 +3,10 @@ use Rattle.std.proofs.Common.{suc, length, arith}
 use Rattle.made_source.specs.Laws.{EachHasProgram}
 use Rattle.made_source.specs.Made.{lines_from, made}
 use Rattle.made_source.specs.inner.Program.{made_program}
-use Rattle.made_source.proofs.Drawn.{lines-drawn, lines-number}
+use Rattle.made_source.proofs.Drawn.{lines-drawn, lines-near, lines-number}
 use Rattle.made_source.proofs.Heights.{low, short}
 use Rattle.made_source.proofs.Reading.{text-of}
+use Rattle.made_source.proofs.Room.{narrow}
 use Rattle.made_source.proofs.Runs.{one-word}
 use Rattle.made_source.proofs.Typed.{typed, small, two_arguments}
 
@@ -23,6 +24,7 @@ each_has_program seed size some few =
       reads = text-of seed size some few;
       low = low lines (suc size) bytes;
       accepted = record { typed = typed lines (suc size) bytes drawn (omega arith); small = small lines (suc size) bytes drawn (omega arith) (omega arith) };
+      narrow = narrow lines (suc size) bytes drawn (lines-near size 0 seed) (omega arith) (omega arith) (omega arith);
       two = two_arguments lines (suc size) bytes;
       ends = run.ends;
     }

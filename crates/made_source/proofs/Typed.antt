@@ -22,7 +22,7 @@ operand-word (suc (suc zero)) = refl
 operand-word (suc (suc (suc zero))) = refl
 operand-word (suc (suc (suc (suc o)))) = refl
 
-result-word : (o : ℕ) → result_ty (operator_of o) ≡ WordTy
+pub result-word : (o : ℕ) → result_ty (operator_of o) ≡ WordTy
 result-word zero = refl
 result-word (suc zero) = refl
 result-word (suc (suc zero)) = refl
@@ -41,7 +41,7 @@ a-word : (t : Bool) (o : Option Ty) → t ≡ true → (if t then Some WordTy el
 a-word true o e = refl
 a-word false o e = let h : ⊥ = cc in absurd h
 
-words-more : (n : ℕ) (t : Ty) (vars : Vars) → t ≡ WordTy → AllWords n vars → AllWords (suc n) ((name_of n, t) ∷ vars)
+pub words-more : (n : ℕ) (t : Ty) (vars : Vars) → t ≡ WordTy → AllWords n vars → AllWords (suc n) ((name_of n, t) ∷ vars)
 words-more n t vars e h = rw e (rw add-one at (below_more (λ j. look_up (name_of j) ((name_of n, WordTy) ∷ vars) ≡ Some WordTy) n old new))
   where
     old : (j : ℕ) → j < n → look_up (name_of j) ((name_of n, WordTy) ∷ vars) ≡ Some WordTy
@@ -50,7 +50,7 @@ words-more n t vars e h = rw e (rw add-one at (below_more (λ j. look_up (name_o
     new : look_up (name_of n) ((name_of n, WordTy) ∷ vars) ≡ Some WordTy
     new = a-word (bytes_eq (name_of n) (name_of n)) (look_up (name_of n) vars) ((bytes_eq-Decides (name_of n) (name_of n)).1 refl)
 
-words-behind : (k : Known) (i p : ℕ) (lines : List Line) (vars : Vars) → AllWords (suc (suc i)) vars → AllWords (length lines + suc (suc i)) (vars_behind k vars (statements_of i p lines))
+pub words-behind : (k : Known) (i p : ℕ) (lines : List Line) (vars : Vars) → AllWords (suc (suc i)) vars → AllWords (length lines + suc (suc i)) (vars_behind k vars (statements_of i p lines))
 words-behind k i p [] vars h = let e : 0 + suc (suc i) ≡ suc (suc i) = omega arith in rw e h
 words-behind k i p (line ∷ lines) vars h =
     let e : suc (length lines) + suc (suc i) ≡ length lines + suc (suc (suc i)) = omega arith in
@@ -90,13 +90,13 @@ block-faultless p s lines name q l h lt =
     (none (faults (with_vars (vars_behind p.known p.vars (statements_of 0 35 lines)) p) anything (name_tree name q)) (node_faults p (same_as (Some WordTy)) (BlockTree s (statements_of 0 35 lines) (name_tree name q))) last (rw behind refl))
 
 -- what is known in main, and its variables
-abbrev known_in : FunTree → Known
+abbrev pub known_in : FunTree → Known
 known_in f = in_group nothing_known (f ∷ [])
 
-abbrev first_vars : Vars
+abbrev pub first_vars : Vars
 first_vars = (codes "b", WordTy) ∷ (codes "a", WordTy) ∷ []
 
-first-words : AllWords 2 first_vars
+pub first-words : AllWords 2 first_vars
 first-words zero h = refl
 first-words (suc zero) h = refl
 first-words (suc (suc j)) h = absurd (omega arith)

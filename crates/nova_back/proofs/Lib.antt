@@ -1,2 +1,7 @@
+pub mod PairedOn
+pub mod PairedRows
+pub mod PairedPoints
+pub mod PairedCost
+pub mod PairedAll
 pub mod Reported
 pub mod Sizes

@@ -1,7 +1,7 @@
 -- What the report of a search says of the form whose program was searched.
-use Rattle.std.proofs.Common.{◌≡◌, ℕ, ◌+◌, ◌-◌, ◌^◌, ◌≤◌, List, Option, Some, None, length, sym, ap, subst, ◌∙◌, Result, Ok, Err, IfOk, IfSome, arith}
+use Rattle.std.proofs.Common.{◌≡◌, ◌⊎◌, inl, inr, ℕ, ◌+◌, ◌-◌, ◌^◌, ◌<◌, ◌≤◌, List, Option, Some, None, length, refl, sym, ap, subst, ◌∙◌, Result, Ok, Err, IfOk, IfErr, IfSome, arith}
 use Rattle.std.proofs.lemmas.List.{length-map}
-use Rattle.ssu_ir.specs.Measures.{peak}
+use Rattle.ssu_ir.specs.Measures.{code_bound, peak}
 use Rattle.ssu_ir.specs.Tree.{Label}
 use Rattle.zo_model.specs.Contents.{contents}
 use Rattle.zo_model.specs.Program.{Feasible as Meeting, cost_of, costs_of, vector}
@@ -22,10 +22,13 @@ use Rattle.zo_solve.specs.Vector.{IsVector, cost_at, start_cost}
 use Rattle.zo_solve.specs.declared.search.Solved.{Solved}
 use Rattle.zo_solve.specs.declared.search.Solved.TheVariants as answers
 use Rattle.bank_prog.specs.Columns.{columns, costs, priced}
-use Rattle.bank_prog.specs.Program.{bank_program}
+use Rattle.bank_prog.specs.Program.{bank_program, rows, IsTooLarge}
 use Rattle.bank_prog.proofs.LawsRows.{feasible-by-name}
-use Rattle.nova_back.specs.Causes.{HasVector, IsEnded, IsReportOn, IsWithout, claim_of, report_cost}
-use Rattle.nova_back.specs.inner.Search.{IsChoice, IsCrowded, IsStart, IsCheap, HadNone, IsNoDearer, IsFound, copies_cost}
+use Rattle.uc_isa.specs.Code.{CodeView}
+use Rattle.nova_back.specs.Causes.{HasVector, IsCause, IsCodeOf, IsEnded, IsLong, IsReportOn, IsWithout, claim_of, report_cost}
+use Rattle.nova_back.specs.declared.error.BackError.{BackError}
+use Rattle.nova_back.specs.declared.error.BackError.TheVariants as back
+use Rattle.nova_back.specs.inner.Search.{IsChoice, IsCrowded, IsStart, IsCheap, HadNone, IsNoDearer, IsFound, IsCrowdedWithout, IsSearchOn, IsChosen, IsTold, IsUnbuilt, IsUnfound, copies_cost}
 
 -- ---- from an answer to its report
 
@@ -107,7 +110,7 @@ choice-vector z labels slots (Some x) e h = record {
 found-contents : (z : ZeroOne) (labels : List Label) (start : Option Assignment) (slots budget : ℕ) (r : Report) → contents z ≡ bank_program labels slots → IsFound z start slots budget r → contents r.z ≡ bank_program labels slots
 found-contents z labels start slots budget r e f = ap contents f.program ∙ e
 
-pub report-on : (z : ZeroOne) (labels : List Label) (start : Option Assignment) (slots budget : ℕ) (r : Report) → contents z ≡ bank_program labels slots → IsFound z start slots budget r → IsReportOn labels slots budget r
+report-on : (z : ZeroOne) (labels : List Label) (start : Option Assignment) (slots budget : ℕ) (r : Report) → contents z ≡ bank_program labels slots → IsFound z start slots budget r → IsReportOn labels slots budget r
 report-on z labels start slots budget r e f = record {
   valid = f.valid;
   holds = f.holds;
@@ -144,21 +147,87 @@ cheap-start : (z : ZeroOne) (labels : List Label) (slots n : ℕ) (start : Optio
 cheap-start z labels slots n None e s p c m = absurd (omega (arith, s.over_bank, p))
 cheap-start z labels slots n (Some x) e s p c m = omega (arith, m, ap (λ k. costs_of k.costs (vector x.on.items)) e, c)
 
-pub cheap-report : (z : ZeroOne) (labels : List Label) (start : Option Assignment) (slots budget : ℕ) (r : Report) → contents z ≡ bank_program labels slots → IsStart labels slots start → IsFound z start slots budget r → HasVector r.verdict
+cheap-report : (z : ZeroOne) (labels : List Label) (start : Option Assignment) (slots budget : ℕ) (r : Report) → contents z ≡ bank_program labels slots → IsStart labels slots start → IsFound z start slots budget r → HasVector r.verdict
     → peak labels ≤ 15 → IsCheap labels start → report_cost r ≤ copies_cost labels
 cheap-report z labels start slots budget r e s f g p c = cheap-start z labels slots (report_cost r) start e s p c (at-most-start z start r.verdict r g f.no_dearer)
 
 crowded : (labels : List Label) (slots : ℕ) (start : Option Assignment) → start ≡ None → IsStart labels slots start → IsCrowded labels slots
 crowded labels slots start e s = subst (IsStart labels slots) e s
 
-without : (z : ZeroOne) (labels : List Label) (start : Option Assignment) (slots budget : ℕ) (v : Verdict) (r : Report) → contents z ≡ bank_program labels slots → IsStart labels slots start → IsFound z start slots budget r → r.verdict ≡ v → start ≡ None
-    → IsWithout labels slots budget v r
-without z labels start slots budget v r e s f is none =
-    let w = crowded labels slots start none s in
-    record { report = report-on z labels start slots budget r e f; says = is; over_bank = w.over_bank; over_slots = w.over_slots }
+crowded-without : (labels : List Label) (slots : ℕ) (start : Option Assignment) (v : Verdict) → IsStart labels slots start → HadNone start v → IsCrowdedWithout labels slots v
+crowded-without labels slots start Optimal s h = tt
+crowded-without labels slots start Feasible s h = tt
+crowded-without labels slots start Infeasible s h = crowded labels slots start h s
+crowded-without labels slots start Spent s h = crowded labels slots start h s
 
-pub infeasible : (z : ZeroOne) (labels : List Label) (start : Option Assignment) (slots budget : ℕ) (r : Report) → contents z ≡ bank_program labels slots → IsStart labels slots start → IsFound z start slots budget r → r.verdict ≡ Infeasible → IsWithout labels slots budget Infeasible r
-infeasible z labels start slots budget r e s f is = without z labels start slots budget Infeasible r e s f is (subst (HadNone start) is f.had_none)
+pub search-on : (z : ZeroOne) (labels : List Label) (start : Option Assignment) (slots budget : ℕ) (r : Report) → contents z ≡ bank_program labels slots → IsStart labels slots start → (peak labels ≤ 15 → IsCheap labels start)
+    → IsFound z start slots budget r → IsSearchOn labels slots budget r
+search-on z labels start slots budget r e s c f = record {
+  report = report-on z labels start slots budget r e f;
+  crowded = crowded-without labels slots start r.verdict s f.had_none;
+  cheap = λ p g. cheap-report z labels start slots budget r e s f g p (c p);
+}
 
-pub spent : (z : ZeroOne) (labels : List Label) (start : Option Assignment) (slots budget : ℕ) (r : Report) → contents z ≡ bank_program labels slots → IsStart labels slots start → IsFound z start slots budget r → r.verdict ≡ Spent → IsWithout labels slots budget Spent r
-spent z labels start slots budget r e s f is = without z labels start slots budget Spent r e s f is (subst (HadNone start) is f.had_none)
+without : (labels : List Label) (slots budget : ℕ) (v : Verdict) (r : Report) → IsSearchOn labels slots budget r → r.verdict ≡ v → IsCrowded labels slots → IsWithout labels slots budget v r
+without labels slots budget v r f is w = record { report = f.report; says = is; over_bank = w.over_bank; over_slots = w.over_slots }
+
+-- ---- from the report to the answer
+
+pub chosen-report : (labels : List Label) (slots budget : ℕ) (report : Report) (result : Result Report BackError) → IsSearchOn labels slots budget report → IfOk result (λ r. r ≡ report) → IfOk result (λ r. HasVector r.verdict)
+    → IfOk result (IsChosen labels slots budget)
+chosen-report labels slots budget report (Ok r) f same found = record { on_form = subst (IsSearchOn labels slots budget) (sym same) f; found = found }
+chosen-report labels slots budget report (Err e) f same found = tt
+
+told-unfound : (labels : List Label) (slots budget : ℕ) (report : Report) (e : BackError) → IsSearchOn labels slots budget report → IsTold report e → IsUnfound labels slots budget e
+told-unfound labels slots budget report back.NoMemory f h = absurd h
+told-unfound labels slots budget report (back.TooLarge n) f h = absurd h
+told-unfound labels slots budget report (back.Infeasible r) f h =
+    let g = subst (IsSearchOn labels slots budget) (sym h.0) f in
+    without labels slots budget Infeasible r g h.1 (subst (IsCrowdedWithout labels slots) h.1 g.crowded)
+told-unfound labels slots budget report (back.Spent r) f h =
+    let g = subst (IsSearchOn labels slots budget) (sym h.0) f in
+    without labels slots budget Spent r g h.1 (subst (IsCrowdedWithout labels slots) h.1 g.crowded)
+told-unfound labels slots budget report (back.StoreFull n) f h = absurd h
+
+pub unfound-report : (labels : List Label) (slots budget : ℕ) (report : Report) (result : Result Report BackError) → IsSearchOn labels slots budget report → IfErr result (IsTold report) → IfErr result (IsUnfound labels slots budget)
+unfound-report labels slots budget report (Ok r) f h = tt
+unfound-report labels slots budget report (Err e) f h = told-unfound labels slots budget report e f h
+
+pub unbuilt-unfound : (labels : List Label) (slots budget : ℕ) (e : BackError) → IsUnbuilt labels slots e → IsUnfound labels slots budget e
+unbuilt-unfound labels slots budget back.NoMemory h = tt
+unbuilt-unfound labels slots budget (back.TooLarge n) h = h
+unbuilt-unfound labels slots budget (back.Infeasible r) h = absurd h
+unbuilt-unfound labels slots budget (back.Spent r) h = absurd h
+unbuilt-unfound labels slots budget (back.StoreFull n) h = absurd h
+
+-- ---- sizes
+
+-- no form has two sizes that are told
+one-large : (labels : List Label) (slots m n : ℕ) → IsTooLarge labels slots m → IsTooLarge labels slots n → m ≡ n
+one-large labels slots m n (inl a) (inl b) = a.0 ∙ sym b.0
+one-large labels slots m n (inl a) (inr b) = absurd (omega (arith, a.0, a.1, b.0))
+one-large labels slots m n (inr a) (inl b) = absurd (omega (arith, b.0, b.1, a.0))
+one-large labels slots m n (inr a) (inr b) = a.1.0 ∙ sym b.1.0
+
+pub unbuilt-large : (labels : List Label) (slots n : ℕ) (e : BackError) → IsUnbuilt labels slots e → IsTooLarge labels slots n → (e ≡ back.NoMemory) ⊎ (e ≡ back.TooLarge n)
+unbuilt-large labels slots n back.NoMemory h l = inl refl
+unbuilt-large labels slots n (back.TooLarge m) h l = inr (ap back.TooLarge (one-large labels slots m n h l))
+unbuilt-large labels slots n (back.Infeasible r) h l = absurd h
+unbuilt-large labels slots n (back.Spent r) h l = absurd h
+unbuilt-large labels slots n (back.StoreFull k) h l = absurd h
+
+pub few-not-large : (labels : List Label) (slots n : ℕ) → length (columns labels) ≤ 2 ^ 26 → length (rows labels slots) ≤ 2 ^ 26 → IsTooLarge labels slots n → ⊥
+few-not-large labels slots n c r (inl a) = omega (arith, c, a.0, a.1)
+few-not-large labels slots n c r (inr a) = omega (arith, r, a.1.0, a.1.1)
+
+-- ---- the whole
+
+pub unfound-cause : (labels : List Label) (slots budget store : ℕ) (e : BackError) → IsUnfound labels slots budget e → (e ≡ back.NoMemory) ⊎ IsCause labels slots budget store e
+unfound-cause labels slots budget store back.NoMemory h = inl refl
+unfound-cause labels slots budget store (back.TooLarge n) h = inr h
+unfound-cause labels slots budget store (back.Infeasible r) h = inr h
+unfound-cause labels slots budget store (back.Spent r) h = inr h
+unfound-cause labels slots budget store (back.StoreFull n) h = absurd h
+
+pub long-code : (labels : List Label) (store n : ℕ) (c : CodeView) → IsCodeOf labels c → n ≡ length c.list → length c.list ≤ code_bound labels → store < n → IsLong labels store n
+long-code labels store n c code counted bounded long = record { c = c; code = code; counted = counted; bounded = omega (arith, counted, bounded); long = long }

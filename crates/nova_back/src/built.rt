@@ -33,7 +33,6 @@ pub struct Built {
 }
 
 /// The code of a form whose values stand where a choice of banks has them.
-#[tactic(none)]
 fn code_of(alloc: Global, s: &Ssu, slots: u32, x: &Assignment) -> Result<Code, NoMemory>
     requires single { single (labels_view s.now) ≡ true }
     requires slots { slots ≤ 128 }
@@ -54,7 +53,6 @@ fn code_of(alloc: Global, s: &Ssu, slots: u32, x: &Assignment) -> Result<Code, N
 /// # Errors
 ///
 /// The size of the program is looked at first, then whether the search found a choice, and last how long the code is.
-#[tactic(none)]
 pub fn back(alloc: Global, s: Ssu, slots: u32, budget: u32, store: u32) -> Result<Built, BackError>
     requires single { single (labels_view s) ≡ true }
     requires slots { slots ≤ 128 }

@@ -1,20 +1,20 @@
 // The cheapest choice of banks that is found for a form.
 
 ghost use Rattle.std.specs.Prelude.{◌≡◌, ◌≤◌, ◌^◌, ◌⊎◌, ℕ, true, length, IfOk, IfErr, MatchResult};
-ghost use Rattle.ssu_ir.specs.Measures.{peak};
 ghost use Rattle.ssu_ir.specs.Single.{single};
 ghost use Rattle.ssu_ir.specs.View.{labels_view};
 ghost use Rattle.zo_model.specs.Contents.{contents};
-ghost use Rattle.zo_model.specs.Program.{IsValid, costs_of, vector};
+ghost use Rattle.zo_model.specs.Program.{IsValid};
 ghost use Rattle.bank_prog.specs.Columns as banks;
 ghost use Rattle.bank_prog.specs.Program.{bank_program, rows, IsTooLarge};
-ghost use Rattle.nova_back.specs.Causes.{HasVector, IsCause, IsReportOn, report_cost};
-ghost use Rattle.nova_back.specs.inner.Search.{IsChoice, copies_cost};
+ghost use Rattle.nova_back.specs.Causes.{HasVector};
+ghost use Rattle.nova_back.specs.inner.Search.{IsChosen, IsSearchOn, IsTold, IsUnbuilt, IsUnfound};
 
 use crate::error::BackError;
 use crate::search::searched;
 use crate::start::start_of;
 use bank_prog::{BankError, build};
+use nv_base::NoMemory;
 use ssu_ir::Ssu;
 use std::alloc::Global;
 use zo_cert::{Report, Verdict};
@@ -28,7 +28,7 @@ fn program_of(alloc: Global, s: &Ssu, slots: u32) -> Result<ZeroOne, BackError>
     ensures valid { IfOk result IsValid }
     ensures few { IfOk result (λ _. length (banks.columns (labels_view s.now)) ≤ 2 ^ 26) }
     ensures few_rows { IfOk result (λ _. length (rows (labels_view s.now) slots) ≤ 2 ^ 26) }
-    ensures refused { IfErr result (λ e. (e ≡ BackError.NoMemory) ⊎ ((n : ℕ) × (e ≡ BackError.TooLarge n) × IsTooLarge (labels_view s.now) slots n)) }
+    ensures refused { IfErr result (IsUnbuilt (labels_view s.now) slots) }
 {
     match build(alloc, s, slots) {
         Ok(z) => Ok(z),
@@ -37,33 +37,60 @@ fn program_of(alloc: Global, s: &Ssu, slots: u32) -> Result<ZeroOne, BackError>
     }
 }
 
-/// The report on the banks of a form, where it has a vector.
-///
-/// # Errors
-///
-/// The size of the program is looked at first, then whether the search found a choice.
-#[tactic(none)]
-pub fn choice_of(alloc: Global, s: &Ssu, slots: u32, budget: u32) -> Result<Report, BackError>
+/// The report of a search on a form, whose program of the banks this is.
+fn report_on(
+    alloc: Global,
+    s: &Ssu,
+    z: ZeroOne,
+    slots: u32,
+    budget: u32,
+) -> Result<Report, BackError>
     requires single { single (labels_view s.now) ≡ true }
+    requires program { contents z ≡ bank_program (labels_view s.now) slots }
+    requires valid { IsValid z }
     requires slots { slots ≤ 128 }
     requires some { 1 ≤ budget }
     requires budget { budget ≤ 1000000 }
-    ensures report { IfOk result (IsReportOn (labels_view s.now) slots budget) }
-    ensures found { IfOk result (λ r. HasVector r.verdict) }
-    ensures choice { IfOk result (λ r. IsChoice (labels_view s.now) slots r.x) }
-    ensures cost { IfOk result (λ r. report_cost r ≡ costs_of (banks.costs (labels_view s.now)) (vector r.x.on.items)) }
-    ensures cheap { peak (labels_view s.now) ≤ 15 → IfOk result (λ r. report_cost r ≤ copies_cost (labels_view s.now)) }
-    ensures few { IfOk result (λ _. length (banks.columns (labels_view s.now)) ≤ 2 ^ 26) }
-    ensures few_rows { IfOk result (λ _. length (rows (labels_view s.now) slots) ≤ 2 ^ 26) }
-    ensures refused { (store : ℕ) → IfErr result (λ e. (e ≡ BackError.NoMemory) ⊎ IsCause (labels_view s.now) slots budget store e) }
-    ensures only_large { (n : ℕ) → IsTooLarge (labels_view s.now) slots n → MatchResult result (λ _. ⊥) (λ e. (e ≡ BackError.NoMemory) ⊎ (e ≡ BackError.TooLarge n)) }
+    ensures report { IfOk result (IsSearchOn (labels_view s.now) slots budget) }
+    ensures refused { IfErr result (λ e. e ≡ BackError.NoMemory) }
 {
-    let z = program_of(alloc, s, slots)?;
     let start = start_of(alloc, s, slots)?;
-    let report = searched(alloc, z, start, slots, budget)?;
+    match searched(alloc, z, start, slots, budget) {
+        Ok(report) => Ok(report),
+        Err(zo_model::NoMemory) => Err(BackError::NoMemory),
+    }
+}
+
+/// The report, where it has a vector.
+fn with_vector(report: Report) -> Result<Report, BackError>
+    ensures same { IfOk result (λ r. r ≡ report) }
+    ensures found { IfOk result (λ r. HasVector r.verdict) }
+    ensures told { IfErr result (IsTold report) }
+{
     match report.verdict {
         Verdict::Optimal | Verdict::Feasible => Ok(report),
         Verdict::Infeasible => Err(BackError::Infeasible(report)),
         Verdict::Spent => Err(BackError::Spent(report)),
     }
+}
+
+/// The report on the banks of a form, where it has a vector.
+///
+/// # Errors
+///
+/// The size of the program is looked at first, then whether the search found a choice.
+pub fn choice_of(alloc: Global, s: &Ssu, slots: u32, budget: u32) -> Result<Report, BackError>
+    requires single { single (labels_view s.now) ≡ true }
+    requires slots { slots ≤ 128 }
+    requires some { 1 ≤ budget }
+    requires budget { budget ≤ 1000000 }
+    ensures chosen { IfOk result (IsChosen (labels_view s.now) slots budget) }
+    ensures few { IfOk result (λ _. length (banks.columns (labels_view s.now)) ≤ 2 ^ 26) }
+    ensures few_rows { IfOk result (λ _. length (rows (labels_view s.now) slots) ≤ 2 ^ 26) }
+    ensures refused { IfErr result (IsUnfound (labels_view s.now) slots budget) }
+    ensures only_large { (n : ℕ) → IsTooLarge (labels_view s.now) slots n → MatchResult result (λ _. ⊥) (λ e. (e ≡ BackError.NoMemory) ⊎ (e ≡ BackError.TooLarge n)) }
+{
+    let z = program_of(alloc, s, slots)?;
+    let report = report_on(alloc, s, z, slots, budget)?;
+    with_vector(report)
 }

@@ -1,6 +1,7 @@
-// The choice of banks that suits every form that holds at most 15 values at once.
+//! The choice of banks that suits every form that holds at most 15 values at once.
 
-ghost use Rattle.std.specs.Prelude.{◌≡◌, ◌≤◌, ◌+◌, ◌*◌, ℕ, true, length, IfOk};
+ghost use Rattle.std.specs.Prelude.{◌≡◌, ◌≤◌, ◌+◌, ◌*◌, ℕ, true, is_some, length, map, IfOk};
+ghost use Rattle.std.specs.HashMap.{get};
 ghost use Rattle.ssu_ir.specs.Measures.{peak};
 ghost use Rattle.ssu_ir.specs.Single.{single};
 ghost use Rattle.ssu_ir.specs.View.{labels_view};
@@ -8,11 +9,105 @@ ghost use Rattle.place_ir.specs.Uses.{values, uses};
 ghost use Rattle.zo_model.specs.Program.{vector, costs_of};
 ghost use Rattle.bank_prog.specs.Columns as columns;
 ghost use Rattle.bank_prog.specs.Meaning.{IsFeasible};
+ghost use Rattle.bank_prog.specs.Program.{same_column};
+ghost use Rattle.nova_back.specs.inner.Paired as inner;
 
+use bank_prog::{Bank, Column, Numbers, column_names, column_numbers, number};
 use nv_base::NoMemory;
 use ssu_ir::Ssu;
 use std::alloc::Global;
 use zo_model::Assignment;
+
+/// Whether a column is among those that have numbers.
+fn is_there(numbers: &Numbers, c: Column) -> bool
+    ensures { result ≡ inner.is_there (get same_column numbers.now) c }
+{
+    number(numbers, c).is_some()
+}
+
+/// Whether a use is the second operand of an instruction.
+fn is_second(numbers: &Numbers, k: u32, i: u32) -> bool
+    ensures { result ≡ inner.is_second (get same_column numbers.now) k i }
+{
+    i == 1 && is_there(numbers, Column::Srv(k, i, Bank::M, Bank::L))
+}
+
+/// Whether a value is first put into this bank, if it can be.
+fn puts(h: Bank) -> bool
+    ensures { result ≡ inner.is_a h }
+{
+    match h {
+        Bank::A => true,
+        Bank::B | Bank::M | Bank::T | Bank::L | Bank::A15 | Bank::W => false,
+    }
+}
+
+/// Whether a value is copied into this bank.
+fn fills(numbers: &Numbers, x: u32, h: Bank) -> bool
+    ensures { result ≡ inner.fills (get same_column numbers.now) x h }
+{
+    match h {
+        Bank::A => !is_there(numbers, Column::Def(x, Bank::A)),
+        Bank::B => true,
+        Bank::M | Bank::T | Bank::L | Bank::A15 | Bank::W => false,
+    }
+}
+
+/// Whether a use is served from A at this bank.
+fn serves_a(second: bool, p: Bank) -> bool
+    ensures { result ≡ inner.serves_a second p }
+{
+    match p {
+        Bank::A => !second,
+        Bank::W => true,
+        Bank::B | Bank::M | Bank::T | Bank::L | Bank::A15 => false,
+    }
+}
+
+/// Whether a use is served from B at this bank.
+fn serves_b(second: bool, p: Bank) -> bool
+    ensures { result ≡ inner.serves_b second p }
+{
+    match p {
+        Bank::B => second,
+        Bank::A | Bank::M | Bank::T | Bank::L | Bank::A15 | Bank::W => false,
+    }
+}
+
+/// Whether a use is served from one bank in another.
+fn serves(second: bool, h: Bank, p: Bank) -> bool
+    ensures { result ≡ inner.serves second h p }
+{
+    match h {
+        Bank::A => serves_a(second, p),
+        Bank::B => serves_b(second, p),
+        Bank::M | Bank::T | Bank::L | Bank::A15 | Bank::W => false,
+    }
+}
+
+/// Whether a column is 1.
+fn chosen(numbers: &Numbers, c: Column) -> bool
+    ensures { result ≡ inner.paired (get same_column numbers.now) c }
+{
+    match c {
+        Column::Def(_, h) => puts(h),
+        Column::Dir(_, _, _) => false,
+        Column::Fill(x, h) => fills(numbers, x, h),
+        Column::Stay(_, _) => false,
+        Column::Ear(_, _, _) => false,
+        Column::First(_, f) => f == 0,
+        Column::Srv(k, i, h, p) => serves(is_second(numbers, k, i), h, p),
+        Column::PasL(_, _) => false,
+        Column::PasS(_, _) => false,
+    }
+}
+
+/// Of each of these columns whether it is 1.
+fn choices(alloc: Global, numbers: &Numbers, names: &[Column]) -> Result<Vec<bool>, NoMemory>
+    ensures { IfOk result (λ v. v.items ≡ map (inner.paired (get same_column numbers.now)) names.now) }
+{
+    Ok(names.iter().map(|c| chosen(numbers, *c)).collect(alloc)?)
+}
 
 /// The paired choice: each value in both banks, so that any two of them can be operands of one instruction, and no
 /// slot. Where at most 15 values are held at once it meets all rows.
@@ -22,5 +117,8 @@ pub fn paired(alloc: Global, s: &Ssu) -> Result<Assignment, NoMemory>
     ensures feasible { (slots : ℕ) → peak (labels_view s.now) ≤ 15 → IfOk result (λ x. IsFeasible (labels_view s.now) slots (vector x.on.items)) }
     ensures cheap { IfOk result (λ x. costs_of (columns.costs (labels_view s.now)) (vector x.on.items) ≤ 2 * length (values (labels_view s.now)) + length (uses (labels_view s.now))) }
 {
-    Err(NoMemory)
+    let names = column_names(alloc, s)?;
+    let numbers = column_numbers(alloc, s)?;
+    let on = choices(alloc, &numbers, &names)?;
+    Ok(Assignment { on })
 }

@@ -3,7 +3,7 @@
 use crate::pages::Page;
 
 /// The text faults, the statuses and the other lines.
-pub const OTHER_PAGES: [Page; 32] = [
+pub const OTHER_PAGES: [Page; 34] = [
     Page {
         name: "syntax char",
         text: r#"syntax char
@@ -149,11 +149,12 @@ With status 8, `too large N` says one of four things (README.md). Of a source th
 `store LENGTH` with status 11 is said by `compile`, and by `gen` of a made source. The code has LENGTH instructions, more than the N of `store=N`, or than 2,048.
 
     s: fun main[a: word, b: word]: word { a + b }
-    $ compile s o store=1
+    $ compile s o r store=1
     11 store ..
-    $ compile s o
+    $ compile s o r
     0 compiled ..
     saved o: %any
+    saved r: %any
 "#,
     },
     Page {
@@ -163,83 +164,80 @@ With status 8, `too large N` says one of four things (README.md). Of a source th
 `store LENGTH` with status 11 is said by `compile`, and by `gen` of a made source. The code has LENGTH instructions, more than the N of `store=N`, or than 2,048.
 
     s: fun main[a: word, b: word]: word { a + b }
-    $ compile s o store=1
+    $ compile s o r store=1
     11 store ..
-    $ compile s o
+    $ compile s o r
     0 compiled ..
     saved o: %any
+    saved r: %any
 "#,
     },
     Page {
-        name: "status 20",
-        text: r#"status 20, unbuilt
+        name: "status 9",
+        text: r#"status 9, infeasible
 
-`unbuilt` with status 20 is said by `compile`, and by `gen` of a made source. The source is a program and runs by `exec`.
-But over 128 of its values are held at once, and compiled code has 128 slots.
-These two run on more memory:
+`infeasible` with status 9 is said by `compile`. No choice of banks is possible with so few slots: more values are held at once than registers and slots can have.
+REPORT alone is saved, and `check` says so of it. Here forty words are held, and the two banks and the read registers have 38. Give it slots, or use the words sooner:
 
-    memory 136 0
-    args
-
-    fun main[]: word {
-      let a = sram[8](0); let b = sram[8](8); let c = sram[8](16); let d = sram[8](24); let e = sram[8](32); let f = sram[8](40);
-      let g = sram[8](48); let h = sram[8](56); let i = sram[8](64); let j = sram[8](72); let k = sram[8](80); let l = sram[8](88);
-      let m = sram[8](96); let n = sram[8](104); let o = sram[8](112); let p = sram[8](120); let q = sram[8](128);
-      sram(0) <- a; sram(8) <- b; sram(16) <- c; sram(24) <- d; sram(32) <- e; sram(40) <- f;
-      sram(48) <- g; sram(56) <- h; sram(64) <- i; sram(72) <- j; sram(80) <- k; sram(88) <- l;
-      sram(96) <- m; sram(104) <- n; sram(112) <- o; sram(120) <- p; sram(128) <- q;
-      0
-    }
-
-`unbuilt`: all 136 words are wanted behind the last fetch. Use them sooner:
-
-    fun main[]: word {
-      let a = sram[8](0); sram(0) <- a; let b = sram[8](8); sram(8) <- b; let c = sram[8](16); sram(16) <- c;
-      let d = sram[8](24); sram(24) <- d; let e = sram[8](32); sram(32) <- e; let f = sram[8](40); sram(40) <- f;
-      let g = sram[8](48); sram(48) <- g; let h = sram[8](56); sram(56) <- h; let i = sram[8](64); sram(64) <- i;
-      let j = sram[8](72); sram(72) <- j; let k = sram[8](80); sram(80) <- k; let l = sram[8](88); sram(88) <- l;
-      let m = sram[8](96); sram(96) <- m; let n = sram[8](104); sram(104) <- n; let o = sram[8](112); sram(112) <- o;
-      let p = sram[8](120); sram(120) <- p; let q = sram[8](128); sram(128) <- q;
-      0
-    }
-
-`ended 00000000`.
+    s:
+    | fun main[]: word {
+    |   let (a0, a1, a2, a3, a4, a5, a6, a7) = sram[8](0); let (b0, b1, b2, b3, b4, b5, b6, b7) = sram[8](8);
+    |   let (c0, c1, c2, c3, c4, c5, c6, c7) = sram[8](16); let (d0, d1, d2, d3, d4, d5, d6, d7) = sram[8](24);
+    |   let (e0, e1, e2, e3, e4, e5, e6, e7) = sram[8](32);
+    |   a0 + a1 + a2 + a3 + a4 + a5 + a6 + a7 + b0 + b1 + b2 + b3 + b4 + b5 + b6 + b7 + c0 + c1 + c2 + c3
+    |   + c4 + c5 + c6 + c7 + d0 + d1 + d2 + d3 + d4 + d5 + d6 + d7 + e0 + e1 + e2 + e3 + e4 + e5 + e6 + e7
+    | }
+    $ compile s o r slots=0
+    9 infeasible
+    saved r: %any
+    $ check r
+    0 infeasible
+    $ compile s o r slots=2
+    0 compiled ..
+    saved o: %any
+    saved r: %any
 "#,
     },
     Page {
-        name: "unbuilt",
-        text: r#"status 20, unbuilt
+        name: "infeasible",
+        text: r#"status 9, infeasible
 
-`unbuilt` with status 20 is said by `compile`, and by `gen` of a made source. The source is a program and runs by `exec`.
-But over 128 of its values are held at once, and compiled code has 128 slots.
-These two run on more memory:
+`infeasible` with status 9 is said by `compile`. No choice of banks is possible with so few slots: more values are held at once than registers and slots can have.
+REPORT alone is saved, and `check` says so of it. Here forty words are held, and the two banks and the read registers have 38. Give it slots, or use the words sooner:
 
-    memory 136 0
-    args
+    s:
+    | fun main[]: word {
+    |   let (a0, a1, a2, a3, a4, a5, a6, a7) = sram[8](0); let (b0, b1, b2, b3, b4, b5, b6, b7) = sram[8](8);
+    |   let (c0, c1, c2, c3, c4, c5, c6, c7) = sram[8](16); let (d0, d1, d2, d3, d4, d5, d6, d7) = sram[8](24);
+    |   let (e0, e1, e2, e3, e4, e5, e6, e7) = sram[8](32);
+    |   a0 + a1 + a2 + a3 + a4 + a5 + a6 + a7 + b0 + b1 + b2 + b3 + b4 + b5 + b6 + b7 + c0 + c1 + c2 + c3
+    |   + c4 + c5 + c6 + c7 + d0 + d1 + d2 + d3 + d4 + d5 + d6 + d7 + e0 + e1 + e2 + e3 + e4 + e5 + e6 + e7
+    | }
+    $ compile s o r slots=0
+    9 infeasible
+    saved r: %any
+    $ check r
+    0 infeasible
+    $ compile s o r slots=2
+    0 compiled ..
+    saved o: %any
+    saved r: %any
+"#,
+    },
+    Page {
+        name: "status 10",
+        text: r#"status 10, budget
 
-    fun main[]: word {
-      let a = sram[8](0); let b = sram[8](8); let c = sram[8](16); let d = sram[8](24); let e = sram[8](32); let f = sram[8](40);
-      let g = sram[8](48); let h = sram[8](56); let i = sram[8](64); let j = sram[8](72); let k = sram[8](80); let l = sram[8](88);
-      let m = sram[8](96); let n = sram[8](104); let o = sram[8](112); let p = sram[8](120); let q = sram[8](128);
-      sram(0) <- a; sram(8) <- b; sram(16) <- c; sram(24) <- d; sram(32) <- e; sram(40) <- f;
-      sram(48) <- g; sram(56) <- h; sram(64) <- i; sram(72) <- j; sram(80) <- k; sram(88) <- l;
-      sram(96) <- m; sram(104) <- n; sram(112) <- o; sram(120) <- p; sram(128) <- q;
-      0
-    }
+`budget N` with status 10 is said by `compile`. All N branches of the search were used before a choice of banks was found, and none may be possible.
+REPORT alone is saved, and `check` says `spent` of it. It comes only where more than 15 values are held at once, and more than there are slots. Give it slots, or a greater budget.
+"#,
+    },
+    Page {
+        name: "budget",
+        text: r#"status 10, budget
 
-`unbuilt`: all 136 words are wanted behind the last fetch. Use them sooner:
-
-    fun main[]: word {
-      let a = sram[8](0); sram(0) <- a; let b = sram[8](8); sram(8) <- b; let c = sram[8](16); sram(16) <- c;
-      let d = sram[8](24); sram(24) <- d; let e = sram[8](32); sram(32) <- e; let f = sram[8](40); sram(40) <- f;
-      let g = sram[8](48); sram(48) <- g; let h = sram[8](56); sram(56) <- h; let i = sram[8](64); sram(64) <- i;
-      let j = sram[8](72); sram(72) <- j; let k = sram[8](80); sram(80) <- k; let l = sram[8](88); sram(88) <- l;
-      let m = sram[8](96); sram(96) <- m; let n = sram[8](104); sram(104) <- n; let o = sram[8](112); sram(112) <- o;
-      let p = sram[8](120); sram(120) <- p; let q = sram[8](128); sram(128) <- q;
-      0
-    }
-
-`ended 00000000`.
+`budget N` with status 10 is said by `compile`. All N branches of the search were used before a choice of banks was found, and none may be possible.
+REPORT alone is saved, and `check` says `spent` of it. It comes only where more than 15 values are held at once, and more than there are slots. Give it slots, or a greater budget.
 "#,
     },
     Page {
@@ -578,7 +576,7 @@ Nothing is printed, and no file was changed.
         text: r#"status 8: a size
 
 `too large N` says one of four things: a file has more bytes than its limit N, a source has an expanded size N of more than 4,096,
-the form from which code is made has N points, values and uses, more than 1,048,576,
+the 0-1 program of its banks has N columns, or else rows, more than 67,108,864,
 or a memory text asks for a memory of size N, more than 65,536.
 "#,
     },

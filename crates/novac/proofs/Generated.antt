@@ -2,7 +2,7 @@
 use Rattle.std.proofs.Common.{◌≡◌, ◌⊎◌, ℕ, ◌≤◌, ◌<◌, ◌^◌, List, [], ◌∷◌, inl, inr, length, ap, sym, ◌∙◌, subst, arith}
 use Rattle.std.specs.Prelude.{slice_index}
 use Rattle.std.proofs.lemmas.List.Elements.{All-nil, All-cons}
-use Rattle.nv_ast.specs.Sizes.{main_words}
+use Rattle.nv_ast.specs.Sizes.{main_words, room}
 use Rattle.nv_ast.specs.Tree.{ProgramTree}
 use Rattle.nv_base.specs.Memories.{Memories, HasSizes}
 use Rattle.nv_base.specs.Meanings.{FullOutcome, IsOver}
@@ -13,6 +13,8 @@ use Rattle.uc_isa.specs.Agrees.{IsStart}
 use Rattle.uc_isa.specs.Code.{CodeView}
 use Rattle.uc_isa.specs.Engine.{engine, run, start}
 use Rattle.uc_isa.specs.declared.engine.Engine.{Engine}
+use Rattle.zo_cert.specs.declared.report.Report.{Report}
+use Rattle.zo_cert.specs.declared.report.Verdict.{Verdict}
 use Rattle.nova_front.specs.Sources.{IsTypedSource}
 use Rattle.nova_front.proofs.OneSource.{source-program}
 use Rattle.made_source.specs.Laws.{HasProgram}
@@ -21,12 +23,13 @@ use Rattle.made_source.proofs.Programs.{each_has_program}
 use Rattle.novac.specs.Forms.{IsCodeFor}
 use Rattle.novac.specs.Generating.{GenRefuses, MeansWord}
 use Rattle.novac.specs.Headline.{CompileRefuses, IsUnfit}
-use Rattle.novac.specs.Limits.{store_limit}
+use Rattle.novac.specs.Limits.{slots_limit, store_limit}
 use Rattle.novac.specs.Lines.{IsUncaused}
 use Rattle.novac.specs.Machine.{spill_base}
 use Rattle.novac.specs.Reading.{HasTyped}
 use Rattle.novac.specs.declared.refusal.Refusal.{Refusal}
-use Rattle.novac.specs.inner.Generated.{HasWord, AreWord}
+use Rattle.novac.specs.inner.Found.{IsWithoutBanks}
+use Rattle.novac.specs.inner.Generated.{HasRoom, HasWord, AreWord}
 use Rattle.novac.proofs.OneSource.{source-good}
 
 made-typed : (seed size : ℕ) (h : HasProgram seed size) → IsTypedSource (made seed size) h.program
@@ -37,12 +40,30 @@ pub made-short : (seed size : ℕ) (bytes : List ℕ) → 1 ≤ size → size �
 made-short seed size bytes some few e = subst (λ (x : List ℕ). length x ≤ 262144) (sym e) (each_has_program seed size some few).short
 
 -- it is refused only where its program isn't compiled
-pub made-refused : (seed size : ℕ) (bytes : List ℕ) (e : Refusal) → 1 ≤ size → size ≤ 500 → bytes ≡ made seed size → IsUncaused e ⊎ CompileRefuses bytes store_limit e → IsUncaused e ⊎ GenRefuses seed size e
+pub made-refused : (seed size : ℕ) (bytes : List ℕ) (e : Refusal) → 1 ≤ size → size ≤ 500 → bytes ≡ made seed size → IsUncaused e ⊎ CompileRefuses bytes slots_limit store_limit e → IsUncaused e ⊎ GenRefuses seed size e
 made-refused seed size bytes e some few is (inl u) = inl u
 made-refused seed size bytes e some few is (inr (inl h)) =
     let p = each_has_program seed size some few in
     absurd (source-good bytes e p.program (subst (λ (x : List ℕ). IsTypedSource x p.program) (sym is) (made-typed seed size p)) h)
-made-refused seed size bytes e some few is (inr (inr h)) = inr (subst (λ (x : List ℕ). HasTyped x (λ program. IsUnfit program store_limit e)) is h)
+made-refused seed size bytes e some few is (inr (inr h)) = inr (subst (λ (x : List ℕ). HasTyped x (λ program. IsUnfit program slots_limit store_limit e)) is h)
+
+-- its program has little room
+narrow-enough : (r : ℕ) → r ≤ 29 → r ≤ 128
+narrow-enough r h = omega arith
+
+pub made-room : (seed size : ℕ) (bytes : List ℕ) → 1 ≤ size → size ≤ 500 → bytes ≡ made seed size → HasRoom bytes
+made-room seed size bytes some few is = λ t h.
+    let p = each_has_program seed size some few in
+    let typed : IsTypedSource (made seed size) t = subst (λ (x : List ℕ). IsTypedSource x t) is h in
+    let same = source-program (made seed size) p.program t (made-typed seed size p).is_source typed.is_source in
+    narrow-enough (room t) (subst (λ (x : ProgramTree). room x ≤ 29) same p.narrow)
+
+-- so banks are found for it
+pub no-room : (bytes : List ℕ) (budget : ℕ) (verdict : Verdict) (r : Report) → HasRoom bytes → IsWithoutBanks bytes slots_limit budget verdict r → ⊥
+no-room bytes budget verdict r narrow h =
+    let few : slots_limit < room h.program = h.without.few_slots in
+    let most : room h.program ≤ 128 = narrow h.program h.is_source in
+    omega arith
 
 -- its program means a word
 pub made-word : (seed size : ℕ) (bytes : List ℕ) (t : ProgramTree) → 1 ≤ size → size ≤ 500 → bytes ≡ made seed size → IsTypedSource bytes t → HasWord t

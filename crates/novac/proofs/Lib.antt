@@ -8,3 +8,5 @@ pub mod Generated
 pub mod Inputs
 pub mod Saves
 pub mod Printing
+pub mod Names
+pub mod Found

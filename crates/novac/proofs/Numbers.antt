@@ -36,40 +36,40 @@ behind-key : (key word : List ℕ) (n : ℕ) → word ≡ key ++ decimal n → n
 behind-key key word n w small =
     ap (λ (x : List ℕ). digits_value 10 (drop (length key) x)) w ∙ ap (digits_value 10) (drop-append_seam key (decimal n)) ∙ (decimal_is_IsNumeral n small).1
 
-found : (key word : List ℕ) (most n v : ℕ) → v ≡ n → word ≡ key ++ decimal n → 1 ≤ n → n ≤ most
-    → (if bytes_eq word (key ++ decimal v) && nat_le 1 v && nat_le v most then Some v else None) ≡ Some n
-found key word most n v e w low high =
+found : (key word : List ℕ) (least most n v : ℕ) → v ≡ n → word ≡ key ++ decimal n → least ≤ n → n ≤ most
+    → (if bytes_eq word (key ++ decimal v) && nat_le least v && nat_le v most then Some v else None) ≡ Some n
+found key word least most n v e w low high =
     let same : bytes_eq word (key ++ decimal v) ≡ true = bytes_eq-same word (key ++ decimal v) (w ∙ ap (λ (x : ℕ). key ++ decimal x) (sym e)) in
     grind (arith, nat_tests)
 
-none-found : (key word : List ℕ) (most v : ℕ) → v ≡ 0 → (if bytes_eq word (key ++ decimal v) && nat_le 1 v && nat_le v most then Some v else None) ≡ None
-none-found key word most v e = grind (arith, nat_tests)
+none-found : (key word : List ℕ) (least most n v : ℕ) → v ≡ n → n < least → (if bytes_eq word (key ++ decimal v) && nat_le least v && nat_le v most then Some v else None) ≡ None
+none-found key word least most n v e low = grind (arith, nat_tests)
 
-pub option-found : (key word : List ℕ) (most n : ℕ) → word ≡ key ++ decimal n → n < 2 ^ 64 → 1 ≤ n → n ≤ most → option_of key most word ≡ Some n
-option-found key word most n w small low high = found key word most n (digits_value 10 (drop (length key) word)) (behind-key key word n w small) w low high
+pub option-found : (key word : List ℕ) (least most n : ℕ) → word ≡ key ++ decimal n → n < 2 ^ 64 → least ≤ n → n ≤ most → option_of key least most word ≡ Some n
+option-found key word least most n w small low high = found key word least most n (digits_value 10 (drop (length key) word)) (behind-key key word n w small) w low high
 
-pub option-zero : (key word : List ℕ) (most : ℕ) → word ≡ key ++ decimal 0 → option_of key most word ≡ None
-option-zero key word most w = none-found key word most (digits_value 10 (drop (length key) word)) (behind-key key word 0 w (omega arith))
+pub option-below : (key word : List ℕ) (least most n : ℕ) → word ≡ key ++ decimal n → n < 2 ^ 64 → n < least → option_of key least most word ≡ None
+option-below key word least most n w small low = none-found key word least most n (digits_value 10 (drop (length key) word)) (behind-key key word n w small) low
 
 -- the word, by what stands behind the key
 pub key-spelled : (key word spelling read : List ℕ) (n x : ℕ) → word ≡ key ++ drop x word → spelling ≡ drop x word → read ≡ spelling → read ≡ decimal n → word ≡ key ++ decimal n
 key-spelled key word spelling read n x w s r d = w ∙ ap (λ (l : List ℕ). key ++ l) (sym s ∙ sym r ∙ d)
 
 -- behind the key stands no number up to `most`
-none-spelled : (word text : List ℕ) (most n : ℕ) → (word ≡ text → most < n) → (if bytes_eq word text && nat_le 1 n && nat_le n most then Some n else None) ≡ None
-none-spelled word text most n h = by (bytes_eq word text) refl
+none-spelled : (word text : List ℕ) (least most n : ℕ) → (word ≡ text → most < n) → (if bytes_eq word text && nat_le least n && nat_le n most then Some n else None) ≡ None
+none-spelled word text least most n h = by (bytes_eq word text) refl
   where
-    by : (b : Bool) → bytes_eq word text ≡ b → (if b && nat_le 1 n && nat_le n most then Some n else None) ≡ None
+    by : (b : Bool) → bytes_eq word text ≡ b → (if b && nat_le least n && nat_le n most then Some n else None) ≡ None
     by true e = let above : most < n = h ((bytes_eq-Decides word text).0 e) in grind (arith, nat_tests)
     by false e = refl
 
 more : (most n : ℕ) → (n ≤ most → ⊥) → most < n
 more most n h = omega (arith, h)
 
-pub option-none : (key word spelling read : List ℕ) (most x : ℕ) → word ≡ key ++ drop x word → spelling ≡ drop x word → read ≡ spelling → ((n : ℕ) → n ≤ most → read ≢ decimal n) → option_of key most word ≡ None
-option-none key word spelling read most x w s r none =
+pub option-none : (key word spelling read : List ℕ) (least most x : ℕ) → word ≡ key ++ drop x word → spelling ≡ drop x word → read ≡ spelling → ((n : ℕ) → n ≤ most → read ≢ decimal n) → option_of key least most word ≡ None
+option-none key word spelling read least most x w s r none =
     let n : ℕ = digits_value 10 (drop (length key) word) in
-    none-spelled word (key ++ decimal n) most n (λ e. more most n (λ le. none n le (r ∙ s ∙ append_cancel_left key (drop x word) (decimal n) (sym w ∙ e))))
+    none-spelled word (key ++ decimal n) least most n (λ e. more most n (λ le. none n le (r ∙ s ∙ append_cancel_left key (drop x word) (decimal n) (sym w ∙ e))))
 
 pub if-none : (found : Option ℕ) (P : Type 0) → P → IfNone found P
 if-none None P p = p

@@ -1,5 +1,5 @@
 -- The contents of a command's inputs decide the answer.
-use Rattle.std.proofs.Common.{◌≡◌, ℕ, ◌<◌, ◌≤◌, ◌^◌, ◌⊎◌, inl, inr, List, [], ◌∷◌, Ok, Err, length, refl, ap, sym, ◌∙◌, subst, codes, arith}
+use Rattle.std.proofs.Common.{◌≡◌, ℕ, ◌<◌, ◌≤◌, ◌⊎◌, inl, inr, List, [], ◌∷◌, Ok, Err, length, refl, ap, sym, ◌∙◌, subst, codes, arith}
 use Rattle.nv_memtext.specs.MemoryText.{Gives, IsBad}
 use Rattle.nv_memtext.proofs.ExactLemmas.{gives_one, gives_not_large, large_one, given_answer, bad_answer}
 use Rattle.nv_memtext.specs.declared.read.MemError.TheVariants.{Bad}
@@ -21,6 +21,7 @@ use Rattle.uc_asm.specs.Text.{listing}
 use Rattle.uc_asm.specs.declared.error.AsmError.{AsmError}
 use Rattle.uc_asm.specs.declared.error.AsmError.TheVariants as asm
 use Rattle.uc_asm.proofs.Exact.{given-answer, syntax-answer, label-answer, unlawful-answer}
+use Rattle.nova_front.specs.Sources.{IsTypedSource}
 use Rattle.nova_front.proofs.OneSource.{source-program}
 use Rattle.nv_ast.specs.Sizes.{main_words}
 use Rattle.nv_ast.specs.Tree.{ProgramTree}
@@ -30,16 +31,16 @@ use Rattle.novac.specs.Assembly.{AsmRefuses, IsListed}
 use Rattle.novac.specs.Command.{Command, Compile, Run, Exec, Asm, Dis, Lint, Check, Gen}
 use Rattle.novac.specs.Executing.{ExecRefuses, IsExecuted}
 use Rattle.novac.specs.Forms.{form_bound}
-use Rattle.novac.specs.Headline.{IsUnfit, IsEndOf}
+use Rattle.novac.specs.Headline.{CompileMakes, IsUnfit, IsEndOf}
 use Rattle.novac.specs.Lines.{counted, refusal_status}
 use Rattle.novac.specs.Machine.{IsBadObjectFor, IsUnlawfulFor, IsMemoryRefusedFor, LintRefuses, RunRefuses, IsLinted, IsRun, spill_base, full_text}
 use Rattle.novac.specs.Saving.{File}
-use Rattle.novac.specs.Status.{outcome_status}
+use Rattle.novac.specs.Status.{outcome_status, MaySave}
 use Rattle.novac.specs.inner.Replies.{IsOutcome}
 use Rattle.novac.specs.declared.refusal.Refusal.{Refusal}
-use Rattle.novac.specs.declared.refusal.Refusal.TheVariants.{NoMemory, ReadFault, TooLarge, Syntax, Label, UnlawfulLine, BadObject, BadMemoryText, Unlawful, SourceLarge, StoreFull, Unbuilt}
+use Rattle.novac.specs.declared.refusal.Refusal.TheVariants.{NoMemory, ReadFault, TooLarge, Syntax, Label, UnlawfulLine, BadObject, BadMemoryText, Unlawful, SourceLarge, StoreFull}
 use Rattle.novac.specs.declared.status.Status.{Status}
-use Rattle.novac.specs.declared.status.Status.TheVariants.{Done}
+use Rattle.novac.specs.declared.status.Status.TheVariants.{Done, Infeasible, BudgetSpent}
 use Rattle.novac.proofs.OneReport.{check-one, check-good, checked-one}
 use Rattle.novac.proofs.OneSource.{source-one, source-good}
 
@@ -205,10 +206,34 @@ executed-one b t calls s s' text text' h k =
     let status : FullOutcome → Status = λ f. outcome_status f.outcome in
     (h.ends ∙ ap status run ∙ sym k.ends, h.prints ∙ ap full_text run ∙ sym k.prints)
 
+-- compilations
+record IsEndWith (text : List ℕ) (slots store : ℕ) (s : Status) : Type 0 where
+  pub program : ProgramTree
+  pub is_source : IsTypedSource text program
+  pub ends : IsEndOf program slots store s
+
+compiled-end : (text object report : List ℕ) (slots budget store : ℕ) (s : Status) (fs : List File) (t : List ℕ) → CompileMakes text object report slots budget store s fs t → IsEndWith text slots store s
+compiled-end text object report slots budget store Done fs t h = record { program = h.compiled.program; is_source = h.compiled.is_source; ends = tt }
+compiled-end text object report slots budget store Infeasible fs t h = record { program = h.0.program; is_source = h.0.is_source; ends = h.0.without.few_slots }
+compiled-end text object report slots budget store BudgetSpent fs t h = record { program = h.0.program; is_source = h.0.is_source; ends = h.0.without.few_slots }
+compiled-end text object report slots budget store _ fs t h = absurd h
+
+compiled-outcome : (text object report : List ℕ) (slots budget store : ℕ) (s : Status) (fs : List File) (t : List ℕ) → CompileMakes text object report slots budget store s fs t → IsOutcome s
+compiled-outcome text object report slots budget store Done fs t h = tt
+compiled-outcome text object report slots budget store Infeasible fs t h = tt
+compiled-outcome text object report slots budget store BudgetSpent fs t h = tt
+compiled-outcome text object report slots budget store _ fs t h = absurd h
+
+compiled-may_save : (text object report : List ℕ) (slots budget store : ℕ) (s : Status) (fs : List File) (t : List ℕ) → CompileMakes text object report slots budget store s fs t → MaySave s
+compiled-may_save text object report slots budget store Done fs t h = tt
+compiled-may_save text object report slots budget store Infeasible fs t h = tt
+compiled-may_save text object report slots budget store BudgetSpent fs t h = tt
+compiled-may_save text object report slots budget store _ fs t h = absurd h
+
 -- where contents decide a refusal, no other is true of them
 pub refusal-one : (c : Command) (bs : List (List ℕ)) (e e' : Refusal) → Refuses c bs e → MustRefuse c bs e' → e ≡ e'
-refusal-one (Compile source object store) (b ∷ []) e e' (inl h) k = source-one b e e' h k
-refusal-one (Compile source object store) (b ∷ []) e e' (inr h) k = absurd (source-good b e' h.0 h.1 k)
+refusal-one (Compile source object report slots budget store) (b ∷ []) e e' (inl h) k = source-one b e e' h k
+refusal-one (Compile source object report slots budget store) (b ∷ []) e e' (inr h) k = absurd (source-good b e' h.0 h.1 k)
 refusal-one (Run object memory steps) (b ∷ g ∷ []) e e' h k = runs-one b g e e' h k
 refusal-one (Exec source memory calls) (b ∷ g ∷ []) e e' h k = exec-one b g e e' h k
 refusal-one (Asm input object) (b ∷ []) e e' h k = assembly-one b e e' h k
@@ -219,7 +244,9 @@ refusal-one _ _ e e' h k = absurd k
 
 -- and none is, where the command makes something
 pub makes-good : (c : Command) (bs : List (List ℕ)) (s : Status) (fs : List File) (t : List ℕ) (e : Refusal) → Makes c bs s fs t → MustRefuse c bs e → ⊥
-makes-good (Compile source object store) (b ∷ []) s fs t e h k = source-good b e h.compiled.program h.compiled.is_source k
+makes-good (Compile source object report slots budget store) (b ∷ []) s fs t e h k =
+    let m = compiled-end b object report slots budget store s fs t h in
+    source-good b e m.program m.is_source k
 makes-good (Run object memory steps) (b ∷ g ∷ []) s fs t e h k = run-good b g e steps s t h.1 k
 makes-good (Exec source memory calls) (b ∷ g ∷ []) s fs t e h k = exec-good b g e calls s t h.1 k
 makes-good (Asm input object) (b ∷ []) s fs t e h k = assembly-good b e h.assembled.c h.assembled.code k
@@ -247,23 +274,24 @@ prints-one (Check report) (b ∷ []) s s' fs t t' h k = checked-one b s s' t t' 
 prints-one _ _ s s' fs t t' h k = absurd k
 
 -- how a command ends that can make something
-above : (n k : ℕ) → 2 ^ 20 < n → n ≤ k → 2 ^ 20 < k
-above n k h le = omega arith
+above : (store n k : ℕ) → store < n → n ≤ k → store < k
+above store n k h le = omega arith
 
-unfit-end : (p : ProgramTree) (store : ℕ) (e : Refusal) → IsUnfit p store e → IsEndOf p (refusal_status e)
-unfit-end p store (SourceLarge n) h = above n (form_bound p) h.0.2.large h.1
-unfit-end p store Unbuilt h = h.1.1
-unfit-end p store (StoreFull n) h = tt
-unfit-end p store _ h = absurd h
+unfit-end : (p : ProgramTree) (slots store : ℕ) (e : Refusal) → IsUnfit p slots store e → IsEndOf p slots store (refusal_status e)
+unfit-end p slots store (SourceLarge n) h = (n, h)
+unfit-end p slots store (StoreFull n) h = above store n (form_bound p) h.long h.bounded
+unfit-end p slots store _ h = absurd h
 
 pub made-end : (c : Command) (bs : List (List ℕ)) (s : Status) (fs : List File) (t : List ℕ) → Makes c bs s fs t → CanMake c bs → CanEnd c bs s
-made-end (Compile source object store) (b ∷ []) s fs t h k = (h.compiled.program, h.compiled.is_source, subst (IsEndOf h.compiled.program) (sym h.done) tt)
+made-end (Compile source object report slots budget store) (b ∷ []) s fs t h k =
+    let m = compiled-end b object report slots budget store s fs t h in
+    (m.program, m.is_source, m.ends)
 made-end (Asm input object) (b ∷ []) s fs t h k = h.done
 made-end _ _ s fs t h k = absurd k
 
 pub refused-end : (c : Command) (bs : List (List ℕ)) (e : Refusal) → Refuses c bs e → CanMake c bs → CanEnd c bs (refusal_status e)
-refused-end (Compile source object store) (b ∷ []) e (inl h) k = absurd (source-good b e k.0 k.1 h)
-refused-end (Compile source object store) (b ∷ []) e (inr h) k = (h.0, h.1, unfit-end h.0 store e h.2)
+refused-end (Compile source object report slots budget store) (b ∷ []) e (inl h) k = absurd (source-good b e k.0 k.1 h)
+refused-end (Compile source object report slots budget store) (b ∷ []) e (inr h) k = (h.0, h.1, unfit-end h.0 slots store e h.2)
 refused-end (Asm input object) (b ∷ []) e h k = absurd (assembly-good b e k.c k.code h)
 refused-end _ _ e h k = absurd k
 
@@ -275,7 +303,7 @@ outcome-is (outcome.Fault m a) = tt
 outcome-is outcome.Going = tt
 
 pub makes-outcome : (c : Command) (bs : List (List ℕ)) (s : Status) (fs : List File) (t : List ℕ) → Makes c bs s fs t → IsOutcome s
-makes-outcome (Compile source object store) (b ∷ []) s fs t h = subst IsOutcome (sym h.done) tt
+makes-outcome (Compile source object report slots budget store) (b ∷ []) s fs t h = compiled-outcome b object report slots budget store s fs t h
 makes-outcome (Run object memory steps) (b ∷ g ∷ []) s fs t h = subst IsOutcome (sym h.1.ends) (outcome-is (engine h.1.c h.1.arguments spill_base h.1.packet steps).outcome)
 makes-outcome (Exec source memory calls) (b ∷ g ∷ []) s fs t h = subst IsOutcome (sym h.1.ends) (outcome-is (meaning h.1.program h.1.arguments h.1.packet calls).outcome)
 makes-outcome (Asm input object) (b ∷ []) s fs t h = subst IsOutcome (sym h.done) tt
@@ -285,12 +313,12 @@ makes-outcome (Check report) (b ∷ []) s fs t h = subst IsOutcome (sym h.1.done
 makes-outcome (Gen seed size) [] s fs t h = subst IsOutcome (sym h.1) tt
 makes-outcome _ _ s fs t h = absurd h
 
--- a file is saved only by what is done
-pub makes-kept : (c : Command) (bs : List (List ℕ)) (s : Status) (fs : List File) (t : List ℕ) → Makes c bs s fs t → (s ≡ Done) ⊎ (fs ≡ [])
-makes-kept (Compile source object store) (b ∷ []) s fs t h = inl h.done
+-- files are saved only with these statuses
+pub makes-kept : (c : Command) (bs : List (List ℕ)) (s : Status) (fs : List File) (t : List ℕ) → Makes c bs s fs t → MaySave s ⊎ (fs ≡ [])
+makes-kept (Compile source object report slots budget store) (b ∷ []) s fs t h = inl (compiled-may_save b object report slots budget store s fs t h)
 makes-kept (Run object memory steps) (b ∷ g ∷ []) s fs t h = inr h.0
 makes-kept (Exec source memory calls) (b ∷ g ∷ []) s fs t h = inr h.0
-makes-kept (Asm input object) (b ∷ []) s fs t h = inl h.done
+makes-kept (Asm input object) (b ∷ []) s fs t h = inl (subst MaySave (sym h.done) tt)
 makes-kept (Dis object) (b ∷ []) s fs t h = inr h.0
 makes-kept (Lint object) (b ∷ []) s fs t h = inr h.0
 makes-kept (Check report) (b ∷ []) s fs t h = inr h.0
@@ -308,8 +336,8 @@ lint-unread b (ReadFault name) f (inr h) = h.2
 lint-unread b _ f h = absurd f
 
 pub refuses-unread : (e : Refusal) (c : Command) (bs : List (List ℕ)) → IsFault e → Refuses c bs e → ⊥
-refuses-unread (ReadFault name) (Compile source object store) (b ∷ []) f (inl h) = h
-refuses-unread (ReadFault name) (Compile source object store) (b ∷ []) f (inr h) = h.2
+refuses-unread (ReadFault name) (Compile source object report slots budget store) (b ∷ []) f (inl h) = h
+refuses-unread (ReadFault name) (Compile source object report slots budget store) (b ∷ []) f (inr h) = h.2
 refuses-unread (ReadFault name) (Run object memory steps) (b ∷ g ∷ []) f (inl h) = lint-unread b (ReadFault name) tt h
 refuses-unread (ReadFault name) (Run object memory steps) (b ∷ g ∷ []) f (inr h) = h.2.1
 refuses-unread (ReadFault name) (Exec source memory calls) (b ∷ g ∷ []) f (inl h) = h

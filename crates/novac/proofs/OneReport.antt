@@ -11,7 +11,8 @@ use Rattle.zo_cert.specs.declared.report.Verdict.{Verdict}
 use Rattle.zo_cert.specs.declared.report.Verdict.TheVariants as verdict
 use Rattle.zo_cert.proofs.ReportAnswers.{given_answer, bad_answer}
 use Rattle.zo_cert.proofs.SameReports.{truth_same}
-use Rattle.novac.specs.Checking.{IsReportOf, IsChecked, CheckRefuses, Shown, report_cost, verdict_text}
+use Rattle.nova_back.specs.Causes.{report_cost}
+use Rattle.novac.specs.Checking.{IsReportOf, IsChecked, CheckRefuses, Shown, verdict_text}
 use Rattle.novac.specs.Lines.{IsUncaused}
 use Rattle.novac.specs.declared.refusal.Refusal.{Refusal}
 use Rattle.novac.specs.declared.refusal.Refusal.TheVariants.{BadReport, FalseReport}

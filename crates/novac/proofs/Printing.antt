@@ -13,7 +13,7 @@ use Rattle.novac.specs.Saving.{File, IsSameBut}
 use Rattle.novac.specs.Status.{MaySave}
 use Rattle.novac.specs.inner.Replies.{IsOutcome, HasEnded}
 use Rattle.novac.specs.declared.refusal.Refusal.{Refusal}
-use Rattle.novac.specs.declared.refusal.Refusal.TheVariants.{NoMemory, ReadFault, TooLarge, SourceChar, SourceNumber, SourceName, SourceSyntax, SourceDeep, SourceType, SourceLarge, Syntax, Label, BadObject, BadMemoryText, BadReport, FalseReport, Unlawful, UnlawfulLine, StoreFull, Unbuilt}
+use Rattle.novac.specs.declared.refusal.Refusal.TheVariants.{NoMemory, ReadFault, TooLarge, SourceChar, SourceNumber, SourceName, SourceSyntax, SourceDeep, SourceType, SourceLarge, Syntax, Label, BadObject, BadMemoryText, BadReport, FalseReport, Unlawful, UnlawfulLine, StoreFull}
 use Rattle.novac.specs.declared.status.Status.{Status}
 use Rattle.novac.specs.declared.status.Status.TheVariants as status
 use Rattle.novac.proofs.Inputs.{contents-one, stopped-read, stops-both, stops-map, unread-long, unread-one, none-long, Never}
@@ -25,6 +25,8 @@ abbrev pub IsRefusal : Status → Type 0
 IsRefusal status.Done = ⊥
 IsRefusal status.Usage = ⊥
 IsRefusal status.WriteFault = ⊥
+IsRefusal status.Infeasible = ⊥
+IsRefusal status.BudgetSpent = ⊥
 IsRefusal _ = Unit {0}
 
 pub refusal-is : (e : Refusal) → IsRefusal (refusal_status e)
@@ -47,7 +49,6 @@ refusal-is FalseReport = tt
 refusal-is (Unlawful p r) = tt
 refusal-is (UnlawfulLine p r) = tt
 refusal-is (StoreFull n) = tt
-refusal-is Unbuilt = tt
 
 -- the sink failed, or the status r of the whole call is that of the command, and its text was printed
 abbrev pub IsTold : Status → Status → List ℕ → List ℕ → List ℕ → Type 0 → Type 0 → Type 0
@@ -73,25 +74,25 @@ usage-not_write : (r : Status) → r ≡ status.Usage → r ≡ status.WriteFaul
 usage-not_write r d w = let e : status.Usage ≡ status.WriteFault = sym d ∙ w in cc
 
 -- the headline
-compiled-end : (T : Type 0) (old new : Holding) (LR SR : List ℕ → Type 0) (source object : List ℕ) (store : ℕ) (s : Status) (text : List ℕ) → T → s ≡ status.Done
-    → HasEnded T old new LR SR (Compile source object store) s text → IsCompiled old new source object store text
-compiled-end T old new LR SR source object store s text t d (inl h) = done-compiled T old new source object store s text t h
-compiled-end T old new LR SR source object store s text t d (inr (inl w)) = absurd (done-not_fault s d w.0)
-compiled-end T old new LR SR source object store s text t d (inr (inr h)) = absurd (subst IsRefusal d (refused-is T old new LR (Compile source object store) s text h))
+compiled-end : (T : Type 0) (old new : Holding) (LR SR : List ℕ → Type 0) (source object report : List ℕ) (slots budget store : ℕ) (s : Status) (text : List ℕ) → T → s ≡ status.Done → (object ≡ report → ⊥)
+    → HasEnded T old new LR SR (Compile source object report slots budget store) s text → IsCompiled old new source object report slots budget store text
+compiled-end T old new LR SR source object report slots budget store s text t d apart (inl h) = done-compiled T old new source object report slots budget store s text t d apart h
+compiled-end T old new LR SR source object report slots budget store s text t d apart (inr (inl w)) = absurd (done-not_fault s d w.0)
+compiled-end T old new LR SR source object report slots budget store s text t d apart (inr (inr h)) = absurd (subst IsRefusal d (refused-is T old new LR (Compile source object report slots budget store) s text h))
 
 pub compiled : (Tells : Type 0) (old new : Holding) (LR SR : List ℕ → Type 0) (s r : Status) (text before after : List ℕ) (T Failed : Type 0) → Tells → IsTold s r text before after T Failed
-    → (o : Option Command) → IfCommand o (λ c. HasEnded Tells old new LR SR c s text) → r ≡ status.Done
-    → IfCompile o (λ source object store. (line : List ℕ) × IsCompiled old new source object store line × (T → after ≡ before ++ line))
-compiled Tells old new LR SR s r text before after T Failed tells told None a d = tt
-compiled Tells old new LR SR s r text before after T Failed tells told (Some (Run object memory steps)) a d = tt
-compiled Tells old new LR SR s r text before after T Failed tells told (Some (Exec source memory calls)) a d = tt
-compiled Tells old new LR SR s r text before after T Failed tells told (Some (Asm input object)) a d = tt
-compiled Tells old new LR SR s r text before after T Failed tells told (Some (Dis object)) a d = tt
-compiled Tells old new LR SR s r text before after T Failed tells told (Some (Lint object)) a d = tt
-compiled Tells old new LR SR s r text before after T Failed tells told (Some (Check report)) a d = tt
-compiled Tells old new LR SR s r text before after T Failed tells told (Some (Gen seed size)) a d = tt
-compiled Tells old new LR SR s r text before after T Failed tells (inl w) (Some (Compile source object store)) a d = absurd (done-not_fault r d w.0)
-compiled Tells old new LR SR s r text before after T Failed tells (inr h) (Some (Compile source object store)) a d = (text, compiled-end Tells old new LR SR source object store s text tells (sym h.0 ∙ d) a, h.1)
+    → (o : Option Command) → IfCompile o (λ source object report slots budget store. object ≡ report → ⊥) → IfCommand o (λ c. HasEnded Tells old new LR SR c s text) → r ≡ status.Done
+    → IfCompile o (λ source object report slots budget store. (line : List ℕ) × IsCompiled old new source object report slots budget store line × (T → after ≡ before ++ line))
+compiled Tells old new LR SR s r text before after T Failed tells told None apart a d = tt
+compiled Tells old new LR SR s r text before after T Failed tells told (Some (Run object memory steps)) apart a d = tt
+compiled Tells old new LR SR s r text before after T Failed tells told (Some (Exec source memory calls)) apart a d = tt
+compiled Tells old new LR SR s r text before after T Failed tells told (Some (Asm input object)) apart a d = tt
+compiled Tells old new LR SR s r text before after T Failed tells told (Some (Dis object)) apart a d = tt
+compiled Tells old new LR SR s r text before after T Failed tells told (Some (Lint object)) apart a d = tt
+compiled Tells old new LR SR s r text before after T Failed tells told (Some (Check report)) apart a d = tt
+compiled Tells old new LR SR s r text before after T Failed tells told (Some (Gen seed size)) apart a d = tt
+compiled Tells old new LR SR s r text before after T Failed tells (inl w) (Some (Compile source object report slots budget store)) apart a d = absurd (done-not_fault r d w.0)
+compiled Tells old new LR SR s r text before after T Failed tells (inr h) (Some (Compile source object report slots budget store)) apart a d = (text, compiled-end Tells old new LR SR source object report slots budget store s text tells (sym h.0 ∙ d) apart a, h.1)
 
 -- the line of `gen`
 gen-made : (seed size : ℕ) (bs : List (List ℕ)) (s : Status) (fs : List File) (t : List ℕ) → Makes (Gen seed size) bs s fs t → (s ≡ status.Done) × IsGenerated seed size t
@@ -133,7 +134,7 @@ gen-ended T old new LR SR seed size s text (inr (inr h)) = elim (gen-cause T old
 pub generated : (Tells : Type 0) (old new : Holding) (LR SR : List ℕ → Type 0) (s r : Status) (text before after : List ℕ) (T Failed : Type 0) → IsTold s r text before after T Failed
     → (o : Option Command) → IfCommand o (λ c. HasEnded Tells old new LR SR c s text) → IfGen o (λ seed size. EndsGenerated seed size r T before after)
 generated Tells old new LR SR s r text before after T Failed told None a = tt
-generated Tells old new LR SR s r text before after T Failed told (Some (Compile source object store)) a = tt
+generated Tells old new LR SR s r text before after T Failed told (Some (Compile source object report slots budget store)) a = tt
 generated Tells old new LR SR s r text before after T Failed told (Some (Run object memory steps)) a = tt
 generated Tells old new LR SR s r text before after T Failed told (Some (Exec source memory calls)) a = tt
 generated Tells old new LR SR s r text before after T Failed told (Some (Asm input object)) a = tt
@@ -146,7 +147,7 @@ generated Tells old new LR SR s r text before after T Failed (inr h) (Some (Gen 
 -- memory failed before anything was printed
 pub memory-generated : (o : Option Command) (before after : List ℕ) (T : Type 0) → IfGen o (λ seed size. EndsGenerated seed size status.NoMemory T before after)
 memory-generated None before after T = tt
-memory-generated (Some (Compile source object store)) before after T = tt
+memory-generated (Some (Compile source object report slots budget store)) before after T = tt
 memory-generated (Some (Run object memory steps)) before after T = tt
 memory-generated (Some (Exec source memory calls)) before after T = tt
 memory-generated (Some (Asm input object)) before after T = tt
@@ -313,7 +314,6 @@ fault-input T held R c FalseReport is h = absurd cc
 fault-input T held R c (Unlawful p r) is h = absurd cc
 fault-input T held R c (UnlawfulLine p r) is h = absurd cc
 fault-input T held R c (StoreFull n) is h = absurd cc
-fault-input T held R c Unbuilt is h = absurd cc
 
 read-end : (Tells : Type 0) (old new : Holding) (LR SR : List ℕ → Type 0) (c : Command) (s : Status) (text : List ℕ) → s ≡ status.ReadFault → HasEnded Tells old new LR SR c s text
     → StopsAt Tells old (inputs_of c) (λ i. LR i.name × (text ≡ cannot_read i.name))
@@ -352,7 +352,7 @@ write-fault Tells old new LR SR s r text before after T Failed (inr h) (Some c) 
 -- what stays as it was
 kept-end : (Tells : Type 0) (old new : Holding) (LR SR : List ℕ → Type 0) (c : Command) (s : Status) (text : List ℕ) → Tells → (MaySave s → ⊥) → HasEnded Tells old new LR SR c s text → new ≡ old
 kept-end Tells old new LR SR c s text tells never (inl h) = elim (makes-kept c h.contents s h.files text h.makes) [
-  | inl d ↦ absurd (never (subst MaySave (sym d) tt))
+  | inl m ↦ absurd (never m)
   | inr e ↦ nothing-saved h.files old new e (h.saved tells)
 ]
 kept-end Tells old new LR SR c s text tells never (inr (inl h)) = absurd (never (subst MaySave (sym h.0) tt))

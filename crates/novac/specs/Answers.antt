@@ -18,7 +18,7 @@ use Rattle.novac.specs.declared.status.Status.TheVariants.{Done, ReadFault, Writ
 
 -- what a command makes of the contents of its inputs: a status, the files that it saves, in this order, and a text
 abbrev pub Makes : Command → List (List ℕ) → Status → List File → List ℕ → Type 0
-Makes (Compile source object store) (bytes ∷ []) status files text = CompileMakes bytes object store status files text
+Makes (Compile source object report slots budget store) (bytes ∷ []) status files text = CompileMakes bytes object report slots budget store status files text
 Makes (Run object memory steps) (bytes ∷ given ∷ []) status files text = (files ≡ []) × IsRun bytes given steps status text
 Makes (Exec source memory calls) (bytes ∷ given ∷ []) status files text = (files ≡ []) × IsExecuted bytes given calls status text
 Makes (Asm input object) (bytes ∷ []) status files text = AsmMakes bytes object status files text
@@ -39,19 +39,19 @@ Prints _ _ status text = ⊥
 
 -- the contents of the input of a command that saves a file are those of a program, or of code
 abbrev pub CanMake : Command → List (List ℕ) → Type 0
-CanMake (Compile source object store) (bytes ∷ []) = HasTyped bytes (λ _. ⊤)
+CanMake (Compile source object report slots budget store) (bytes ∷ []) = HasTyped bytes (λ _. ⊤)
 CanMake (Asm input object) (bytes ∷ []) = HasAssembly bytes
 CanMake _ _ = ⊥
 
 -- how it ends then
 abbrev pub CanEnd : Command → List (List ℕ) → Status → Type 0
-CanEnd (Compile source object store) (bytes ∷ []) status = HasTyped bytes (λ program. IsEndOf program status)
+CanEnd (Compile source object report slots budget store) (bytes ∷ []) status = HasTyped bytes (λ program. IsEndOf program slots store status)
 CanEnd (Asm input object) (bytes ∷ []) status = status ≡ Done
 CanEnd _ _ status = ⊥
 
 -- the contents of its inputs are why a command is refused
 abbrev pub Refuses : Command → List (List ℕ) → Refusal → Type 0
-Refuses (Compile source object store) (bytes ∷ []) e = CompileRefuses bytes store e
+Refuses (Compile source object report slots budget store) (bytes ∷ []) e = CompileRefuses bytes slots store e
 Refuses (Run object memory steps) (bytes ∷ given ∷ []) e = RunRefuses bytes given e
 Refuses (Exec source memory calls) (bytes ∷ given ∷ []) e = ExecRefuses bytes given e
 Refuses (Asm input object) (bytes ∷ []) e = AsmRefuses bytes e
@@ -63,7 +63,7 @@ Refuses _ _ e = ⊥
 
 -- the same where the contents alone decide it: why a typed program isn't compiled its form and its code decide
 abbrev pub MustRefuse : Command → List (List ℕ) → Refusal → Type 0
-MustRefuse (Compile source object store) (bytes ∷ []) e = SourceRefuses bytes e
+MustRefuse (Compile source object report slots budget store) (bytes ∷ []) e = SourceRefuses bytes e
 MustRefuse (Run object memory steps) (bytes ∷ given ∷ []) e = RunRefuses bytes given e
 MustRefuse (Exec source memory calls) (bytes ∷ given ∷ []) e = ExecRefuses bytes given e
 MustRefuse (Asm input object) (bytes ∷ []) e = AsmRefuses bytes e

@@ -1,6 +1,6 @@
 -- What the command for reports does, and why it refuses.
 use Rattle.std.specs.Prelude.{◌≡◌, ℕ, List, [], ◌∷◌, ◌++◌, codes, ⊤}
-use Rattle.zo_model.specs.Program.{cost_of, vector, Feasible}
+use Rattle.zo_model.specs.Program.{vector, Feasible}
 use Rattle.zo_cert.specs.Certificate.{Holds}
 use Rattle.zo_cert.specs.Contents.{report_contents}
 use Rattle.zo_cert.specs.Report.{IsValidReport, IsTrueReport}
@@ -10,6 +10,7 @@ use Rattle.zo_cert.specs.declared.cert.Claim.TheVariants.{Least, Nothing}
 use Rattle.zo_cert.specs.declared.report.Report.{Report}
 use Rattle.zo_cert.specs.declared.report.Verdict.{Verdict}
 use Rattle.zo_cert.specs.declared.report.Verdict.TheVariants as verdict
+use Rattle.nova_back.specs.Causes.{report_cost}
 use Rattle.novac.specs.Lines.{counted}
 use Rattle.novac.specs.declared.refusal.Refusal.{Refusal}
 use Rattle.novac.specs.declared.refusal.Refusal.TheVariants.{BadReport, FalseReport}
@@ -21,10 +22,6 @@ pub record IsReportOf (bytes : List ℕ) (r : Report) : Type 0 where
   pub valid : IsValidReport r
   pub report : IsReport (report_contents r)
   pub spelled : bytes ≡ report_text (report_contents r)
-
--- what the report's vector costs
-abbrev pub report_cost : Report → ℕ
-report_cost r = cost_of r.z (vector r.x.on.items)
 
 -- what a true report shows of its program: that no vector that meets the rows costs less, or that none meets them
 abbrev pub Shown : Verdict → Report → Type 0

@@ -3,11 +3,11 @@ use Rattle.std.specs.Prelude.{ℕ, length, List, [], ◌∷◌, ◌++◌, Option
 use Rattle.std.specs.Global.{Global}
 use Rattle.std.specs.Str.{bytes_eq}
 use Rattle.std.specs.Str.Parse.{digits_value}
-use Rattle.novac.specs.Limits.{store_default, store_limit}
+use Rattle.novac.specs.Limits.{slots_limit, budget_default, budget_limit, store_default, store_limit}
 
 -- a command with what its words name
 pub data Command : Type 0 where
-  Compile : (source object : List ℕ) (store : ℕ) → Command
+  Compile : (source object report : List ℕ) (slots budget store : ℕ) → Command
   Run : (object memory : List ℕ) (steps : ℕ) → Command
   Exec : (source memory : List ℕ) (calls : ℕ) → Command
   Asm : (text object : List ℕ) → Command
@@ -17,8 +17,11 @@ pub data Command : Type 0 where
   Gen : (seed size : ℕ) → Command
 
 -- the texts of words
+abbrev pub texts : List (String Global) → List (List ℕ)
+texts words = map string_bytes words
+
 abbrev pub texts_of : Vec (String Global) Global → List (List ℕ)
-texts_of words = map string_bytes words.items
+texts_of words = texts words.items
 
 -- a file name isn't empty
 abbrev pub is_name : List ℕ → Bool
@@ -28,25 +31,54 @@ is_name a = not (bytes_eq a [])
 abbrev pub are_names : List ℕ → List ℕ → Bool
 are_names a b = is_name a && is_name b && not (bytes_eq a b)
 
--- the number, 1 to `most`, that a word spells behind a key
-abbrev pub option_of : List ℕ → ℕ → List ℕ → Option ℕ
-option_of key most word =
+-- the number of a range that a word spells behind a key
+abbrev pub option_of : List ℕ → ℕ → ℕ → List ℕ → Option ℕ
+option_of key least most word =
     let n = digits_value 10 (drop (length key) word) in
-    if bytes_eq word (key ++ decimal n) && nat_le 1 n && nat_le n most then Some n else None
+    if bytes_eq word (key ++ decimal n) && nat_le least n && nat_le n most then Some n else None
 
 -- the number of steps, or of calls, that a word is for
 abbrev pub steps_of : List ℕ → Option ℕ
-steps_of word = option_of (codes "steps=") 100000000 word
-
--- the number of instructions that a word is for
-abbrev pub store_of : List ℕ → Option ℕ
-store_of word = option_of (codes "store=") store_limit word
+steps_of word = option_of (codes "steps=") 1 100000000 word
 
 -- the number of a range that a word spells
 abbrev pub number_in : ℕ → ℕ → List ℕ → Option ℕ
 number_in least most word =
     let n = digits_value 10 word in
     if bytes_eq word (decimal n) && nat_le least n && nat_le n most then Some n else None
+
+-- ---- the options of `compile`
+
+-- the number that the first word spells behind a key, and the words behind it; where it spells none, this other number, and all
+-- words
+abbrev pub taken_or : List (List ℕ) → ℕ → List (List ℕ) → Option ℕ → ℕ × List (List ℕ)
+taken_or words other behind (Some n) = (n, behind)
+taken_or words other behind None = (other, words)
+
+abbrev pub taken : List ℕ → ℕ → ℕ → ℕ → List (List ℕ) → ℕ × List (List ℕ)
+taken key least most other [] = (other, [])
+taken key least most other (word ∷ words) = taken_or (word ∷ words) other words (option_of key least most word)
+
+-- the slots of code, the branches of the search for its banks, and its instructions
+pub record Options : Type 0 where
+  pub slots : ℕ
+  pub budget : ℕ
+  pub store : ℕ
+
+-- no word may stand behind them
+abbrev pub options_with : ℕ → ℕ → ℕ → List (List ℕ) → Option Options
+options_with slots budget store [] = Some (record { slots = slots; budget = budget; store = store })
+options_with slots budget store (word ∷ words) = None
+
+-- [slots=N] [budget=N] [store=N], in this order
+abbrev pub options_of : List (List ℕ) → Option Options
+options_of words =
+    let slots = taken (codes "slots=") 0 slots_limit slots_limit words in
+    let budget = taken (codes "budget=") 1 budget_limit budget_default slots.1 in
+    let store = taken (codes "store=") 1 store_limit store_default budget.1 in
+    options_with slots.0 budget.0 store.0 store.1
+
+-- ---- commands
 
 -- the command of a seed and a size
 abbrev pub gen_with : Option ℕ → Option ℕ → Option Command
@@ -65,32 +97,43 @@ command_of_two verb name =
     else if bytes_eq verb (codes "check") && is_name name then Some (Check name)
     else None
 
--- gen SEED SIZE, compile SRC OBJ, asm TEXT OBJ
+-- gen SEED SIZE, asm TEXT OBJ
 abbrev pub command_of_three : List ℕ → List ℕ → List ℕ → Option Command
 command_of_three verb input object =
     if bytes_eq verb (codes "gen") then gen_of input object
-    else if bytes_eq verb (codes "compile") && are_names input object then Some (Compile input object store_default)
     else if bytes_eq verb (codes "asm") && are_names input object then Some (Asm input object)
     else None
 
--- run OBJ MEM steps=N, exec SRC MEM steps=N, compile SRC OBJ store=N
-abbrev pub command_of_four : List ℕ → List ℕ → List ℕ → List ℕ → Option Command
-command_of_four verb first second option =
+-- run OBJ MEM steps=N, exec SRC MEM steps=N, with no word behind them
+abbrev pub command_of_four : List ℕ → List ℕ → List ℕ → List ℕ → List (List ℕ) → Option Command
+command_of_four verb first second option (word ∷ words) = None
+command_of_four verb first second option [] =
     if bytes_eq verb (codes "run") && are_names first second then option_map (Run first second) (steps_of option)
     else if bytes_eq verb (codes "exec") && are_names first second then option_map (Exec first second) (steps_of option)
-    else if bytes_eq verb (codes "compile") && are_names first second then option_map (Compile first second) (store_of option)
     else None
+
+-- compile SRC OBJ REPORT, and options
+abbrev pub compile_with : List ℕ → List ℕ → List ℕ → Options → Command
+compile_with source object report o = Compile source object report o.slots o.budget o.store
+
+abbrev pub compile_of : List ℕ → List ℕ → List ℕ → List (List ℕ) → Option Command
+compile_of source object report options =
+    if are_names source object && are_names source report && are_names object report then option_map (compile_with source object report) (options_of options)
+    else None
+
+abbrev pub command_of_more : List ℕ → List ℕ → List ℕ → List ℕ → List (List ℕ) → Option Command
+command_of_more verb a b c words = if bytes_eq verb (codes "compile") then compile_of a b c words else command_of_four verb a b c words
 
 -- the command of a list of words
 abbrev pub command_of : List (List ℕ) → Option Command
 command_of (verb ∷ a ∷ []) = command_of_two verb a
 command_of (verb ∷ a ∷ b ∷ []) = command_of_three verb a b
-command_of (verb ∷ a ∷ b ∷ c ∷ []) = command_of_four verb a b c
+command_of (verb ∷ a ∷ b ∷ c ∷ words) = command_of_more verb a b c words
 command_of _ = None
 
 -- the names of the files that a command saves, in this order
 abbrev pub outputs_of : Command → List (List ℕ)
-outputs_of (Compile source object store) = object ∷ []
+outputs_of (Compile source object report slots budget store) = object ∷ report ∷ []
 outputs_of (Run object memory steps) = []
 outputs_of (Exec source memory calls) = []
 outputs_of (Asm text object) = object ∷ []
@@ -108,9 +151,9 @@ abbrev pub IfCommand : Option Command → (Command → Type 0) → Type 0
 IfCommand (Some command) P = P command
 IfCommand None P = ⊤
 
--- a fact about the source, the object and the number of instructions of `compile`, where the command is that one
-abbrev pub IfCompile : Option Command → (List ℕ → List ℕ → ℕ → Type 0) → Type 0
-IfCompile (Some (Compile source object store)) P = P source object store
+-- a fact about what `compile` is called with, where the command is that one
+abbrev pub IfCompile : Option Command → (List ℕ → List ℕ → List ℕ → ℕ → ℕ → ℕ → Type 0) → Type 0
+IfCompile (Some (Compile source object report slots budget store)) P = P source object report slots budget store
 IfCompile _ P = ⊤
 
 -- a fact about the seed and the size of `gen`, where the command is that one

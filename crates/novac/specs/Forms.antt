@@ -1,19 +1,27 @@
--- The forms in single use of a program and its code, and why it has none.
-use Rattle.std.specs.Prelude.{◌≡◌, ◌≤◌, ◌<◌, ◌+◌, ◌*◌, ◌^◌, ℕ, true, List, length}
+-- The forms in single use of a program, their banks and its code, and why it has none.
+use Rattle.std.specs.Prelude.{◌≡◌, ◌≤◌, ◌<◌, ◌+◌, ◌*◌, ◌^◌, ℕ, Bool, true, List, [], length}
 use Rattle.nv_ast.specs.Sizes.{expanded_size, main_words, room}
 use Rattle.nv_ast.specs.Tree.{ProgramTree}
 use Rattle.nv_base.specs.Meanings.{KeepsOutcomes}
 use Rattle.nv_meaning.specs.Meaning.{source}
 use Rattle.ssu_ir.specs.Meaning.{ssu_meaning, ssu_params}
-use Rattle.ssu_ir.specs.Measures.{peak, size}
+use Rattle.ssu_ir.specs.Measures.{peak, size, code_bound}
 use Rattle.ssu_ir.specs.Single.{single}
 use Rattle.ssu_ir.specs.Tree.{Label}
+use Rattle.place_ir.specs.Uses.{values, uses}
+use Rattle.bank_prog.specs.Columns.{columns}
+use Rattle.bank_prog.specs.Program.{rows, IsTooLarge}
 use Rattle.uc_isa.specs.Agrees.{Agrees}
 use Rattle.uc_isa.specs.Code.{CodeView}
 use Rattle.uc_isa.specs.Lawful.{IsLawful}
-use Rattle.nova_back.specs.Causes.{IsLarge, IsCrowded}
+use Rattle.uc_isa.specs.Moves.{moves}
+use Rattle.zo_model.specs.Program.{cost_of, vector, Feasible}
+use Rattle.zo_cert.specs.declared.report.Report.{Report}
+use Rattle.zo_cert.specs.declared.report.Verdict.{Verdict}
+use Rattle.zo_cert.specs.declared.report.Verdict.TheVariants.{Optimal}
+use Rattle.nova_back.specs.Causes.{IsReportOn, IsWithout, HasVector, report_cost}
 
--- what bounds the size of a program's form
+-- what bounds the size of a program's form, and the length of its code
 abbrev pub form_bound : ProgramTree → ℕ
 form_bound program = 48 * (expanded_size program * (room program + 8))
 
@@ -23,32 +31,46 @@ pub record IsFormOf (program : ProgramTree) (labels : List Label) : Type 0 where
   pub kept : KeepsOutcomes (main_words program) (ssu_params labels) (source program) (ssu_meaning labels)
   pub narrow : peak labels ≤ room program
   pub small : size labels ≤ form_bound program
+  pub brief : code_bound labels ≤ form_bound program
 
 -- lawful code that does what the program says
 pub record IsCodeFor (program : ProgramTree) (c : CodeView) : Type 0 where
   pub lawful : IsLawful c.list
   pub agrees : Agrees (main_words program) (source program) c
 
--- a form of the program of which this holds
-abbrev pub HasForm : ProgramTree → (List Label → Type 0) → Type 0
-HasForm program P = (labels : List Label) × IsFormOf program labels × P labels
+-- The report is on the banks of a form of the program, with a vector that meets the rows. No vector that meets them costs less, where the
+-- verdict is optimal. The code's moves cost no more than the report's vector; where all values that are held at once fit a bank, that is
+-- at most 2 a value, and 1 a use.
+pub record HasBanks (program : ProgramTree) (slots budget : ℕ) (code : CodeView) (r : Report) : Type 0 where
+  pub form : List Label
+  pub is_form : IsFormOf program form
+  pub report : IsReportOn form slots budget r
+  pub found : HasVector r.verdict
+  pub meets : Feasible r.z (vector r.x.on.items)
+  pub optimal : r.verdict ≡ Optimal → (x : ℕ → Bool) → Feasible r.z x → report_cost r ≤ cost_of r.z x
+  pub light : moves code.list [] [] ≤ report_cost r
+  pub cheap : peak form ≤ 15 → report_cost r ≤ 2 * length (values form) + length (uses form)
 
--- the program's form is neither too large, nor holds more values at once than there are slots
-abbrev pub HasFittingForm : ProgramTree → Type 0
-HasFittingForm program = HasForm program (λ labels. (size labels ≤ 2 ^ 20) × (peak labels ≤ 128))
+-- the program of the banks of a form of the program has so many columns, or else rows, and more than fit
+abbrev pub HasLargeBanks : ProgramTree → ℕ → ℕ → Type 0
+HasLargeBanks program slots n = (labels : List Label) × IsFormOf program labels × IsTooLarge labels slots n
 
--- the program's form is too large, by this size
-abbrev pub HasLargeForm : ProgramTree → ℕ → Type 0
-HasLargeForm program n = HasForm program (λ labels. IsLarge labels n) × (n ≤ form_bound program)
+-- The report is on the banks of a form of the program, has no vector, and says why. The form holds more values at once than there are
+-- slots, so the program has more room.
+pub record HasNoBanks (program : ProgramTree) (slots budget : ℕ) (verdict : Verdict) (r : Report) : Type 0 where
+  pub form : List Label
+  pub is_form : IsFormOf program form
+  pub without : IsWithout form slots budget verdict r
+  pub few_slots : slots < room program
 
--- so many values are held at some point of the program's form, more than there are slots
-abbrev pub HasCrowdedForm : ProgramTree → ℕ → Type 0
-HasCrowdedForm program n = HasForm program (λ labels. IsCrowded labels n) × (128 < room program)
-
--- the program's form fits, and its code has so many instructions, more than were allowed
-pub record HasLongCode (program : ProgramTree) (store n : ℕ) : Type 0 where
-  pub fits : HasFittingForm program
+-- the program of the banks of a form of the program fits, and its code has so many instructions, more than were allowed
+pub record HasLongCode (program : ProgramTree) (slots store n : ℕ) : Type 0 where
+  pub form : List Label
+  pub is_form : IsFormOf program form
+  pub few : length (columns form) ≤ 2 ^ 26
+  pub few_rows : length (rows form slots) ≤ 2 ^ 26
   pub c : CodeView
   pub code : IsCodeFor program c
   pub counted : n ≡ length c.list
+  pub bounded : n ≤ form_bound program
   pub long : store < n

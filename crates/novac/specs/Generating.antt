@@ -8,10 +8,13 @@ use Rattle.nv_base.specs.declared.outcome.Outcome.TheVariants.{Ended}
 use Rattle.nv_meaning.specs.Meaning.{source}
 use Rattle.uc_isa.specs.Code.{CodeView}
 use Rattle.nova_front.specs.Sources.{IsTypedSource}
-use Rattle.novac.specs.Forms.{IsCodeFor, HasFittingForm}
+use Rattle.zo_cert.specs.declared.report.Report.{Report}
+use Rattle.zo_cert.specs.declared.report.Verdict.{Verdict}
+use Rattle.nova_back.specs.Causes.{report_cost}
+use Rattle.novac.specs.Forms.{IsCodeFor, HasBanks}
 use Rattle.novac.specs.Headline.{IsUnfit}
-use Rattle.novac.specs.Limits.{store_limit}
-use Rattle.novac.specs.Lines.{refusal_status, refusal_text}
+use Rattle.novac.specs.Limits.{slots_limit, budget_default, store_limit}
+use Rattle.novac.specs.Lines.{verdict_name, refusal_status, refusal_text}
 use Rattle.novac.specs.Reading.{HasTyped}
 use Rattle.novac.specs.declared.refusal.Refusal.{Refusal}
 use Rattle.novac.specs.declared.status.Status.{Status}
@@ -21,26 +24,28 @@ use Rattle.novac.specs.declared.status.Status.TheVariants.{Done, WriteFault, NoM
 abbrev pub MeansWord : ProgramTree → ℕ → Type 0
 MeansWord program word = (p : Memories) (calls : ℕ) → (source program (1 ∷ 2 ∷ []) p calls).outcome ≡ Ended (word ∷ [])
 
--- the seed, the size, the number of bytes, the number of instructions and the word
-abbrev pub generated_text : ℕ → ℕ → ℕ → ℕ → ℕ → List ℕ
-generated_text seed size bytes instructions word =
-    codes "gen " ++ decimal seed ++ codes " " ++ decimal size ++ codes " source " ++ decimal bytes ++ codes " length " ++ decimal instructions ++ codes " outcome " ++ hex_word word ++ 10 ∷ []
+-- the seed, the size, the number of bytes, the number of instructions, the verdict with its cost, and the word
+abbrev pub generated_text : ℕ → ℕ → ℕ → ℕ → Verdict → ℕ → ℕ → List ℕ
+generated_text seed size bytes instructions found cost word =
+    codes "gen " ++ decimal seed ++ codes " " ++ decimal size ++ codes " source " ++ decimal bytes ++ codes " length " ++ decimal instructions ++ codes " " ++ verdict_name found ++ codes " " ++ decimal cost ++ codes " outcome " ++ hex_word word ++ 10 ∷ []
 
--- the line tells the length of the text that the seed makes, that of a code of its program, and the word that the program means
+-- the line tells the length of the text that the seed makes, that of a code of its program, the verdict on its banks with the cost, and the
+-- word that the program means
 pub record IsGenerated (seed size : ℕ) (line : List ℕ) : Type 0 where
   pub program : ProgramTree
   pub is_source : IsTypedSource (made seed size) program
   pub c : CodeView
   pub code : IsCodeFor program c
   pub short : length c.list ≤ store_limit
-  pub fits : HasFittingForm program
+  pub r : Report
+  pub banks : HasBanks program slots_limit budget_default c r
   pub word : ℕ
   pub means : MeansWord program word
-  pub told : line ≡ generated_text seed size (length (made seed size)) (length c.list) word
+  pub told : line ≡ generated_text seed size (length (made seed size)) (length c.list) r.verdict (report_cost r) word
 
 -- the program of the text isn't compiled
 abbrev pub GenRefuses : ℕ → ℕ → Refusal → Type 0
-GenRefuses seed size e = HasTyped (made seed size) (λ program. IsUnfit program store_limit e)
+GenRefuses seed size e = HasTyped (made seed size) (λ program. IsUnfit program slots_limit store_limit e)
 
 -- the line was printed, or why it is refused, or the sink or memory failed
 abbrev pub EndsGenerated : ℕ → ℕ → Status → Type 0 → List ℕ → List ℕ → Type 0

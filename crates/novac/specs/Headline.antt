@@ -1,6 +1,6 @@
 -- What a compilation promises, and when it is refused.
-use Rattle.std.specs.Prelude.{◌≡◌, ◌≤◌, ◌<◌, ◌^◌, ◌⊎◌, ℕ, List, [], ◌∷◌, Some, codes, length, ⊤}
-use Rattle.nv_outside.specs.Holding.{Holding, Replaced}
+use Rattle.std.specs.Prelude.{◌≡◌, ◌≤◌, ◌<◌, ◌⊎◌, ℕ, List, [], ◌∷◌, Some, length, ⊤}
+use Rattle.nv_outside.specs.Holding.{Holding}
 use Rattle.nv_ast.specs.Sizes.{main_words, room}
 use Rattle.nv_ast.specs.Tree.{ProgramTree}
 use Rattle.nv_meaning.specs.Meaning.{source}
@@ -8,20 +8,28 @@ use Rattle.uc_isa.specs.Code.{CodeView}
 use Rattle.uc_isa.specs.Agrees.{Agrees}
 use Rattle.uc_isa.specs.Lawful.{IsLawful}
 use Rattle.uc_object.specs.Object.{IsObject}
+use Rattle.zo_cert.specs.declared.report.Report.{Report}
+use Rattle.zo_cert.specs.declared.report.Verdict.{Verdict}
+use Rattle.zo_cert.specs.declared.report.Verdict.TheVariants as verdict
+use Rattle.nova_back.specs.Causes.{report_cost}
 use Rattle.nova_front.specs.Sources.{IsTypedSource}
-use Rattle.novac.specs.Forms.{form_bound, HasFittingForm, HasLargeForm, HasCrowdedForm, HasLongCode}
-use Rattle.novac.specs.Lines.{counted}
+use Rattle.novac.specs.Checking.{IsReportOf}
+use Rattle.novac.specs.Forms.{form_bound, HasBanks, HasLargeBanks, HasNoBanks, HasLongCode}
+use Rattle.novac.specs.Lines.{compiled_text, infeasible_text, spent_text}
 use Rattle.novac.specs.Limits.{source_limit}
 use Rattle.novac.specs.Reading.{HasTyped, SourceRefuses}
-use Rattle.novac.specs.Saving.{File, file}
+use Rattle.novac.specs.Saving.{File, file, IsSameBut}
 use Rattle.novac.specs.declared.refusal.Refusal.{Refusal}
-use Rattle.novac.specs.declared.refusal.Refusal.TheVariants.{SourceLarge, StoreFull, Unbuilt}
+use Rattle.novac.specs.declared.refusal.Refusal.TheVariants.{SourceLarge, StoreFull}
 use Rattle.novac.specs.declared.status.Status.{Status}
 use Rattle.novac.specs.declared.status.Status.TheVariants as ends
 
--- the object is that of lawful code, of this length, which does what the typed program of the text says; the program's form is within the
--- limits
-pub record IsCompiledTo (text object : List ℕ) (store instructions : ℕ) : Type 0 where
+-- ---- what is compiled
+
+-- The object is that of lawful code, of this length, which does what the typed program of the text says. The report is the text of this
+-- one, which is true, on the banks of a form of the program, with these slots and this budget: no vector that meets its rows costs less than
+-- its own, where the verdict is optimal, and the code's moves cost no more.
+pub record IsCompiledTo (text object report : List ℕ) (slots budget store instructions : ℕ) (r : Report) : Type 0 where
   pub program : ProgramTree
   pub is_source : IsTypedSource text program
   pub code : CodeView
@@ -30,43 +38,70 @@ pub record IsCompiledTo (text object : List ℕ) (store instructions : ℕ) : Ty
   pub agrees : Agrees (main_words program) (source program) code
   pub number : instructions ≡ length code.list
   pub short : instructions ≤ store
-  pub fits : HasFittingForm program
+  pub reports : IsReportOf report r
+  pub banks : HasBanks program slots budget code r
 
--- what `compile` makes of a source: the object of its code, whose length is told
-pub record CompileMakes (text object_name : List ℕ) (store : ℕ) (status : Status) (files : List File) (line : List ℕ) : Type 0 where
-  pub object : List ℕ
-  pub instructions : ℕ
-  pub compiled : IsCompiledTo text object store instructions
-  pub done : status ≡ ends.Done
-  pub saves : files ≡ file object_name object ∷ []
-  pub told : line ≡ counted (codes "compiled ") instructions
-
--- the source is held, the object is now that of its code, whose length is told, and no other file changed
-pub record IsCompiled (old new : Holding) (source_name object_name : List ℕ) (store : ℕ) (line : List ℕ) : Type 0 where
+-- the source is held; the object and the report are now those of its code and its banks, which are told, and no other file changed
+pub record IsCompiled (old new : Holding) (source_name object_name report_name : List ℕ) (slots budget store : ℕ) (line : List ℕ) : Type 0 where
   pub text : List ℕ
   pub held : old source_name ≡ Some text
   pub short : length text ≤ source_limit
   pub object : List ℕ
-  pub saved : Replaced old new object_name object
+  pub saved : new object_name ≡ Some object
+  pub report : List ℕ
+  pub reported : new report_name ≡ Some report
+  pub elsewhere : IsSameBut (object_name ∷ report_name ∷ []) old new
   pub instructions : ℕ
-  pub compiled : IsCompiledTo text object store instructions
-  pub told : line ≡ counted (codes "compiled ") instructions
+  pub r : Report
+  pub compiled : IsCompiledTo text object report slots budget store instructions r
+  pub told : line ≡ compiled_text instructions r.verdict (report_cost r)
 
--- why a typed program isn't compiled: its form is too large, or holds more values at once than there are slots, or its code is too long
-abbrev pub IsUnfit : ProgramTree → ℕ → Refusal → Type 0
-IsUnfit program store (SourceLarge n) = HasLargeForm program n
-IsUnfit program store Unbuilt = (n : ℕ) × HasCrowdedForm program n
-IsUnfit program store (StoreFull n) = HasLongCode program store n
-IsUnfit program store _ = ⊥
+-- ---- what `compile` saves and tells
+
+-- the object of a source's code and the report on its banks are saved, and told
+pub record CompiledMakes (text object_name report_name : List ℕ) (slots budget store : ℕ) (files : List File) (line : List ℕ) : Type 0 where
+  pub object : List ℕ
+  pub report : List ℕ
+  pub instructions : ℕ
+  pub r : Report
+  pub compiled : IsCompiledTo text object report slots budget store instructions r
+  pub saves : files ≡ file object_name object ∷ file report_name report ∷ []
+  pub told : line ≡ compiled_text instructions r.verdict (report_cost r)
+
+-- no banks of a source's code were found: the report alone is saved, which is true and says why
+pub record WithoutMakes (text report_name : List ℕ) (slots budget : ℕ) (verdict : Verdict) (files : List File) : Type 0 where
+  pub program : ProgramTree
+  pub is_source : IsTypedSource text program
+  pub report : List ℕ
+  pub r : Report
+  pub reports : IsReportOf report r
+  pub without : HasNoBanks program slots budget verdict r
+  pub saves : files ≡ file report_name report ∷ []
+
+-- what `compile` makes of a source, by the status
+abbrev pub CompileMakes : List ℕ → List ℕ → List ℕ → ℕ → ℕ → ℕ → Status → List File → List ℕ → Type 0
+CompileMakes text object_name report_name slots budget store ends.Done files line = CompiledMakes text object_name report_name slots budget store files line
+CompileMakes text object_name report_name slots budget store ends.Infeasible files line = WithoutMakes text report_name slots budget verdict.Infeasible files × (line ≡ infeasible_text)
+CompileMakes text object_name report_name slots budget store ends.BudgetSpent files line = WithoutMakes text report_name slots budget verdict.Spent files × (line ≡ spent_text budget)
+CompileMakes text object_name report_name slots budget store _ files line = ⊥
+
+-- ---- why it is refused
+
+-- why a typed program isn't compiled: the program of its banks is too large, or its code is too long
+abbrev pub IsUnfit : ProgramTree → ℕ → ℕ → Refusal → Type 0
+IsUnfit program slots store (SourceLarge n) = HasLargeBanks program slots n
+IsUnfit program slots store (StoreFull n) = HasLongCode program slots store n
+IsUnfit program slots store _ = ⊥
 
 -- the source is refused, or its program isn't compiled
-abbrev pub CompileRefuses : List ℕ → ℕ → Refusal → Type 0
-CompileRefuses text store e = SourceRefuses text e ⊎ HasTyped text (λ program. IsUnfit program store e)
+abbrev pub CompileRefuses : List ℕ → ℕ → ℕ → Refusal → Type 0
+CompileRefuses text slots store e = SourceRefuses text e ⊎ HasTyped text (λ program. IsUnfit program slots store e)
 
--- how the compilation of a typed program can end: only bounds above the limits leave its form too large or too crowded
-abbrev pub IsEndOf : ProgramTree → Status → Type 0
-IsEndOf program ends.Done = ⊤
-IsEndOf program ends.TooLarge = 2 ^ 20 < form_bound program
-IsEndOf program ends.Unbuilt = 128 < room program
-IsEndOf program ends.StoreFull = ⊤
-IsEndOf program _ = ⊥
+-- how the compilation of a typed program can end: without banks only where there are fewer slots than room
+abbrev pub IsEndOf : ProgramTree → ℕ → ℕ → Status → Type 0
+IsEndOf program slots store ends.Done = ⊤
+IsEndOf program slots store ends.TooLarge = (n : ℕ) × HasLargeBanks program slots n
+IsEndOf program slots store ends.Infeasible = slots < room program
+IsEndOf program slots store ends.BudgetSpent = slots < room program
+IsEndOf program slots store ends.StoreFull = store < form_bound program
+IsEndOf program slots store _ = ⊥

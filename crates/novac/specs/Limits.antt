@@ -1,4 +1,4 @@
--- How many bytes the files that commands read may have, and how many instructions code may have.
+-- How many bytes the files that commands read may have; and the slots, the branches and the instructions that words can ask for.
 use Rattle.std.specs.Prelude.{ℕ}
 
 -- a source
@@ -21,7 +21,19 @@ assembly_limit = 67108864
 abbrev pub report_limit : ℕ
 report_limit = 67108864
 
--- how many instructions code may have: where the words of `compile` don't say it, and the most that they can say
+-- how many slots code may have for values without a register: the most that the words of `compile` can say, and where they
+-- don't say it
+abbrev pub slots_limit : ℕ
+slots_limit = 128
+
+-- how many branches the search for banks may take: where the words don't say it, and the most that they can say
+abbrev pub budget_default : ℕ
+budget_default = 2000
+
+abbrev pub budget_limit : ℕ
+budget_limit = 1000000
+
+-- how many instructions code may have: where the words don't say it, and the most that they can say
 abbrev pub store_default : ℕ
 store_default = 2048
 

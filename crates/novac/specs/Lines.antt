@@ -1,10 +1,12 @@
 -- The lines that say how a run of the program ended. Each ends with a line feed (10).
 use Rattle.std.specs.Prelude.{ℕ, List, [], ◌∷◌, ◌++◌, codes, decimal}
 use Rattle.nv_ast.specs.declared.token.Span.{Span}
+use Rattle.zo_cert.specs.declared.report.Verdict.{Verdict}
+use Rattle.zo_cert.specs.declared.report.Verdict.TheVariants as verdict
 use Rattle.novac.specs.declared.status.Status.{Status}
 use Rattle.novac.specs.declared.status.Status.TheVariants as status
 use Rattle.novac.specs.declared.refusal.Refusal.{Refusal}
-use Rattle.novac.specs.declared.refusal.Refusal.TheVariants.{NoMemory, ReadFault, TooLarge, SourceChar, SourceNumber, SourceName, SourceSyntax, SourceDeep, SourceType, SourceLarge, Syntax, Label, BadObject, BadMemoryText, BadReport, FalseReport, Unlawful, UnlawfulLine, StoreFull, Unbuilt}
+use Rattle.novac.specs.declared.refusal.Refusal.TheVariants.{NoMemory, ReadFault, TooLarge, SourceChar, SourceNumber, SourceName, SourceSyntax, SourceDeep, SourceType, SourceLarge, Syntax, Label, BadObject, BadMemoryText, BadReport, FalseReport, Unlawful, UnlawfulLine, StoreFull}
 
 -- a text and a name
 abbrev pub named : List ℕ → List ℕ → List ℕ
@@ -21,6 +23,24 @@ ruled text n rule = text ++ decimal n ++ codes " rule " ++ decimal rule ++ 10 �
 -- the kind of a fault of types, its first byte and the byte after its last one
 abbrev pub type_text : ℕ → Span → List ℕ
 type_text kind place = codes "type " ++ decimal kind ++ codes " at " ++ decimal place.first ++ codes " " ++ decimal place.after ++ 10 ∷ []
+
+-- what a search found
+abbrev pub verdict_name : Verdict → List ℕ
+verdict_name verdict.Optimal = codes "optimal"
+verdict_name verdict.Feasible = codes "feasible"
+verdict_name verdict.Infeasible = codes "infeasible"
+verdict_name verdict.Spent = codes "spent"
+
+-- the number of instructions of a source's code, and the verdict on its banks with the cost
+abbrev pub compiled_text : ℕ → Verdict → ℕ → List ℕ
+compiled_text instructions found cost = codes "compiled " ++ decimal instructions ++ 32 ∷ verdict_name found ++ 32 ∷ decimal cost ++ 10 ∷ []
+
+-- where no choice of banks meets the rows, or none was found with so many branches
+abbrev pub infeasible_text : List ℕ
+infeasible_text = codes "infeasible" ++ 10 ∷ []
+
+abbrev pub spent_text : ℕ → List ℕ
+spent_text budget = counted (codes "budget ") budget
 
 -- where the words are no command
 abbrev pub usage_text : List ℕ
@@ -54,7 +74,6 @@ refusal_text FalseReport = codes "report refused" ++ 10 ∷ []
 refusal_text (Unlawful place rule) = ruled (codes "unlawful place ") place rule
 refusal_text (UnlawfulLine n rule) = ruled (codes "unlawful line ") n rule
 refusal_text (StoreFull n) = counted (codes "store ") n
-refusal_text Unbuilt = codes "unbuilt" ++ 10 ∷ []
 
 -- the status of a command that isn't done
 abbrev pub refusal_status : Refusal → Status
@@ -77,7 +96,6 @@ refusal_status FalseReport = status.CertificateRefused
 refusal_status (Unlawful place rule) = status.Unlawful
 refusal_status (UnlawfulLine n rule) = status.Unlawful
 refusal_status (StoreFull n) = status.StoreFull
-refusal_status Unbuilt = status.Unbuilt
 
 -- memory ran out, which has no cause that is told
 abbrev pub IsUncaused : Refusal → Type 0

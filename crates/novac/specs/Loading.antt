@@ -16,7 +16,7 @@ input name limit = record { name = name; limit = limit }
 
 -- the inputs of a command
 abbrev pub inputs_of : Command → List Input
-inputs_of (Compile source object store) = input source source_limit ∷ []
+inputs_of (Compile source object report slots budget store) = input source source_limit ∷ []
 inputs_of (Run object memory steps) = input object object_limit ∷ input memory memory_limit ∷ []
 inputs_of (Exec source memory calls) = input source source_limit ∷ input memory memory_limit ∷ []
 inputs_of (Asm text object) = input text assembly_limit ∷ []

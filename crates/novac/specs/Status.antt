@@ -3,7 +3,7 @@ use Rattle.std.specs.Prelude.{ℕ}
 use Rattle.nv_base.specs.declared.outcome.Outcome.{Outcome}
 use Rattle.nv_base.specs.declared.outcome.Outcome.TheVariants as outcome
 use Rattle.novac.specs.declared.status.Status.{Status}
-use Rattle.novac.specs.declared.status.Status.TheVariants.{Done, Usage, ReadFault, WriteFault, NoMemory, Syntax, TypeFault, TooLarge, StoreFull, BadObject, BadMemoryText, Raised, Fault, StepsSpent, CertificateRefused, Unlawful, Unbuilt}
+use Rattle.novac.specs.declared.status.Status.TheVariants.{Done, Usage, ReadFault, WriteFault, NoMemory, Syntax, TypeFault, TooLarge, Infeasible, BudgetSpent, StoreFull, BadObject, BadMemoryText, Raised, Fault, StepsSpent, CertificateRefused, Unlawful}
 
 -- the numbers of the statuses
 abbrev pub status_number : Status → ℕ
@@ -15,6 +15,8 @@ status_number NoMemory = 5
 status_number Syntax = 6
 status_number TypeFault = 7
 status_number TooLarge = 8
+status_number Infeasible = 9
+status_number BudgetSpent = 10
 status_number StoreFull = 11
 status_number BadObject = 12
 status_number BadMemoryText = 13
@@ -23,7 +25,6 @@ status_number Fault = 15
 status_number StepsSpent = 16
 status_number CertificateRefused = 17
 status_number Unlawful = 18
-status_number Unbuilt = 20
 
 -- the status of a run of the engine, or of a program, by how it ended
 abbrev pub outcome_status : Outcome → Status
@@ -36,4 +37,6 @@ outcome_status outcome.Going = StepsSpent
 abbrev pub MaySave : Status → Type 0
 MaySave Done = Unit {0}
 MaySave WriteFault = Unit {0}
+MaySave Infeasible = Unit {0}
+MaySave BudgetSpent = Unit {0}
 MaySave _ = ⊥

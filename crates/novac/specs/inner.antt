@@ -3,3 +3,4 @@ pub mod Contents
 pub mod Replies
 pub mod Words
 pub mod Generated
+pub mod Found

@@ -18,8 +18,8 @@ pub fn assemble_bytes<'a>(
     object: &'a str,
 ) -> Result<Made<'a>, Refusal<'a>>
     requires { length bytes.now ≤ assembly_limit }
-    ensures made { IfOk result (λ m. AsmMakes bytes.now object.now m.status (files_of m.output) m.text.items) }
-    ensures told { IfOk result (λ m. AreTold m.output) }
+    ensures made { IfOk result (λ m. AsmMakes bytes.now object.now m.status (files_of m.outputs) m.text.items) }
+    ensures told { IfOk result (λ m. AreTold m.outputs) }
     ensures refused { IfErr result (λ e. IsUncaused e ⊎ AsmRefuses bytes.now e) }
 {
     let product = object_of(alloc, bytes)?;

@@ -1,81 +1,151 @@
 //! The command `compile`.
-ghost use Rattle.std.specs.Prelude.{◌≡◌, ◌⊎◌, ◌≤◌, length, IfOk, IfErr};
-ghost use Rattle.nv_ast.specs.TypedView.{typed_program};
-ghost use Rattle.nova_front.specs.Sources.{IsTypedSource};
-ghost use Rattle.novac.specs.Forms.{HasFittingForm, IsCodeFor};
-ghost use Rattle.novac.specs.Headline.{IsCompiledTo, CompileMakes, CompileRefuses};
+ghost use Rattle.std.specs.Prelude.{◌≡◌, ◌⊎◌, ◌≤◌, ◌∷◌, [], ℕ, List, length, IfOk, IfErr};
+ghost use Rattle.zo_cert.specs.Contents.{report_contents};
+ghost use Rattle.zo_cert.specs.Report.{IsValidReport};
+ghost use Rattle.zo_cert.specs.ReportText.{report_text};
+ghost use Rattle.novac.specs.Checking.{IsReportOf};
+ghost use Rattle.novac.specs.Headline.{CompileMakes, CompileRefuses};
+ghost use Rattle.novac.specs.Limits.{source_limit};
 ghost use Rattle.novac.specs.Lines.{IsUncaused};
-ghost use Rattle.novac.specs.inner.Contents.{files_of, AreTold};
-ghost use Rattle.novac.specs.inner.Telling.{IsToldAs};
+ghost use Rattle.novac.specs.Saving.{file};
+ghost use Rattle.novac.specs.inner.Contents.{file_of, files_of, AreTold, IsTold};
+ghost use Rattle.novac.specs.inner.Found.{IsBuilt, IsFound, IsSortedAs};
+ghost use Rattle.novac.specs.inner.Words.{AreInLimits};
 
-use crate::build::{SpilledError, SpilledText, compile_spilled};
-use crate::refusal::Refusal;
-use crate::save::{Made, Product};
-use nv_text::TextError;
+use crate::build::{CompileError, Compiled, compile_text};
+use crate::command::Options;
+use crate::refusal::{Refusal, compiled_line, counted_line, line};
+use crate::save::{Made, Output, Outputs};
+use crate::source::text_refusal;
+use crate::status::Status;
+use nv_base::NoMemory;
 use std::alloc::Global;
 use uc_object::encode;
+use zo_cert::{Report, print_report};
+use zo_model::cost;
 
-/// Compiles a source to at most so many instructions, whose object is saved under a name.
+/// What the compilation of a source that isn't refused comes to.
+#[derive(Drop)]
+pub enum Found {
+    Code(Compiled),
+    /// No choice of banks meets the rows.
+    Infeasible(Report),
+    /// No choice of banks was found within the budget.
+    Spent(Report),
+}
+
+/// Compiles a source, whose object and report are saved under two names; where no banks were found, the report alone.
 pub fn compile_bytes<'a>(
     alloc: Global,
     bytes: &[u8],
     object: &'a str,
-    store: u32,
+    report: &'a str,
+    options: Options,
 ) -> Result<Made<'a>, Refusal<'a>>
-    requires { length bytes.now ≤ 262144 }
-    ensures made { IfOk result (λ m. CompileMakes bytes.now object.now store m.status (files_of m.output) m.text.items) }
-    ensures told { IfOk result (λ m. AreTold m.output) }
-    ensures refused { IfErr result (λ e. IsUncaused e ⊎ CompileRefuses bytes.now store e) }
+    requires text { length bytes.now ≤ source_limit }
+    requires options { AreInLimits options }
+    ensures made { IfOk result (λ m. CompileMakes bytes.now object.now report.now options.slots options.budget options.store m.status (files_of m.outputs) m.text.items) }
+    ensures told { IfOk result (λ m. AreTold m.outputs) }
+    ensures refused { IfErr result (λ e. IsUncaused e ⊎ CompileRefuses bytes.now options.slots options.store e) }
 {
-    let product = object_of(alloc, bytes, store)?;
-    Ok(Made::object(alloc, object, b"compiled ", product)?)
-}
-
-// The object of a text.
-fn object_of<'a>(alloc: Global, text: &[u8], store: u32) -> Result<Product, Refusal<'a>>
-    requires { length text.now ≤ 262144 }
-    ensures compiled { IfOk result (λ p. IsCompiledTo text.now p.object.items store p.instructions) }
-    ensures refused { IfErr result (λ e. IsUncaused e ⊎ CompileRefuses text.now store e) }
-{
-    let compiled = compiled_of(alloc, text, store)?;
-    let code = &compiled.built.code;
-    let object = encode(alloc, code)?;
-    let instructions = code.list().len() as u64;
-    Ok(Product {
-        object,
-        instructions,
-    })
-}
-
-/// The program of a text, and its code of at most so many instructions.
-pub fn compiled_of<'a>(alloc: Global, text: &[u8], store: u32) -> Result<SpilledText, Refusal<'a>>
-    requires { length text.now ≤ 262144 }
-    ensures source { IfOk result (λ t. IsTypedSource text.now (typed_program t.typed)) }
-    ensures code { IfOk result (λ t. IsCodeFor (typed_program t.typed) t.built.code) }
-    ensures short { IfOk result (λ t. length t.built.code.list ≤ store) }
-    ensures fits { IfOk result (λ t. HasFittingForm (typed_program t.typed)) }
-    ensures refused { IfErr result (λ e. IsUncaused e ⊎ CompileRefuses text.now store e) }
-{
-    match compile_spilled(alloc, text, store) {
-        Ok(compiled) => Ok(compiled),
-        Err(error) => Err(refusal_of(error)),
+    match found_of(alloc, bytes, options)? {
+        Found::Code(compiled) => Ok(code_made(alloc, &compiled, object, report)?),
+        Found::Infeasible(found) => {
+            let text = line(alloc, b"infeasible")?;
+            Ok(report_made(alloc, Status::Infeasible, text, report, &found)?)
+        }
+        Found::Spent(found) => {
+            let text = counted_line(alloc, b"budget ", u64::from(options.budget))?;
+            Ok(report_made(alloc, Status::BudgetSpent, text, report, &found)?)
+        }
     }
 }
 
-/// Why a source has no typed program or no code, as it is told.
-pub fn refusal_of<'a>(error: SpilledError) -> Refusal<'a>
-    ensures { IsToldAs error result }
+/// The code of a source and the report on its banks, or the report alone.
+pub fn found_of<'a>(alloc: Global, text: &[u8], options: Options) -> Result<Found, Refusal<'a>>
+    requires text { length text.now ≤ source_limit }
+    requires options { AreInLimits options }
+    ensures found { IfOk result (IsFound text.now options.slots options.budget options.store) }
+    ensures refused { IfErr result (λ e. IsUncaused e ⊎ CompileRefuses text.now options.slots options.store e) }
+{
+    match compile_text(alloc, text, options.slots, options.budget, options.store) {
+        Ok(compiled) => Ok(Found::Code(compiled)),
+        Err(error) => sorted(error),
+    }
+}
+
+// Whether it is refused, or has a report.
+fn sorted<'a>(error: CompileError) -> Result<Found, Refusal<'a>>
+    ensures { IsSortedAs error.entry result }
 {
     match error {
-        SpilledError::NoMemory | SpilledError::Text(TextError::NoMemory) => Refusal::NoMemory,
-        SpilledError::Text(TextError::Char(at)) => Refusal::SourceChar(at),
-        SpilledError::Text(TextError::Number(at)) => Refusal::SourceNumber(at),
-        SpilledError::Text(TextError::Name(at)) => Refusal::SourceName(at),
-        SpilledError::Text(TextError::Syntax(at)) => Refusal::SourceSyntax(at),
-        SpilledError::Text(TextError::Deep(at)) => Refusal::SourceDeep(at),
-        SpilledError::Fault(kind, span) => Refusal::SourceType(kind, span),
-        SpilledError::TooLarge(size) => Refusal::SourceLarge(size),
-        SpilledError::TooFew(_) => Refusal::Unbuilt,
-        SpilledError::StoreFull(length) => Refusal::StoreFull(length),
+        CompileError::Infeasible(report) => Ok(Found::Infeasible(report)),
+        CompileError::Spent(report) => Ok(Found::Spent(report)),
+        CompileError::NoMemory => Err(Refusal::NoMemory),
+        CompileError::Text(fault) => Err(text_refusal(fault)),
+        CompileError::Fault(kind, span) => Err(Refusal::SourceType(kind, span)),
+        CompileError::TooLarge(size) => Err(Refusal::SourceLarge(size)),
+        CompileError::StoreFull(length) => Err(Refusal::StoreFull(length)),
+    }
+}
+
+// An object and a report that are to be saved, and told.
+fn code_made<'a>(
+    alloc: Global,
+    t: &Compiled,
+    object: &'a str,
+    report: &'a str,
+) -> Result<Made<'a>, NoMemory>
+    requires { IsValidReport t.now.built.report }
+    ensures made { (text : List ℕ) (slots budget store : ℕ) → IsBuilt text slots budget store t.now → IfOk result (λ m. CompileMakes text object.now report.now slots budget store m.status (files_of m.outputs) m.text.items) }
+    ensures told { IfOk result (λ m. AreTold m.outputs) }
+{
+    let code = &t.built.code;
+    let found = &t.built.report;
+    let bytes = encode(alloc, code)?;
+    let first = Output::new(alloc, object, bytes)?;
+    let second = report_output(alloc, report, found)?;
+    let instructions = code.list().len() as u64;
+    let text = compiled_line(alloc, instructions, found.verdict, cost(&found.z, &found.x))?;
+    Ok(Made {
+        status: Status::Done,
+        text,
+        outputs: Outputs::Two(first, second),
+    })
+}
+
+// A report that is to be saved alone, with the status and the line that say why.
+fn report_made<'a>(
+    alloc: Global,
+    status: Status,
+    text: Vec<u8>,
+    name: &'a str,
+    report: &Report,
+) -> Result<Made<'a>, NoMemory>
+    requires { IsValidReport report.now }
+    ensures status { IfOk result (λ m. m.status ≡ status) }
+    ensures text { IfOk result (λ m. m.text.items ≡ text.entry.items) }
+    ensures saves { IfOk result (λ m. files_of m.outputs ≡ file name.now (report_text (report_contents report.now)) ∷ []) }
+    ensures told { IfOk result (λ m. AreTold m.outputs) }
+    ensures report { IsReportOf (report_text (report_contents report.now)) report.now }
+{
+    let output = report_output(alloc, name, report)?;
+    Ok(Made {
+        status,
+        text,
+        outputs: Outputs::One(output),
+    })
+}
+
+// The text of a report, as a file that is to be saved.
+fn report_output<'a>(alloc: Global, name: &'a str, report: &Report) -> Result<Output<'a>, NoMemory>
+    requires { IsValidReport report.now }
+    ensures file { IfOk result (λ o. file_of o ≡ file name.now (report_text (report_contents report.now))) }
+    ensures told { IfOk result IsTold }
+    ensures report { IsReportOf (report_text (report_contents report.now)) report.now }
+{
+    match print_report(alloc, report) {
+        Ok(bytes) => Output::new(alloc, name, bytes),
+        Err(_) => Err(NoMemory),
     }
 }

@@ -6,16 +6,13 @@ ghost use Rattle.novac.specs.Executing.{ExecRefuses, IsExecuted};
 ghost use Rattle.novac.specs.Limits.{source_limit, memory_limit};
 ghost use Rattle.novac.specs.Lines.{IsUncaused};
 ghost use Rattle.novac.specs.Machine.{full_text};
-ghost use Rattle.nova_front.specs.Sources.{IsTypedSource};
-ghost use Rattle.novac.specs.Reading.{SourceRefuses};
 ghost use Rattle.novac.specs.Status.{outcome_status};
 ghost use Rattle.novac.specs.inner.Replies.{IsOutcome};
 
-use crate::build::typed_of;
-use crate::compile::refusal_of;
 use crate::refusal::Refusal;
 use crate::reply::Reply;
 use crate::simulate::{SHOWN_WRITES, job_of, status_of};
+use crate::source::source_of;
 use nv_ast::Typed;
 use nv_base::{NoMemory, WriteLog};
 use nv_meaning::exec;
@@ -38,18 +35,6 @@ pub fn exec_bytes<'a>(
     let program = source_of(alloc, bytes)?;
     let job = job_of(alloc, text, program.params())?;
     Ok(exec_job(alloc, &program, job, calls)?)
-}
-
-/// The typed program that the bytes are the text of.
-pub fn source_of<'a>(alloc: Global, bytes: &[u8]) -> Result<Typed, Refusal<'a>>
-    requires { length bytes.now ≤ source_limit }
-    ensures source { IfOk result (λ t. IsTypedSource bytes.now (typed_program t)) }
-    ensures refused { IfErr result (λ e. IsUncaused e ⊎ SourceRefuses bytes.now e) }
-{
-    match typed_of(alloc, bytes) {
-        Ok(program) => Ok(program),
-        Err(error) => Err(refusal_of(error)),
-    }
 }
 
 // Runs a typed program with so many calls.

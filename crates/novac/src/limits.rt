@@ -15,6 +15,15 @@ pub const ASSEMBLY_LIMIT: u64 = 67_108_864;
 /// A report.
 pub const REPORT_LIMIT: u64 = 67_108_864;
 
+/// The most slots that code may have for values without a register, and how many it may have where the words don't say it.
+pub const MOST_SLOTS: u32 = 128;
+
+/// How many branches the search for banks may take, where the words don't say it.
+pub const DEFAULT_BUDGET: u32 = 2_000;
+
+/// The most that they can say.
+pub const MOST_BUDGET: u32 = 1_000_000;
+
 /// How many instructions compiled code may have, where the words don't say it.
 pub const DEFAULT_STORE: u32 = 2_048;
 

@@ -33,7 +33,7 @@ pub fn load_inputs<'a, F: Files>(
     ensures save_faults { (q : List ℕ) → F.save_faults files.old q ≤ F.save_faults files.new q }
 {
     match command {
-        Command::Compile(source, _, _) => load_one(alloc, source, SOURCE_LIMIT, files),
+        Command::Compile(source, _, _, _) => load_one(alloc, source, SOURCE_LIMIT, files),
         Command::Run(object, memory, _) => load_two(alloc, object, OBJECT_LIMIT, memory, files),
         Command::Exec(source, memory, _) => load_two(alloc, source, SOURCE_LIMIT, memory, files),
         Command::Asm(text, _) => load_one(alloc, text, ASSEMBLY_LIMIT, files),

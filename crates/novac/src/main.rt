@@ -17,13 +17,14 @@ mod reply;
 mod report;
 mod save;
 mod simulate;
+mod source;
 mod status;
 #[cfg(test)]
 mod tests;
 mod top;
 mod work;
 
-pub use build::{SpilledError, SpilledText, compile_spilled};
+pub use build::{CompileError, Compiled, compile_text};
 use nv_base::NoMemory;
 use nv_outside::{DiskFiles, StdSink};
 pub use status::Status;

@@ -1,6 +1,6 @@
 //! Why a command isn't done, and the line that says so.
-ghost use Rattle.std.specs.Prelude.{◌≡◌, ◌++◌, ◌∷◌, [], IfOk};
-ghost use Rattle.novac.specs.Lines.{refusal_text, refusal_status, counted, named, ruled, type_text};
+ghost use Rattle.std.specs.Prelude.{◌≡◌, ◌++◌, ◌∷◌, [], IfOk, OnOk};
+ghost use Rattle.novac.specs.Lines.{refusal_text, refusal_status, counted, named, ruled, type_text, verdict_name, compiled_text};
 ghost use Rattle.novac.specs.declared.refusal.Refusal.TheVariants.{NoMemory as WantOfMemory};
 
 use crate::status::Status;
@@ -8,6 +8,7 @@ use line_text::push_decimal;
 use nv_ast::Span;
 use nv_base::NoMemory;
 use std::alloc::{AllocError, Global};
+use zo_cert::Verdict;
 
 /// Why a command isn't done.
 #[derive(Clone, Copy, Debug, PartialEq, Eq)]
@@ -30,7 +31,8 @@ pub enum Refusal<'a> {
     SourceDeep(u32),
     /// The kind of the first fault of a source's types, and where it lies.
     SourceType(u8, Span),
-    /// The expanded size of a source's program, which is over 4,096, or the size of its form in single use, over 2^20.
+    /// The expanded size of a source's program, which is over 4,096; or the number of columns of the 0-1 program of its
+    /// banks, or else that of its rows, which is over 2^26.
     SourceLarge(u64),
     /// The first line of an assembly text that isn't of its form, counted from 1.
     Syntax(u32),
@@ -50,8 +52,6 @@ pub enum Refusal<'a> {
     UnlawfulLine(u32, u8),
     /// The number of instructions of a source's code, more than were allowed.
     StoreFull(u32),
-    /// More values of a source's program are held at once than there are slots.
-    Unbuilt,
 }
 
 impl<'a> From<NoMemory> for Refusal<'a> {
@@ -92,7 +92,6 @@ impl<'a> Refusal<'a> {
             Refusal::BadReport(_) | Refusal::FalseReport => Status::CertificateRefused,
             Refusal::Unlawful(_, _) | Refusal::UnlawfulLine(_, _) => Status::Unlawful,
             Refusal::StoreFull(_) => Status::StoreFull,
-            Refusal::Unbuilt => Status::Unbuilt,
         }
     }
 
@@ -120,7 +119,6 @@ impl<'a> Refusal<'a> {
             Refusal::Unlawful(n, rule) => ruled_line(alloc, b"unlawful place ", n, rule),
             Refusal::UnlawfulLine(n, rule) => ruled_line(alloc, b"unlawful line ", n, rule),
             Refusal::StoreFull(n) => counted_line(alloc, b"store ", u64::from(n)),
-            Refusal::Unbuilt => line(alloc, b"unbuilt"),
         }
     }
 }
@@ -181,6 +179,38 @@ fn type_line(alloc: Global, kind: u8, span: Span) -> Result<Vec<u8>, NoMemory>
     push_decimal(&mut out, u64::from(span.first))?;
     out.extend_from_slice(b" ")?;
     push_decimal(&mut out, u64::from(span.after))?;
+    out.push(b'\n')?;
+    Ok(out)
+}
+
+/// Writes what a search found.
+pub fn push_verdict(out: &mut Vec<u8>, verdict: Verdict) -> Result<(), AllocError>
+    ensures { OnOk result (out.new.items ≡ out.old.items ++ verdict_name verdict) }
+{
+    match verdict {
+        Verdict::Optimal => out.extend_from_slice(b"optimal"),
+        Verdict::Feasible => out.extend_from_slice(b"feasible"),
+        Verdict::Infeasible => out.extend_from_slice(b"infeasible"),
+        Verdict::Spent => out.extend_from_slice(b"spent"),
+    }
+}
+
+/// The line of a compilation: the number of instructions, and the verdict on the banks with the cost.
+pub fn compiled_line(
+    alloc: Global,
+    instructions: u64,
+    verdict: Verdict,
+    cost: u64,
+) -> Result<Vec<u8>, NoMemory>
+    ensures { IfOk result (λ out. out.items ≡ compiled_text instructions verdict cost) }
+{
+    let mut out = Vec::new(alloc);
+    out.extend_from_slice(b"compiled ")?;
+    push_decimal(&mut out, instructions)?;
+    out.push(b' ')?;
+    push_verdict(&mut out, verdict)?;
+    out.push(b' ')?;
+    push_decimal(&mut out, cost)?;
     out.push(b'\n')?;
     Ok(out)
 }

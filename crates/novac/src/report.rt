@@ -1,7 +1,8 @@
 //! The command `check`.
 ghost use Rattle.std.specs.Prelude.{◌≡◌, ◌⊎◌, ◌≤◌, length, IfOk, IfErr, OnOk};
 ghost use Rattle.zo_cert.specs.Report.{IsValidReport, IsTrueReport};
-ghost use Rattle.novac.specs.Checking.{CheckRefuses, IsChecked, IsReportOf, Shown, report_cost, verdict_text};
+ghost use Rattle.nova_back.specs.Causes.{report_cost};
+ghost use Rattle.novac.specs.Checking.{CheckRefuses, IsChecked, IsReportOf, Shown, verdict_text};
 ghost use Rattle.novac.specs.Limits.{report_limit};
 ghost use Rattle.novac.specs.Lines.{IsUncaused};
 ghost use Rattle.novac.specs.declared.refusal.Refusal.{Refusal};

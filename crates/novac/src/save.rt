@@ -3,7 +3,7 @@ ghost use Rattle.std.specs.Prelude.{◌≡◌, ◌⊎◌, ◌≤◌, ◌∷◌, 
 ghost use Rattle.nv_outside.specs.Causes.{Rose};
 ghost use Rattle.novac.specs.Lines.{counted, cannot_write};
 ghost use Rattle.novac.specs.Saving.{file, AreSaved, IsCut};
-ghost use Rattle.novac.specs.inner.Contents.{files_of, AreTold};
+ghost use Rattle.novac.specs.inner.Contents.{file_of, files_of, AreTold, IsTold};
 ghost use Rattle.novac.specs.declared.status.Status.{Status};
 
 use crate::refusal::{counted_line, named_line};
@@ -21,12 +21,20 @@ pub struct Output<'a> {
     pub fault: Vec<u8>,
 }
 
-/// What a command makes: its status and text, and the file that is saved before the text is printed.
+/// The files that a command saves, in this order.
+#[derive(Drop)]
+pub enum Outputs<'a> {
+    Nothing,
+    One(Output<'a>),
+    Two(Output<'a>, Output<'a>),
+}
+
+/// What a command makes: its status and text, and the files that are saved before the text is printed.
 #[derive(Drop)]
 pub struct Made<'a> {
     pub status: Status,
     pub text: Vec<u8>,
-    pub output: Option<Output<'a>>,
+    pub outputs: Outputs<'a>,
 }
 
 /// An object, and the number of its instructions.
@@ -34,6 +42,31 @@ pub struct Made<'a> {
 pub struct Product {
     pub object: Vec<u8>,
     pub instructions: u64,
+}
+
+impl<'a> Output<'a> {
+    /// These bytes, under this name.
+    pub fn new(alloc: Global, name: &'a str, bytes: Vec<u8>) -> Result<Output<'a>, NoMemory>
+        ensures file { IfOk result (λ o. file_of o ≡ file name.now bytes.entry.items) }
+        ensures told { IfOk result IsTold }
+    {
+        let fault = named_line(alloc, b"cannot write ", name)?;
+        Ok(Output { name, bytes, fault })
+    }
+
+    /// Saves the file, and gives the reply, or where that failed a write fault.
+    fn save<F: Files>(self, reply: Reply, files: &mut F) -> Reply
+        requires { IsTold self }
+        ensures saved { ((result.status ≡ reply.entry.status) × (result.text.items ≡ reply.entry.text.items) × (F.tells → AreSaved (file_of self.entry ∷ []) (F.held files.old) (F.held files.new))) ⊎ ((result.status ≡ Status.WriteFault) × IsCut F.tells (file_of self.entry ∷ []) (F.held files.old) (F.held files.new) (λ name. Rose (F.save_faults files.old name) (F.save_faults files.new name) × (result.text.items ≡ cannot_write name))) }
+    {
+        match files.save(self.name, &self.bytes) {
+            Saved::Done => reply,
+            Saved::Failed => Reply {
+                status: Status::WriteFault,
+                text: self.fault,
+            },
+        }
+    }
 }
 
 impl<'a> Made<'a> {
@@ -45,41 +78,39 @@ impl<'a> Made<'a> {
         product: Product,
     ) -> Result<Made<'a>, NoMemory>
         ensures done { IfOk result (λ m. m.status ≡ Status.Done) }
-        ensures saves { IfOk result (λ m. files_of m.output ≡ file name.now product.object.items ∷ []) }
+        ensures saves { IfOk result (λ m. files_of m.outputs ≡ file name.now product.object.items ∷ []) }
         ensures line { IfOk result (λ m. m.text.items ≡ counted text.now product.instructions) }
-        ensures told { IfOk result (λ m. AreTold m.output) }
+        ensures told { IfOk result (λ m. AreTold m.outputs) }
     {
         let text = counted_line(alloc, text, product.instructions)?;
-        let fault = named_line(alloc, b"cannot write ", name)?;
+        let output = Output::new(alloc, name, product.object)?;
         Ok(Made {
             status: Status::Done,
             text,
-            output: Some(Output {
-                name,
-                bytes: product.object,
-                fault,
-            }),
+            outputs: Outputs::One(output),
         })
     }
 
-    /// Saves the file, where there is one. All memory was taken before.
+    /// Saves the files, and stops where one can't be. All memory was taken before.
     pub fn save<F: Files>(self, files: &mut F) -> Reply
-        requires { AreTold self.output }
-        ensures saved { ((result.status ≡ self.entry.status) × (result.text.items ≡ self.entry.text.items) × (F.tells → AreSaved (files_of self.entry.output) (F.held files.old) (F.held files.new))) ⊎ ((result.status ≡ Status.WriteFault) × IsCut F.tells (files_of self.entry.output) (F.held files.old) (F.held files.new) (λ name. Rose (F.save_faults files.old name) (F.save_faults files.new name) × (result.text.items ≡ cannot_write name))) }
+        requires { AreTold self.outputs }
+        ensures saved { ((result.status ≡ self.entry.status) × (result.text.items ≡ self.entry.text.items) × (F.tells → AreSaved (files_of self.entry.outputs) (F.held files.old) (F.held files.new))) ⊎ ((result.status ≡ Status.WriteFault) × IsCut F.tells (files_of self.entry.outputs) (F.held files.old) (F.held files.new) (λ name. Rose (F.save_faults files.old name) (F.save_faults files.new name) × (result.text.items ≡ cannot_write name))) }
     {
         let Made {
             status,
             text,
-            output,
+            outputs,
         } = self;
-        let Some(output) = output else {
-            return Reply { status, text };
-        };
-        match files.save(output.name, &output.bytes) {
-            Saved::Done => Reply { status, text },
-            Saved::Failed => Reply {
-                status: Status::WriteFault,
-                text: output.fault,
+        let reply = Reply { status, text };
+        match outputs {
+            Outputs::Nothing => reply,
+            Outputs::One(output) => output.save(reply, files),
+            Outputs::Two(first, second) => match files.save(first.name, &first.bytes) {
+                Saved::Done => second.save(reply, files),
+                Saved::Failed => Reply {
+                    status: Status::WriteFault,
+                    text: first.fault,
+                },
             },
         }
     }

@@ -19,8 +19,13 @@ pub enum Status {
     Syntax,
     /// A source's program has a fault of its types.
     TypeFault,
-    /// An input has more bytes than its limit, or a source's program, its form or a memory a size above its limit.
+    /// An input has more bytes than its limit, or a source's program, the 0-1 program of its banks or a memory a size above its
+    /// limit.
     TooLarge,
+    /// No choice of banks meets the rows of a source's 0-1 program. The report that proves it was saved.
+    Infeasible,
+    /// No choice of banks was found with so many branches. The report with the tree that was searched was saved.
+    BudgetSpent,
     /// The code has more instructions than were allowed.
     StoreFull,
     /// The bytes aren't an object.
@@ -37,8 +42,6 @@ pub enum Status {
     CertificateRefused,
     /// The code isn't lawful.
     Unlawful,
-    /// More values of a source's program are held at once than there are slots.
-    Unbuilt,
 }
 
 impl Status {
@@ -55,6 +58,8 @@ impl Status {
             Status::Syntax => 6,
             Status::TypeFault => 7,
             Status::TooLarge => 8,
+            Status::Infeasible => 9,
+            Status::BudgetSpent => 10,
             Status::StoreFull => 11,
             Status::BadObject => 12,
             Status::BadMemoryText => 13,
@@ -63,7 +68,6 @@ impl Status {
             Status::StepsSpent => 16,
             Status::CertificateRefused => 17,
             Status::Unlawful => 18,
-            Status::Unbuilt => 20,
         }
     }
 }

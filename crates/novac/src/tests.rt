@@ -21,6 +21,18 @@ const GIVEN: &[u8] = b"memory 0 0\nargs ffffffff 00000002\n";
 
 const NONE: &[u8] = b"memory 0 0\nargs\n";
 
+// Forty words of SRAM, which are all held before the first addition.
+const FORTY: &[u8] = b"fun main[]: word {
+    let (a0, a1, a2, a3, a4, a5, a6, a7) = sram[8](0);
+    let (b0, b1, b2, b3, b4, b5, b6, b7) = sram[8](8);
+    let (c0, c1, c2, c3, c4, c5, c6, c7) = sram[8](16);
+    let (d0, d1, d2, d3, d4, d5, d6, d7) = sram[8](24);
+    let (e0, e1, e2, e3, e4, e5, e6, e7) = sram[8](32);
+    a0 + a1 + a2 + a3 + a4 + a5 + a6 + a7 + b0 + b1 + b2 + b3 + b4 + b5 + b6 + b7
+    + c0 + c1 + c2 + c3 + c4 + c5 + c6 + c7 + d0 + d1 + d2 + d3 + d4 + d5 + d6 + d7
+    + e0 + e1 + e2 + e3 + e4 + e5 + e6 + e7
+}";
+
 // Three columns of cost 1, of which each two rows want one: the least cost is 2.
 const REPORT: &[u8] = b"novareport 1\nslots 0\nbudget 1\ncolumns 3\nrows 3\nc 1\nc 1\nc 1\n\
     r 1 0:1 1:1\nr 1 1:1 2:1\nr 1 0:1 2:1\nverdict optimal 2\nx 0 1\ntree 1\nd 2 0:1 1:1 2:1\n";
@@ -103,9 +115,19 @@ fn compile_saves_code_of_the_sum(rt: HostRuntime) -> Result<(), Fail> {
     let alloc = rt.alloc();
     let mut files = store(&rt, alloc, &[], &[("s", SUM), ("m", GIVEN)])?;
     let mut out = MemSink::new(alloc, Vec::new(alloc));
-    let words = ["compile", "s", "o"].as_slice();
+    let words = ["compile", "s", "o", "r"].as_slice();
     assert_eq!(rt; called(alloc, &mut files, &mut out, words)?, Status::Done);
     assert!(rt; out.bytes().starts_with(b"compiled "));
+    assert!(rt; out.bytes().ends_with(b" optimal 1\n"));
+    expect(
+        &rt,
+        alloc,
+        &mut files,
+        &[],
+        &["check", "r"],
+        Status::Done,
+        b"optimal 1\n",
+    )?;
     expect(
         &rt,
         alloc,
@@ -220,7 +242,7 @@ fn other_words_are_no_command(rt: HostRuntime) -> Result<(), Fail> {
         &rt,
         rt.alloc(),
         &[],
-        &["compile", "s", "s"],
+        &["compile", "s", "o", "o"],
         Status::Usage,
         b"usage\n",
     )?;
@@ -243,7 +265,7 @@ fn a_file_that_is_not_there_is_a_read_fault(rt: HostRuntime) -> Result<(), Fail>
 #[test]
 fn a_failing_save_is_a_write_fault(rt: HostRuntime) -> Result<(), Fail> {
     let mut files = store(&rt, rt.alloc(), &[1], &[("s", SUM)])?;
-    let words = ["compile", "s", "o"].as_slice();
+    let words = ["compile", "s", "o", "r"].as_slice();
     expect(
         &rt,
         rt.alloc(),
@@ -254,13 +276,57 @@ fn a_failing_save_is_a_write_fault(rt: HostRuntime) -> Result<(), Fail> {
         b"cannot write o\n",
     )?;
     assert_eq!(rt; files.held("o"), None);
+    assert_eq!(rt; files.held("r"), None);
+    Ok(())
+}
+
+#[test]
+fn a_failing_save_of_the_report_leaves_the_object(rt: HostRuntime) -> Result<(), Fail> {
+    let mut files = store(&rt, rt.alloc(), &[2], &[("s", SUM)])?;
+    let words = ["compile", "s", "o", "r"].as_slice();
+    expect(
+        &rt,
+        rt.alloc(),
+        &mut files,
+        &[],
+        words,
+        Status::WriteFault,
+        b"cannot write r\n",
+    )?;
+    assert!(rt; files.held("o").is_some());
+    assert_eq!(rt; files.held("r"), None);
+    Ok(())
+}
+
+#[test]
+fn forty_words_at_once_are_infeasible_without_slots(rt: HostRuntime) -> Result<(), Fail> {
+    let mut files = store(&rt, rt.alloc(), &[], &[("s", FORTY)])?;
+    expect(
+        &rt,
+        rt.alloc(),
+        &mut files,
+        &[],
+        &["compile", "s", "o", "r", "slots=0"],
+        Status::Infeasible,
+        b"infeasible\n",
+    )?;
+    assert_eq!(rt; files.held("o"), None);
+    expect(
+        &rt,
+        rt.alloc(),
+        &mut files,
+        &[],
+        &["check", "r"],
+        Status::Done,
+        b"infeasible\n",
+    )?;
     Ok(())
 }
 
 #[test]
 fn an_object_that_is_not_told_is_whole(rt: HostRuntime) -> Result<(), Fail> {
     let mut files = store(&rt, rt.alloc(), &[], &[("s", SUM)])?;
-    let words = ["compile", "s", "o"].as_slice();
+    let words = ["compile", "s", "o", "r"].as_slice();
     expect(
         &rt,
         rt.alloc(),
@@ -280,7 +346,7 @@ fn a_source_that_is_cut_off_is_syntax(rt: HostRuntime) -> Result<(), Fail> {
         &rt,
         rt.alloc(),
         &[("s", b"fun main[]: word {")],
-        &["compile", "s", "o"],
+        &["compile", "s", "o", "r"],
         Status::Syntax,
         b"syntax syntax at 18\n",
     )?;
@@ -293,7 +359,7 @@ fn an_unknown_variable_is_a_type_fault(rt: HostRuntime) -> Result<(), Fail> {
         &rt,
         rt.alloc(),
         &[("s", b"fun main[]: word { x }")],
-        &["compile", "s", "o"],
+        &["compile", "s", "o", "r"],
         Status::TypeFault,
         b"type 10 at 19 20\n",
     )?;
@@ -418,7 +484,7 @@ fn code_of_a_sum_is_longer_than_one_instruction(rt: HostRuntime) -> Result<(), F
         &rt,
         rt.alloc(),
         &[("s", SUM)],
-        &["compile", "s", "o", "store=1"],
+        &["compile", "s", "o", "r", "store=1"],
         Status::StoreFull,
         b"store ",
     )?;

@@ -30,14 +30,17 @@ use std::alloc::Global;
 ///
 /// | Words | |
 /// |---|---|
-/// | `compile SRC OBJ [store=N]` | saves the object of the code of the source SRC, of at most N instructions: 1 to 1,048,576, or 2,048 |
+/// | `compile SRC OBJ REPORT [slots=N] [budget=N] [store=N]` | saves the object of the code of the source SRC, and the report on its banks; where no banks are found, the report alone |
 /// | `run OBJ MEM steps=N` | takes 1 to 100,000,000 steps of OBJ's code on the memory text MEM, and prints the outcome |
 /// | `exec SRC MEM steps=N` | runs the program of SRC with 1 to 100,000,000 calls on the memory text MEM, and prints the outcome |
 /// | `asm TEXT OBJ` | saves the object of the code of the assembly text TEXT |
 /// | `dis OBJ` | prints the listing of OBJ's code |
 /// | `lint OBJ` | prints whether OBJ's code is lawful |
 /// | `check REPORT` | checks a report by itself, and prints its verdict |
-/// | `gen SEED SIZE` | makes a source of 1 to 500 lines from a seed of 32 bits, compiles it, runs the code, and prints how long both are and the word |
+/// | `gen SEED SIZE` | makes a source of 1 to 500 lines from a seed of 32 bits, compiles it, runs the code, and prints how long both are, the verdict on its banks, and the word |
+///
+/// Where the options don't say it, `compile` takes 128 slots, which are the most, 2,000 branches of 1 to 1,000,000 in the search
+/// for banks, and 2,048 instructions of 1 to 1,048,576.
 ///
 /// Sources have at most 262,144 bytes, objects 8,388,620, memory texts 4 MiB, assembly texts and reports 64 MiB.
 pub fn run<F: Files, K: Sink>(
@@ -46,11 +49,13 @@ pub fn run<F: Files, K: Sink>(
     files: &mut F,
     out: &mut K,
 ) -> Status
-    // The headline: what `compile` saved is lawful code that does what the source says.
-    ensures compiled { F.tells → result ≡ Status.Done → IfCompile (command_of (texts_of words.now)) (λ source object store. (line : List ℕ) × IsCompiled (F.held files.old) (F.held files.new) source object store line × (K.tells → K.written out.new ≡ K.written out.old ++ line)) }
+    // The headline: the object that `compile` saved is that of lawful code that does what the source says, and its report is
+    // true. Where that says optimal, no vector that meets the rows of its 0-1 program costs less.
+    ensures compiled { F.tells → result ≡ Status.Done → IfCompile (command_of (texts_of words.now)) (λ source object report slots budget store. (line : List ℕ) × IsCompiled (F.held files.old) (F.held files.new) source object report slots budget store line × (K.tells → K.written out.new ≡ K.written out.old ++ line)) }
 
-    // What `gen` prints: the length of the text that the seed makes, that of lawful code that does what its program says, and
-    // the word that the program means; or why the program isn't compiled. Only the sink and memory keep it from that.
+    // What `gen` prints: the length of the text that the seed makes, that of lawful code that does what its program says, the
+    // verdict of a true report on its banks with the cost, and the word that the program means; or why the program isn't
+    // compiled. Only the sink and memory keep it from that.
     ensures generated { IfGen (command_of (texts_of words.now)) (λ seed size. EndsGenerated seed size result K.tells (K.written out.old) (K.written out.new)) }
 
     // What the command made of the contents of its inputs and saved, or why it is refused, and the text that was printed. A

@@ -18,7 +18,7 @@ use crate::load::Inputs;
 use crate::refusal::Refusal;
 use crate::reply::Reply;
 use crate::report::check_bytes;
-use crate::save::Made;
+use crate::save::{Made, Outputs};
 use crate::simulate::run_bytes;
 use std::alloc::Global;
 
@@ -30,13 +30,15 @@ pub fn work<'a>(
 ) -> Result<Made<'a>, Refusal<'a>>
     requires limits { HasLimits command }
     requires short { AreShort (inputs_of (command_as command)) (contents_of (command_as command) inputs.now.first.items inputs.now.second.items) }
-    ensures made { IfOk result (λ m. Makes (command_as command.entry) (contents_of (command_as command.entry) inputs.now.first.items inputs.now.second.items) m.status (files_of m.output) m.text.items) }
-    ensures told { IfOk result (λ m. AreTold m.output) }
+    ensures made { IfOk result (λ m. Makes (command_as command.entry) (contents_of (command_as command.entry) inputs.now.first.items inputs.now.second.items) m.status (files_of m.outputs) m.text.items) }
+    ensures told { IfOk result (λ m. AreTold m.outputs) }
     ensures end { IfOk result (λ m. IsOutcome m.status) }
     ensures refused { IfErr result (λ e. IsUncaused e ⊎ Refuses (command_as command.entry) (contents_of (command_as command.entry) inputs.now.first.items inputs.now.second.items) e) }
 {
     match command {
-        Command::Compile(_, object, store) => { compile_bytes(alloc, &inputs.first, object, store) }
+        Command::Compile(_, object, report, options) => {
+            compile_bytes(alloc, &inputs.first, object, report, options)
+        }
         Command::Run(_, _, steps) => {
             shown(run_bytes(alloc, &inputs.first, &inputs.second, steps))
         }
@@ -59,7 +61,7 @@ fn shown<'a>(reply: Result<Reply, Refusal<'a>>) -> Result<Made<'a>, Refusal<'a>>
         Ok(Reply { status, text }) => Ok(Made {
             status,
             text,
-            output: None,
+            outputs: Outputs::Nothing,
         }),
         Err(e) => Err(e),
     }

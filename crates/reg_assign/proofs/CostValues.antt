@@ -26,7 +26,7 @@ use Rattle.bank_prog.specs.Columns.{sort_of, is_fetched, eight, sort_defs, def_c
 use Rattle.bank_prog.specs.Rows.{homes, def, dir, ear, srv, early, is_parameter, is_written}
 use Rattle.bank_prog.specs.Meaning.{Chosen, named_cost}
 use Rattle.reg_assign.specs.inner.Facts.{count, in_bank, IsIn, ValueFacts, UseFacts}
-use Rattle.reg_assign.specs.inner.ReadOff.{Numbers, begins, goes_early, def_bank, home_place, word_place, fills_of, words_of, copies_of, first_word, put_home, unused_home, sort_home, IsAtHome, AreRead, read_off}
+use Rattle.reg_assign.specs.inner.ReadOff.{Numbers, begins, goes_early, def_bank, home_place, word_place, fills_of, words_of, copies_of, first_word, put_home, sort_home, IsAtHome, AreRead, read_off}
 use Rattle.reg_assign.proofs.Counts.{In, contained-in, in-either, in-map, in-kept, in-if, map-in, each-in, some-counted, counted-some}
 use Rattle.reg_assign.proofs.FactsValues.{same-value, used-of}
 use Rattle.reg_assign.proofs.FactsPoints.{flat-in}
@@ -332,11 +332,7 @@ sorted-price : (labels : List Label) (on : Chosen) (numbers : Numbers) (v : Valu
 sorted-price labels on numbers v (Parameter l i) e f g h =
     subst (λ s. home_price s (put_home labels on numbers v.var (def_bank on v.var)) ≤ value_price labels on v) e
     (parameter-price labels on numbers v (def_bank on v.var) f g (ap is_parameter e) (ap is_fetched e) (ap is_result e) refl)
-sorted-price labels on numbers v Result e f g h = by (is_used labels v.var)
-  where
-    by : (b : Bool) → home_price Result (if b then put_home labels on numbers v.var (def_bank on v.var) else unused_home v.var) ≤ value_price labels on v
-    by true = result-price labels on numbers v (def_bank on v.var) f g h e refl
-    by false = let z : home_price Result (unused_home v.var) ≡ 0 = refl in omega (arith, z)
+sorted-price labels on numbers v Result e f g h = result-price labels on numbers v (def_bank on v.var) f g h e refl
 sorted-price labels on numbers v (Fetched m i) e f g h = fetched-price labels on numbers v m i (place.Slot 0) f g e
 
 -- a value without a home costs nothing

@@ -11,8 +11,8 @@ use Rattle.place_ir.specs.declared.place.Place.{Place}
 use Rattle.place_ir.specs.declared.place.Place.TheVariants as place
 use Rattle.place_ir.specs.Places.{same_place}
 use Rattle.place_ir.specs.Plan.{Home, Plan, home, pass}
-use Rattle.place_ir.specs.Uses.{Sort, Parameter, Result, Fetched, Role, Operand, Address, Written, Argument, Ending, Use, uses_of, is_used}
-use Rattle.place_ir.specs.Fits.{read_place, is_general, stays, general_places, kept_register, has_place, none_shared, maybe, is_result, KeepsHeld}
+use Rattle.place_ir.specs.Uses.{Sort, Parameter, Result, Fetched, Role, Operand, Address, Written, Argument, Ending, Use, uses_of}
+use Rattle.place_ir.specs.Fits.{read_place, is_general, stays, general_places, kept_register, has_place, none_shared, maybe, KeepsHeld}
 use Rattle.bank_prog.specs.declared.column.Bank.{Bank}
 use Rattle.bank_prog.specs.declared.column.Bank.TheVariants.{A, B, M, T, L, A15, W}
 use Rattle.bank_prog.specs.declared.column.Column.TheVariants.{Def, Fill, PasL}
@@ -25,7 +25,7 @@ use Rattle.reg_assign.specs.inner.Facts.{in_bank, StaysIn, PointFacts}
 use Rattle.reg_assign.specs.inner.ReadOff.{Numbers, begins, goes_early, pass_l, def_bank, home_place, role_place, word_place, first_word, fills_of, words_of, copies_of, put_home, sort_home, read_off}
 use Rattle.reg_assign.proofs.ReadParts.{first-on-each, eight-low}
 use Rattle.reg_assign.proofs.FitWords.{early-written}
-use Rattle.reg_assign.proofs.FitHomes.{is_home_bank, def-bank-some, result-home, both-each, fills-each}
+use Rattle.reg_assign.proofs.FitHomes.{is_home_bank, def-bank-some, both-each, fills-each}
 
 -- a place is that of a home
 pub record IsHomePlace (on : Chosen) (numbers : Numbers) (x : ℕ) (q : Place) : Type 0 where
@@ -83,15 +83,13 @@ put-placed labels on numbers x early (Some h) e =
 put-placed labels on numbers x early None e = (λ g. absurd (false≢true (sym (early e) ∙ g)), tt)
 
 -- the general places of a home are those of the banks in which its value is
-pub sort-placed : (labels : List Label) (on : Chosen) (numbers : Numbers) (k x : ℕ) (sort : Sort) → (is_result sort ≡ true → is_used labels x ≡ true) → (is_fetched sort ≡ false → def_bank on x ≡ None → is_general (first_word on (uses_of labels x)) ≡ false)
+pub sort-placed : (labels : List Label) (on : Chosen) (numbers : Numbers) (k x : ℕ) (sort : Sort) → (is_fetched sort ≡ false → def_bank on x ≡ None → is_general (first_word on (uses_of labels x)) ≡ false)
     → Each (IsHomePlace on numbers x) (filter is_general ((sort_home labels on numbers k x sort).defined ∷ (sort_home labels on numbers k x sort).copied))
-sort-placed labels on numbers k x (Parameter l i) used early =
+sort-placed labels on numbers k x (Parameter l i) early =
     let w = put_home labels on numbers x (def_bank on x) in filter-placed on numbers x (w.defined ∷ w.copied) (put-placed labels on numbers x (early refl) (def_bank on x) refl)
-sort-placed labels on numbers k x Result used early =
-    let w = put_home labels on numbers x (def_bank on x) in
-    subst (λ (h : Home). Each (IsHomePlace on numbers x) (filter is_general (h.defined ∷ h.copied))) (sym (result-home labels on numbers k x (used refl)))
-    (filter-placed on numbers x (w.defined ∷ w.copied) (put-placed labels on numbers x (early refl) (def_bank on x) refl))
-sort-placed labels on numbers k x (Fetched m i) used early =
+sort-placed labels on numbers k x Result early =
+    let w = put_home labels on numbers x (def_bank on x) in filter-placed on numbers x (w.defined ∷ w.copied) (put-placed labels on numbers x (early refl) (def_bank on x) refl)
+sort-placed labels on numbers k x (Fetched m i) early =
     filter-placed on numbers x (read_place m (begins on k + i) ∷ copies_of labels on numbers x)
     (λ g. absurd (false≢true (sym (read-not-general m (begins on k + i)) ∙ g)), copies-placed labels on numbers x)
 

@@ -8,7 +8,7 @@ use Rattle.ssu_ir.specs.Tree.{Label}
 use Rattle.place_ir.specs.declared.place.Place.{Place}
 use Rattle.place_ir.specs.declared.place.Place.TheVariants as place
 use Rattle.place_ir.specs.Plan.{Plan}
-use Rattle.place_ir.specs.Uses.{Result, Use, uses_of, is_used}
+use Rattle.place_ir.specs.Uses.{Use, uses_of}
 use Rattle.place_ir.specs.Fits.{IsGeneral, same_bank, maybe, AreFills}
 use Rattle.zo_model.specs.Program.{cost_where}
 use Rattle.bank_prog.specs.declared.column.Bank.{Bank}
@@ -19,7 +19,7 @@ use Rattle.bank_prog.specs.Meaning.{Chosen}
 use Rattle.place_ir.proofs.Sound.{Each}
 use Rattle.place_ir.proofs.Spilled.{each-all}
 use Rattle.reg_assign.specs.inner.Facts.{count}
-use Rattle.reg_assign.specs.inner.ReadOff.{Numbers, goes_early, def_bank, home_place, word_place, fill_at, fills_of, words_of, copies_of, put_home, unused_home, sort_home}
+use Rattle.reg_assign.specs.inner.ReadOff.{Numbers, goes_early, def_bank, home_place, word_place, fill_at, fills_of, words_of, copies_of}
 use Rattle.reg_assign.proofs.Counts.{count-append}
 use Rattle.reg_assign.proofs.ReadParts.{count-none}
 use Rattle.reg_assign.proofs.FitWaiting.{any-either}
@@ -117,10 +117,6 @@ pub no-bank : (a b m : Bool) → ones a b m ≡ 0 → (a || b) ≡ false
 no-bank true b m n = absurd (omega arith)
 no-bank false true m n = absurd (omega arith)
 no-bank false false m n = refl
-
--- the home of a result that is used
-pub result-home : (labels : List Label) (on : Chosen) (numbers : Numbers) (k x : ℕ) → is_used labels x ≡ true → sort_home labels on numbers k x Result ≡ put_home labels on numbers x (def_bank on x)
-result-home labels on numbers k x e = ap (λ b. if b then put_home labels on numbers x (def_bank on x) else unused_home x) e
 
 -- ---- copies
 

@@ -22,12 +22,11 @@ use Rattle.reg_assign.specs.inner.ReadOff.{Numbers, begins, goes_early, def_bank
 use Rattle.reg_assign.proofs.ReadParts.{any-count, count-any, on-none, FirstsThere, first-read}
 use Rattle.reg_assign.proofs.FitWords.{each-both, service-each, service-none, IsEarlySame, word-same, words-same}
 use Rattle.reg_assign.proofs.FitWaiting.{each-contained, any-of-map, any-either}
-use Rattle.reg_assign.proofs.FitHomes.{is_home_bank, def-bank-some, def-bank-none, bank-count, no-register, no-bank, result-home, fills-are, copies-none, uses-none, uses-value, not-early, dirs-off, dirs-count, one-use}
+use Rattle.reg_assign.proofs.FitHomes.{is_home_bank, def-bank-some, def-bank-none, bank-count, no-register, no-bank, fills-are, copies-none, uses-none, uses-value, not-early, dirs-off, dirs-count, one-use}
 
 -- what is known of a value
 pub record Known (labels : List Label) (slots : ℕ) (on : Chosen) (numbers : Numbers) (hs : List Home) (v : Value) : Type 0 where
   pub facts : ValueFacts labels on v
-  pub used : is_result v.sort ≡ true → is_used labels v.var ≡ true
   pub below : (h : Bank) → is_home_bank h ≡ true → in_bank on h v.var ≡ true → numbers h v.var < room slots h
   pub uses_known : Each (UseFacts labels on) (uses_of labels v.var)
   pub early_same : Each (IsEarlySame labels slots on numbers hs) (uses labels)
@@ -235,7 +234,7 @@ housed-by labels slots on numbers hs v k o (Parameter l i) e h =
 housed-by labels slots on numbers hs v k o Result e h =
     let p = read_off labels slots on numbers hs in
     let one = k.facts.result (ap is_result e) in
-    subst (λ (w : Home). (IsGeneral p w.defined × AreCopies labels p v.var w) ⊎ IsPutEarly labels p v.var w) (sym (h refl ∙ result-home labels on numbers v.point v.var (k.used (ap is_result e)))) (pick (def_bank on v.var) refl one)
+    subst (λ (w : Home). (IsGeneral p w.defined × AreCopies labels p v.var w) ⊎ IsPutEarly labels p v.var w) (sym (h refl)) (pick (def_bank on v.var) refl one)
   where
     off : count on (def v.var) ≡ 0 → (g : Bank) → on (Def v.var g) ≡ false
     off z A = let l = z in on-none (on (Def v.var A)) (omega arith)

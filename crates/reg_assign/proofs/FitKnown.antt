@@ -39,7 +39,6 @@ number-below labels slots on numbers n v i f used h b e =
 pub known-of : (labels : List Label) (slots : ℕ) (on : Chosen) (numbers : Numbers) (hs : List Home) → Reading labels slots on numbers hs → (v : Value) → In v (values labels) → Known labels slots on numbers hs v
 known-of labels slots on numbers hs g v i = record {
   facts = value-facts-of labels slots on numbers hs g v i;
-  used = result-used-of labels slots on numbers hs g v i;
   below = number-below labels slots on numbers g.numbered v i (value-facts-of labels slots on numbers hs g v i) (result-used-of labels slots on numbers hs g v i);
   uses_known = each-filter (UseFacts labels on) (λ (u : Use). nat_eq u.value v.var) (uses labels) g.use_facts;
   early_same = g.early;
@@ -98,4 +97,4 @@ value-placed labels slots on numbers hs g x w =
     let v = w.value in
     subst (λ y. Each (IsHomePlace on numbers y) (general_places (read_off labels slots on numbers hs) y)) w.var
     (subst (λ (h : Home). Each (IsHomePlace on numbers v.var) (filter is_general (h.defined ∷ h.copied))) (sym (home-is labels slots on numbers hs g v w.among w.wants))
-    (sort-placed labels on numbers v.point v.var v.sort (result-used-of labels slots on numbers hs g v w.among) (early-general labels slots on numbers hs g v w.among v.sort refl)))
+    (sort-placed labels on numbers v.point v.var v.sort (early-general labels slots on numbers hs g v w.among v.sort refl)))

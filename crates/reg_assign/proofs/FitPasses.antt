@@ -20,9 +20,9 @@ use Rattle.reg_assign.proofs.Counts.{In, in-either, in-map, in-kept, each-in}
 use Rattle.reg_assign.proofs.FactsThere.{uses-among, values-among, point-of}
 use Rattle.reg_assign.proofs.ReadParts.{IsFound, pass-at}
 use Rattle.reg_assign.proofs.FitWords.{early-written}
-use Rattle.reg_assign.proofs.FitHomes.{is_home_bank, def-bank-some, result-home}
+use Rattle.reg_assign.proofs.FitHomes.{is_home_bank, def-bank-some}
 use Rattle.reg_assign.proofs.FitPoints.{passes-slots}
-use Rattle.reg_assign.proofs.FitRead.{any-in, Reading, value-facts-of, use-facts-of, home-is, used-wants, result-used-of}
+use Rattle.reg_assign.proofs.FitRead.{any-in, Reading, value-facts-of, use-facts-of, home-is, used-wants}
 use Rattle.reg_assign.proofs.FitKnown.{early-word}
 use Rattle.reg_assign.proofs.FitStaying.{no-slot-role, from-slot}
 
@@ -109,10 +109,10 @@ put-copied labels on numbers x (Some h) e = let w = any-in is_slot (copies_of la
 put-copied labels on numbers x None e = absurd (false≢true e)
 
 -- a value that is copied to a slot
-sort-copied : (labels : List Label) (on : Chosen) (numbers : Numbers) (k x : ℕ) (sort : Sort) → (is_result sort ≡ true → is_used labels x ≡ true) → list_any is_slot (sort_home labels on numbers k x sort).copied ≡ true → on (Fill x M) ≡ true
-sort-copied labels on numbers k x (Parameter l i) used e = put-copied labels on numbers x (def_bank on x) e
-sort-copied labels on numbers k x Result used e = put-copied labels on numbers x (def_bank on x) (ap (λ (h : Home). list_any is_slot h.copied) (sym (result-home labels on numbers k x (used refl))) ∙ e)
-sort-copied labels on numbers k x (Fetched m i) used e = let w = any-in is_slot (copies_of labels on numbers x) e in slot-copy labels on numbers x w.0 w.1 w.2
+sort-copied : (labels : List Label) (on : Chosen) (numbers : Numbers) (k x : ℕ) (sort : Sort) → list_any is_slot (sort_home labels on numbers k x sort).copied ≡ true → on (Fill x M) ≡ true
+sort-copied labels on numbers k x (Parameter l i) e = put-copied labels on numbers x (def_bank on x) e
+sort-copied labels on numbers k x Result e = put-copied labels on numbers x (def_bank on x) e
+sort-copied labels on numbers k x (Fetched m i) e = let w = any-in is_slot (copies_of labels on numbers x) e in slot-copy labels on numbers x w.0 w.1 w.2
 
 -- a result that comes into a slot
 result-defined : (labels : List Label) (slots : ℕ) (on : Chosen) (numbers : Numbers) (hs : List Home) → Reading labels slots on numbers hs → (v : Value) → In v (values labels) → v.sort ≡ Result → (o : Option Bank) → def_bank on v.var ≡ o → is_slot (put_home labels on numbers v.var o).defined ≡ true → on (Def v.var M) ≡ true
@@ -126,9 +126,7 @@ result-defined labels slots on numbers hs g v i r None e s =
 
 sort-defined : (labels : List Label) (slots : ℕ) (on : Chosen) (numbers : Numbers) (hs : List Home) → Reading labels slots on numbers hs → (v : Value) → In v (values labels) → (sort : Sort) → v.sort ≡ sort → is_result sort ≡ true → is_slot (sort_home labels on numbers v.point v.var sort).defined ≡ true → on (Def v.var M) ≡ true
 sort-defined labels slots on numbers hs g v i (Parameter l j) e r s = absurd (false≢true r)
-sort-defined labels slots on numbers hs g v i Result e r s =
-    let same : sort_home labels on numbers v.point v.var Result ≡ put_home labels on numbers v.var (def_bank on v.var) = result-home labels on numbers v.point v.var (result-used-of labels slots on numbers hs g v i (ap is_result e)) in
-    result-defined labels slots on numbers hs g v i e (def_bank on v.var) refl (ap (λ (h : Home). is_slot h.defined) (sym same) ∙ s)
+sort-defined labels slots on numbers hs g v i Result e r s = result-defined labels slots on numbers hs g v i e (def_bank on v.var) refl s
 sort-defined labels slots on numbers hs g v i (Fetched m j) e r s = absurd (false≢true r)
 
 value-written : (labels : List Label) (slots : ℕ) (on : Chosen) (numbers : Numbers) (hs : List Home) → Reading labels slots on numbers hs → (v : Value) → In v (values labels) → comes_to_slot labels (read_off labels slots on numbers hs) v ≡ true → some_on on (PasS v.point) ≡ true
@@ -139,7 +137,7 @@ value-written labels slots on numbers hs g v i e =
     let a = and_parts (is_used labels v.var) (list_any is_slot w.copied || (is_result v.sort && is_slot w.defined)) e in
     let is : home_in hs v.var ≡ value_home labels on numbers v = home-is labels slots on numbers hs g v i (used-wants (is_used labels v.var) v.sort a.0) in
     ⊎_elim
-    (λ (c : list_any is_slot w.copied ≡ true). facts.slot_copied (sort-copied labels on numbers v.point v.var v.sort (λ r. a.0) (ap (λ (h : Home). list_any is_slot h.copied) (sym is) ∙ c)))
+    (λ (c : list_any is_slot w.copied ≡ true). facts.slot_copied (sort-copied labels on numbers v.point v.var v.sort (ap (λ (h : Home). list_any is_slot h.copied) (sym is) ∙ c)))
     (λ (d : (is_result v.sort && is_slot w.defined) ≡ true).
     let b = and_parts (is_result v.sort) (is_slot w.defined) d in
     facts.slot_defined a.0 b.0 (sort-defined labels slots on numbers hs g v i v.sort refl b.0 (ap (λ (h : Home). is_slot h.defined) (sym is) ∙ b.1)))

@@ -10,7 +10,7 @@ use Rattle.place_ir.specs.declared.place.Place.TheVariants as place
 use Rattle.place_ir.specs.declared.place.Serve.{Serve}
 use Rattle.place_ir.specs.Places.{same_place}
 use Rattle.place_ir.specs.Plan.{Home, home, pass}
-use Rattle.place_ir.specs.Uses.{Sort, Parameter, Result, Fetched, Value, values, Role, Operand, Address, Written, Argument, Ending, Use, uses, is_used}
+use Rattle.place_ir.specs.Uses.{Sort, Parameter, Result, Fetched, Value, values, Role, Operand, Address, Written, Argument, Ending, Use, uses}
 use Rattle.place_ir.specs.Fits.{read_place, is_write_register, is_home, IsOperandAt, IsAddressAt, parameter, word_register, IsServedAt, IsServed, is_result}
 use Rattle.bank_prog.specs.declared.column.Bank.{Bank}
 use Rattle.bank_prog.specs.declared.column.Bank.TheVariants.{A, B, M, T, L, A15, W}
@@ -25,7 +25,7 @@ use Rattle.reg_assign.specs.inner.Facts.{count, in_bank, ValueFacts, UseFacts}
 use Rattle.reg_assign.specs.inner.ReadOff.{Numbers, pass_l, def_bank, service_on, home_place, place_in, word_place, fill_at, fills_of, words_of, copies_of, put_home, sort_home, bank_place, target, serve_by, read_off}
 use Rattle.reg_assign.proofs.ReadParts.{count-any, IsFound}
 use Rattle.reg_assign.proofs.FitWords.{service-each, service-none, early-written}
-use Rattle.reg_assign.proofs.FitHomes.{is_home_bank, def-bank-is, def-bank-none, no-bank, result-home}
+use Rattle.reg_assign.proofs.FitHomes.{is_home_bank, def-bank-is, def-bank-none, no-bank}
 
 -- ---- homes of a value
 
@@ -101,13 +101,10 @@ put-offers labels on numbers v f n c h i e = ⊎_elim
     pick (Some b) d g = offers-copied labels on numbers h v.var (home_place numbers b v.var) i g
     pick None d g = absurd (false≢true (sym (no-bank (on (Def v.var A)) (on (Def v.var B)) (on (Def v.var M)) (def-bank-none on v.var d)) ∙ f.filled n h g))
 
-pub offers : (labels : List Label) (on : Chosen) (numbers : Numbers) (v : Value) → ValueFacts labels on v → (is_result v.sort ≡ true → is_used labels v.var ≡ true) → (sort : Sort) → v.sort ≡ sort → (h : Bank) → is_home_bank h ≡ true → in_bank on h v.var ≡ true → home_offers (sort_home labels on numbers v.point v.var sort) (home_place numbers h v.var) ≡ true
-offers labels on numbers v f used (Parameter l i) e h j b = let one = f.parameter (ap is_parameter e) in put-offers labels on numbers v f (ap is_fetched e) (omega arith) h j b
-offers labels on numbers v f used Result e h j b =
-    let one = f.result (ap is_result e) in
-    subst (λ (w : Home). home_offers w (home_place numbers h v.var) ≡ true) (sym (result-home labels on numbers v.point v.var (used (ap is_result e))))
-    (put-offers labels on numbers v f (ap is_fetched e) (omega arith) h j b)
-offers labels on numbers v f used (Fetched m i) e h j b = ⊎_elim
+pub offers : (labels : List Label) (on : Chosen) (numbers : Numbers) (v : Value) → ValueFacts labels on v → (sort : Sort) → v.sort ≡ sort → (h : Bank) → is_home_bank h ≡ true → in_bank on h v.var ≡ true → home_offers (sort_home labels on numbers v.point v.var sort) (home_place numbers h v.var) ≡ true
+offers labels on numbers v f (Parameter l i) e h j b = let one = f.parameter (ap is_parameter e) in put-offers labels on numbers v f (ap is_fetched e) (omega arith) h j b
+offers labels on numbers v f Result e h j b = let one = f.result (ap is_result e) in put-offers labels on numbers v f (ap is_fetched e) (omega arith) h j b
+offers labels on numbers v f (Fetched m i) e h j b = ⊎_elim
     (λ (d : on (Def v.var h) ≡ true). absurd (false≢true (sym (f.read (ap is_fetched e) h) ∙ d)))
     (λ (g : on (Fill v.var h) ≡ true). offers-copied labels on numbers h v.var (sort_home labels on numbers v.point v.var (Fetched m i)).defined j g)
     (or_cases (on (Def v.var h)) (on (Fill v.var h)) b)

@@ -27,10 +27,10 @@ use Rattle.reg_assign.proofs.Counts.{In, in-contained, each-in}
 use Rattle.reg_assign.proofs.FactsThere.{there}
 use Rattle.reg_assign.proofs.ReadParts.{first-on-any, IsFound, pass-at}
 use Rattle.reg_assign.proofs.FitWords.{word-same}
-use Rattle.reg_assign.proofs.FitHomes.{is_home_bank, def-bank-is, result-home}
+use Rattle.reg_assign.proofs.FitHomes.{is_home_bank, def-bank-is}
 use Rattle.reg_assign.proofs.FitHoused.{is_source, all-sources}
 use Rattle.reg_assign.proofs.FitServed.{home_offers, offers, Wanted, is-served}
-use Rattle.reg_assign.proofs.FitRead.{any-in, IsValue, place-found, Reading, value-facts-of, use-facts-of, home-is, unread-wants, result-used-of}
+use Rattle.reg_assign.proofs.FitRead.{any-in, IsValue, place-found, Reading, value-facts-of, use-facts-of, home-is, unread-wants}
 use Rattle.reg_assign.proofs.FitStaying.{read-place}
 
 -- ---- what a value offers
@@ -41,7 +41,7 @@ offers-bank labels slots on numbers hs g x w h b e =
     let v = w.value in
     subst (λ y. home_offers (home_in hs y) (home_place numbers h y) ≡ true) w.var
     (subst (λ (d : Home). home_offers d (home_place numbers h v.var) ≡ true) (sym (home-is labels slots on numbers hs g v w.among w.wants))
-    (offers labels on numbers v (value-facts-of labels slots on numbers hs g v w.among) (result-used-of labels slots on numbers hs g v w.among) v.sort refl h b (ap (in_bank on h) w.var ∙ e)))
+    (offers labels on numbers v (value-facts-of labels slots on numbers hs g v w.among) v.sort refl h b (ap (in_bank on h) w.var ∙ e)))
 
 read-itself : (m : Mem) (n x : ℕ) (c : List Place) → home_offers (record { var = x; defined = read_place m n; copied = c }) (read_place m n) ≡ true
 read-itself Sram n x c = or_left (nat_eq n n) (list_any (same_place (read_place Sram n)) c) (in-itself n)
@@ -79,12 +79,10 @@ offered labels slots on numbers hs g u w W s i = absurd (false≢true s)
 put-defined : (labels : List Label) (on : Chosen) (numbers : Numbers) (x : ℕ) (h : Bank) → is_home_bank h ≡ true → count on (def x) ≤ 1 → on (Def x h) ≡ true → (put_home labels on numbers x (def_bank on x)).defined ≡ home_place numbers h x
 put-defined labels on numbers x h b n d = ap (λ o. (put_home labels on numbers x o).defined) (def-bank-is on x h b n d)
 
-sort-defined : (labels : List Label) (on : Chosen) (numbers : Numbers) (v : Value) → ValueFacts labels on v → (is_result v.sort ≡ true → is_used labels v.var ≡ true) → (sort : Sort) → v.sort ≡ sort → is_fetched sort ≡ false → (h : Bank) → is_home_bank h ≡ true → on (Def v.var h) ≡ true → (sort_home labels on numbers v.point v.var sort).defined ≡ home_place numbers h v.var
-sort-defined labels on numbers v f used (Parameter l i) e r h b d = let one = f.parameter (ap is_parameter e) in put-defined labels on numbers v.var h b (omega arith) d
-sort-defined labels on numbers v f used Result e r h b d =
-    let one = f.result (ap is_result e) in
-    ap (λ (w : Home). w.defined) (result-home labels on numbers v.point v.var (used (ap is_result e))) ∙ put-defined labels on numbers v.var h b (omega arith) d
-sort-defined labels on numbers v f used (Fetched m i) e r h b d = absurd (false≢true (sym r))
+sort-defined : (labels : List Label) (on : Chosen) (numbers : Numbers) (v : Value) → ValueFacts labels on v → (sort : Sort) → v.sort ≡ sort → is_fetched sort ≡ false → (h : Bank) → is_home_bank h ≡ true → on (Def v.var h) ≡ true → (sort_home labels on numbers v.point v.var sort).defined ≡ home_place numbers h v.var
+sort-defined labels on numbers v f (Parameter l i) e r h b d = let one = f.parameter (ap is_parameter e) in put-defined labels on numbers v.var h b (omega arith) d
+sort-defined labels on numbers v f Result e r h b d = let one = f.result (ap is_result e) in put-defined labels on numbers v.var h b (omega arith) d
+sort-defined labels on numbers v f (Fetched m i) e r h b d = absurd (false≢true (sym r))
 
 -- a value that is first put into a bank has its place there
 pub defined-in : (labels : List Label) (slots : ℕ) (on : Chosen) (numbers : Numbers) (hs : List Home) → Reading labels slots on numbers hs → (x : ℕ) (h : Bank) → is_home_bank h ≡ true → on (Def x h) ≡ true → (home_in hs x).defined ≡ home_place numbers h x
@@ -93,7 +91,7 @@ defined-in labels slots on numbers hs g x h b d =
     let v = t.0 in
     subst (λ y. (home_in hs y).defined ≡ home_place numbers h y) t.2
     (ap (λ (w : Home). w.defined) (home-is labels slots on numbers hs g v t.1 (unread-wants (is_used labels v.var) v.sort t.3))
-    ∙ sort-defined labels on numbers v (value-facts-of labels slots on numbers hs g v t.1) (result-used-of labels slots on numbers hs g v t.1) v.sort refl t.3 h b (ap (λ y. on (Def y h)) t.2 ∙ d))
+    ∙ sort-defined labels on numbers v (value-facts-of labels slots on numbers hs g v t.1) v.sort refl t.3 h b (ap (λ y. on (Def y h)) t.2 ∙ d))
 
 -- ---- through which register a slot is read
 

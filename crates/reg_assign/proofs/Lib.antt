@@ -23,6 +23,11 @@ pub mod CostSums
 pub mod CostUses
 pub mod CostValues
 pub mod CostAll
+pub mod Readings
+pub mod Numbered
+pub mod HomesRead
+pub mod Placed
+pub mod Promised
 pub mod ChosenHolds
 pub mod ChosenForm
 pub mod ChosenThere

@@ -9,12 +9,35 @@ ghost use Rattle.place_ir.specs.Plan.{plan_view};
 ghost use Rattle.zo_model.specs.Program.{vector, costs_of};
 ghost use Rattle.bank_prog.specs.Columns as columns;
 ghost use Rattle.bank_prog.specs.Meaning.{IsFeasible};
+ghost use Rattle.reg_assign.specs.inner.Given.{labels_in, says_in, numbers_in};
+ghost use Rattle.reg_assign.specs.inner.Reading.{IsReadOff};
 
+use crate::given::{Given, given_of};
+use crate::homes::{by_variable, homes_of};
+use crate::numbers::bank_numbers;
+use crate::reading::reading_of;
+use crate::serves::{firsts_of, passes_of, serves_of};
 use nv_base::NoMemory;
 use place_ir::Placement;
 use ssu_ir::Ssu;
 use std::alloc::Global;
 use zo_model::Assignment;
+
+/// The placement that is read off.
+fn placed(alloc: Global, g: &Given<'_>, slots: u32) -> Result<Placement, NoMemory>
+    requires { single (labels_in g.now) ≡ true }
+    ensures { IfOk result (IsReadOff (labels_in g.now) slots (says_in g.now) (numbers_in g.now)) }
+{
+    let tables = &g.reading.form.tables;
+    let homes = by_variable(homes_of(alloc, g, &tables.values)?);
+    Ok(Placement {
+        slots,
+        homes,
+        firsts: firsts_of(alloc, &g.reading, &tables.accesses)?,
+        serves: serves_of(alloc, g, &tables.uses)?,
+        passes: passes_of(alloc, &g.reading, &tables.stops)?,
+    })
+}
 
 /// The placement that a vector which meets the rows of the bank program stands for; each home gets a
 /// register of its bank, or a slot.
@@ -27,5 +50,8 @@ pub fn assign(alloc: Global, s: &Ssu, slots: u32, x: &Assignment) -> Result<Plac
     ensures slots { IfOk result (λ p. p.slots ≡ slots) }
     ensures cost { IfOk result (λ p. costs.cost (labels_view s.now) (plan_view p) ≤ costs_of (columns.costs (labels_view s.now)) (vector x.now.on.items)) }
 {
-    Err(NoMemory)
+    let reading = reading_of(alloc, s, x)?;
+    let numbers = bank_numbers(alloc, &reading)?;
+    let given = given_of(alloc, reading, numbers)?;
+    placed(alloc, &given, slots)
 }

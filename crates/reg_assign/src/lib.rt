@@ -1,11 +1,18 @@
-//! Registers and slots for the values of a form, by a vector of its bank program.
+//! Registers and slots for the values of a form, by a vector of its bank program, and the vector of a placement.
 #![tactic(auto)]
 
 mod assigned;
 mod chosen;
+mod columns;
+mod given;
+mod homes;
 mod laws;
+mod numbers;
+mod places;
 mod plan_columns;
 mod plan_tables;
+mod reading;
+mod serves;
 #[cfg(test)]
 mod tests;
 

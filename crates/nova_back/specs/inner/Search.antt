@@ -1,4 +1,4 @@
--- What the steps of the back end hand on: a vector to begin the search with, and the report of the search.
+-- What the steps of the back end hand on: a choice to begin the search with, the report of the search, and why there is none.
 use Rattle.std.specs.Prelude.{◌≡◌, ◌≤◌, ◌<◌, ◌+◌, ◌-◌, ◌*◌, ◌^◌, ℕ, List, Option, Some, None, length, ⊤}
 use Rattle.ssu_ir.specs.Measures.{peak}
 use Rattle.ssu_ir.specs.Tree.{Label}
@@ -17,7 +17,10 @@ use Rattle.zo_solve.specs.Solved.{CostsAtMost}
 use Rattle.zo_solve.specs.Vector.{start_cost}
 use Rattle.bank_prog.specs.Columns.{columns, costs}
 use Rattle.bank_prog.specs.Meaning.{IsFeasible}
-use Rattle.nova_back.specs.Causes.{IsEnded, claim_of, report_cost}
+use Rattle.bank_prog.specs.Program.{IsTooLarge}
+use Rattle.nova_back.specs.Causes.{IsReportOn, IsWithout, HasVector, IsEnded, claim_of, report_cost}
+use Rattle.nova_back.specs.declared.error.BackError.{BackError}
+use Rattle.nova_back.specs.declared.error.BackError.TheVariants as back
 
 -- ---- where a search begins
 
@@ -73,3 +76,47 @@ pub record IsFound (z : ZeroOne) (start : Option Assignment) (slots budget : ℕ
   pub ended : 2 ^ (zero_one.columns r.z + 1) - 1 ≤ budget → IsEnded r.verdict
   pub had_none : HadNone start r.verdict
   pub no_dearer : IsNoDearer z start r.verdict r
+
+-- ---- what it says of the form
+
+-- without a vector the form is crowded
+abbrev pub IsCrowdedWithout : List Label → ℕ → Verdict → Type 0
+IsCrowdedWithout labels slots Optimal = ⊤
+IsCrowdedWithout labels slots Feasible = ⊤
+IsCrowdedWithout labels slots Infeasible = IsCrowded labels slots
+IsCrowdedWithout labels slots Spent = IsCrowded labels slots
+
+-- the report of a search on the form
+pub record IsSearchOn (labels : List Label) (slots budget : ℕ) (r : Report) : Type 0 where
+  pub report : IsReportOn labels slots budget r
+  pub crowded : IsCrowdedWithout labels slots r.verdict
+  pub cheap : peak labels ≤ 15 → HasVector r.verdict → report_cost r ≤ copies_cost labels
+
+-- such a report with a vector
+pub record IsChosen (labels : List Label) (slots budget : ℕ) (r : Report) : Type 0 where
+  pub on_form : IsSearchOn labels slots budget r
+  pub found : HasVector r.verdict
+
+-- the report is told by its verdict
+abbrev pub IsTold : Report → BackError → Type 0
+IsTold report back.NoMemory = ⊥
+IsTold report (back.TooLarge n) = ⊥
+IsTold report (back.Infeasible r) = (r ≡ report) × (r.verdict ≡ Infeasible)
+IsTold report (back.Spent r) = (r ≡ report) × (r.verdict ≡ Spent)
+IsTold report (back.StoreFull n) = ⊥
+
+-- why a form has no program of the banks
+abbrev pub IsUnbuilt : List Label → ℕ → BackError → Type 0
+IsUnbuilt labels slots back.NoMemory = ⊤
+IsUnbuilt labels slots (back.TooLarge n) = IsTooLarge labels slots n
+IsUnbuilt labels slots (back.Infeasible r) = ⊥
+IsUnbuilt labels slots (back.Spent r) = ⊥
+IsUnbuilt labels slots (back.StoreFull n) = ⊥
+
+-- why no choice is found for it
+abbrev pub IsUnfound : List Label → ℕ → ℕ → BackError → Type 0
+IsUnfound labels slots budget back.NoMemory = ⊤
+IsUnfound labels slots budget (back.TooLarge n) = IsTooLarge labels slots n
+IsUnfound labels slots budget (back.Infeasible r) = IsWithout labels slots budget Infeasible r
+IsUnfound labels slots budget (back.Spent r) = IsWithout labels slots budget Spent r
+IsUnfound labels slots budget (back.StoreFull n) = ⊥

@@ -1,17 +1,20 @@
 -- How a command ends, before its text is printed.
-use Rattle.std.specs.Prelude.{◌≡◌, ◌⊎◌, ℕ, List, Result, Ok, Err, None}
+use Rattle.std.specs.Prelude.{◌≡◌, ◌⊎◌, ℕ, List, Result, Ok, Err}
 use Rattle.nv_outside.specs.Holding.{Holding}
 use Rattle.novac.specs.Answers.{IsDone, IsStopped, IsRefused}
 use Rattle.novac.specs.Command.{Command}
 use Rattle.novac.specs.declared.refusal.Refusal.{Refusal}
 use Rattle.novac.specs.declared.reply.Reply.{Reply}
 use Rattle.novac.specs.declared.save.Made.{Made}
+use Rattle.novac.specs.declared.save.Outputs.TheVariants.{Nothing}
 use Rattle.novac.specs.declared.status.Status.{Status}
-use Rattle.novac.specs.declared.status.Status.TheVariants.{Done, WriteFault, Raised, Fault, StepsSpent}
+use Rattle.novac.specs.declared.status.Status.TheVariants.{Done, WriteFault, Infeasible, BudgetSpent, Raised, Fault, StepsSpent}
 
--- such a run ends with one of these
+-- a command that isn't refused, and no save of which fails, ends with one of these
 abbrev pub IsOutcome : Status → Type 0
 IsOutcome Done = Unit {0}
+IsOutcome Infeasible = Unit {0}
+IsOutcome BudgetSpent = Unit {0}
 IsOutcome Raised = Unit {0}
 IsOutcome Fault = Unit {0}
 IsOutcome StepsSpent = Unit {0}
@@ -30,6 +33,6 @@ HasEnded Tells old new LoadRises SaveRises command status text =
 
 -- a reply as what a command makes that saves no file
 abbrev pub IsShown : Result Reply Refusal → Result Made Refusal → Type 0
-IsShown (Ok r) (Ok m) = (m.status ≡ r.status) × (m.text ≡ r.text) × (m.output ≡ None)
+IsShown (Ok r) (Ok m) = (m.status ≡ r.status) × (m.text ≡ r.text) × (m.outputs ≡ Nothing)
 IsShown (Err e) (Err f) = f ≡ e
 IsShown _ _ = ⊥

@@ -1,39 +1,43 @@
 -- How a refusal of the front end or the back end is passed on, and how it is told.
 use Rattle.std.specs.Prelude.{◌≡◌}
+use Rattle.nv_text.specs.declared.error.TextError.{TextError}
 use Rattle.nv_text.specs.declared.error.TextError.TheVariants as text
 use Rattle.nova_front.specs.declared.error.FrontError.{FrontError}
 use Rattle.nova_front.specs.declared.error.FrontError.TheVariants as front
-use Rattle.nova_back.specs.declared.error.SpillError.{SpillError}
-use Rattle.nova_back.specs.declared.error.SpillError.TheVariants as back
-use Rattle.novac.specs.declared.build.SpilledError.{SpilledError}
-use Rattle.novac.specs.declared.build.SpilledError.TheVariants as spilled
+use Rattle.nova_back.specs.declared.error.BackError.{BackError}
+use Rattle.nova_back.specs.declared.error.BackError.TheVariants as back
+use Rattle.novac.specs.declared.build.CompileError.{CompileError}
+use Rattle.novac.specs.declared.build.CompileError.TheVariants as compile
 use Rattle.novac.specs.declared.refusal.Refusal.{Refusal}
 use Rattle.novac.specs.declared.refusal.Refusal.TheVariants as refusal
 
 -- how a refusal of the front end is passed on
-abbrev pub IsPassedAs : FrontError → SpilledError → Type 0
-IsPassedAs front.NoMemory e = e ≡ spilled.NoMemory
-IsPassedAs (front.Text f) e = e ≡ spilled.Text f
-IsPassedAs (front.Fault kind place) e = e ≡ spilled.Fault kind place
-IsPassedAs (front.TooLarge size) e = e ≡ spilled.TooLarge size
+abbrev pub IsPassedAs : FrontError → CompileError → Type 0
+IsPassedAs front.NoMemory e = e ≡ compile.NoMemory
+IsPassedAs (front.Text f) e = e ≡ compile.Text f
+IsPassedAs (front.Fault kind place) e = e ≡ compile.Fault kind place
+IsPassedAs (front.TooLarge size) e = e ≡ compile.TooLarge size
 
 -- how one of the back end is passed on
-abbrev pub IsHandedAs : SpillError → SpilledError → Type 0
-IsHandedAs back.NoMemory e = e ≡ spilled.NoMemory
-IsHandedAs (back.TooLarge n) e = e ≡ spilled.TooLarge n
-IsHandedAs (back.TooFew n) e = e ≡ spilled.TooFew n
-IsHandedAs (back.StoreFull n) e = e ≡ spilled.StoreFull n
+abbrev pub IsHandedAs : BackError → CompileError → Type 0
+IsHandedAs back.NoMemory e = e ≡ compile.NoMemory
+IsHandedAs (back.TooLarge n) e = e ≡ compile.TooLarge n
+IsHandedAs (back.Infeasible r) e = e ≡ compile.Infeasible r
+IsHandedAs (back.Spent r) e = e ≡ compile.Spent r
+IsHandedAs (back.StoreFull n) e = e ≡ compile.StoreFull n
 
--- how each is told
-abbrev pub IsToldAs : SpilledError → Refusal → Type 0
-IsToldAs spilled.NoMemory e = e ≡ refusal.NoMemory
-IsToldAs (spilled.Text text.NoMemory) e = e ≡ refusal.NoMemory
-IsToldAs (spilled.Text (text.Char at)) e = e ≡ refusal.SourceChar at
-IsToldAs (spilled.Text (text.Number at)) e = e ≡ refusal.SourceNumber at
-IsToldAs (spilled.Text (text.Name at)) e = e ≡ refusal.SourceName at
-IsToldAs (spilled.Text (text.Syntax at)) e = e ≡ refusal.SourceSyntax at
-IsToldAs (spilled.Text (text.Deep at)) e = e ≡ refusal.SourceDeep at
-IsToldAs (spilled.Fault kind place) e = e ≡ refusal.SourceType kind place
-IsToldAs (spilled.TooLarge n) e = e ≡ refusal.SourceLarge n
-IsToldAs (spilled.TooFew n) e = e ≡ refusal.Unbuilt
-IsToldAs (spilled.StoreFull n) e = e ≡ refusal.StoreFull n
+-- how a fault of a text is told
+abbrev pub IsSpelledAs : TextError → Refusal → Type 0
+IsSpelledAs text.NoMemory e = e ≡ refusal.NoMemory
+IsSpelledAs (text.Char at) e = e ≡ refusal.SourceChar at
+IsSpelledAs (text.Number at) e = e ≡ refusal.SourceNumber at
+IsSpelledAs (text.Name at) e = e ≡ refusal.SourceName at
+IsSpelledAs (text.Syntax at) e = e ≡ refusal.SourceSyntax at
+IsSpelledAs (text.Deep at) e = e ≡ refusal.SourceDeep at
+
+-- how a refusal of the front end is told
+abbrev pub IsToldAs : FrontError → Refusal → Type 0
+IsToldAs front.NoMemory e = e ≡ refusal.NoMemory
+IsToldAs (front.Text f) e = IsSpelledAs f e
+IsToldAs (front.Fault kind place) e = e ≡ refusal.SourceType kind place
+IsToldAs (front.TooLarge size) e = e ≡ refusal.SourceLarge size

@@ -114,13 +114,9 @@ abbrev pub put_home : List Label → Chosen → Numbers → ℕ → Option Bank 
 put_home labels on numbers x (Some h) = record { var = x; defined = home_place numbers h x; copied = copies_of labels on numbers x }
 put_home labels on numbers x None = record { var = x; defined = first_word on (uses_of labels x); copied = [] }
 
--- a result without a use is never held: whatever the columns say, it comes into the first register
-abbrev pub unused_home : ℕ → Home
-unused_home x = record { var = x; defined = place.A 0; copied = [] }
-
 abbrev pub sort_home : List Label → Chosen → Numbers → ℕ → ℕ → Sort → Home
 sort_home labels on numbers k x (Parameter l i) = put_home labels on numbers x (def_bank on x)
-sort_home labels on numbers k x Result = if is_used labels x then put_home labels on numbers x (def_bank on x) else unused_home x
+sort_home labels on numbers k x Result = put_home labels on numbers x (def_bank on x)
 sort_home labels on numbers k x (Fetched m i) = record { var = x; defined = read_place m (begins on k + i); copied = copies_of labels on numbers x }
 
 abbrev pub value_home : List Label → Chosen → Numbers → Value → Home

@@ -1,13 +1,14 @@
 use Rattle.std.proofs.Common.{◌≡◌, ◌∙◌, ℕ, ap, sym, inr, map, length, arith}
 use Rattle.std.specs.HashMap.{get}
 use Rattle.ssu_ir.specs.View.{labels_view}
-use Rattle.zo_model.specs.Contents.{row_contents, contents}
+use Rattle.zo_model.specs.Contents.{row_contents}
 use Rattle.bank_prog.specs.declared.column.Column.{Column}
 use Rattle.bank_prog.specs.Columns.{priced, columns, costs}
 use Rattle.bank_prog.specs.Program as program
 use Rattle.bank_prog.specs.Program.{same_column, row_of, number_in, number_of}
 use Rattle.bank_prog.specs.Rows.{lines}
 use Rattle.bank_prog.proofs.FormLemmas.{length-map, rows-alike, same-program}
+use Rattle.bank_prog.proofs.PlainLines.{program-valid}
 use Rattle.bank_prog.proofs.program.build.Goals as goal
 
 pub returns-then-len-gt-COUNT_LIMIT-2-clause-many : goal.returns-then-len-gt-COUNT_LIMIT-2-clause-many
@@ -30,10 +31,26 @@ returns-clause-program c =
     let all : c.in_ok-priced.priced.items ≡ priced labels = c.in_ok-priced.ensures ∙ ap priced here in
     let same : (x : Column) → get same_column c.in_ok-numbers.numbers x ≡ number_of labels x = λ x.
     c.in_ok-numbers.ensures x ∙ ap (λ ps. number_in 0 (map (λ (d : Column × ℕ). d.0) ps) x) (c.deref.ensures.value ∙ all) in
-    ap contents c.in_ok-within_limits.ensures.same
-    ∙ same-program c.in_ok-costs.costs.items (costs labels) (map row_contents c.in_ok-rows.rows.items) (program.rows labels c.args.slots)
+    same-program c.in_ok-costs.costs.items (costs labels) (map row_contents c.in_ok-rows.rows.items) (program.rows labels c.args.slots)
     (c.in_ok-costs.ensures ∙ ap (map (λ (d : Column × ℕ). d.1)) (c.deref-3.ensures.value ∙ all))
     (c.in_ok-rows.ensures ∙ ap (λ ls. map (row_of (get same_column c.in_ok-numbers.numbers)) (lines ls c.args.slots)) here ∙ rows-alike (get same_column c.in_ok-numbers.numbers) (number_of labels) same (lines labels c.args.slots))
+
+pub returns-clause-valid : goal.returns-clause-valid
+returns-clause-valid c =
+    let labels = labels_view c.args.s.now in
+    let here : labels_view c.in_ok-f.f.ssu.now ≡ labels = ap labels_view c.in_ok-f.ensures in
+    let all : c.in_ok-priced.priced.items ≡ priced labels = c.in_ok-priced.ensures ∙ ap priced here in
+    let same : (x : Column) → get same_column c.in_ok-numbers.numbers x ≡ number_of labels x = λ x.
+    c.in_ok-numbers.ensures x ∙ ap (λ ps. number_in 0 (map (λ (d : Column × ℕ). d.0) ps) x) (c.deref.ensures.value ∙ all) in
+    let cols : length (columns labels) ≡ length c.in_ok-priced.priced.items = length-map (λ (x : Column × ℕ). x.0) (priced labels) ∙ ap length (sym all) in
+    let rows : length c.in_ok-rows.rows.items ≡ length (program.rows labels c.args.slots) =
+    sym (length-map row_contents c.in_ok-rows.rows.items) ∙ ap length c.in_ok-rows.ensures
+    ∙ length-map (row_of (get same_column c.in_ok-numbers.numbers)) (lines (labels_view c.in_ok-f.f.ssu.now) c.args.slots)
+    ∙ ap (λ ls. length (lines ls c.args.slots)) here ∙ sym (length-map (row_of (number_of labels)) (lines labels c.args.slots)) in
+    program-valid _ labels c.args.slots
+    (same-program c.in_ok-costs.costs.items (costs labels) (map row_contents c.in_ok-rows.rows.items) (program.rows labels c.args.slots)
+    (c.in_ok-costs.ensures ∙ ap (map (λ (d : Column × ℕ). d.1)) (c.deref-3.ensures.value ∙ all))
+    (c.in_ok-rows.ensures ∙ ap (λ ls. map (row_of (get same_column c.in_ok-numbers.numbers)) (lines ls c.args.slots)) here ∙ rows-alike (get same_column c.in_ok-numbers.numbers) (number_of labels) same (lines labels c.args.slots))) c.requires.single c.requires.slots (omega (arith, cols)) (omega (arith, rows))
 
 pub returns-clause-rows : goal.returns-clause-rows
 returns-clause-rows c =

@@ -1,11 +1,14 @@
 use Rattle.std.proofs.Common.{◌∙◌}
 use Rattle.std.proofs.lemmas.Result.{err_from_is_err_and}
 use Rattle.nv_ast.specs.TypedView.{typed_program}
-use Rattle.novac.proofs.Generated.{made-short, made-refused, made-word}
+use Rattle.novac.proofs.Generated.{made-short, made-refused, made-room, made-word}
 use Rattle.novac.proofs.generate.generate.Goals as goal
 
-pub compiled_of-requires : goal.compiled_of-requires
-compiled_of-requires c = made-short c.args.seed c.args.size c.deref.result.now c.requires.some c.requires.few (c.deref.ensures.value ∙ c.in_ok-source.ensures)
+pub compiled_of-requires-clause-short : goal.compiled_of-requires-clause-short
+compiled_of-requires-clause-short c = made-short c.args.seed c.args.size c.deref.result.now c.requires.some c.requires.few (c.deref.ensures.value ∙ c.in_ok-source.ensures)
+
+pub compiled_of-requires-clause-narrow : goal.compiled_of-requires-clause-narrow
+compiled_of-requires-clause-narrow c = made-room c.args.seed c.args.size c.deref.result.now c.requires.some c.requires.few (c.deref.ensures.value ∙ c.in_ok-source.ensures)
 
 pub returns-in_err-compiled-clause-refused : goal.returns-in_err-compiled-clause-refused
 returns-in_err-compiled-clause-refused c =
@@ -14,4 +17,4 @@ returns-in_err-compiled-clause-refused c =
 
 pub word_of-requires-clause-word : goal.word_of-requires-clause-word
 word_of-requires-clause-word c =
-    made-word c.args.seed c.args.size c.deref.result.now (typed_program c.in_ok-compiled.compiled.typed) c.requires.some c.requires.few (c.deref.ensures.value ∙ c.in_ok-source.ensures) c.in_ok-compiled.ensures.source
+    made-word c.args.seed c.args.size c.deref.result.now (typed_program c.in_ok-compiled.compiled.typed) c.requires.some c.requires.few (c.deref.ensures.value ∙ c.in_ok-source.ensures) c.in_ok-compiled.ensures.built.is_source

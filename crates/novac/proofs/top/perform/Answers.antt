@@ -10,7 +10,7 @@ use Rattle.novac.proofs.top.perform.Goals as goal
 pub returns-clause-ended : goal.returns-clause-ended
 returns-clause-ended g c =
     saves-end g.F.Files.tells (g.F.Files.held c.args.files.now) (g.F.Files.held c.load_inputs.new.files) (g.F.Files.held c.save.new.files) (λ (q : List ℕ). Rose (g.F.Files.save_faults c.args.files.now q) (g.F.Files.save_faults c.save.new.files q)) (λ (q : List ℕ). Rose (g.F.Files.save_faults c.load_inputs.new.files q) (g.F.Files.save_faults c.save.new.files q))
-    (command_as c.args.command) (contents_of (command_as c.args.command) c.in_ok-inputs.inputs.first.items c.in_ok-inputs.inputs.second.items) c.in_ok-made.made.status c.save.result.status (files_of c.in_ok-made.made.output) c.in_ok-made.made.text.items c.save.result.text.items
+    (command_as c.args.command) (contents_of (command_as c.args.command) c.in_ok-inputs.inputs.first.items c.in_ok-inputs.inputs.second.items) c.in_ok-made.made.status c.save.result.status (files_of c.in_ok-made.made.outputs) c.in_ok-made.made.text.items c.save.result.text.items
     c.in_ok-inputs.ensures.held (λ q. rose-later (g.F.Files.save_faults c.args.files.now q) (g.F.Files.save_faults c.load_inputs.new.files q) (g.F.Files.save_faults c.save.new.files q) (c.in_ok-inputs.ensures.save_faults q))
     c.in_ok-inputs.ensures.read c.in_ok-made.ensures.made c.save.ensures.saved
 

@@ -1,0 +1,30 @@
+use Rattle.std.proofs.Common.{◌≡◌, map, length, ap, ◌∙◌}
+use Rattle.std.specs.HashMap.{get}
+use Rattle.ssu_ir.specs.View.{labels_view}
+use Rattle.zo_model.specs.Program.{vector}
+use Rattle.bank_prog.specs.Columns.{columns}
+use Rattle.bank_prog.specs.Meaning.{on}
+use Rattle.bank_prog.specs.Program.{same_column}
+use Rattle.nova_back.specs.inner.Paired.{paired}
+use Rattle.nova_back.proofs.PairedAll.{paired-lines, vector-paired, paired-costs, same-count}
+use Rattle.nova_back.proofs.paired.paired.Goals as goal
+
+pub returns-clause-columns : goal.returns-clause-columns
+returns-clause-columns c =
+    let f = paired (get same_column c.in_ok-numbers.numbers) in
+    let names = columns (labels_view c.args.s.now) in
+    ap (λ l. length l) (c.in_ok-on.ensures ∙ ap (map f) (c.deref.ensures.value ∙ c.in_ok-names.ensures)) ∙ same-count f names
+
+pub returns-clause-feasible : goal.returns-clause-feasible
+returns-clause-feasible c = λ slots l.
+    let labels = labels_view c.args.s.now in
+    let number = get same_column c.in_ok-numbers.numbers in
+    let e : c.in_ok-on.on.items ≡ map (paired number) (columns labels) = c.in_ok-on.ensures ∙ ap (map (paired number)) (c.deref.ensures.value ∙ c.in_ok-names.ensures) in
+    paired-lines labels (on labels (vector c.in_ok-on.on.items)) slots (vector-paired labels number c.in_ok-on.on.items c.requires c.in_ok-numbers.ensures e) l
+
+pub returns-clause-cheap : goal.returns-clause-cheap
+returns-clause-cheap c =
+    let labels = labels_view c.args.s.now in
+    let number = get same_column c.in_ok-numbers.numbers in
+    let e : c.in_ok-on.on.items ≡ map (paired number) (columns labels) = c.in_ok-on.ensures ∙ ap (map (paired number)) (c.deref.ensures.value ∙ c.in_ok-names.ensures) in
+    paired-costs labels (vector c.in_ok-on.on.items) (vector-paired labels number c.in_ok-on.on.items c.requires c.in_ok-numbers.ensures e)

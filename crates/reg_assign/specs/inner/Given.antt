@@ -1,0 +1,16 @@
+-- What places are read off from, as pure data.
+use Rattle.std.specs.Prelude.{List}
+use Rattle.ssu_ir.specs.Tree.{Label}
+use Rattle.bank_prog.specs.Meaning.{Chosen}
+use Rattle.reg_assign.specs.declared.given.Given.{Given}
+use Rattle.reg_assign.specs.inner.ReadOff.{Numbers}
+use Rattle.reg_assign.specs.inner.Reading.{labels_of, says, numbers_of}
+
+abbrev pub labels_in : Given → List Label
+labels_in g = labels_of g.reading
+
+abbrev pub says_in : Given → Chosen
+says_in g = says g.reading
+
+abbrev pub numbers_in : Given → Numbers
+numbers_in g = numbers_of g.numbers

@@ -1,0 +1,39 @@
+//! What places are read off from.
+
+ghost use Rattle.std.specs.Prelude.{◌≡◌, ℕ, nat_eq, IfOk};
+ghost use Rattle.std.specs.HashMap.{get};
+ghost use Rattle.place_ir.specs.Uses.{values};
+ghost use Rattle.reg_assign.specs.inner.ReadOff as pure;
+ghost use Rattle.reg_assign.specs.inner.Reading.{says, labels_of, known_place};
+
+use crate::numbers::BankNumbers;
+use crate::places::{Came, came_of};
+use crate::reading::Reading;
+use nv_base::NoMemory;
+use std::alloc::Global;
+
+/// What places are read off from.
+#[derive(Drop)]
+pub struct Given<'a> {
+    pub reading: Reading<'a>,
+    pub numbers: BankNumbers,
+    pub came: Came,
+    ghost right: { (x : ℕ) → known_place (get nat_eq came x) ≡ pure.place_in (says reading) (values (labels_of reading)) x },
+}
+
+/// What places are read off from, by these columns and numbers.
+pub fn given_of<'a>(
+    alloc: Global,
+    reading: Reading<'a>,
+    numbers: BankNumbers,
+) -> Result<Given<'a>, NoMemory>
+    ensures reading { IfOk result (λ g. g.reading ≡ reading.entry) }
+    ensures numbers { IfOk result (λ g. g.numbers ≡ numbers) }
+{
+    let came = came_of(alloc, &reading, &reading.form.tables.values)?;
+    Ok(Given {
+        reading,
+        numbers,
+        came,
+    })
+}

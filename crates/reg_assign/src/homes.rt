@@ -1,0 +1,146 @@
+//! The homes of values.
+
+ghost use Rattle.std.specs.Prelude.{◌≡◌, ◌++◌, ℕ, map, filter, IfOk, OnOk};
+ghost use Rattle.std.specs.List.{flat_map};
+ghost use Rattle.std.specs.List.Sorted.{IsPermutation, IsNonDecreasingBy};
+ghost use Rattle.place_ir.specs.Fits as fits;
+ghost use Rattle.place_ir.specs.Plan.{home_view};
+ghost use Rattle.bank_prog.specs.inner.Form.{use_view, value_view};
+ghost use Rattle.reg_assign.specs.inner.ReadOff as pure;
+ghost use Rattle.reg_assign.specs.inner.Given.{labels_in, says_in, numbers_in};
+ghost use Rattle.reg_assign.specs.inner.Reading.{says, early_word, wanted_home};
+
+use crate::given::Given;
+use crate::places::{home_place, sort_place, word_place};
+use crate::reading::Reading;
+use bank_prog::{Bank, Column, Sort, Use, Value};
+use nv_base::NoMemory;
+use place_ir::{Home, Place};
+use std::alloc::Global;
+
+/// The copy of a value in a bank, if it has one there.
+fn push_fill(out: &mut Vec<Place>, g: &Given<'_>, x: u32, h: Bank) -> Result<(), NoMemory>
+    ensures { OnOk result (out.new.items ≡ out.old.items ++ pure.fill_at (says_in g.now) (numbers_in g.now) x h) }
+{
+    if g.reading.is_on(Column::Fill(x, h)) {
+        out.push(home_place(&g.numbers, h, x))?;
+    }
+    Ok(())
+}
+
+/// The write register of a word, if it is put early.
+fn push_word(out: &mut Vec<Place>, r: &Reading<'_>, u: Use) -> Result<(), NoMemory>
+    ensures { OnOk result (out.new.items ≡ out.old.items ++ early_word (says r.now) (use_view u)) }
+{
+    if r.goes_early(u) {
+        out.push(word_place(r, u)?)?;
+    }
+    Ok(())
+}
+
+/// The write registers of those words that are put early.
+fn push_words(out: &mut Vec<Place>, r: &Reading<'_>, us: &[Use]) -> Result<(), NoMemory>
+    ensures { OnOk result (out.new.items ≡ out.old.items ++ flat_map (early_word (says r.now)) (map use_view us.now)) }
+{
+    for u in us {
+        push_word(out, r, *u)?;
+    }
+    Ok(())
+}
+
+/// Where a value is copied directly behind its definition.
+fn copies_of(alloc: Global, g: &Given<'_>, x: u32) -> Result<Vec<Place>, NoMemory>
+    ensures { IfOk result (λ v. v.items ≡ pure.copies_of (labels_in g.now) (says_in g.now) (numbers_in g.now) x) }
+{
+    let mut copied = Vec::new(alloc);
+    push_fill(&mut copied, g, x, Bank::A)?;
+    push_fill(&mut copied, g, x, Bank::B)?;
+    push_fill(&mut copied, g, x, Bank::M)?;
+    push_words(&mut copied, &g.reading, g.reading.form.uses_of(x))?;
+    Ok(copied)
+}
+
+/// The write register of the first of these uses.
+fn first_word(r: &Reading<'_>, us: &[Use]) -> Result<Place, NoMemory>
+    ensures { IfOk result (λ q. q ≡ pure.first_word (says r.now) (map use_view us.now)) }
+{
+    match us.first() {
+        Some(u) => word_place(r, *u),
+        None => Ok(Place::Slot(0)),
+    }
+}
+
+/// The home of a value that its definition puts into a bank, or else right into the write register of its use.
+fn put_home(alloc: Global, g: &Given<'_>, x: u32) -> Result<Home, NoMemory>
+    ensures { IfOk result (λ h. home_view h ≡ pure.put_home (labels_in g.now) (says_in g.now) (numbers_in g.now) x (pure.def_bank (says_in g.now) x)) }
+{
+    match g.reading.def_bank(x) {
+        Some(h) => Ok(Home {
+            var: x,
+            defined: home_place(&g.numbers, h, x),
+            copied: copies_of(alloc, g, x)?,
+        }),
+        None => Ok(Home {
+            var: x,
+            defined: first_word(&g.reading, g.reading.form.uses_of(x))?,
+            copied: Vec::new(alloc),
+        }),
+    }
+}
+
+/// The home of a value.
+fn value_home(alloc: Global, g: &Given<'_>, v: Value) -> Result<Home, NoMemory>
+    ensures { IfOk result (λ h. home_view h ≡ pure.value_home (labels_in g.now) (says_in g.now) (numbers_in g.now) (value_view v)) }
+{
+    match v.sort {
+        Sort::Parameter(_, _) => put_home(alloc, g, v.var),
+        Sort::Result => put_home(alloc, g, v.var),
+        Sort::Fetched(_, _) => Ok(Home {
+            var: v.var,
+            defined: sort_place(&g.reading, v)?,
+            copied: copies_of(alloc, g, v.var)?,
+        }),
+    }
+}
+
+/// Whether a value wants a home: each does but a read one without a use.
+fn wants_home(g: &Given<'_>, v: Value) -> bool
+    ensures { result ≡ fits.wants_home (labels_in g.now) (value_view v) }
+{
+    match v.sort {
+        Sort::Parameter(_, _) => true,
+        Sort::Result => true,
+        Sort::Fetched(_, _) => g.reading.form.is_used(v.var),
+    }
+}
+
+/// The home of a value, if it wants one.
+fn push_home(alloc: Global, out: &mut Vec<Home>, g: &Given<'_>, v: Value) -> Result<(), NoMemory>
+    ensures { OnOk result (map home_view out.new.items ≡ map home_view out.old.items ++ wanted_home (labels_in g.now) (says_in g.now) (numbers_in g.now) (value_view v)) }
+{
+    if wants_home(g, v) {
+        out.push(value_home(alloc, g, v)?)?;
+    }
+    Ok(())
+}
+
+/// The homes of those of these values that want one.
+pub fn homes_of(alloc: Global, g: &Given<'_>, values: &[Value]) -> Result<Vec<Home>, NoMemory>
+    ensures { IfOk result (λ v. map home_view v.items ≡ flat_map (wanted_home (labels_in g.now) (says_in g.now) (numbers_in g.now)) (map value_view values.now)) }
+{
+    let mut homes = Vec::new(alloc);
+    for v in values {
+        push_home(alloc, &mut homes, g, *v)?;
+    }
+    Ok(homes)
+}
+
+/// Homes by rising variable.
+pub fn by_variable(homes: Vec<Home>) -> Vec<Home>
+    ensures same { IsPermutation homes.items result.items }
+    ensures sorted { IsNonDecreasingBy (λ h. h.var) result.items }
+{
+    let mut sorted = homes;
+    sorted.sort_unstable_by_key(|h| h.var);
+    sorted
+}
