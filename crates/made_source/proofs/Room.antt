@@ -12,7 +12,7 @@ use Rattle.nv_ast.specs.Sizes.{Lets, variables, variables_statement, variables_s
 use Rattle.nv_ast.specs.Tests.{look_up, is_among}
 use Rattle.nv_ast.specs.Tree.{BlockTree}
 use Rattle.nv_ast.specs.Types.{WordTy}
-use Rattle.nv_ast.specs.Typing.{result_ty, vars_behind}
+use Rattle.nv_ast.specs.Typing.{result_ty, vars_after, vars_behind}
 use Rattle.made_source.specs.Made.{name_of}
 use Rattle.made_source.specs.inner.Lines.{IsLine, AreLines, AreNear}
 use Rattle.made_source.specs.inner.Program.{size_of, operator_of, next_place, place_behind, name_tree, statement_of, statements_of, main_of, program_of}
@@ -42,8 +42,8 @@ other-name (suc (suc i)) zero low lt small = absurd (omega arith)
 other-name (suc (suc i)) (suc zero) low lt small = absurd (omega arith)
 other-name (suc (suc i)) (suc (suc j)) low lt small =
     not-true (bytes_eq (name_of (suc (suc i))) (name_of (suc (suc j)))) (λ e.
-      let same : i ≡ j = x-same i j (omega arith) (omega arith) ((bytes_eq-Decides (name_of (suc (suc i))) (name_of (suc (suc j)))).0 e) in
-      omega arith)
+    let same : i ≡ j = x-same i j (omega arith) (omega arith) ((bytes_eq-Decides (name_of (suc (suc i))) (name_of (suc (suc j)))).0 e) in
+    omega arith)
 
 absent-one : (m n : ℕ) → 2 ≤ m → m < n → n < 2 ^ 64 → IsAbsent m (name_of n ∷ [])
 absent-one m n low lt small = or-false (bytes_eq (name_of m) (name_of n)) false (other-name m n low lt small) refl
@@ -74,6 +74,11 @@ lets-more j (suc n) =
     let e : j + suc n ≡ suc j + n = omega arith in
     rw e (ap (λ (lets : Lets). (name_of j ∷ [], 1) ∷ lets) (lets-more (suc j) n))
 
+lets-two : (i : ℕ) → lets_from 2 i ++ (name_of (suc (suc i)) ∷ [], 1) ∷ [] ≡ lets_from 2 (suc i)
+lets-two i =
+    let e : 2 + i ≡ suc (suc i) = omega arith in
+    subst (λ (m : ℕ). lets_from 2 i ++ (name_of m ∷ [], 1) ∷ [] ≡ lets_from 2 (suc i)) e (lets-more 2 i)
+
 one-or-none : (b : Bool) → (if b then 1 else 0) ≤ 1
 one-or-none true = omega arith
 one-or-none false = omega arith
@@ -86,13 +91,18 @@ pending-all written j (suc n) =
     let rest = pending-all written (suc j) n in
     omega arith
 
+not-pending : (b : Bool) (p n : ℕ) → b ≡ false → p ≤ n → (if b || false then 1 else 0) + p ≤ n
+not-pending true p n e h = absurd cc
+not-pending false p n e h = omega arith
+
 pending-newest : (written : List (List ℕ)) (j k n : ℕ) → ((m : ℕ) → j ≤ m → m < j + k → IsAbsent m written) → pending (lets_from j (k + n)) written ≤ n
 unfolding lets_from
 pending-newest written j zero n h = let e : 0 + n ≡ n = omega arith in rw e (pending-all written j n)
 pending-newest written j (suc k) n h =
     let none : IsAbsent j written = h j (omega arith) (omega arith) in
     let rest = pending-newest written (suc j) k n (λ m low lt. h m (omega arith) (omega arith)) in
-    rw none rest
+    let e : suc (k + n) ≡ suc k + n = omega arith in
+    subst (λ (m : ℕ). pending (lets_from j m) written ≤ n) e (not-pending (is_among (name_of j) written) (pending (lets_from (suc j) (k + n)) written) n none rest)
 
 -- at line i eight at most are wanted
 eight-or_more : (rest n : ℕ) → rest ≡ n - 8 → (n ≤ 8) ⊎ ((k : ℕ) × (n ≡ k + 8))
@@ -114,7 +124,9 @@ let-one k vars i p line = rw (result-word line.operator) refl
 lets-lines : (k : Known) (vars : Vars) (i p : ℕ) (lines : List Line) → lets_behind k vars (statements_of i p lines) ≡ lets_from (suc (suc i)) (length lines)
 unfolding lets_from
 lets-lines k vars i p [] = refl
-lets-lines k vars i p (line ∷ lines) = rw (let-one k vars i p line) (ap (λ (lets : Lets). (name_of (suc (suc i)) ∷ [], 1) ∷ lets) (lets-lines k ((name_of (suc (suc i)), result_ty (operator_of line.operator)) ∷ vars) (suc i) (next_place i p line) lines))
+lets-lines k vars i p (line ∷ lines) =
+    ap (λ (first : Lets). first ++ lets_behind k (vars_after k vars (statement_of i p line)) (statements_of (suc i) (next_place i p line) lines)) (let-one k vars i p line)
+    ∙ ap (λ (lets : Lets). (name_of (suc (suc i)) ∷ [], 1) ∷ lets) (lets-lines k (vars_after k vars (statement_of i p line)) (suc i) (next_place i p line) lines)
 
 -- ---- needs
 name-need : (k : Known) (vars : Vars) (name q : ℕ) → look_up (name_of name) vars ≡ Some WordTy → need [] k vars (name_tree name q) ≡ 3
@@ -142,21 +154,23 @@ lines-need k vars i p (line ∷ lines) written l near h small newest =
     let sts = statements_of (suc i) (next_place i p line) lines in
     let wanted = variables_statement st ++ (variables_statements sts ++ written) in
     let absent : AreNewest i wanted = λ m low lt.
-      absent-both m (variables_statement st) (variables_statements sts ++ written) (absent-line m i p line low lt l.0 near.0.0 near.0.1 (omega arith))
-      (absent-both m (variables_statements sts) written (absent-lines m (suc i) (next_place i p line) lines low (omega arith) l.1 near.1 (omega arith)) (newest m low (omega arith))) in
+    absent-both m (variables_statement st) (variables_statements sts ++ written) (absent-line m i p line low lt l.0 near.0.0 near.0.1 (omega arith))
+    (absent-both m (variables_statements sts) written (absent-lines m (suc i) (next_place i p line) lines low (omega arith) l.1 near.1 (omega arith)) (newest m low (omega arith))) in
     let own = line-need k vars i p line l.0 h in
     let few = pending-few wanted i absent in
     let rest = lines-need k next (suc i) (next_place i p line) lines written l.1 near.1 (words-more (suc (suc i)) (result_ty (operator_of line.operator)) vars (result-word line.operator) h) (omega arith) (λ m low lt. newest m low (omega arith)) in
     greatest (pending (lets_from 2 i) wanted + need_statement [] k vars st) (need_statements [] k next (lets_from 2 i ++ let_of k vars st) sts written) 17 (omega arith)
-    (rw (let-one k vars i p line) (rw (lets-more 2 i) rest))
+    (subst (λ (lets : Lets). need_statements [] k next lets sts written ≤ 17) (sym (ap (λ (more : Lets). lets_from 2 i ++ more) (let-one k vars i p line) ∙ lets-two i)) rest)
 
 body-need : (k : Known) (vars : Vars) (s : Span) (lines : List Line) (name q : ℕ) → AreLines 0 lines → AreNear 0 lines → AllWords 2 vars → name < length lines + 2 → length lines ≤ name → length lines ≤ 500
     → need [] k vars (BlockTree s (statements_of 0 35 lines) (name_tree name q)) ≤ 19
+unfolding lets_from
 body-need k vars s lines name q l near h lt le few =
     let written = name_of name ∷ [] in
     let newest : AreNewest (length lines) written = λ m low behind. absent-one m name low (omega arith) (omega arith) in
+    let from_first : AreNewest (0 + length lines) written = λ m low behind. absent-one m name low (omega arith) (omega arith) in
     let sts = statements_of 0 35 lines in
-    let first : need_statements [] k vars [] sts written ≤ 17 = lines-need k vars 0 35 lines written l near h (omega arith) newest in
+    let first : need_statements [] k vars [] sts written ≤ 17 = lines-need k vars 0 35 lines written l near h (omega arith) from_first in
     let last = name-need k (vars_behind k vars sts) name q (words-behind k 0 35 lines vars h name lt) in
     let lets = lets-lines k vars 0 35 lines in
     let wanted : pending (lets_behind k vars sts) written ≤ 8 = rw lets (pending-few written (length lines) newest) in

@@ -1,16 +1,19 @@
 -- What a source that isn't refused comes to, as what `compile` makes of it.
-use Rattle.std.proofs.Common.{◌≡◌, ℕ, List, [], ◌∷◌, length, refl}
+use Rattle.std.proofs.Common.{◌≡◌, ℕ, List, [], ◌∷◌, length, refl, ap, sym, ◌∙◌, subst}
 use Rattle.nv_ast.specs.TypedView.{typed_program}
 use Rattle.uc_object.specs.Object.{IsObject}
 use Rattle.zo_cert.specs.declared.report.Report.{Report}
 use Rattle.zo_cert.specs.declared.report.Verdict.{Verdict}
+use Rattle.zo_cert.specs.declared.report.Verdict.TheVariants as verdict
 use Rattle.nova_back.specs.Causes.{report_cost}
 use Rattle.novac.specs.Checking.{IsReportOf}
-use Rattle.novac.specs.Headline.{CompiledMakes, WithoutMakes}
-use Rattle.novac.specs.Lines.{compiled_text}
+use Rattle.novac.specs.Headline.{CompiledMakes, WithoutMakes, CompileMakes}
+use Rattle.novac.specs.Lines.{compiled_text, infeasible_text, spent_text}
 use Rattle.novac.specs.Saving.{File, file}
 use Rattle.novac.specs.inner.Found.{IsBuilt, IsWithoutBanks}
 use Rattle.novac.specs.declared.build.Compiled.{Compiled}
+use Rattle.novac.specs.declared.status.Status.{Status}
+use Rattle.novac.specs.declared.status.Status.TheVariants as status
 
 pub built-made : (text object_name report_name object report : List ℕ) (slots budget store : ℕ) (t : Compiled) (files : List File) (line : List ℕ) → IsBuilt text slots budget store t
     → IsObject object t.built.code → IsReportOf report t.built.report → files ≡ file object_name object ∷ file report_name report ∷ []
@@ -36,9 +39,9 @@ built-made text object_name report_name object report slots budget store t files
   told = told;
 }
 
-pub without-made : (text report_name report : List ℕ) (slots budget : ℕ) (verdict : Verdict) (r : Report) (files : List File) → IsWithoutBanks text slots budget verdict r → IsReportOf report r → files ≡ file report_name report ∷ []
-    → WithoutMakes text report_name slots budget verdict files
-without-made text report_name report slots budget verdict r files h reports saves = record {
+pub without-made : (text report_name report : List ℕ) (slots budget : ℕ) (v : Verdict) (r : Report) (files : List File) → IsWithoutBanks text slots budget v r → IsReportOf report r → files ≡ file report_name report ∷ []
+    → WithoutMakes text report_name slots budget v files
+without-made text report_name report slots budget v r files h reports saves = record {
   program = h.program;
   is_source = h.is_source;
   report = report;
@@ -47,3 +50,20 @@ without-made text report_name report slots budget verdict r files h reports save
   without = h.without;
   saves = saves;
 }
+
+pub two-files : (a b f g : File) → a ≡ f → b ≡ g → a ∷ b ∷ [] ≡ f ∷ g ∷ []
+two-files a b f g h k = ap (λ (x : File). x ∷ b ∷ []) h ∙ ap (λ (x : File). f ∷ x ∷ []) k
+
+pub told-by : (n m : ℕ) (v : Verdict) (k l : ℕ) (line : List ℕ) → line ≡ compiled_text n v k → n ≡ m → k ≡ l → line ≡ compiled_text m v l
+told-by n m v k l line told h e = told ∙ ap (λ (x : ℕ). compiled_text x v k) h ∙ ap (λ (x : ℕ). compiled_text m v x) e
+
+-- by the status
+pub infeasible-made : (text object_name report_name report : List ℕ) (slots budget store : ℕ) (r : Report) (s : Status) (files : List File) (line : List ℕ) → IsWithoutBanks text slots budget verdict.Infeasible r → IsReportOf report r
+    → s ≡ status.Infeasible → files ≡ file report_name report ∷ [] → line ≡ infeasible_text → CompileMakes text object_name report_name slots budget store s files line
+infeasible-made text object_name report_name report slots budget store r s files line h reports is saves told =
+    subst (λ (x : Status). CompileMakes text object_name report_name slots budget store x files line) (sym is) (without-made text report_name report slots budget verdict.Infeasible r files h reports saves, told)
+
+pub spent-made : (text object_name report_name report : List ℕ) (slots budget store : ℕ) (r : Report) (s : Status) (files : List File) (line : List ℕ) → IsWithoutBanks text slots budget verdict.Spent r → IsReportOf report r
+    → s ≡ status.BudgetSpent → files ≡ file report_name report ∷ [] → line ≡ spent_text budget → CompileMakes text object_name report_name slots budget store s files line
+spent-made text object_name report_name report slots budget store r s files line h reports is saves told =
+    subst (λ (x : Status). CompileMakes text object_name report_name slots budget store x files line) (sym is) (without-made text report_name report slots budget verdict.Spent r files h reports saves, told)

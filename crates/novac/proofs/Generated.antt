@@ -4,6 +4,7 @@ use Rattle.std.specs.Prelude.{slice_index}
 use Rattle.std.proofs.lemmas.List.Elements.{All-nil, All-cons}
 use Rattle.nv_ast.specs.Sizes.{main_words, room}
 use Rattle.nv_ast.specs.Tree.{ProgramTree}
+use Rattle.nv_ast.specs.TypedView.{typed_program}
 use Rattle.nv_base.specs.Memories.{Memories, HasSizes}
 use Rattle.nv_base.specs.Meanings.{FullOutcome, IsOver}
 use Rattle.nv_base.specs.declared.outcome.Outcome.{Outcome}
@@ -21,14 +22,16 @@ use Rattle.made_source.specs.Laws.{HasProgram}
 use Rattle.made_source.specs.Made.{made}
 use Rattle.made_source.proofs.Programs.{each_has_program}
 use Rattle.novac.specs.Forms.{IsCodeFor}
-use Rattle.novac.specs.Generating.{GenRefuses, MeansWord}
+use Rattle.nova_back.specs.Causes.{report_cost}
+use Rattle.novac.specs.Generating.{GenRefuses, IsGenerated, MeansWord, generated_text}
 use Rattle.novac.specs.Headline.{CompileRefuses, IsUnfit}
-use Rattle.novac.specs.Limits.{slots_limit, store_limit}
+use Rattle.novac.specs.Limits.{slots_limit, budget_default, store_limit}
 use Rattle.novac.specs.Lines.{IsUncaused}
 use Rattle.novac.specs.Machine.{spill_base}
 use Rattle.novac.specs.Reading.{HasTyped}
 use Rattle.novac.specs.declared.refusal.Refusal.{Refusal}
-use Rattle.novac.specs.inner.Found.{IsWithoutBanks}
+use Rattle.novac.specs.declared.build.Compiled.{Compiled}
+use Rattle.novac.specs.inner.Found.{IsBuilt, IsWithoutBanks}
 use Rattle.novac.specs.inner.Generated.{HasRoom, HasWord, AreWord}
 use Rattle.novac.proofs.OneSource.{source-good}
 
@@ -64,6 +67,23 @@ no-room bytes budget verdict r narrow h =
     let few : slots_limit < room h.program = h.without.few_slots in
     let most : room h.program ≤ 128 = narrow h.program h.is_source in
     omega arith
+
+-- what is told of its code
+pub generated-by : (seed size : ℕ) (bytes line : List ℕ) (t : Compiled) (long instructions word : ℕ) → bytes ≡ made seed size → IsBuilt bytes slots_limit budget_default store_limit t → long ≡ length bytes → instructions ≡ length t.built.code.list
+    → MeansWord (typed_program t.typed) word → line ≡ generated_text seed size long instructions t.built.report.verdict (report_cost t.built.report) word → IsGenerated seed size line
+generated-by seed size bytes line t long instructions word is h counted number means told = record {
+  program = typed_program t.typed;
+  is_source = subst (λ (x : List ℕ). IsTypedSource x (typed_program t.typed)) is h.is_source;
+  c = t.built.code;
+  code = h.code;
+  short = h.short;
+  r = t.built.report;
+  banks = h.banks;
+  word = word;
+  means = means;
+  told = told ∙ ap (λ (n : ℕ). generated_text seed size n instructions t.built.report.verdict (report_cost t.built.report) word) (counted ∙ ap (λ (x : List ℕ). length x) is)
+      ∙ ap (λ (n : ℕ). generated_text seed size (length (made seed size)) n t.built.report.verdict (report_cost t.built.report) word) number;
+}
 
 -- its program means a word
 pub made-word : (seed size : ℕ) (bytes : List ℕ) (t : ProgramTree) → 1 ≤ size → size ≤ 500 → bytes ≡ made seed size → IsTypedSource bytes t → HasWord t

@@ -1,9 +1,11 @@
--- The files that `compile` saves have different names.
-use Rattle.std.proofs.Common.{◌≡◌, ℕ, Bool, true, false, ◌&&◌, List, [], ◌∷◌, Option, Some, None, codes, refl}
-use Rattle.std.specs.Prelude.{not, option_map, if◌then◌else◌}
+-- What the words of `compile` name: files with different names, and options.
+use Rattle.std.proofs.Common.{◌≡◌, ℕ, ◌<◌, Bool, true, false, ◌&&◌, List, [], ◌∷◌, Option, Some, None, length, codes, refl, ap, sym, ◌∙◌, subst, arith}
+use Rattle.std.specs.Global.{Global}
+use Rattle.std.specs.Prelude.{String, not, ◌==◌, option_map, if◌then◌else◌}
 use Rattle.std.specs.Str.{bytes_eq}
 use Rattle.std.proofs.lemmas.Slice.Eq.{bytes_eq-Decides}
-use Rattle.novac.specs.Command.{Command, Run, Exec, Asm, Dis, Lint, Check, Options, IfCompile, is_name, are_names, number_in, steps_of, gen_with, gen_of, command_of_two, command_of_three, command_of_four, command_of_more, compile_with, compile_of, options_of, command_of}
+use Rattle.novac.specs.Command.{Command, Run, Exec, Asm, Dis, Lint, Check, Options, IfCompile, is_name, are_names, number_in, steps_of, gen_with, gen_of, command_of_two, command_of_three, command_of_four, command_of_more, compile_with, compile_of, options_of, options_with, taken, texts, command_of}
+use Rattle.novac.specs.Limits.{slots_limit, budget_default, budget_limit, store_default, store_limit}
 
 abbrev pub AreApart : Option Command → Type 0
 AreApart o = IfCompile o (λ source object report slots budget store. object ≡ report → ⊥)
@@ -71,3 +73,20 @@ words-apart (verb ∷ []) = tt
 words-apart (verb ∷ a ∷ []) = two-apart verb a
 words-apart (verb ∷ a ∷ b ∷ []) = three-apart verb a b
 words-apart (verb ∷ a ∷ b ∷ c ∷ words) = more-apart verb a b c words
+
+-- ---- options behind which a word stands
+with-none : (slots budget store : ℕ) (words : List (List ℕ)) → 0 < length words → options_with slots budget store words ≡ None
+with-none slots budget store [] some = absurd (omega arith)
+with-none slots budget store (word ∷ words) some = refl
+
+pub options-none : (words slots budget store : List (List ℕ)) → slots ≡ (taken (codes "slots=") 0 slots_limit slots_limit words).1 → budget ≡ (taken (codes "budget=") 1 budget_limit budget_default slots).1
+    → store ≡ (taken (codes "store=") 1 store_limit store_default budget).1 → 0 < length store → options_of words ≡ None
+options-none words slots budget store first second third some =
+    let by_budget : List (List ℕ) → List (List ℕ) = λ x. (taken (codes "budget=") 1 budget_limit budget_default x).1 in
+    let by_store : List (List ℕ) → List (List ℕ) = λ x. (taken (codes "store=") 1 store_limit store_default x).1 in
+    let left : store ≡ by_store (by_budget (taken (codes "slots=") 0 slots_limit slots_limit words).1) = third ∙ ap by_store (second ∙ ap by_budget first) in
+    with-none _ _ _ _ (subst (λ (x : List (List ℕ)). 0 < length x) left some)
+
+pub words-left : (empty : Bool) (words : List (String Global)) → empty ≡ (length words == 0) → empty ≡ false → 0 < length (texts words)
+words-left empty [] is e = let no-way : true ≡ false = sym is ∙ e in absurd cc
+words-left empty (word ∷ words) is e = omega arith

@@ -76,7 +76,7 @@ pub fn found_of<'a>(alloc: Global, text: &[u8], options: Options) -> Result<Foun
 
 // Whether it is refused, or has a report.
 fn sorted<'a>(error: CompileError) -> Result<Found, Refusal<'a>>
-    ensures { IsSortedAs error.entry result }
+    ensures { IsSortedAs error result }
 {
     match error {
         CompileError::Infeasible(report) => Ok(Found::Infeasible(report)),
@@ -124,7 +124,7 @@ fn report_made<'a>(
 ) -> Result<Made<'a>, NoMemory>
     requires { IsValidReport report.now }
     ensures status { IfOk result (λ m. m.status ≡ status) }
-    ensures text { IfOk result (λ m. m.text.items ≡ text.entry.items) }
+    ensures text { IfOk result (λ m. m.text.items ≡ text.items) }
     ensures saves { IfOk result (λ m. files_of m.outputs ≡ file name.now (report_text (report_contents report.now)) ∷ []) }
     ensures told { IfOk result (λ m. AreTold m.outputs) }
     ensures report { IsReportOf (report_text (report_contents report.now)) report.now }

@@ -47,7 +47,7 @@ pub struct Product {
 impl<'a> Output<'a> {
     /// These bytes, under this name.
     pub fn new(alloc: Global, name: &'a str, bytes: Vec<u8>) -> Result<Output<'a>, NoMemory>
-        ensures file { IfOk result (λ o. file_of o ≡ file name.now bytes.entry.items) }
+        ensures file { IfOk result (λ o. file_of o ≡ file name.now bytes.items) }
         ensures told { IfOk result IsTold }
     {
         let fault = named_line(alloc, b"cannot write ", name)?;
@@ -57,7 +57,7 @@ impl<'a> Output<'a> {
     /// Saves the file, and gives the reply, or where that failed a write fault.
     fn save<F: Files>(self, reply: Reply, files: &mut F) -> Reply
         requires { IsTold self }
-        ensures saved { ((result.status ≡ reply.entry.status) × (result.text.items ≡ reply.entry.text.items) × (F.tells → AreSaved (file_of self.entry ∷ []) (F.held files.old) (F.held files.new))) ⊎ ((result.status ≡ Status.WriteFault) × IsCut F.tells (file_of self.entry ∷ []) (F.held files.old) (F.held files.new) (λ name. Rose (F.save_faults files.old name) (F.save_faults files.new name) × (result.text.items ≡ cannot_write name))) }
+        ensures saved { ((result.status ≡ reply.status) × (result.text.items ≡ reply.text.items) × (F.tells → AreSaved (file_of self.entry ∷ []) (F.held files.old) (F.held files.new))) ⊎ ((result.status ≡ Status.WriteFault) × IsCut F.tells (file_of self.entry ∷ []) (F.held files.old) (F.held files.new) (λ name. Rose (F.save_faults files.old name) (F.save_faults files.new name) × (result.text.items ≡ cannot_write name))) }
     {
         match files.save(self.name, &self.bytes) {
             Saved::Done => reply,
