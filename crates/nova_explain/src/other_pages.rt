@@ -176,8 +176,10 @@ With status 8, `too large N` says one of four things (README.md). Of a source th
         name: "status 9",
         text: r#"status 9, infeasible
 
-`infeasible` with status 9 is said by `compile`. No choice of banks is possible with so few slots: more values are held at once than registers and slots can have.
-REPORT alone is saved, and `check` says so of it. Here forty words are held, and the two banks and the read registers have 38. Give it slots, or use the words sooner:
+`infeasible` with status 9 is said by `compile`. No choice of banks is possible with so few slots: more values are held at once than registers and slots can
+have. It comes only where more than 15 values are held at once, and more than there are slots. REPORT alone is saved. It proves that, and `check` says so.
+Here forty words are held, and the two banks and the read registers have 38. Two slots don't help either, since a slot is written and read by way of a
+transfer register. Give it more slots, or use the words sooner:
 
     s:
     | fun main[]: word {
@@ -192,7 +194,7 @@ REPORT alone is saved, and `check` says so of it. Here forty words are held, and
     saved r: %any
     $ check r
     0 infeasible
-    $ compile s o r slots=2
+    $ compile s o r
     0 compiled ..
     saved o: %any
     saved r: %any
@@ -202,8 +204,10 @@ REPORT alone is saved, and `check` says so of it. Here forty words are held, and
         name: "infeasible",
         text: r#"status 9, infeasible
 
-`infeasible` with status 9 is said by `compile`. No choice of banks is possible with so few slots: more values are held at once than registers and slots can have.
-REPORT alone is saved, and `check` says so of it. Here forty words are held, and the two banks and the read registers have 38. Give it slots, or use the words sooner:
+`infeasible` with status 9 is said by `compile`. No choice of banks is possible with so few slots: more values are held at once than registers and slots can
+have. It comes only where more than 15 values are held at once, and more than there are slots. REPORT alone is saved. It proves that, and `check` says so.
+Here forty words are held, and the two banks and the read registers have 38. Two slots don't help either, since a slot is written and read by way of a
+transfer register. Give it more slots, or use the words sooner:
 
     s:
     | fun main[]: word {
@@ -218,7 +222,7 @@ REPORT alone is saved, and `check` says so of it. Here forty words are held, and
     saved r: %any
     $ check r
     0 infeasible
-    $ compile s o r slots=2
+    $ compile s o r
     0 compiled ..
     saved o: %any
     saved r: %any
@@ -228,16 +232,18 @@ REPORT alone is saved, and `check` says so of it. Here forty words are held, and
         name: "status 10",
         text: r#"status 10, budget
 
-`budget N` with status 10 is said by `compile`. All N branches of the search were used before a choice of banks was found, and none may be possible.
-REPORT alone is saved, and `check` says `spent` of it. It comes only where more than 15 values are held at once, and more than there are slots. Give it slots, or a greater budget.
+`budget N` with status 10 is said by `compile`. All N branches of the search were used before a choice of banks was found. One may be possible or not.
+It comes only where more than 15 values are held at once, and more than there are slots. REPORT alone is saved, and `check` says `spent` of it.
+Give it slots, or a greater budget.
 "#,
     },
     Page {
         name: "budget",
         text: r#"status 10, budget
 
-`budget N` with status 10 is said by `compile`. All N branches of the search were used before a choice of banks was found, and none may be possible.
-REPORT alone is saved, and `check` says `spent` of it. It comes only where more than 15 values are held at once, and more than there are slots. Give it slots, or a greater budget.
+`budget N` with status 10 is said by `compile`. All N branches of the search were used before a choice of banks was found. One may be possible or not.
+It comes only where more than 15 values are held at once, and more than there are slots. REPORT alone is saved, and `check` says `spent` of it.
+Give it slots, or a greater budget.
 "#,
     },
     Page {
@@ -530,7 +536,7 @@ Of `run` the code ended, of `exec` the program, and of every other command what 
         name: "status 2",
         text: r#"status 2: usage
 
-`usage`: the words are no command. A number may be out of its range, a file's name empty, or two names the same.
+`usage`: the words are no command. A number may be out of its range, an option out of its order, a file's name empty, or two names the same.
 "#,
     },
     Page {
@@ -546,7 +552,8 @@ So an absent memory text beside a faulty source is status 3.
         name: "status 4",
         text: r#"status 4: cannot write
 
-`cannot write NAME`: an output can't be written. Without a line the output itself failed; then what was saved stays.
+`cannot write NAME`: an output can't be written. `compile` saves the object before the report, so where the report fails the object is there.
+Without a line the output itself failed. Then what was saved stays.
 "#,
     },
     Page {
