@@ -146,7 +146,8 @@ With status 8, `too large N` says one of four things (README.md). Of a source th
         name: "status 11",
         text: r#"status 11, store
 
-`store LENGTH` with status 11 is said by `compile`, and by `gen` of a made source. The code has LENGTH instructions, more than the N of `store=N`, or than 2,048.
+`store LENGTH` with status 11 is said by `compile`, and by `gen` of a made source.
+The code has LENGTH instructions, more than the N of `store=N`, or than 2,048.
 
     s: fun main[a: word, b: word]: word { a + b }
     $ compile s o r store=1
@@ -161,7 +162,8 @@ With status 8, `too large N` says one of four things (README.md). Of a source th
         name: "store",
         text: r#"status 11, store
 
-`store LENGTH` with status 11 is said by `compile`, and by `gen` of a made source. The code has LENGTH instructions, more than the N of `store=N`, or than 2,048.
+`store LENGTH` with status 11 is said by `compile`, and by `gen` of a made source.
+The code has LENGTH instructions, more than the N of `store=N`, or than 2,048.
 
     s: fun main[a: word, b: word]: word { a + b }
     $ compile s o r store=1
