@@ -1,4 +1,5 @@
-"""Rows on what stands beside the program: the files for editors, examples/packet and examples/check_report."""
+"""Rows on what stands beside the program: the files for editors, examples/packet and examples/check_report; and on reports and made
+sources, whose answers have to agree with one another."""
 import importlib.machinery
 import json
 import os
@@ -37,6 +38,55 @@ class ReportRow:
         found = [] if checked == again == " ".join(compiled[2:]) + "\n" else [f"{compiled}, {checked!r}, {again!r}"]
         cost = sum(move_cost(line.split()) for line in said(novac, "dis", "o").splitlines())
         return found if cost <= int(compiled[3]) else [*found, f"the moves cost {cost}, above {compiled[3]}"]
+
+
+class MadeRow:
+    """What `gen` says of a made source is what `compile` says of its text, and what `run` and `exec` come to on 1 and 2."""
+
+    where = "tests/tools.py"
+
+    def __init__(self, seed, size, top):
+        self.name, self.seed, self.size, self.top = f"gen {seed} {size} as by compile", seed, size, top
+
+    def differences(self, novac, at):
+        def said(*words):
+            return subprocess.run([novac, *words], cwd=at, capture_output=True, text=True, timeout=60).stdout
+
+        text = module(self.top, "bench/run").made(self.seed, self.size)
+        for name, content in (("s", text), ("m", "memory 0 0\nargs 00000001 00000002\n")):
+            with open(os.path.join(at, name), "w") as it:
+                it.write(content)
+        compiled = said("compile", "s", "o", "r", "store=1048576").split()
+        ended = [said(*words).split("\n")[0] for words in (("run", "o", "m", "steps=100000000"), ("exec", "s", "m", "steps=1"))]
+        wanted = f"gen {self.seed} {self.size} source {len(text)} length {' '.join(compiled[1:])} outcome {ended[0][6:]}\n"
+        found = said("gen", str(self.seed), str(self.size))
+        return [] if found == wanted and ended[0] == ended[1] else [f"{found!r}, wanted {wanted!r}, {ended}"]
+
+
+class CrowdedRow:
+    """More words are held at once than fit registers, and there is one branch: the report says that there are no banks, or that they
+    weren't found. Which of the two no contract fixes."""
+
+    where, name = "tests/tools.py", "one branch for forty words without slots"
+
+    def __init__(self, top):
+        self.top = top
+
+    def differences(self, novac, at):
+        def said(*words):
+            ran = subprocess.run([novac, *words], cwd=at, capture_output=True, text=True, timeout=60)
+            return ran.returncode, ran.stdout
+
+        with open(os.path.join(at, "s"), "w") as it:
+            it.write(module(self.top, "bench/run").FORTY)
+        status, line = said("compile", "s", "o", "r", "slots=0", "budget=1")
+        checked = said("check", "r")
+        with open(os.path.join(at, "r")) as it:
+            branches = sum(row.startswith("b ") for row in it)
+        proved, spent = (9, "infeasible\n", (0, "infeasible\n")), (10, "budget 1\n", (0, "spent\n"))
+        found = (status, line, checked)
+        good = found == proved and branches <= 1 or found == spent and branches == 1
+        return [] if good and not os.path.exists(os.path.join(at, "o")) else [f"{found}, {branches} branches"]
 
 
 def move_cost(words):
@@ -131,4 +181,5 @@ def all_rows(top):
     rows += [("the pages of nova_explain are those of docs/FAULTS.md", pages_as_made)]
     rows += [("a packet's hex dump and back", there_and_back), ("forms of hex dumps", dumps)]
     sources = sorted(it for it in os.listdir(os.path.join(top, "examples")) if it.endswith(".nova"))
-    return [ToolRow(name, body, top) for name, body in rows] + [ReportRow(it, top) for it in sources]
+    made = [MadeRow(seed, size, top) for seed, size in ((0, 2), (1, 60))]
+    return [ToolRow(name, body, top) for name, body in rows] + [ReportRow(it, top) for it in sources] + made + [CrowdedRow(top)]
