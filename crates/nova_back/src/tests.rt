@@ -1,4 +1,4 @@
-// The code of a sum, code that is too long, and a form that holds more than there is room for.
+// The code of a sum, and code that is too long.
 
 use crate::{BackError, Built, back};
 use nv_base::{Bin, NoMemory, Vars};

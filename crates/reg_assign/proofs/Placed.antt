@@ -14,7 +14,7 @@ use Rattle.place_ir.specs.declared.place.Home.{Home as KeptHome}
 use Rattle.place_ir.specs.declared.place.Placement.{Placement}
 use Rattle.place_ir.specs.Held.{Kept, items_of}
 use Rattle.place_ir.specs.Plan.{Home, Plan, home_view}
-use Rattle.place_ir.specs.Uses.{Value, values, accesses, Use, uses, uses_of}
+use Rattle.place_ir.specs.Uses.{Value, accesses, Use, uses, uses_of}
 use Rattle.bank_prog.specs.declared.column.Bank.TheVariants.{A, B, M}
 use Rattle.bank_prog.specs.declared.form.Value.{Value as KeptValue}
 use Rattle.bank_prog.specs.Columns.{each_point}
