@@ -50,7 +50,8 @@ pub fn run<F: Files, K: Sink>(
     out: &mut K,
 ) -> Status
     // The headline: the object that `compile` saved is that of lawful code that does what the source says, and its report is
-    // true. Where that says optimal, no vector that meets the rows of its 0-1 program costs less.
+    // true. Where that says optimal, no vector that meets the rows of its 0-1 program costs less. The code's moves cost no more
+    // than the report says.
     ensures compiled { F.tells → result ≡ Status.Done → IfCompile (command_of (texts_of words.now)) (λ source object report slots budget store. (line : List ℕ) × IsCompiled (F.held files.old) (F.held files.new) source object report slots budget store line × (K.tells → K.written out.new ≡ K.written out.old ++ line)) }
 
     // Where no banks are found, the report alone is saved. It is true, and says that none meet the rows, or that the budget was
