@@ -6,7 +6,8 @@ use Rattle.nv_outside.specs.Holding.{Holding, AppendsFront}
 use Rattle.novac.specs.Answers.{Makes, CanMake, CanEnd, Refuses, Shows, IsRefusable, IsCaused, IsDone, IsStopped, IsRefused, Ends, IsPrinted, IsBegun, IsFree, IsOnly}
 use Rattle.novac.specs.Command.{Command, Compile, Run, Exec, Asm, Dis, Lint, Check, Gen, IfCommand, IfCompile, IfGen, ForCommand, SomeFile, outputs_of}
 use Rattle.novac.specs.Generating.{IsGenerated, GenRefuses, EndsGenerated}
-use Rattle.novac.specs.Headline.{IsCompiled}
+use Rattle.zo_cert.specs.declared.report.Verdict.{Verdict}
+use Rattle.novac.specs.Headline.{IsCompiled, IfWithout, IsReported}
 use Rattle.novac.specs.Lines.{IsUncaused, refusal_status, refusal_text, cannot_read, cannot_write}
 use Rattle.novac.specs.Loading.{AreRead, StopsAt, IsUnread, inputs_of}
 use Rattle.novac.specs.Saving.{File, IsSameBut}
@@ -18,7 +19,7 @@ use Rattle.novac.specs.declared.status.Status.{Status}
 use Rattle.novac.specs.declared.status.Status.TheVariants as status
 use Rattle.novac.proofs.Inputs.{contents-one, stopped-read, stops-both, stops-map, unread-long, unread-one, none-long, Never}
 use Rattle.novac.proofs.OneAnswer.{refusal-one, makes-good, prints-good, prints-one, made-end, refused-end, makes-outcome, makes-kept, refuses-unread}
-use Rattle.novac.proofs.Saves.{cut-output, same-all, nothing-saved, saved-elsewhere, cut-elsewhere, done-compiled}
+use Rattle.novac.proofs.Saves.{cut-output, same-all, nothing-saved, saved-elsewhere, cut-elsewhere, done-compiled, done-reported}
 
 -- the statuses of refusals
 abbrev pub IsRefusal : Status → Type 0
@@ -93,6 +94,41 @@ compiled Tells old new LR SR s r text before after T Failed tells told (Some (Ch
 compiled Tells old new LR SR s r text before after T Failed tells told (Some (Gen seed size)) apart a d = tt
 compiled Tells old new LR SR s r text before after T Failed tells (inl w) (Some (Compile source object report slots budget store)) apart a d = absurd (done-not_fault r d w.0)
 compiled Tells old new LR SR s r text before after T Failed tells (inr h) (Some (Compile source object report slots budget store)) apart a d = (text, compiled-end Tells old new LR SR source object report slots budget store s text tells (sym h.0 ∙ d) apart a, h.1)
+
+-- the report alone
+without-none : (r : Status) → IfWithout r (λ v. ⊤)
+without-none status.Infeasible = tt
+without-none status.BudgetSpent = tt
+without-none _ = tt
+
+refused-none : (s : Status) (P : Verdict → Type 0) → IsRefusal s → IfWithout s P
+refused-none status.Infeasible P h = absurd h
+refused-none status.BudgetSpent P h = absurd h
+refused-none _ P h = tt
+
+fault-none : (s : Status) (P : Verdict → Type 0) → s ≡ status.WriteFault → IfWithout s P
+fault-none s P w = subst (λ (x : Status). IfWithout x P) (sym w) tt
+
+reported-end : (T : Type 0) (old new : Holding) (LR SR : List ℕ → Type 0) (source object report : List ℕ) (slots budget store : ℕ) (s : Status) (text : List ℕ) → T
+    → HasEnded T old new LR SR (Compile source object report slots budget store) s text → IfWithout s (λ v. IsReported old new source report slots budget v)
+reported-end T old new LR SR source object report slots budget store s text t (inl h) = done-reported T old new source object report slots budget store s text t h
+reported-end T old new LR SR source object report slots budget store s text t (inr (inl w)) = fault-none s (λ v. IsReported old new source report slots budget v) w.0
+reported-end T old new LR SR source object report slots budget store s text t (inr (inr h)) =
+    refused-none s (λ v. IsReported old new source report slots budget v) (refused-is T old new LR (Compile source object report slots budget store) s text h)
+
+pub reported : (Tells : Type 0) (old new : Holding) (LR SR : List ℕ → Type 0) (s r : Status) (text before after : List ℕ) (T Failed : Type 0) → Tells → IsTold s r text before after T Failed
+    → (o : Option Command) → IfCommand o (λ c. HasEnded Tells old new LR SR c s text) → IfWithout r (λ v. IfCompile o (λ source object report slots budget store. IsReported old new source report slots budget v))
+reported Tells old new LR SR s r text before after T Failed tells told None a = without-none r
+reported Tells old new LR SR s r text before after T Failed tells told (Some (Run object memory steps)) a = without-none r
+reported Tells old new LR SR s r text before after T Failed tells told (Some (Exec source memory calls)) a = without-none r
+reported Tells old new LR SR s r text before after T Failed tells told (Some (Asm input object)) a = without-none r
+reported Tells old new LR SR s r text before after T Failed tells told (Some (Dis object)) a = without-none r
+reported Tells old new LR SR s r text before after T Failed tells told (Some (Lint object)) a = without-none r
+reported Tells old new LR SR s r text before after T Failed tells told (Some (Check report)) a = without-none r
+reported Tells old new LR SR s r text before after T Failed tells told (Some (Gen seed size)) a = without-none r
+reported Tells old new LR SR s r text before after T Failed tells (inl w) (Some (Compile source object report slots budget store)) a = fault-none r (λ v. IsReported old new source report slots budget v) w.0
+reported Tells old new LR SR s r text before after T Failed tells (inr h) (Some (Compile source object report slots budget store)) a =
+    subst (λ (x : Status). IfWithout x (λ v. IsReported old new source report slots budget v)) (sym h.0) (reported-end Tells old new LR SR source object report slots budget store s text tells a)
 
 -- the line of `gen`
 gen-made : (seed size : ℕ) (bs : List (List ℕ)) (s : Status) (fs : List File) (t : List ℕ) → Makes (Gen seed size) bs s fs t → (s ≡ status.Done) × IsGenerated seed size t

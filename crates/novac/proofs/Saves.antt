@@ -5,7 +5,9 @@ use Rattle.nv_outside.specs.Causes.{Rose}
 use Rattle.nv_outside.specs.Holding.{Holding, Replaced, SameElsewhere}
 use Rattle.novac.specs.Answers.{Makes, Refuses, IsCaused, IsDone, IsStopped}
 use Rattle.novac.specs.Command.{Command, Compile, Run, Exec, Asm, Dis, Lint, Check, Gen, SomeFile, outputs_of}
-use Rattle.novac.specs.Headline.{CompiledMakes, CompileMakes, IsCompiled}
+use Rattle.zo_cert.specs.declared.report.Verdict.{Verdict}
+use Rattle.zo_cert.specs.declared.report.Verdict.TheVariants as verdict
+use Rattle.novac.specs.Headline.{CompiledMakes, WithoutMakes, CompileMakes, IsCompiled, IfWithout, IsReported}
 use Rattle.novac.specs.Limits.{source_limit}
 use Rattle.novac.specs.Lines.{IsUncaused, cannot_write}
 use Rattle.novac.specs.Loading.{input, IsRead, AreRead, StopsAt, IsUnread, inputs_of}
@@ -170,6 +172,33 @@ compiled-of T old new source object report slots budget store _ s fs t tells don
 pub done-compiled : (T : Type 0) (old new : Holding) (source object report : List ℕ) (slots budget store : ℕ) (s : Status) (t : List ℕ) → T → s ≡ Done → (object ≡ report → ⊥) → IsDone T old new (Compile source object report slots budget store) s t
     → IsCompiled old new source object report slots budget store t
 done-compiled T old new source object report slots budget store s t tells done apart h = compiled-of T old new source object report slots budget store h.contents s h.files t tells done apart h.read h.makes h.saved
+
+-- what it saved without banks
+reported-with : (T : Type 0) (old new : Holding) (source report : List ℕ) (slots budget : ℕ) (v : Verdict) (b : List ℕ) (fs : List File) → T → IsRead T old (input source source_limit) b → WithoutMakes b report slots budget v fs
+    → AreSaved fs old new → IsReported old new source report slots budget v
+reported-with T old new source report slots budget v b fs tells read h saved = record {
+  text = b;
+  held = read.here tells;
+  program = h.program;
+  is_source = h.is_source;
+  report = h.report;
+  saved = saved-only fs (file report h.report) old new h.saves saved;
+  r = h.r;
+  reports = h.reports;
+  without = h.without;
+}
+
+reported-of : (T : Type 0) (old new : Holding) (source object report : List ℕ) (slots budget store : ℕ) (bs : List (List ℕ)) (s : Status) (fs : List File) (t : List ℕ)
+    → T → AreRead T old (inputs_of (Compile source object report slots budget store)) bs → Makes (Compile source object report slots budget store) bs s fs t → (T → AreSaved fs old new)
+    → IfWithout s (λ v. IsReported old new source report slots budget v)
+reported-of T old new source object report slots budget store (b ∷ []) Infeasible fs t tells read h saved = reported-with T old new source report slots budget verdict.Infeasible b fs tells read.0 h.0 (saved tells)
+reported-of T old new source object report slots budget store (b ∷ []) BudgetSpent fs t tells read h saved = reported-with T old new source report slots budget verdict.Spent b fs tells read.0 h.0 (saved tells)
+reported-of T old new source object report slots budget store (b ∷ []) _ fs t tells read h saved = tt
+reported-of T old new source object report slots budget store _ s fs t tells read h saved = absurd h
+
+pub done-reported : (T : Type 0) (old new : Holding) (source object report : List ℕ) (slots budget store : ℕ) (s : Status) (t : List ℕ) → T → IsDone T old new (Compile source object report slots budget store) s t
+    → IfWithout s (λ v. IsReported old new source report slots budget v)
+done-reported T old new source object report slots budget store s t tells h = reported-of T old new source object report slots budget store h.contents s h.files t tells h.read h.makes h.saved
 
 -- the first of two files was saved, and the second is saved or not
 pub second-saved : (T : Type 0) (f g : File) (old mid new : Holding) (before between after : List ℕ → ℕ) (made s : Status) (text t : List ℕ) (fs : List File) → fs ≡ f ∷ g ∷ []

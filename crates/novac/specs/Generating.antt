@@ -29,8 +29,8 @@ abbrev pub generated_text : ℕ → ℕ → ℕ → ℕ → Verdict → ℕ → 
 generated_text seed size bytes instructions found cost word =
     codes "gen " ++ decimal seed ++ codes " " ++ decimal size ++ codes " source " ++ decimal bytes ++ codes " length " ++ decimal instructions ++ codes " " ++ verdict_name found ++ codes " " ++ decimal cost ++ codes " outcome " ++ hex_word word ++ 10 ∷ []
 
--- the line tells the length of the text that the seed makes, that of a code of its program, the verdict on its banks with the cost, and the
--- word that the program means
+-- the line tells the length of the text that the seed makes, that of lawful code that does what its program says, the verdict on its banks
+-- with the cost, and the word that the program means
 pub record IsGenerated (seed size : ℕ) (line : List ℕ) : Type 0 where
   pub program : ProgramTree
   pub is_source : IsTypedSource (made seed size) program

@@ -1,6 +1,6 @@
 -- What a compilation promises, and when it is refused.
 use Rattle.std.specs.Prelude.{◌≡◌, ◌≤◌, ◌<◌, ◌⊎◌, ℕ, List, [], ◌∷◌, Some, length, ⊤}
-use Rattle.nv_outside.specs.Holding.{Holding}
+use Rattle.nv_outside.specs.Holding.{Holding, Replaced}
 use Rattle.nv_ast.specs.Sizes.{main_words, room}
 use Rattle.nv_ast.specs.Tree.{ProgramTree}
 use Rattle.nv_meaning.specs.Meaning.{source}
@@ -55,6 +55,27 @@ pub record IsCompiled (old new : Holding) (source_name object_name report_name :
   pub r : Report
   pub compiled : IsCompiledTo text object report slots budget store instructions r
   pub told : line ≡ compiled_text instructions r.verdict (report_cost r)
+
+-- ---- what isn't, for want of banks
+
+-- with these statuses no banks were found, and a verdict says why
+abbrev pub IfWithout : Status → (Verdict → Type 0) → Type 0
+IfWithout ends.Infeasible P = P verdict.Infeasible
+IfWithout ends.BudgetSpent P = P verdict.Spent
+IfWithout _ P = ⊤
+
+-- the source is held; the report is now the text of a true one on the banks of a form of its program, which has this verdict, and no other
+-- file changed
+pub record IsReported (old new : Holding) (source_name report_name : List ℕ) (slots budget : ℕ) (verdict : Verdict) : Type 0 where
+  pub text : List ℕ
+  pub held : old source_name ≡ Some text
+  pub program : ProgramTree
+  pub is_source : IsTypedSource text program
+  pub report : List ℕ
+  pub saved : Replaced old new report_name report
+  pub r : Report
+  pub reports : IsReportOf report r
+  pub without : HasNoBanks program slots budget verdict r
 
 -- ---- what `compile` saves and tells
 

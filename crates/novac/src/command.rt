@@ -16,7 +16,7 @@ const MOST_SEED: u64 = 4_294_967_295;
 /// The most lines of a made source.
 const MOST_LINES: u64 = 500;
 
-/// How a source is compiled: to code with so many slots, in a search of so many branches, of so many instructions.
+/// How a source is compiled: with so many slots, in a search of so many branches, to code of so many instructions.
 #[derive(Clone, Copy, Debug, PartialEq, Eq)]
 pub struct Options {
     pub slots: u32,

@@ -1,4 +1,5 @@
-//! Limits: the bytes of the files that commands read, and the instructions of code. And where code may spill.
+//! Limits: the bytes of the files that commands read, and the slots, branches and instructions of a compilation. And where
+//! code may spill.
 
 /// A source.
 pub const SOURCE_LIMIT: u64 = 262_144;

@@ -6,7 +6,7 @@ ghost use Rattle.novac.specs.Answers.{Shows, Ends, IsCaused, IsDone, IsStopped, 
 ghost use Rattle.novac.specs.Command.{command_of, texts_of, outputs_of, SomeFile, IfCommand, IfCompile, IfGen, ForCommand};
 ghost use Rattle.novac.specs.Generating.{EndsGenerated};
 ghost use Rattle.novac.specs.inner.Words.{command_as, HasLimits};
-ghost use Rattle.novac.specs.Headline.{IsCompiled};
+ghost use Rattle.novac.specs.Headline.{IsCompiled, IfWithout, IsReported};
 ghost use Rattle.novac.specs.Lines.{IsUncaused, usage_text, cannot_read, cannot_write, refusal_status, refusal_text};
 ghost use Rattle.novac.specs.Loading.{AreRead, inputs_of, StopsAt};
 ghost use Rattle.novac.specs.Saving.{IsSameBut};
@@ -50,8 +50,13 @@ pub fn run<F: Files, K: Sink>(
     out: &mut K,
 ) -> Status
     // The headline: the object that `compile` saved is that of lawful code that does what the source says, and its report is
-    // true. Where that says optimal, no vector that meets the rows of its 0-1 program costs less.
+    // true. Where that says optimal, no vector that meets the rows of its 0-1 program costs less. The code's moves cost no more
+    // than the report says.
     ensures compiled { F.tells → result ≡ Status.Done → IfCompile (command_of (texts_of words.now)) (λ source object report slots budget store. (line : List ℕ) × IsCompiled (F.held files.old) (F.held files.new) source object report slots budget store line × (K.tells → K.written out.new ≡ K.written out.old ++ line)) }
+
+    // Where no banks are found, the report alone is saved. It is true, and says that none meet the rows, or that the budget was
+    // spent; and there are fewer slots than the program has room.
+    ensures without { F.tells → IfWithout result (λ verdict. IfCompile (command_of (texts_of words.now)) (λ source object report slots budget store. IsReported (F.held files.old) (F.held files.new) source report slots budget verdict)) }
 
     // What `gen` prints: the length of the text that the seed makes, that of lawful code that does what its program says, the
     // verdict of a true report on its banks with the cost, and the word that the program means; or why the program isn't

@@ -3,7 +3,7 @@ use Rattle.nv_outside.specs.Causes.{Rose}
 use Rattle.nv_outside.specs.Holding.{AppendsFront}
 use Rattle.novac.specs.Command.{command_of, texts_of}
 use Rattle.novac.specs.Lines.{usage_text}
-use Rattle.novac.proofs.Printing.{compiled, generated, memory-generated, printed, begun, only-refused, only-shown, only-made, read-fault, write-fault, unchanged, elsewhere, all-same, memory-printed}
+use Rattle.novac.proofs.Printing.{compiled, reported, generated, memory-generated, printed, begun, only-refused, only-shown, only-made, read-fault, write-fault, unchanged, elsewhere, all-same, memory-printed}
 use Rattle.novac.proofs.Names.{words-apart}
 use Rattle.novac.proofs.top.run.Goals as goal
 
@@ -11,6 +11,11 @@ pub returns-in-Ok-clause-compiled : goal.returns-in-Ok-clause-compiled
 returns-in-Ok-clause-compiled g c = λ t.
     compiled g.F.Files.tells (g.F.Files.held c.args.files.now) (g.F.Files.held c.reply.new.files) (λ (q : List ℕ). Rose (g.F.Files.load_faults c.args.files.now q) (g.F.Files.load_faults c.reply.new.files q)) (λ (q : List ℕ). Rose (g.F.Files.save_faults c.args.files.now q) (g.F.Files.save_faults c.reply.new.files q))
     c.in-Ok.reply.status c.print.result c.in-Ok.reply.text.items (g.K.Sink.written c.args.out.now) (g.K.Sink.written c.print.new.out) g.K.Sink.tells _ t c.print.ensures.printed (command_of (texts_of c.args.words.now)) (words-apart (texts_of c.args.words.now)) c.in-Ok.ensures.ended
+
+pub returns-in-Ok-clause-without : goal.returns-in-Ok-clause-without
+returns-in-Ok-clause-without g c = λ t.
+    reported g.F.Files.tells (g.F.Files.held c.args.files.now) (g.F.Files.held c.reply.new.files) (λ (q : List ℕ). Rose (g.F.Files.load_faults c.args.files.now q) (g.F.Files.load_faults c.reply.new.files q)) (λ (q : List ℕ). Rose (g.F.Files.save_faults c.args.files.now q) (g.F.Files.save_faults c.reply.new.files q))
+    c.in-Ok.reply.status c.print.result c.in-Ok.reply.text.items (g.K.Sink.written c.args.out.now) (g.K.Sink.written c.print.new.out) g.K.Sink.tells _ t c.print.ensures.printed (command_of (texts_of c.args.words.now)) c.in-Ok.ensures.ended
 
 pub returns-in-Ok-clause-generated : goal.returns-in-Ok-clause-generated
 returns-in-Ok-clause-generated g c =
