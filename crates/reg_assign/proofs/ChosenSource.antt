@@ -14,7 +14,7 @@ use Rattle.place_ir.specs.declared.place.Place.{Place}
 use Rattle.place_ir.specs.declared.place.Place.TheVariants as place
 use Rattle.place_ir.specs.Places.{same_place}
 use Rattle.place_ir.specs.Plan.{Plan, home, first}
-use Rattle.place_ir.specs.Uses.{Sort, Parameter, Result, Fetched, Value, values, Role, Operand, Address, Written, Argument, Ending, Use, uses, uses_at, uses_of, roles, place_roles, is_used}
+use Rattle.place_ir.specs.Uses.{Sort, Parameter, Result, Fetched, Value, values, Role, Operand, Address, Written, Argument, Ending, Use, uses, uses_of, roles, place_roles, is_used}
 use Rattle.place_ir.specs.Fits.{read_place, IsGeneral, is_write_register, is_home, param_at, label_param, parameter, Fits, AreCopies}
 use Rattle.place_ir.specs.inner.Numbers.{values_among}
 use Rattle.place_ir.proofs.Places.{same_place-true}
@@ -34,6 +34,7 @@ use Rattle.reg_assign.specs.inner.Chosen.{bank_of, is_in_bank}
 use Rattle.reg_assign.proofs.Counts.{In, some-counted, each-in, kept-in}
 use Rattle.reg_assign.proofs.FactsAll.{values-differ}
 use Rattle.reg_assign.proofs.FactsValues.{sort-found, used-of}
+use Rattle.reg_assign.proofs.LabelPoints.{used-here}
 use Rattle.reg_assign.proofs.ChosenForm.{Placed, Housing, housing, held-value, put-writes, copies-are, IsCopy}
 use Rattle.reg_assign.proofs.ChosenThere.{use-point, role-among, def-there, fill-there}
 
@@ -92,15 +93,6 @@ read-bank Scratch k = refl
 
 -- ---- the value of a use
 
-value-among : (u : Use) (k i : ℕ) (xs : List ℕ) (rs : List Role) → In u (uses_at k i xs rs) → is_in u.value xs ≡ true
-value-among u k i [] rs h = absurd h
-value-among u k i (x ∷ xs) [] h = absurd h
-value-among u k i (x ∷ xs) (r ∷ rs) h = ⊎_elim
-    (λ (e : ◌≡◌ {A = Use} (record { point = k; operand = i; value = x; role = r }) u).
-    or_left (nat_eq u.value x) (is_in u.value xs) (subst (λ n. nat_eq u.value n ≡ true) (ap (λ (w : Use). w.value) (sym e)) (in-itself u.value)))
-    (λ (j : In u (uses_at k (suc i) xs rs)). or_right (nat_eq u.value x) (is_in u.value xs) (value-among u k (suc i) xs rs j))
-    h
-
 pub of-value : (labels : List Label) (u : Use) → In u (uses labels) → In u (uses_of labels u.value)
 of-value labels u i = kept-in (λ (w : Use). nat_eq w.value u.value) u (uses labels) i (in-itself u.value)
 
@@ -115,7 +107,7 @@ use-value labels u s i =
     let ps = points labels in
     let w = use-point labels u i in
     let sound = each-at (Sound labels (values_among (map (λ (q : Point). q.place) ps)) (uses_among ps)) ps u.point w.point (sound-points labels s) w.at in
-    let v = held-value labels u.point w.point u.value s w.at (sound.uses_held u.value (value-among u u.point 0 w.point.uses (place_roles w.point.place) w.here)) in
+    let v = held-value labels u.point w.point u.value s w.at (sound.uses_held u.value (used-here u u.point 0 w.point.uses (place_roles w.point.place) w.here)) in
     record {
       value = v.0;
       there = v.1;

@@ -22,6 +22,8 @@ pub mod FitAll
 pub mod CostSums
 pub mod CostUses
 pub mod CostValues
+pub mod CostKept
+pub mod LabelPoints
 pub mod CostAll
 pub mod Readings
 pub mod Numbered

@@ -19,11 +19,12 @@ use Rattle.bank_prog.proofs.FormLemmas.{if-ok}
 use Rattle.reg_assign.specs.declared.given.Given.{Given}
 use Rattle.reg_assign.specs.declared.numbers.BankNumbers.{BankNumbers}
 use Rattle.reg_assign.specs.declared.reading.Reading.{Reading}
+use Rattle.reg_assign.specs.ByLabel.{label_cost, label_price}
 use Rattle.reg_assign.specs.inner.Facts.{OnlyThere}
 use Rattle.reg_assign.specs.inner.ReadOff.{Numbers, AreNumbered, read_off}
 use Rattle.reg_assign.specs.inner.Given.{labels_in, says_in, numbers_in}
 use Rattle.reg_assign.specs.inner.Reading.{labels_of, says, numbers_of, IsReadOff}
-use Rattle.reg_assign.proofs.CostAll.{plan-cost}
+use Rattle.reg_assign.proofs.CostAll.{plan-cost, label-paid}
 use Rattle.reg_assign.proofs.FitAll.{read-off-fits}
 
 -- what is promised of the placement of a vector
@@ -31,6 +32,7 @@ pub record IsAssigned (labels : List Label) (n : ℕ) (v : ℕ → Bool) (p : Pl
   pub fits : Fits labels (plan_view p)
   pub slots : p.slots ≡ n
   pub paid : cost labels (plan_view p) ≤ costs_of (costs labels) v
+  pub label_paid : (l : ℕ) → label_cost labels l (plan_view p) ≤ label_price labels l v
 
 read-assigned : (labels : List Label) (n : ℕ) (v : ℕ → Bool) (numbers : Numbers) (p : Placement) → single labels ≡ true → n ≤ 128 → IsFeasible labels n v → AreNumbered labels n (on labels v) numbers → IsReadOff labels n (on labels v) numbers p
     → IsAssigned labels n v p
@@ -44,6 +46,7 @@ read-assigned labels n v numbers p form few rows numbered r =
       fits = subst (λ (q : Plan). Fits labels q) (sym r.same) (read-off-fits labels n (on labels v) numbers hs form few only rows r.homes numbered);
       slots = ap (λ (q : Plan). q.slots) r.same;
       paid = omega arith;
+      label_paid = subst (λ (q : Plan). (l : ℕ) → label_cost labels l q ≤ label_price labels l v) (sym r.same) (label-paid labels n v numbers hs form only rows r.homes);
     }
 
 -- the numbers of homes by which the vector that is read meets the rows

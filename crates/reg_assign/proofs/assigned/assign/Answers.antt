@@ -1,4 +1,4 @@
-use Rattle.std.proofs.Common.{◌≡◌, ◌≤◌}
+use Rattle.std.proofs.Common.{◌≡◌, ℕ, ◌≤◌}
 use Rattle.ssu_ir.specs.View.{labels_view}
 use Rattle.place_ir.specs.declared.place.Placement.{Placement}
 use Rattle.place_ir.specs.Costs.{cost}
@@ -7,6 +7,7 @@ use Rattle.place_ir.specs.Plan.{plan_view}
 use Rattle.zo_model.specs.Program.{vector, costs_of}
 use Rattle.bank_prog.specs.Columns.{costs}
 use Rattle.bank_prog.proofs.FormLemmas.{if-ok}
+use Rattle.reg_assign.specs.ByLabel.{label_cost, label_price}
 use Rattle.reg_assign.proofs.Promised.{IsAssigned, assigned}
 use Rattle.reg_assign.proofs.assigned.assign.Goals as goal
 
@@ -37,5 +38,15 @@ returns-clause-cost c =
     let r = c.in_ok-reading.reading in
     let g = c.in_ok-given.given in
     if-ok c.placed.result (IsAssigned (labels_view s) c.args.slots (vector x.on.items)) (λ (p : Placement). cost (labels_view s) (plan_view p) ≤ costs_of (costs (labels_view s)) (vector x.on.items)) (λ p h. h.paid)
+    (assigned s x c.args.slots r c.in_ok-numbers.numbers g c.placed.result c.in_ok-reading.ensures.form c.in_ok-reading.ensures.vector c.in_ok-given.ensures.reading c.in_ok-given.ensures.numbers
+    c.requires.single c.requires.slots c.requires.feasible c.in_ok-numbers.ensures c.placed.ensures)
+
+pub returns-clause-label_cost : goal.returns-clause-label_cost
+returns-clause-label_cost c =
+    let s = c.args.s.now in
+    let x = c.args.x.now in
+    let r = c.in_ok-reading.reading in
+    let g = c.in_ok-given.given in
+    if-ok c.placed.result (IsAssigned (labels_view s) c.args.slots (vector x.on.items)) (λ (p : Placement). (l : ℕ) → label_cost (labels_view s) l (plan_view p) ≤ label_price (labels_view s) l (vector x.on.items)) (λ p h. h.label_paid)
     (assigned s x c.args.slots r c.in_ok-numbers.numbers g c.placed.result c.in_ok-reading.ensures.form c.in_ok-reading.ensures.vector c.in_ok-given.ensures.reading c.in_ok-given.ensures.numbers
     c.requires.single c.requires.slots c.requires.feasible c.in_ok-numbers.ensures c.placed.ensures)
