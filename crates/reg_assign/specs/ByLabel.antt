@@ -11,7 +11,7 @@ use Rattle.bank_prog.specs.declared.column.Column.TheVariants.{Def, Dir, Fill, S
 use Rattle.bank_prog.specs.Columns.{priced}
 use Rattle.bank_prog.specs.Meaning.{on, named_cost}
 
--- the label of point k, where these labels are numbered from l and their points from n
+-- the label of point k, where these labels are numbered from l and their points from n; past the last point it is none of them
 abbrev pub label_from : ℕ → ℕ → List Label → ℕ → ℕ
 label_from l n [] k = l
 label_from l n (m ∷ ms) k = if nat_lt k (n + length (label_points l m)) then l else label_from (suc l) (n + length (label_points l m)) ms k
