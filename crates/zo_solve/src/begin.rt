@@ -20,7 +20,7 @@ const WAY: Way = Way {
     next: 20,
 };
 
-const WORK_LIMIT: u64 = 300_000_000;
+const WORK_LIMIT: u64 = 2_000_000_000;
 
 /// Takes the vector where it meets the rows and is better. Whether it was taken.
 pub fn take(z: &ZeroOne, best: &mut Best, x: Assignment) -> bool
