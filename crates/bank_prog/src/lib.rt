@@ -23,8 +23,6 @@ pub mod services;
 mod spans;
 mod tables;
 mod terms;
-#[cfg(test)]
-mod tests;
 mod waiting;
 
 pub use column::{Bank, Column, Service};

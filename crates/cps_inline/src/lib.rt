@@ -7,7 +7,5 @@ mod moving;
 mod program;
 mod span;
 mod stepping;
-#[cfg(test)]
-mod tests;
 
 pub use program::inline;

@@ -3,8 +3,6 @@
 
 mod draws;
 pub mod laws;
-#[cfg(test)]
-mod tests;
 mod text;
 
 pub use text::made_text;

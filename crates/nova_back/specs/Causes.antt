@@ -54,8 +54,8 @@ IsEnded Feasible = ⊥
 IsEnded Infeasible = ⊤
 IsEnded Spent = ⊥
 
--- a true report on the program of the banks of a form, with a tree that was searched within the budget. A budget for every tree of the
--- program's columns ends every search
+-- a true report on the program of the banks of a form, with a tree that was searched within the budget. A budget that is enough for every
+-- tree over the program's columns ends every search
 pub record IsReportOn (labels : List Label) (slots budget : ℕ) (r : Report) : Type 0 where
   pub valid : IsValidReport r
   pub holds : IsTrueReport r
@@ -68,7 +68,7 @@ pub record IsReportOn (labels : List Label) (slots budget : ℕ) (r : Report) : 
 
 -- ---- causes
 
--- a report without a vector: so many values are held at some point that they fit neither a bank nor the slots
+-- a report without a vector: at some point more values are held than fit a bank, and more than there are slots
 pub record IsWithout (labels : List Label) (slots budget : ℕ) (verdict : Verdict) (r : Report) : Type 0 where
   pub report : IsReportOn labels slots budget r
   pub says : r.verdict ≡ verdict

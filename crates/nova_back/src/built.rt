@@ -1,4 +1,4 @@
-// Code whose banks are chosen by the 0-1 program.
+//! Code whose banks are chosen by the 0-1 program.
 
 ghost use Rattle.std.specs.Prelude.{◌≡◌, ◌≤◌, ◌+◌, ◌*◌, ◌^◌, ◌⊎◌, ℕ, [], true, length, IfOk, IfErr, MatchResult};
 ghost use Rattle.ssu_ir.specs.Measures.{code_bound, peak};

@@ -1,4 +1,4 @@
-// The cheapest choice of banks that is found for a form.
+//! The cheapest choice of banks that is found for a form.
 
 ghost use Rattle.std.specs.Prelude.{◌≡◌, ◌≤◌, ◌^◌, ◌⊎◌, ℕ, true, length, IfOk, IfErr, MatchResult};
 ghost use Rattle.ssu_ir.specs.Single.{single};

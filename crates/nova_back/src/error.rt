@@ -1,4 +1,4 @@
-// Why a form has no code.
+//! Why a form has no code.
 
 ghost use Rattle.std.specs.Prelude.{◌≡◌};
 ghost use Rattle.nova_back.specs.declared.error.BackError.TheVariants.{NoMemory as WantOfMemory};
@@ -24,14 +24,6 @@ impl From<NoMemory> for BackError {
     ghost from_gives = { λ _ e. e ≡ WantOfMemory };
 
     fn from(_error: NoMemory) -> BackError {
-        BackError::NoMemory
-    }
-}
-
-impl From<zo_model::NoMemory> for BackError {
-    ghost from_gives = { λ _ e. e ≡ WantOfMemory };
-
-    fn from(_error: zo_model::NoMemory) -> BackError {
         BackError::NoMemory
     }
 }

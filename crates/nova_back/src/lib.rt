@@ -7,8 +7,6 @@ mod error;
 mod paired;
 mod search;
 mod start;
-#[cfg(test)]
-mod tests;
 
 pub use built::{Built, back};
 pub use error::BackError;

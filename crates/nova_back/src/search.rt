@@ -1,4 +1,4 @@
-// The search for the cheapest choice of banks, and its report.
+//! The search for the cheapest choice of banks, and its report.
 
 ghost use Rattle.std.specs.Prelude.{◌≡◌, ◌≤◌, IfOk, IfSome, length};
 ghost use Rattle.zo_model.specs.Program.{IsValid, columns};

@@ -1,4 +1,4 @@
-// The choice of banks that a search begins with.
+//! The choice of banks that a search begins with.
 
 ghost use Rattle.std.specs.Prelude.{◌≡◌, ◌≤◌, true, IfOk};
 ghost use Rattle.ssu_ir.specs.Measures as measures;

@@ -1,10 +1,10 @@
 //! Where else a name is declared.
 
-use crate::place::line_of;
 use crate::text::{part, push, push_line, push_number};
 use nv_ast::{Decl, Name, Program, Span};
 use nv_base::NoMemory;
 use std::alloc::Global;
+use text_place::line_of;
 
 // What is declared: in which name space, and where.
 #[derive(Clone, Copy)]

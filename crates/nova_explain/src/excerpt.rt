@@ -1,9 +1,9 @@
 //! The line of a source that has a fault, with carets under the fault.
 
-use crate::place::{column_of, line_of};
 use crate::text::{part, push, push_number, shown};
 use nv_ast::Span;
 use nv_base::NoMemory;
+use text_place::{column_of, line_of};
 
 // Before each line of a source.
 const MARGIN: &str = "    ";

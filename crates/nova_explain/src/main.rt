@@ -18,7 +18,6 @@ mod layouts;
 mod nearest;
 mod other_pages;
 mod pages;
-mod place;
 mod refusal;
 mod sizes;
 mod slips;

@@ -4,8 +4,6 @@
 pub mod laws;
 mod program;
 mod rules;
-#[cfg(test)]
-mod tests;
 
 pub use program::{middle, to_flow};
 pub use rules::simplified;

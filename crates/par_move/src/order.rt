@@ -63,22 +63,3 @@ pub fn sequence(alloc: Global, moves: &[(Place, Place)]) -> Result<Vec<(Place, P
     turn_all(&mut pending, moves)?;
     Ok(pending.done)
 }
-
-#[cfg(test)]
-mod tests {
-    use super::*;
-    use std::test::Fail;
-
-    #[test]
-    fn two_registers_are_exchanged(rt: HostRuntime) -> Result<(), Fail> {
-        let moves = [(Place::A(0), Place::A(1)), (Place::A(1), Place::A(0))];
-        let singles = sequence(rt.alloc(), &moves)?;
-        let expected = [
-            (Place::A(0), Place::A(15)),
-            (Place::A(1), Place::A(0)),
-            (Place::A(15), Place::A(1)),
-        ];
-        assert_eq!(rt; singles.as_slice(), expected.as_slice());
-        Ok(())
-    }
-}

@@ -6,15 +6,12 @@ mod chosen;
 mod columns;
 mod given;
 mod homes;
-mod laws;
 mod numbers;
 mod places;
 mod plan_columns;
 mod plan_tables;
 mod reading;
 mod serves;
-#[cfg(test)]
-mod tests;
 
 pub use assigned::assign;
 pub use chosen::from_placement;

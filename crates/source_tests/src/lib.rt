@@ -5,15 +5,23 @@
 #[cfg(test)]
 mod flat_code;
 #[cfg(test)]
+mod flows;
+#[cfg(test)]
 mod front;
+#[cfg(test)]
+mod inlining;
 #[cfg(test)]
 mod layouts;
 #[cfg(test)]
 mod lowering;
 #[cfg(test)]
+mod made;
+#[cfg(test)]
 mod names;
 #[cfg(test)]
 mod placed;
+#[cfg(test)]
+mod rules;
 #[cfg(test)]
 mod single_use;
 #[cfg(test)]

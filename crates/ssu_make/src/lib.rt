@@ -7,8 +7,6 @@ mod counts;
 mod naming;
 mod nodes;
 mod program;
-#[cfg(test)]
-mod tests;
 mod tree;
 
 pub use program::make;

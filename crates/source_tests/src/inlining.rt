@@ -1,6 +1,6 @@
 // The least program.
 
-use crate::inline;
+use cps_inline::inline;
 use cps_ir::{Cps, CpsFun, Term};
 use std::test::Fail;
 

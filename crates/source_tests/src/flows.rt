@@ -1,8 +1,8 @@
 // Small flows.
-use crate::make;
 use flow_ir::{Flow, Label, Tree};
 use nv_base::{Args, Atom, Bin, Prim};
 use ssu_ir::SsuNode;
+use ssu_make::make;
 use std::test::Fail;
 
 #[test]

@@ -1,9 +1,9 @@
 // Stored rules, one of them of its own, and a program that comes to a constant.
 
-use crate::{middle, to_flow};
 use cps_rules::{Rule, simplify};
 use flat_ir::{Flat, FlatFun, FlatProgram};
 use flow_ir::{Flow, Label, Tree};
+use nova_middle::{middle, to_flow};
 use nv_base::{Args, Atom, Bin, Mem, NoMemory, Prim, Una, Vars};
 use std::alloc::Global;
 use std::test::Fail;

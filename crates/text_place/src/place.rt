@@ -1,7 +1,7 @@
 //! Lines and columns.
 
 ghost use Rattle.std.specs.Prelude.{◌≡◌, ◌==◌, ◌≤◌, length, take, take_while, reverse, count_by, not};
-ghost use Rattle.nova_explain.specs.Place.{line_at, column_at};
+ghost use Rattle.text_place.specs.Place.{line_at, column_at};
 
 /// The line of the byte at a place, counted from 1: one more than the line feeds before it.
 pub fn line_of(bytes: &[u8], at: usize) -> usize

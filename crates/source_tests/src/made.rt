@@ -1,4 +1,5 @@
-use crate::made_text;
+// The text that a seed makes.
+use made_source::made_text;
 use std::test::Fail;
 
 #[test]
