@@ -236,7 +236,7 @@ transfer register. Give it more slots, or use the words sooner:
 
 `budget N` with status 10 is said by `compile`. All N branches of the search were used before a choice of banks was found. One may be possible or not.
 It comes only where more than 15 values are held at once, and more than there are slots. REPORT alone is saved, and `check` says `spent` of it.
-Give it slots, or a greater budget.
+The source above may end so with `slots=0 budget=1`, or with 9 where the search needs no second branch. Give it slots, or a greater budget.
 "#,
     },
     Page {
@@ -245,7 +245,7 @@ Give it slots, or a greater budget.
 
 `budget N` with status 10 is said by `compile`. All N branches of the search were used before a choice of banks was found. One may be possible or not.
 It comes only where more than 15 values are held at once, and more than there are slots. REPORT alone is saved, and `check` says `spent` of it.
-Give it slots, or a greater budget.
+The source above may end so with `slots=0 budget=1`, or with 9 where the search needs no second branch. Give it slots, or a greater budget.
 "#,
     },
     Page {
@@ -560,7 +560,7 @@ Without a line the output itself failed. Then what was saved stays.
     },
     Page {
         name: "status 5",
-        text: r#"status 5: want of memory
+        text: r#"status 5: out of memory
 
 Nothing is printed, and no file was changed.
 "#,

@@ -122,7 +122,7 @@ const USAGE: [&str; 14] = [
     "nova_explain syntax WORD      what `syntax WORD at BYTE` means: char, number, name, syntax, deep",
     "nova_explain status NUMBER    what a status of novac means",
     "",
-    "novac compile SRC OBJ         compiles a source, and saves its object; to at most M instructions by store=M",
+    "novac compile SRC OBJ REPORT  compiles a source, and saves its object and the report on its banks; slots=N, budget=N, store=N may follow",
     "novac run OBJ MEM steps=N     takes N steps of an object's code on a memory text",
     "novac exec SRC MEM steps=N    runs the program of a source with N calls on a memory text",
     "novac asm TEXT OBJ            assembles, and saves the object",
@@ -130,5 +130,5 @@ const USAGE: [&str; 14] = [
     "novac lint OBJ                looks at the rules of lawful code",
     "novac check REPORT            checks a report, with its certificate",
     "novac gen SEED SIZE           makes a source, compiles it, and runs the code",
-    "N is from 1 to 100,000,000. File names differ from each other.",
+    "steps=N is from 1 to 100,000,000. File names differ from each other.",
 ];

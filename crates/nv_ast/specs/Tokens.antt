@@ -131,65 +131,13 @@ sign_plus s = at s (Sign 0)
 abbrev pub sign_minus : Span → Token
 sign_minus s = at s (Sign 1)
 
--- '&'
-abbrev pub sign_and : Span → Token
-sign_and s = at s (Sign 2)
-
 -- '|'
 abbrev pub sign_bar : Span → Token
 sign_bar s = at s (Sign 3)
 
--- '^'
-abbrev pub sign_caret : Span → Token
-sign_caret s = at s (Sign 4)
-
 -- '~'
 abbrev pub sign_tilde : Span → Token
 sign_tilde s = at s (Sign 5)
-
--- '<<'
-abbrev pub sign_left : Span → Token
-sign_left s = at s (Sign 6)
-
--- '>>'
-abbrev pub sign_right : Span → Token
-sign_right s = at s (Sign 7)
-
--- '<<<'
-abbrev pub sign_rotate : Span → Token
-sign_rotate s = at s (Sign 8)
-
--- '=='
-abbrev pub sign_equal : Span → Token
-sign_equal s = at s (Sign 9)
-
--- '!='
-abbrev pub sign_unequal : Span → Token
-sign_unequal s = at s (Sign 10)
-
--- '<'
-abbrev pub sign_less : Span → Token
-sign_less s = at s (Sign 11)
-
--- '<='
-abbrev pub sign_at_most : Span → Token
-sign_at_most s = at s (Sign 12)
-
--- '>'
-abbrev pub sign_greater : Span → Token
-sign_greater s = at s (Sign 13)
-
--- '>='
-abbrev pub sign_at_least : Span → Token
-sign_at_least s = at s (Sign 14)
-
--- '&&'
-abbrev pub sign_both : Span → Token
-sign_both s = at s (Sign 15)
-
--- '||'
-abbrev pub sign_either : Span → Token
-sign_either s = at s (Sign 16)
 
 -- '!'
 abbrev pub sign_bang : Span → Token
