@@ -145,6 +145,11 @@ def pages_as_made(top):
     return [f"{name} is to be written again by tests/pages.py" for name, text in made if read(top, f"crates/nova_explain/src/{name}") != text]
 
 
+def believed_as_made(top):
+    """docs/PROOFS.md has the lines of the clauses and the definitions that are there."""
+    return [] if module(top, "bench/believed").page() == read(top, "docs/PROOFS.md") else ["docs/PROOFS.md is to be written again by bench/believed --page"]
+
+
 def there_and_back(top):
     """Each example with a packet: its bytes become a dump, and that the same lines of SDRAM."""
     found, packet = [], module(top, "examples/packet")
@@ -179,6 +184,7 @@ def dumps(top):
 def all_rows(top):
     rows = [("each keyword is coloured by both editors' files", highlighting), ("the editors' files are as made", as_made)]
     rows += [("the pages of nova_explain are those of docs/FAULTS.md", pages_as_made)]
+    rows += [("what has to be believed is listed in docs/PROOFS.md", believed_as_made)]
     rows += [("a packet's hex dump and back", there_and_back), ("forms of hex dumps", dumps)]
     sources = sorted(it for it in os.listdir(os.path.join(top, "examples")) if it.endswith(".nova"))
     made = [MadeRow(seed, size, top) for seed, size in ((0, 2), (1, 60))]
