@@ -40,6 +40,32 @@ class ReportRow:
         return found if cost <= int(compiled[3]) else [*found, f"the moves cost {cost}, above {compiled[3]}"]
 
 
+class SumRow:
+    """The report on a sum has the sizes, costs, rows and vector that docs/CERTIFICATES.md tells of it."""
+
+    where, name = "tests/tools.py", "the report of docs/CERTIFICATES.md on a sum"
+
+    def __init__(self, top):
+        self.top = top
+
+    def differences(self, novac, at):
+        source = os.path.join(self.top, "crates", "novac", "data", "add.nova")
+        subprocess.run([novac, "compile", source, "o", "r"], cwd=at, capture_output=True, timeout=60)
+        lines, page = read(at, "r").split("\n"), read(self.top, "docs/CERTIFICATES.md")
+        costs, rows = ([it for it in lines if it.startswith(front)] for front in ("c ", "r "))
+        told = re.search(r"has ([0-9]+) columns and ([0-9]+) rows", page).groups()
+        found = [] if told == (str(len(costs)), str(len(rows))) else [f"{len(costs)} columns and {len(rows)} rows"]
+        vector = re.search(r"The report's vector, `(x [^`]*)`", page)[1]
+        found += [] if vector in lines else [f"no line is {vector}"]
+        for number, row in re.findall(r"([0-9]+): `(r [^`]*)`", page):
+            found += [] if rows[int(number) :][:1] == [row] else [f"row {number} isn't {row}"]
+        for first, last, cells in re.findall(r"^\| ([0-9]+) to ([0-9]+) \| .* \| ([0-9, ]+) \|$", page, re.M):
+            each = cells.split(", ")
+            wanted = [f"c {each[at % len(each)]}" for at in range(int(last) + 1 - int(first))]
+            found += [] if costs[int(first) : int(last) + 1] == wanted else [f"columns {first} to {last} cost something else"]
+        return found
+
+
 class MadeRow:
     """What `gen` says of a made source is what `compile` says of its text, and what `run` and `exec` come to on 1 and 2."""
 
@@ -188,4 +214,4 @@ def all_rows(top):
     rows += [("a packet's hex dump and back", there_and_back), ("forms of hex dumps", dumps)]
     sources = sorted(it for it in os.listdir(os.path.join(top, "examples")) if it.endswith(".nova"))
     made = [MadeRow(seed, size, top) for seed, size in ((0, 2), (1, 60))]
-    return [ToolRow(name, body, top) for name, body in rows] + [ReportRow(it, top) for it in sources] + made + [CrowdedRow(top)]
+    return [ToolRow(name, body, top) for name, body in rows] + [ReportRow(it, top) for it in sources] + made + [CrowdedRow(top), SumRow(top)]
