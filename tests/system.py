@@ -351,6 +351,18 @@ def empty_links(it):
     it.has("t", "l", "o", "self")
 
 
+@row("an output that is an input under another name replaces it")
+def other_names(it):
+    it.put("t", TEXT)
+    it.put("u", TEXT)
+    os.symlink("u", it.path("l"))
+    it.runs("asm t ./t", 0, "assembled 1\n")
+    it.runs("asm u l", 0, "assembled 1\n")
+    it.holds(it.get("t") == code(1) and it.get("u") == code(1), "an input stays")
+    it.holds(os.path.islink(it.path("l")), "the link is gone")
+    it.has("t", "u", "l")
+
+
 @row("temporary files that killed runs left are in nobody's way")
 def leftovers(it):
     it.put("t", TEXT)

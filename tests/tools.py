@@ -176,6 +176,53 @@ def believed_as_made(top):
     return [] if module(top, "bench/believed").page() == read(top, "docs/PROOFS.md") else ["docs/PROOFS.md is to be written again by bench/believed --page"]
 
 
+LONGEST_LINE, LONGEST_SENTENCE = 160, 30
+NAMED_FILE = re.compile(
+    r"`([\w./+-]+\.(?:rt|antt|md|py|txt|asm|report|vim|json))`|\b((?:crates|docs|tests|bench|examples|editors)/[\w./+-]*\w)"
+)
+
+
+def without_blocks(text):
+    return re.sub(r"^```.*?^```$", "", text, flags=re.M | re.S)
+
+
+def plain_sentences(text):
+    """The sentences of a page, those of tables cell by cell."""
+    blocks = [it.split("|") if it.startswith("|") else [it] for it in re.split(r"\n\s*\n", without_blocks(text))]
+    return [it for block in blocks for cell in block for it in re.split(r"(?<=[.?!])\s+", cell)]
+
+
+def readable(top):
+    """README has short lines and sentences."""
+    text = read(top, "README.md")
+    found = [f"README.md, line {number}: {len(it)} characters" for number, it in enumerate(text.split("\n"), 1) if len(it) > LONGEST_LINE]
+    return found + [f"README.md: {len(it.split())} words: {it}" for it in plain_sentences(text) if len(it.split()) > LONGEST_SENTENCE]
+
+
+def tracked(top):
+    """The repository's files and folders, without what was built."""
+    found = set()
+    for folder, folders, files in os.walk(top):
+        folders[:] = [it for it in folders if it not in ("out", ".git")]
+        found |= {os.path.relpath(os.path.join(folder, it), top) for it in (*files, *folders)}
+    return found
+
+
+def named_files(top):
+    """Each file and each section that a page names is there."""
+    found, known = [], tracked(top)
+    ends = {"/".join(it.split("/")[-count:]) for it in known for count in range(1, it.count("/") + 2)}
+    for name in sorted(it for it in known if it.endswith(".md")):
+        text = without_blocks(read(top, name))
+        for match in NAMED_FILE.finditer(text):
+            it = (match[1] or match[2]).rstrip(".")
+            if it not in ends and "/out/" not in it and "-*" not in it:
+                found.append(f"{name}: {it} isn't there")
+        sections = {re.sub(r"[^\w -]", "", it.lower()).replace(" ", "-") for it in re.findall(r"^#+ (.*)", text, re.M)}
+        found += [f"{name}: #{it} isn't there" for it in re.findall(r"\]\(#([^)]*)\)", text) if it not in sections]
+    return found
+
+
 def there_and_back(top):
     """Each example with a packet: its bytes become a dump, and that the same lines of SDRAM."""
     found, packet = [], module(top, "examples/packet")
@@ -211,6 +258,7 @@ def all_rows(top):
     rows = [("each keyword is coloured by both editors' files", highlighting), ("the editors' files are as made", as_made)]
     rows += [("the pages of nova_explain are those of docs/FAULTS.md", pages_as_made)]
     rows += [("what has to be believed is listed in docs/PROOFS.md", believed_as_made)]
+    rows += [("README has short lines and sentences", readable), ("the files that the pages name are there", named_files)]
     rows += [("a packet's hex dump and back", there_and_back), ("forms of hex dumps", dumps)]
     sources = sorted(it for it in os.listdir(os.path.join(top, "examples")) if it.endswith(".nova"))
     made = [MadeRow(seed, size, top) for seed, size in ((0, 2), (1, 60))]
