@@ -173,7 +173,8 @@ def pages_as_made(top):
 
 def believed_as_made(top):
     """docs/PROOFS.md has the lines of the clauses and the definitions that are there."""
-    return [] if module(top, "bench/believed").page() == read(top, "docs/PROOFS.md") else ["docs/PROOFS.md is to be written again by bench/believed --page"]
+    same = module(top, "bench/believed").page() == read(top, "docs/PROOFS.md")
+    return [] if same else ["docs/PROOFS.md is to be written again by bench/believed --page"]
 
 
 LONGEST_LINE, LONGEST_SENTENCE = 160, 30
