@@ -145,26 +145,57 @@ def machine(top):
     return found
 
 
+# The line of the worked report on which a text that begins with this word stands.
+REPORT_LINES = {"novareport": 1, "slots": 2, "budget": 3, "columns": 4, "r": 9, "verdict": 12, "x": 13, "tree": 14, "d": 15, "b": 15}
+
+
+def changed(report, texts):
+    """The report with these lines in place of its own."""
+    lines = report.split("\n")
+    for text in texts:
+        lines[REPORT_LINES[text.split(" ")[0]] - 1] = text
+    return "\n".join(lines).encode()
+
+
+def changes(line):
+    """What a line of the table of changes has: the lines of each change, and what `check` says then."""
+    answer = re.match(r"\| (.*) \| `Bad\(([0-9]+)\)`.*\|$", line)
+    refused = re.match(r"\| (.*) \| read, and not true.*\|$", line)
+    texts = re.findall(r"`([^`]*)`", (answer or refused)[1]) if answer or refused else []
+    if refused:
+        return [(texts, "report refused\n")]
+    if not answer or "line feed" in answer[1]:
+        return []
+    said = f"report line {answer[2]}\n"
+    return [([texts[0], it], said) for it in texts[1:]] if " with " in answer[1] else [([it], said) for it in texts]
+
+
 def certificates(top):
-    """docs/CERTIFICATES.md: each report is true, and its verdict is printed; the table of changes names the faulty lines."""
+    """docs/CERTIFICATES.md: each report is true, and its verdict is printed; the table of changes names the faulty lines; and the
+    command lines print what is said behind them."""
     found, report = [], ""
     document = read(top, "docs/CERTIFICATES.md")
-    for first, _, text in blocks(document):
+    lines = document.split("\n")
+    for first, kind, text in blocks(document):
+        where = f"docs/CERTIFICATES.md:{first}"
         if text.startswith("novareport 1\nslots "):
             report = text
             verdict = re.search(r"\nverdict (.*)\n", text)[1]
-            row = Row(f"docs/CERTIFICATES.md:{first}", f"a report, {verdict}")
+            row = Row(where, f"a report, {verdict}")
             row.files = {"r": text.encode()}
             row.calls = [Call(["check", "r"], 0, f"{verdict}\n".encode())]
             found.append(row)
-    for number, line in enumerate(document.split("\n"), 1):
-        answer = re.match(r"\| (.*) \| `Bad\(([0-9]+)\)`.*\|$", line)
-        for text in re.findall(r"`((?:slots|budget|novareport) [^`]*)`", answer[1]) if answer else []:
-            lines = report.split("\n")
-            at = int(answer[2])
-            row = Row(f"docs/CERTIFICATES.md:{number}", f"the report with {text}")
-            row.files = {"r": "\n".join(lines[: at - 1] + [text] + lines[at:]).encode()}
-            row.calls = [Call(["check", "r"], 17, f"report line {at}\n".encode())]
+        elif kind == "sh":
+            row = Row(where, "command lines")
+            said = re.findall(r"`([^`]*)`", next(it for it in lines[first + text.count("\n") :] if it))
+            for words, answer in zip(re.findall(r"out/novac (.*)", text), said):
+                add_call(row, top, words.split(), f"{answer}\n".encode())
+            found.append(row)
+    for number, line in enumerate(lines, 1):
+        for texts, answer in changes(line):
+            row = Row(f"docs/CERTIFICATES.md:{number}", f"the report with {' and '.join(texts)}")
+            row.files = {"r": changed(report, texts)}
+            row.calls = [Call(["check", "r"], 17, answer.encode())]
             found.append(row)
     return found
 
@@ -199,6 +230,16 @@ def faults(top):
     return worked(top, "docs/FAULTS.md")
 
 
+def add_call(row, base, words, output):
+    """A call that ends with 0, of the words of a command line. Its files are those below the folder `base`, and those that the
+    row has; all others are made."""
+    names = {it: os.path.basename(it) for it in words[1:] if "=" not in it}
+    made = {it for call in row.calls for it in call.saved}
+    row.files |= {short: read(base, it).encode() for it, short in names.items() if os.path.isfile(os.path.join(base, it))}
+    saved = {it: ANY for it in names.values() if it not in row.files and it not in made}
+    row.calls.append(Call([words[0], *(names.get(it, it) for it in words[1:])], 0, output, saved))
+
+
 def command_lines(top):
     """README: each line of a block of kind `sh` that calls the program, built or by `rt`; a block of kind `outcome` is the
     whole output of the last one."""
@@ -210,15 +251,10 @@ def command_lines(top):
             call = re.search(r"(?:out/novac|rt (?:run|try) --) ([^)]*)", line)
             if not call:
                 continue
-            words = call[1].split()
-            words = [word.removeprefix("$PWD/") for word in words]
-            row = Row(f"README.md:{first}", " ".join(words))
-            names = {it: os.path.basename(it) for it in words[1:] if "=" not in it}
+            row = Row(f"README.md:{first}", call[1])
             # `rt` runs in the folder of the program's crate.
             base = os.path.join(top, "crates", "novac") if " rt " in line else top
-            row.files = {short: read(base, it).encode() for it, short in names.items() if os.path.isfile(os.path.join(base, it))}
-            made = {short: ANY for it, short in names.items() if short not in row.files}
-            row.calls = [Call([words[0], *(names.get(it, it) for it in words[1:])], 0, ANY, made)]
+            add_call(row, base, [it.removeprefix("$PWD/") for it in call[1].split()], ANY)
             found.append(row)
     return found
 

@@ -168,6 +168,16 @@ def megabytes_of_report(it):
     it.runs("check r", 0, "optimal 0\n")
 
 
+@row("a report of more than a megabyte is saved, and checked")
+def saved_report(it):
+    groups = "".join(f"fun g{at + 1}[]: () {{ g{at}[] }}\n" for at in range(2046))
+    it.put("s", f"fun g0[]: () {{ () }}\n{groups}fun main[]: () {{ g2046[] }}\n".encode())
+    it.runs("compile s o r store=1048576", 0, "compiled 4096 optimal 0\n")
+    it.holds(os.path.getsize(it.path("r")) > 1 << 20, "the report is short")
+    it.runs("check r", 0, "optimal 0\n")
+    it.has("s", "o", "r")
+
+
 @row("a memory text of megabytes, and an outcome with whole memories")
 def megabytes_of_memory(it):
     def lines(memory, count):
@@ -339,6 +349,18 @@ def empty_links(it):
     os.symlink("self", it.path("self"))
     it.runs("asm t self", 4, "cannot write self\n")
     it.has("t", "l", "o", "self")
+
+
+@row("an output that is an input under another name replaces it")
+def other_names(it):
+    it.put("t", TEXT)
+    it.put("u", TEXT)
+    os.symlink("u", it.path("l"))
+    it.runs("asm t ./t", 0, "assembled 1\n")
+    it.runs("asm u l", 0, "assembled 1\n")
+    it.holds(it.get("t") == code(1) and it.get("u") == code(1), "an input stays")
+    it.holds(os.path.islink(it.path("l")), "the link is gone")
+    it.has("t", "u", "l")
 
 
 @row("temporary files that killed runs left are in nobody's way")

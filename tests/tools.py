@@ -40,6 +40,32 @@ class ReportRow:
         return found if cost <= int(compiled[3]) else [*found, f"the moves cost {cost}, above {compiled[3]}"]
 
 
+class SumRow:
+    """The report on a sum has the sizes, costs, rows and vector that docs/CERTIFICATES.md tells of it."""
+
+    where, name = "tests/tools.py", "the report of docs/CERTIFICATES.md on a sum"
+
+    def __init__(self, top):
+        self.top = top
+
+    def differences(self, novac, at):
+        source = os.path.join(self.top, "crates", "novac", "data", "add.nova")
+        subprocess.run([novac, "compile", source, "o", "r"], cwd=at, capture_output=True, timeout=60)
+        lines, page = read(at, "r").split("\n"), read(self.top, "docs/CERTIFICATES.md")
+        costs, rows = ([it for it in lines if it.startswith(front)] for front in ("c ", "r "))
+        told = re.search(r"has ([0-9]+) columns and ([0-9]+) rows", page).groups()
+        found = [] if told == (str(len(costs)), str(len(rows))) else [f"{len(costs)} columns and {len(rows)} rows"]
+        vector = re.search(r"The report's vector, `(x [^`]*)`", page)[1]
+        found += [] if vector in lines else [f"no line is {vector}"]
+        for number, row in re.findall(r"([0-9]+): `(r [^`]*)`", page):
+            found += [] if rows[int(number) :][:1] == [row] else [f"row {number} isn't {row}"]
+        for first, last, cells in re.findall(r"^\| ([0-9]+) to ([0-9]+) \| .* \| ([0-9, ]+) \|$", page, re.M):
+            each = cells.split(", ")
+            wanted = [f"c {each[at % len(each)]}" for at in range(int(last) + 1 - int(first))]
+            found += [] if costs[int(first) : int(last) + 1] == wanted else [f"columns {first} to {last} cost something else"]
+        return found
+
+
 class MadeRow:
     """What `gen` says of a made source is what `compile` says of its text, and what `run` and `exec` come to on 1 and 2."""
 
@@ -145,6 +171,59 @@ def pages_as_made(top):
     return [f"{name} is to be written again by tests/pages.py" for name, text in made if read(top, f"crates/nova_explain/src/{name}") != text]
 
 
+def believed_as_made(top):
+    """docs/PROOFS.md has the lines of the clauses and the definitions that are there."""
+    same = module(top, "bench/believed").page() == read(top, "docs/PROOFS.md")
+    return [] if same else ["docs/PROOFS.md is to be written again by bench/believed --page"]
+
+
+LONGEST_LINE, LONGEST_SENTENCE = 160, 30
+NAMED_FILE = re.compile(
+    r"`([\w./+-]+\.(?:rt|antt|md|py|txt|asm|report|vim|json))`|\b((?:crates|docs|tests|bench|examples|editors)/[\w./+-]*\w)"
+)
+
+
+def without_blocks(text):
+    return re.sub(r"^```.*?^```$", "", text, flags=re.M | re.S)
+
+
+def plain_sentences(text):
+    """The sentences of a page, those of tables cell by cell."""
+    blocks = [it.split("|") if it.startswith("|") else [it] for it in re.split(r"\n\s*\n", without_blocks(text))]
+    return [it for block in blocks for cell in block for it in re.split(r"(?<=[.?!])\s+", cell)]
+
+
+def readable(top):
+    """README has short lines and sentences."""
+    text = read(top, "README.md")
+    found = [f"README.md, line {number}: {len(it)} characters" for number, it in enumerate(text.split("\n"), 1) if len(it) > LONGEST_LINE]
+    return found + [f"README.md: {len(it.split())} words: {it}" for it in plain_sentences(text) if len(it.split()) > LONGEST_SENTENCE]
+
+
+def tracked(top):
+    """The repository's files and folders, without what was built."""
+    found = set()
+    for folder, folders, files in os.walk(top):
+        folders[:] = [it for it in folders if it not in ("out", ".git")]
+        found |= {os.path.relpath(os.path.join(folder, it), top) for it in (*files, *folders)}
+    return found
+
+
+def named_files(top):
+    """Each file and each section that a page names is there."""
+    found, known = [], tracked(top)
+    ends = {"/".join(it.split("/")[-count:]) for it in known for count in range(1, it.count("/") + 2)}
+    for name in sorted(it for it in known if it.endswith(".md")):
+        text = without_blocks(read(top, name))
+        for match in NAMED_FILE.finditer(text):
+            it = (match[1] or match[2]).rstrip(".")
+            if it not in ends and "/out/" not in it and "-*" not in it:
+                found.append(f"{name}: {it} isn't there")
+        sections = {re.sub(r"[^\w -]", "", it.lower()).replace(" ", "-") for it in re.findall(r"^#+ (.*)", text, re.M)}
+        found += [f"{name}: #{it} isn't there" for it in re.findall(r"\]\(#([^)]*)\)", text) if it not in sections]
+    return found
+
+
 def there_and_back(top):
     """Each example with a packet: its bytes become a dump, and that the same lines of SDRAM."""
     found, packet = [], module(top, "examples/packet")
@@ -179,7 +258,9 @@ def dumps(top):
 def all_rows(top):
     rows = [("each keyword is coloured by both editors' files", highlighting), ("the editors' files are as made", as_made)]
     rows += [("the pages of nova_explain are those of docs/FAULTS.md", pages_as_made)]
+    rows += [("what has to be believed is listed in docs/PROOFS.md", believed_as_made)]
+    rows += [("README has short lines and sentences", readable), ("the files that the pages name are there", named_files)]
     rows += [("a packet's hex dump and back", there_and_back), ("forms of hex dumps", dumps)]
     sources = sorted(it for it in os.listdir(os.path.join(top, "examples")) if it.endswith(".nova"))
     made = [MadeRow(seed, size, top) for seed, size in ((0, 2), (1, 60))]
-    return [ToolRow(name, body, top) for name, body in rows] + [ReportRow(it, top) for it in sources] + made + [CrowdedRow(top)]
+    return [ToolRow(name, body, top) for name, body in rows] + [ReportRow(it, top) for it in sources] + made + [CrowdedRow(top), SumRow(top)]
