@@ -2,6 +2,7 @@
 use Rattle.std.proofs.Common.{ℕ, zero, suc, ◌+◌, ◌*◌, ◌≤◌, ◌<◌, List, [], ◌∷◌, ◌++◌, length, arith, length-append, codes}
 use Rattle.std.proofs.lemmas.Fmt.{length-decimal-le}
 use Rattle.nv_ast.specs.Height.{highest_statement, pattern_inside_statements, highest_decl}
+use Rattle.nv_text.specs.Limits.{source_limit}
 use Rattle.made_source.specs.Made.{name_of, sign_of, line_text, lines_text, lines_from, made}
 use Rattle.made_source.specs.inner.Lines.{IsLine, AreLines}
 use Rattle.made_source.specs.inner.Program.{next_place, statements_of, program_of}
@@ -49,7 +50,7 @@ lines-short i (line ∷ lines) le h =
     let e = length-append (line_text i line) (lines_text (suc i) lines) in
     omega (arith, a, b, e)
 
-pub short : (seed size : ℕ) → size ≤ 500 → length (made seed size) ≤ 262144
+pub short : (seed size : ℕ) → size ≤ 500 → length (made seed size) ≤ source_limit
 short seed size le =
     let n = lines-number size 0 seed in
     let a = lines-short 0 (lines_from size 0 seed) (omega arith) (lines-drawn size 0 seed) in

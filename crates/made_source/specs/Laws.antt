@@ -7,6 +7,7 @@ use Rattle.nv_ast.specs.Height.{highest_decl}
 use Rattle.nv_ast.specs.Sizes.{main_words, room}
 use Rattle.nv_ast.specs.Tree.{ProgramTree}
 use Rattle.nv_meaning.specs.Meaning.{source}
+use Rattle.nv_text.specs.Limits.{source_limit}
 use Rattle.nv_text.specs.Program.{IsTextOf}
 use Rattle.made_source.specs.Made.{made}
 
@@ -19,7 +20,7 @@ TwoLines = made 0 2 ≡ codes "fun main[a: word, b: word]: word {" ++ 10 ∷ cod
 pub record HasProgram (seed size : ℕ) : Type 0 where
   pub program : ProgramTree
   pub word : ℕ
-  pub short : length (made seed size) ≤ 262144
+  pub short : length (made seed size) ≤ source_limit
   pub reads : IsTextOf (made seed size) program
   pub low : highest_decl program.decls ≤ 100
   pub accepted : IsAccepted program

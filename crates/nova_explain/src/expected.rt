@@ -2,7 +2,7 @@
 
 use crate::text::{part, push, push_line, push_quoted};
 use nv_base::NoMemory;
-use nv_text::{Sort, TextError, Token, parse};
+use nv_text::{MOST_BYTES, Sort, TextError, Token, parse};
 use std::alloc::Global;
 
 /// A token of each kind: a name, a number, and each keyword and sign.
@@ -147,7 +147,7 @@ fn begins_with(alloc: Global, front: &[u8], token: &str) -> Result<bool, NoMemor
     let mut text = front.to_vec(alloc)?;
     push_line(&mut text, "")?;
     push(&mut text, token)?;
-    if text.len() > 262_144 {
+    if text.len() > MOST_BYTES {
         return Ok(false);
     }
     match parse(alloc, &text) {

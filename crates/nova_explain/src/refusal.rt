@@ -10,7 +10,7 @@ use crate::text::{part, push, push_line, push_number, push_quoted};
 use crate::walk::Walk;
 use nv_ast::Span;
 use nv_base::NoMemory;
-use nv_text::{TextError, parse, tokens};
+use nv_text::{MOST_BYTES, TextError, parse, tokens};
 use nv_types::TypeError;
 use std::alloc::Global;
 
@@ -128,7 +128,7 @@ fn explain_syntax(
     bytes: &[u8],
     at: u32,
 ) -> Result<(), NoMemory> {
-    if bytes.len() > 262_144 {
+    if bytes.len() > MOST_BYTES {
         return Ok(());
     }
     let found = match tokens(alloc, bytes) {
@@ -204,7 +204,7 @@ fn push_details(
     kind: u8,
     span: Span,
 ) -> Result<&'static str, NoMemory> {
-    if bytes.len() > 262_144 {
+    if bytes.len() > MOST_BYTES {
         return Ok(kind_advice(kind));
     }
     let Ok(program) = parse(alloc, bytes) else {
@@ -232,7 +232,7 @@ fn explain_size(
     push(out, ": the expanded size is ")?;
     push_number(out, u64::from(size))?;
     push_line(out, ", and at most 4096 is allowed (too large)")?;
-    if bytes.len() <= 262_144 {
+    if bytes.len() <= MOST_BYTES {
         let Ok(program) = parse(alloc, bytes) else {
             return Err(NoMemory);
         };

@@ -3,14 +3,14 @@
 use crate::refusal::{explain_text, explain_type};
 use crate::sizes::push_sizes;
 use nv_base::NoMemory;
-use nv_text::{TextError, parse};
+use nv_text::{MOST_BYTES, TextError, parse};
 use nv_types::{TypeError, check};
 use std::alloc::Global;
 
 /// The text on a source: its fault, or its sizes.
 pub fn explain_source(alloc: Global, name: &str, bytes: &[u8]) -> Result<Vec<u8>, NoMemory> {
     let mut out = Vec::new(alloc);
-    if bytes.len() > 262_144 {
+    if bytes.len() > MOST_BYTES {
         return Ok(out);
     }
     let program = match parse(alloc, bytes) {

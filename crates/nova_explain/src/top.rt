@@ -6,10 +6,8 @@ use crate::status::Status;
 use crate::text::{push, push_line};
 use nv_base::NoMemory;
 use nv_outside::{Files, Loaded, Put, Sink};
+use nv_text::MOST_BYTES;
 use std::alloc::Global;
-
-/// The most bytes of a source.
-const SOURCE_LIMIT: u64 = 262_144;
 
 // A status, and the text that is printed for it.
 #[derive(Drop)]
@@ -63,7 +61,7 @@ fn joined(alloc: Global, words: &Vec<String>) -> Result<Vec<u8>, NoMemory> {
 // What is said of a source.
 fn source_reply<F: Files>(alloc: Global, name: &str, files: &mut F) -> Result<Reply, NoMemory> {
     let mut bytes = Vec::new(alloc);
-    match files.load(name, SOURCE_LIMIT, &mut bytes) {
+    match files.load(name, MOST_BYTES as u64, &mut bytes) {
         Loaded::Done => told(explain_source(alloc, name, &bytes)?),
         Loaded::TooLong => told(too_long(alloc, name)?),
         Loaded::Failed => unread(alloc, name),

@@ -16,10 +16,8 @@ use nova_front::{FrontError, front};
 use nova_middle::{middle, to_flow};
 use nv_base::NoMemory;
 use nv_outside::{Files, Loaded};
+use nv_text::MOST_BYTES;
 use std::alloc::{AllocError, Global};
-
-/// The greatest size of a source in bytes.
-const LIMIT: u64 = 262_144;
 
 /// Why nothing was printed.
 #[derive(Clone, Copy, Debug, PartialEq, Eq, Drop)]
@@ -106,7 +104,7 @@ pub fn pages<F: Files>(
     wanted: Wanted,
 ) -> Result<Vec<u8>, Failure> {
     let mut bytes = Vec::new(alloc);
-    match files.load(source, LIMIT, &mut bytes) {
+    match files.load(source, MOST_BYTES as u64, &mut bytes) {
         Loaded::Done => {}
         Loaded::TooLong => return Err(Failure::Source),
         Loaded::Failed => return Err(Failure::Read),

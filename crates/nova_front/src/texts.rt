@@ -2,6 +2,7 @@
 
 ghost use Rattle.std.specs.Prelude.{◌≡◌, ◌≤◌, ◌+◌, ◌*◌, ◌⊎◌, length, IfOk, IfErr, MatchResult};
 ghost use Rattle.nv_base.specs.Meanings.{KeepsOutcomes, AreEqual};
+ghost use Rattle.nv_text.specs.Limits.{source_limit};
 ghost use Rattle.nv_ast.specs.Sizes.{expanded_size, main_words, room};
 ghost use Rattle.nv_ast.specs.Tree.{ProgramTree};
 ghost use Rattle.nv_ast.specs.TypedView.{typed_program};
@@ -25,7 +26,7 @@ use std::alloc::Global;
 ///
 /// A fault of the text is answered first, then the first fault of the program's types, then its size.
 pub fn typed(alloc: Global, bytes: &[u8]) -> Result<Typed, FrontError>
-    requires { length bytes.now ≤ 262144 }
+    requires { length bytes.now ≤ source_limit }
     ensures program { IfOk result (λ t. IsTypedSource bytes.now (typed_program t)) }
     ensures bounded { IfOk result (λ t. room (typed_program t) ≤ 5 * expanded_size (typed_program t) + 8) }
     ensures only_program { (p : ProgramTree) → IsTypedSource bytes.now p → MatchResult result (λ t. typed_program t ≡ p) (λ e. e ≡ FrontError.NoMemory) }
@@ -48,7 +49,7 @@ pub fn typed(alloc: Global, bytes: &[u8]) -> Result<Typed, FrontError>
 /// The typed program of a text of at most 262,144 bytes, and its flat program, with all that
 /// `flatten` promises of it. The refusals are those of [`typed`].
 pub fn front(alloc: Global, bytes: &[u8]) -> Result<(Typed, FlatProgram), FrontError>
-    requires { length bytes.now ≤ 262144 }
+    requires { length bytes.now ≤ source_limit }
     ensures program { IfOk result (λ r. IsTypedSource bytes.now (typed_program r.0)) }
     ensures kept { IfOk result (λ r. KeepsOutcomes (main_words (typed_program r.0)) (params_in r.1.funs.items r.1.main) (source (typed_program r.0)) (flat_meaning r.1.funs.items r.1.main)) }
     ensures equal { IfOk result (λ r. AreEqual (main_words (typed_program r.0)) (source (typed_program r.0)) (flat_meaning r.1.funs.items r.1.main)) }

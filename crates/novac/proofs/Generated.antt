@@ -9,6 +9,7 @@ use Rattle.nv_base.specs.Memories.{Memories, HasSizes}
 use Rattle.nv_base.specs.Meanings.{FullOutcome, IsOver}
 use Rattle.nv_base.specs.declared.outcome.Outcome.{Outcome}
 use Rattle.nv_base.specs.declared.outcome.Outcome.TheVariants.{Ended}
+use Rattle.nv_text.specs.Limits.{source_limit}
 use Rattle.nv_meaning.specs.Meaning.{source}
 use Rattle.uc_isa.specs.Agrees.{IsStart}
 use Rattle.uc_isa.specs.Code.{CodeView}
@@ -39,8 +40,8 @@ made-typed : (seed size : ℕ) (h : HasProgram seed size) → IsTypedSource (mad
 made-typed seed size h = record { is_source = record { reads = h.reads; low = h.low }; accepted = h.accepted }
 
 -- it isn't too long
-pub made-short : (seed size : ℕ) (bytes : List ℕ) → 1 ≤ size → size ≤ 500 → bytes ≡ made seed size → length bytes ≤ 262144
-made-short seed size bytes some few e = subst (λ (x : List ℕ). length x ≤ 262144) (sym e) (each_has_program seed size some few).short
+pub made-short : (seed size : ℕ) (bytes : List ℕ) → 1 ≤ size → size ≤ 500 → bytes ≡ made seed size → length bytes ≤ source_limit
+made-short seed size bytes some few e = subst (λ (x : List ℕ). length x ≤ source_limit) (sym e) (each_has_program seed size some few).short
 
 -- it is refused only where its program isn't compiled
 pub made-refused : (seed size : ℕ) (bytes : List ℕ) (e : Refusal) → 1 ≤ size → size ≤ 500 → bytes ≡ made seed size → IsUncaused e ⊎ CompileRefuses bytes slots_limit store_limit e → IsUncaused e ⊎ GenRefuses seed size e

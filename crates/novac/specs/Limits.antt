@@ -1,9 +1,7 @@
 -- How many bytes the files that commands read may have; and the slots, the branches and the instructions that words can ask for.
 use Rattle.std.specs.Prelude.{ℕ}
-
 -- a source
-abbrev pub source_limit : ℕ
-source_limit = 262144
+pub use Rattle.nv_text.specs.Limits.{source_limit}
 
 -- an object: 2 ^ 20 instructions and the header
 abbrev pub object_limit : ℕ

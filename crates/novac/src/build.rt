@@ -1,5 +1,6 @@
 //! From the text of a program to its code.
 ghost use Rattle.std.specs.Prelude.{◌≡◌, ◌≤◌, ◌+◌, ◌*◌, ◌⊎◌, [], length, IfOk, IfErr, MatchResult};
+ghost use Rattle.nv_text.specs.Limits.{source_limit};
 ghost use Rattle.nv_ast.specs.Tree.{ProgramTree};
 ghost use Rattle.nv_ast.specs.TypedView.{typed_program};
 ghost use Rattle.ssu_ir.specs.Measures.{peak};
@@ -101,7 +102,7 @@ pub fn compile_text(
     budget: u32,
     store: u32,
 ) -> Result<Compiled, CompileError>
-    requires text { length bytes.now ≤ 262144 }
+    requires text { length bytes.now ≤ source_limit }
     requires slots { slots ≤ 128 }
     requires some { 1 ≤ budget }
     requires budget { budget ≤ 1000000 }

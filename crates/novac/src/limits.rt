@@ -1,8 +1,10 @@
 //! Limits: the bytes of the files that commands read, and the slots, branches and instructions of a compilation. And where
 //! code may spill.
 
+use nv_text::MOST_BYTES;
+
 /// A source.
-pub const SOURCE_LIMIT: u64 = 262_144;
+pub const SOURCE_LIMIT: u64 = MOST_BYTES as u64;
 
 /// An object: 2^20 instructions and the header.
 pub const OBJECT_LIMIT: u64 = 8_388_620;

@@ -1,9 +1,10 @@
 -- The faults of a program: for each of the 24 kinds its condition on one node, and all faults in the order of the walk.
 -- The walk takes the declarations in order, and in an expression the parts from left to right and then the node itself.
 -- A node's faults stand in the order of their kinds. The program's fault is the first of the list; what stands behind it has no meaning of its own.
-use Rattle.std.specs.Prelude.{◌≡◌, ℕ, ◌+◌, ◌==◌, nat_lt, Bool, true, false, not, ◌&&◌, ◌||◌, if◌then◌else◌, List, [], ◌∷◌, ◌++◌, map, Option, Some, None, is_none, bytes_eq, option_map, codes}
+use Rattle.std.specs.Prelude.{◌≡◌, ℕ, ◌+◌, nat_lt, Bool, true, false, not, ◌&&◌, ◌||◌, if◌then◌else◌, List, [], ◌∷◌, ◌++◌, map, Option, Some, None, is_none, bytes_eq, option_map, codes}
+pub use Rattle.nv_base.specs.Access.{can_move}
 use Rattle.nv_base.specs.declared.term.Mem.{Mem}
-use Rattle.nv_base.specs.declared.term.Mem.TheVariants.{Sram, Sdram, Scratch}
+use Rattle.nv_base.specs.declared.term.Mem.TheVariants.{Scratch}
 use Rattle.nv_ast.specs.declared.token.Span.{Span}
 use Rattle.nv_ast.specs.Tree.{TypeTree, WordType, BoolType, PackedType, UnpackedType, TupleType, RecordType, TypeTrees, no_types, type_and, NamedTypes, no_named_types, named_type_and}
 use Rattle.nv_ast.specs.Tree.{PatternTree, PatternTrees, no_patterns, pattern_and}
@@ -139,11 +140,6 @@ abbrev pub field_twice : List (List ℕ) → List ℕ
 field_twice names = where_true (has_twice names) 18
 
 -- 19: other than 1 to 8 words, or for SDRAM other than 2, 4, 6 or 8
-abbrev pub can_move : Mem → ℕ → Bool
-can_move Sram n = within 1 8 n
-can_move Scratch n = within 1 8 n
-can_move Sdram n = (n == 2) || ((n == 4) || ((n == 6) || (n == 8)))
-
 abbrev pub wrong_access : Mem → ℕ → List ℕ
 wrong_access m n = where_true (not (can_move m n)) 19
 

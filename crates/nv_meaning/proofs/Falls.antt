@@ -1,5 +1,5 @@
 -- What the interpreter's recursion goes down by: the calls that are left, and the text.
-use Rattle.std.proofs.Common.{◌≡◌, ℕ, zero, suc, ◌+◌, ◌-◌, ◌*◌, ◌<◌, ◌≤◌, Bool, true, false, List, [], ◌∷◌, refl, sym, ap, ◌∙◌, drop, length, get_or, if◌then◌else◌, Some, None, bytes_eq, arith}
+use Rattle.std.proofs.Common.{◌≡◌, ℕ, zero, suc, ◌+◌, ◌-◌, ◌*◌, ◌^◌, ◌<◌, ◌≤◌, Bool, true, false, List, [], ◌∷◌, refl, sym, ap, ◌∙◌, drop, length, get_or, if◌then◌else◌, Some, None, bytes_eq, arith}
 use Rattle.std.proofs.Math.Nat.{mul-le-mul_right}
 use Rattle.nv_ast.specs.declared.tree.Expr.{Expr}
 use Rattle.nv_ast.specs.declared.tree.Stmt.{Stmt}
@@ -8,6 +8,11 @@ use Rattle.nv_ast.specs.Tree.{FunTree}
 use Rattle.nv_meaning.specs.Meaning.{function_in}
 use Rattle.nv_meaning.specs.inner.Weight.{weight, weight_all, weight_named, weight_statement, weight_statements, span}
 use Rattle.nv_ast.proofs.Items.{next_item}
+use Rattle.nv_base.specs.Words.{word}
+
+-- the word of a number that is one
+pub word-same : (n : ℕ) → n < 2 ^ 32 → word n ≡ n
+word-same n h = omega arith
 
 -- no more calls, and less text
 pub falls : (a b s x y : ℕ) → a ≤ b → x < y → a * s + x < b * s + y

@@ -21,5 +21,5 @@ mod types;
 
 pub use error::TextError;
 pub use nv_ast::{Sort, Token};
-pub use program::parse;
+pub use program::{MOST_BYTES, parse};
 pub use scan::tokens;

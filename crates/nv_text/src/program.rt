@@ -4,6 +4,7 @@ ghost use Rattle.nv_ast.specs.Tree.{ProgramTree};
 ghost use Rattle.nv_ast.specs.Height.{highest_decl};
 ghost use Rattle.nv_ast.specs.ProgramView.{program_of};
 ghost use Rattle.nv_ast.specs.Places.{place_of};
+ghost use Rattle.nv_text.specs.Limits.{source_limit};
 ghost use Rattle.nv_text.specs.Program.{IsTextOf, FaultOf};
 ghost use Rattle.nv_text.specs.inner.Placing.{Says};
 
@@ -13,6 +14,9 @@ use crate::error::TextError;
 use crate::scan::tokens;
 use nv_ast::{Program, Token};
 use std::alloc::Global;
+
+/// The most bytes of a text.
+pub const MOST_BYTES: usize = 262_144;
 
 /// The first byte of the first token that is left, or the text's length.
 fn place(left: &[Token], length: u32) -> u32
@@ -40,7 +44,7 @@ fn text_error<'a>(failure: Failure<'a>, length: u32) -> TextError
 /// A faulty token anywhere in the text is answered first. `Syntax` has the place of the first token with which
 /// the text begins no program, or the text's length; `Deep` that of the first with which each program is too high.
 pub fn parse(alloc: Global, bytes: &[u8]) -> Result<Program, TextError>
-    requires { length bytes.now ≤ 262144 }
+    requires { length bytes.now ≤ source_limit }
     ensures program { IfOk result (λ p. IsTextOf bytes.now (program_of p)) }
     ensures low { IfOk result (λ p. highest_decl (program_of p).decls ≤ 100) }
     ensures only_program { (q : ProgramTree) → IsTextOf bytes.now q → MatchResult result (λ p. q ≡ program_of p) (λ e. (e ≡ TextError.NoMemory) ⊎ (100 < highest_decl q.decls)) }

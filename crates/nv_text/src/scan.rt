@@ -3,6 +3,7 @@ ghost use Rattle.std.specs.Prelude.{◌≡◌, ℕ, ◌+◌, ◌<◌, ◌≤◌,
 ghost use Rattle.std.specs.List.{prefix_len};
 ghost use Rattle.nv_ast.specs.declared.token.Token.{Token};
 ghost use Rattle.nv_text.specs.declared.spelling.Class.TheVariants.{Line};
+ghost use Rattle.nv_text.specs.Limits.{source_limit};
 ghost use Rattle.nv_text.specs.Spelling.{sign_of, Fits, is_digit};
 ghost use Rattle.nv_text.specs.inner.Classes.{in_class, starts_word};
 ghost use Rattle.nv_text.specs.Tokens.{Blank, Longest, IsTokens, TokenFault};
@@ -147,7 +148,7 @@ fn token(alloc: Global, bytes: &[u8], at: u32) -> Result<(Sort, usize), TextErro
 /// The first faulty place is answered: a byte that begins no token, a number above 4,294,967,295, or a word
 /// of more than 64 bytes.
 pub fn tokens(alloc: Global, bytes: &[u8]) -> Result<Vec<Token>, TextError>
-    requires { length bytes.now ≤ 262144 }
+    requires { length bytes.now ≤ source_limit }
     ensures ok { IfOk result (λ v. IsTokens bytes.now v.items) }
     ensures fault { IfErr result (λ e. (e ≡ TextError.NoMemory) ⊎ TokenFault bytes.now e) }
     ensures only_tokens { (ts : List Token) → IsTokens bytes.now ts → MatchResult result (λ v. v.items ≡ ts) (λ e. e ≡ TextError.NoMemory) }

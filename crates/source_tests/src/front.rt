@@ -2,12 +2,12 @@
 use nova_front::{FrontError, front};
 use nv_ast::Span;
 use nv_base::NoMemory;
-use nv_text::TextError;
+use nv_text::{MOST_BYTES, TextError};
 use std::alloc::Global;
 
 // What the front end says of a text: how many flat functions there are, or why it has none.
 fn answer(alloc: Global, text: &[u8]) -> Result<usize, FrontError> {
-    if text.len() > 262_144 {
+    if text.len() > MOST_BYTES {
         return Err(FrontError::NoMemory);
     }
     let (_typed, flat) = front(alloc, text)?;

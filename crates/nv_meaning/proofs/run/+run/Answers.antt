@@ -23,14 +23,11 @@ use Rattle.nv_meaning.proofs.Choices.{looked-up, restored, binary-stop, binary-d
 use Rattle.nv_ast.proofs.TreeKinds.{number-is, truth-is, variable-is, paren-is, dot-is, invert-is, negate-is, shift-is, unpack-is, pack-is, fetch-is, binary-is, if-is, try-is, tuple-is, record-is, call-is, raise-is, block-is, let-is, store-is}
 use Rattle.nv_meaning.proofs.TreeKinds.{of-operand}
 use Rattle.nv_meaning.specs.inner.Weight.{weight, weight_all, weight_named, weight_statement, weight_statements, span}
-use Rattle.nv_meaning.proofs.Falls.{falls, falls_all, falls_call, body-below, item-weight, item-weight_named, item-weight_statement}
+use Rattle.nv_meaning.proofs.Falls.{word-same, falls, falls_all, falls_call, body-below, item-weight, item-weight_named, item-weight_statement}
 use Rattle.nv_meaning.proofs.Kept.{fewer, extends-nothing, extends-same, extends-from, kept-given, kept-then}
 use Rattle.nv_base.specs.Words.{word}
 use Rattle.nv_meaning.proofs.run.+run.Goals as goal
 use Rattle.nv_ast.proofs.Items.{next_item}
-
-word-same : (n : ℕ) → n < 2 ^ 32 → word n ≡ n
-word-same n h = omega arith
 
 pub eval-returns-in-Number : goal.eval-returns-in-Number
 eval-returns-in-Number t c = record {
