@@ -36,7 +36,7 @@ pub mod LayoutWalk
 pub mod Making
 pub mod Measured
 pub mod OneNumber
-pub mod Packing
+pub mod FieldPacking
 pub mod Params
 pub mod Shaping
 pub mod SharedNames

@@ -4,7 +4,7 @@ use Rattle.nv_types.specs.declared.table.Cell.TheVariants.{Word, Record, Choice}
 use Rattle.nv_types.proofs.FieldLists.{field_below}
 use Rattle.nv_types.proofs.FieldWalks.{eqb_other}
 use Rattle.nv_types.proofs.TypeCells.{pack_word, pack_record, pack_choice, pack_record_none, pack_choice_none, is_form_cell, pack_no_form}
-use Rattle.nv_types.proofs.Packing.{pack_start, pack_end, pack_short, pack_other, pack_wrong, pack_next, one_start, one_end, one_here, one_next, choice_one, choice_none, choice_long, packed_there, packed_more, pair_same}
+use Rattle.nv_types.proofs.FieldPacking.{pack_start, pack_end, pack_short, pack_other, pack_wrong, pack_next, one_start, one_end, one_here, one_next, choice_one, choice_none, choice_long, packed_there, packed_more, pair_same}
 use Rattle.nv_types.proofs.table.Table.+pack.Goals as goal
 
 -- ---- a form and a type

@@ -1,6 +1,6 @@
 use Rattle.std.proofs.Common.{◌+◌, ◌*◌, ◌≤◌}
 use Rattle.nv_types.specs.inner.Knowing.{ArePacked}
-use Rattle.nv_types.proofs.Packing.{PackSo, OneSo}
+use Rattle.nv_types.proofs.FieldPacking.{PackSo, OneSo}
 use Rattle.nv_types.proofs.table.Table.+pack.Given as goal
 
 abbrev pub decreases-can_pack : goal.decreases-can_pack
