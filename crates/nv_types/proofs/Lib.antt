@@ -19,6 +19,7 @@ pub mod CellSame
 pub mod DeclWalk
 pub mod Declaring
 pub mod Entries
+pub mod FieldCells
 pub mod FieldLists
 pub mod FieldWalks
 pub mod FindingMain
@@ -38,6 +39,8 @@ pub mod Measured
 pub mod OneNumber
 pub mod FieldPacking
 pub mod Params
+pub mod RowNumbers
+pub mod Rows
 pub mod Shaping
 pub mod SharedNames
 pub mod Signing

@@ -1,0 +1,50 @@
+-- Fields by the numbers of their names and types, or forms: those of two lists one after the other.
+use Rattle.std.proofs.Common.{◌≡◌, ◌∙◌, refl, ap, sym, subst, ℕ, List, [], ◌∷◌, ◌++◌, Some, slice_get}
+use Rattle.nv_ast.specs.Types.{Ty, NamedTys, no_named_tys, named_ty_and, Form, Forms, no_forms, form_and, ◌+++◌}
+use Rattle.nv_types.specs.inner.Store.{Store, AreFieldCells, AreFormCells, AreNames, field_names, form_names, fields_then}
+
+pub cells_then : (s : Store) (ps qs : List (ℕ × ℕ)) (ts us : NamedTys) → AreFieldCells s ps ts → AreFieldCells s qs us → AreFieldCells s (ps ++ qs) (fields_then ts us)
+cells_then s [] qs no_named_tys us h k = k
+cells_then s [] qs (named_ty_and x t ts) us h k = absurd h
+cells_then s (p ∷ ps) qs no_named_tys us h k = absurd h
+cells_then s (p ∷ ps) qs (named_ty_and x t ts) us h k = (h.0, h.1, cells_then s ps qs ts us h.2 k)
+
+pub form_cells_then : (s : Store) (ps qs : List (ℕ × ℕ)) (fs gs : Forms) → AreFormCells s ps fs → AreFormCells s qs gs → AreFormCells s (ps ++ qs) (fs +++ gs)
+form_cells_then s [] qs no_forms gs h k = k
+form_cells_then s [] qs (form_and x f fs) gs h k = absurd h
+form_cells_then s (p ∷ ps) qs no_forms gs h k = absurd h
+form_cells_then s (p ∷ ps) qs (form_and x f fs) gs h k = (h.0, h.1, form_cells_then s ps qs fs gs h.2 k)
+
+pub cells_split : (s : Store) (ps qs : List (ℕ × ℕ)) (ts : NamedTys) → AreFieldCells s (ps ++ qs) ts → (us vs : NamedTys) × (ts ≡ fields_then us vs) × AreFieldCells s ps us × AreFieldCells s qs vs
+cells_split s [] qs ts h = (no_named_tys, ts, refl, tt, h)
+cells_split s (p ∷ ps) qs no_named_tys h = absurd h
+cells_split s (p ∷ ps) qs (named_ty_and x t ts) h =
+    let v = cells_split s ps qs ts h.2 in
+    (named_ty_and x t v.0, v.1, ap (named_ty_and x t) v.2, (h.0, h.1, v.3), v.4)
+
+pub form_cells_split : (s : Store) (ps qs : List (ℕ × ℕ)) (fs : Forms) → AreFormCells s (ps ++ qs) fs → (gs hs : Forms) × (fs ≡ gs +++ hs) × AreFormCells s ps gs × AreFormCells s qs hs
+form_cells_split s [] qs fs h = (no_forms, fs, refl, tt, h)
+form_cells_split s (p ∷ ps) qs no_forms h = absurd h
+form_cells_split s (p ∷ ps) qs (form_and x f fs) h =
+    let v = form_cells_split s ps qs fs h.2 in
+    (form_and x f v.0, v.1, ap (form_and x f) v.2, (h.0, h.1, v.3), v.4)
+
+-- ---- by their names
+pub names_split : (s : Store) (ps qs : List (ℕ × ℕ)) (xs : List (List ℕ)) → AreNames s (ps ++ qs) xs → (ys zs : List (List ℕ)) × (xs ≡ ys ++ zs) × AreNames s ps ys × AreNames s qs zs
+names_split s [] qs xs h = ([], xs, refl, tt, h)
+names_split s (p ∷ ps) qs [] h = absurd h
+names_split s (p ∷ ps) qs (x ∷ xs) h =
+    let v = names_split s ps qs xs h.1 in
+    (x ∷ v.0, v.1, ap (λ l. x ∷ l) v.2, (h.0, v.3), v.4)
+
+pub cells_names : (s : Store) (ps : List (ℕ × ℕ)) (ts : NamedTys) → AreFieldCells s ps ts → AreNames s ps (field_names ts)
+cells_names s [] no_named_tys h = tt
+cells_names s [] (named_ty_and x t ts) h = absurd h
+cells_names s (p ∷ ps) no_named_tys h = absurd h
+cells_names s (p ∷ ps) (named_ty_and x t ts) h = (h.0, cells_names s ps ts h.2)
+
+pub form_cells_names : (s : Store) (ps : List (ℕ × ℕ)) (fs : Forms) → AreFormCells s ps fs → AreNames s ps (form_names fs)
+form_cells_names s [] no_forms h = tt
+form_cells_names s [] (form_and x f fs) h = absurd h
+form_cells_names s (p ∷ ps) no_forms h = absurd h
+form_cells_names s (p ∷ ps) (form_and x f fs) h = (h.0, form_cells_names s ps fs h.2)
