@@ -31,6 +31,7 @@ pub mod Growing
 pub mod Holding
 pub mod Images
 pub mod Joining
+pub mod KnownRows
 pub mod KnownTypes
 pub mod LayoutArms
 pub mod LayoutWalk
