@@ -41,6 +41,7 @@ pub mod OneNumber
 pub mod FieldPacking
 pub mod Params
 pub mod RowNumbers
+pub mod RowMaking
 pub mod Rows
 pub mod Shaping
 pub mod SharedNames
