@@ -40,6 +40,7 @@ pub mod Measured
 pub mod OneNumber
 pub mod FieldPacking
 pub mod Params
+pub mod RowEdges
 pub mod RowNumbers
 pub mod RowMaking
 pub mod Rows
