@@ -8,11 +8,11 @@ use Rattle.nv_base.specs.declared.error.NoMemory.{NoMemory}
 use Rattle.nv_ast.specs.Types.{Ty, NamedTys, no_named_tys, named_ty_and, Form, Forms, no_forms, form_and}
 use Rattle.nv_types.specs.declared.table.Cell.TheVariants.{Field, Both}
 use Rattle.nv_types.specs.inner.Rows.{Row, one, both, depth, ends_as_deep, carried, hung, grown}
-use Rattle.nv_types.specs.inner.Store.{Store, IsStore, Grows, Stands, IsRow, IsType, IsForm, AreFieldCells, AreFormCells, AreFields, AreForms}
+use Rattle.nv_types.specs.inner.Store.{Store, IsStore, Grows, Stands, IsRow, IsType, IsForm, AreFieldCells, AreFormCells, IsFields, IsForms, AreFields, AreForms}
 use Rattle.nv_types.specs.inner.Lists.{AreOnes, AreStacked, IsPut, ArePut}
 use Rattle.nv_types.specs.inner.Named.{named}
 use Rattle.nv_types.proofs.RowNumbers.{stands_stays, ones_stay, stacked_stay}
-use Rattle.nv_types.proofs.Staying.{type_stays, form_stays}
+use Rattle.nv_types.proofs.Staying.{type_stays, form_stays, cells_stay, form_cells_stay}
 use Rattle.nv_types.proofs.There.{IsSame, same_type, same_form}
 
 pub made_both : (a b : Store) (r : Result ℕ NoMemory) (j k : ℕ) → IfOk r (λ i. slice_get b.cells i ≡ Some (Both j k)) → OnOk r (Grows a b)
@@ -116,21 +116,14 @@ grown_end a s b is behind js left i j r none hang so ts p ps h k l =
     by us q (x ∷ qs) e m n o = absurd o
 
 -- ---- the tree of a list of single fields
-pub row_some : (a b : Store) (is behind : List ℕ) (i : ℕ) (r : Result ℕ NoMemory) → is ≡ i ∷ behind
-    → ((ts : List Row) (p : ℕ × ℕ) (ps : List (ℕ × ℕ)) → AreStacked a [] ts → Stands a i (one p) → AreOnes a behind ps → IfOk r (λ n. Stands b n (grown ts p ps)))
+pub row_some : (a b : Store) (is start behind : List ℕ) (i : ℕ) (r : Result ℕ NoMemory) → is ≡ i ∷ behind → start ≡ []
+    → ((ts : List Row) (p : ℕ × ℕ) (ps : List (ℕ × ℕ)) → AreStacked a start ts → Stands a i (one p) → AreOnes a behind ps → IfOk r (λ n. Stands b n (grown ts p ps)))
     → (ps : List (ℕ × ℕ)) → AreOnes a is ps → IfOk r (λ n. IsRow b n ps)
-row_some a b is behind i r e made ps h = by ps (subst (λ (l : List ℕ). AreOnes a l ps) e h)
+row_some a b is start behind i r e none made ps h = by ps (subst (λ (l : List ℕ). AreOnes a l ps) e h)
   where
     by : (qs : List (ℕ × ℕ)) → AreOnes a (i ∷ behind) qs → IfOk r (λ n. IsRow b n qs)
     by [] k = absurd k
-    by (q ∷ qs) k = made [] q qs refl k.0 k.1
-
-pub row_empty : (a b : Store) (is : List ℕ) → is ≡ [] → (ps : List (ℕ × ℕ)) → AreOnes a is ps → IsRow b 3 ps
-row_empty a b is e ps h = by ps (subst (λ (l : List ℕ). AreOnes a l ps) e h)
-  where
-    by : (qs : List (ℕ × ℕ)) → AreOnes a [] qs → IsRow b 3 qs
-    by [] k = refl
-    by (q ∷ qs) k = absurd k
+    by (q ∷ qs) k = made [] q qs none k.0 k.1
 
 -- ---- lists of single fields of types or forms that had numbers
 pub put_one : (a s m b : Store) (e : List ℕ × ℕ) (name part i : ℕ) → IsStore m → Grows a s → Grows s m → Grows m b → slice_get m.names name ≡ Some e.0 → IsSame m e.1 part → slice_get b.cells i ≡ Some (Field name part) → IsPut a b e i
@@ -188,3 +181,18 @@ put_forms a b (e ∷ es) (i ∷ is) (form_and x f fs) h k =
     let rest = put_forms a b es is fs h.1 k.2 in
     let new = h.0 in
     ((new.name, new.part) ∷ rest.0, (new.of_cell, rest.1), (new.of_name ∙ ap Some k.0, new.of_form f k.1, rest.2))
+
+-- ---- their lists
+pub made_fields : (a s b : Store) (es : List (List ℕ × ℕ)) (is seen : List ℕ) (r : Result ℕ NoMemory) → seen ≡ is → ArePut a s es is → ((ps : List (ℕ × ℕ)) → AreOnes s seen ps → IfOk r (λ i. IsRow b i ps)) → OnOk r (Grows s b)
+    → (ts : NamedTys) → AreFields a es ts → IfOk r (λ i. IsFields b i ts)
+made_fields a s b es is seen (Ok i) e put row grows ts h =
+    let v = put_types a s es is ts put h in
+    (v.0, row v.0 (subst (λ (l : List ℕ). AreOnes s l v.0) (sym e) v.1), cells_stay s b grows v.0 ts v.2)
+made_fields a s b es is seen (Err x) e put row grows ts h = tt
+
+pub made_forms : (a s b : Store) (es : List (List ℕ × ℕ)) (is seen : List ℕ) (r : Result ℕ NoMemory) → seen ≡ is → ArePut a s es is → ((ps : List (ℕ × ℕ)) → AreOnes s seen ps → IfOk r (λ i. IsRow b i ps)) → OnOk r (Grows s b)
+    → (fs : Forms) → AreForms a es fs → IfOk r (λ i. IsForms b i fs)
+made_forms a s b es is seen (Ok i) e put row grows fs h =
+    let v = put_forms a s es is fs put h in
+    (v.0, row v.0 (subst (λ (l : List ℕ). AreOnes s l v.0) (sym e) v.1), form_cells_stay s b grows v.0 fs v.2)
+made_forms a s b es is seen (Err x) e put row grows fs h = tt
