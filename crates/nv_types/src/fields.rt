@@ -57,7 +57,7 @@ impl<'a> Table<'a> {
         ensures of_forms { (fs gs : Forms) → IsForms self.old first fs → IsForms self.old second gs → IfOk result (λ i. IsForms self.new i (fs +++ gs)) }
         ensures grows { OnOk result (Grows self.old self.new) }
     {
-        if let Some(Cell::NoFields) = self.cell(first) {
+        if self.is_empty(first) {
             return Ok(second);
         }
         let behind = self.leaves_of(alloc, second)?;
@@ -65,12 +65,12 @@ impl<'a> Table<'a> {
         self.extended(rows, last, &behind)
     }
 
-    /// Whether a list of named types has none.
+    /// Whether a list of named types, or forms, has none.
     pub fn is_empty(&self, fields: usize) -> bool
-        ensures { (fs : Forms) → IsForms self.now fields fs → result ≡ (length (form_names fs) == 0) }
+        ensures cells { (ps : List (ℕ × ℕ)) → IsRow self.now fields ps → result ≡ (length ps == 0) }
+        ensures forms { (fs : Forms) → IsForms self.now fields fs → result ≡ (length (form_names fs) == 0) }
     {
-        let _ = self.cell(fields);
-        fields == NO_FIELDS
+        matches!(self.cell(fields), Some(Cell::NoFields))
     }
 
     /// Whether two fields of a list have one name.
@@ -169,7 +169,7 @@ impl<'a> Table<'a> {
         ensures { (ps : List (ℕ × ℕ)) → IsRow self.now list ps → IfOk result (λ v. AreOnes self.now v.items ps) }
     {
         let mut found = Vec::new(alloc);
-        if list == NO_FIELDS {
+        if self.is_empty(list) {
             return Ok(found);
         }
         self.add_leaves(&mut found, list)?;
