@@ -57,7 +57,7 @@ impl<'a> Table<'a> {
         ensures of_forms { (fs gs : Forms) → IsForms self.old first fs → IsForms self.old second gs → IfOk result (λ i. IsForms self.new i (fs +++ gs)) }
         ensures grows { OnOk result (Grows self.old self.new) }
     {
-        if first == NO_FIELDS {
+        if let Some(Cell::NoFields) = self.cell(first) {
             return Ok(second);
         }
         let behind = self.leaves_of(alloc, second)?;
@@ -126,9 +126,7 @@ impl<'a> Table<'a> {
         ensures below { IfSome result (λ t. t < list) }
     {
         match self.cell(list) {
-            Some(Cell::Field(x, t)) => {
-                if x == name { Some(t) } else { None }
-            }
+            Some(Cell::Field(x, t)) => { if x == name { Some(t) } else { None } }
             Some(Cell::Both(left, right)) => match self.find_in(left, name) {
                 Some(t) => Some(t),
                 None => self.find_in(right, name),
@@ -262,7 +260,11 @@ impl<'a> Table<'a> {
     {
         match rows.last() {
             Some(before) => {
-                if self.is_as_deep(*before, row) { Some(*before) } else { None }
+                if self.is_as_deep(*before, row) {
+                    Some(*before)
+                } else {
+                    None
+                }
             }
             None => None,
         }
