@@ -2,7 +2,7 @@
 // fields it has alone, so that equal lists have equal numbers, and lists that begin or end alike share their parts.
 // A tree is as high as the logarithm of the number of its fields, so what goes down a tree calls itself.
 
-ghost use Rattle.std.specs.Prelude.{◌≡◌, ◌<◌, ◌==◌, ◌++◌, ◌∷◌, [], ℕ, All, IfSome, is_some, false, length, List, Some, None, IfOk, OnOk, slice_get};
+ghost use Rattle.std.specs.Prelude.{◌≡◌, ◌<◌, ◌≤◌, ◌==◌, ◌++◌, ◌∷◌, [], ℕ, All, IfSome, is_some, false, length, List, Some, None, IfOk, OnOk, slice_get};
 ghost use Rattle.nv_ast.specs.Tests.{has_twice};
 ghost use Rattle.nv_ast.specs.Types.{NamedTys, Forms, ◌+++◌};
 ghost use Rattle.nv_types.specs.inner.Rows.{Row, one, both, leaves, depth, ends_as_deep, carried, hung, grown, field_with};
@@ -65,12 +65,12 @@ impl<'a> Table<'a> {
         self.extended(rows, last, &behind)
     }
 
-    /// Whether a list of named types has none.
+    /// Whether a list of named types, or forms, has none.
     pub fn is_empty(&self, fields: usize) -> bool
-        ensures { (fs : Forms) → IsForms self.now fields fs → result ≡ (length (form_names fs) == 0) }
+        ensures cells { (ps : List (ℕ × ℕ)) → IsRow self.now fields ps → result ≡ (length ps == 0) }
+        ensures forms { (fs : Forms) → IsForms self.now fields fs → result ≡ (length (form_names fs) == 0) }
     {
-        let _ = self.cell(fields);
-        fields == NO_FIELDS
+        matches!(self.cell(fields), Some(Cell::NoFields))
     }
 
     /// Whether two fields of a list have one name.
@@ -86,7 +86,7 @@ impl<'a> Table<'a> {
         ensures meets { (xs names : List (List ℕ)) → AreSeen self.now seen.old.keys xs → AreNamed self.now fields names → IfOk result (λ b. b ≡ has_twice (xs ++ names)) }
         ensures seen { (xs names : List (List ℕ)) → AreSeen self.now seen.old.keys xs → AreNamed self.now fields names → IfOk result (λ b. b ≡ false → AreSeen self.now seen.new.keys (xs ++ names)) }
     {
-        if fields == NO_FIELDS {
+        if self.is_empty(fields) {
             return Ok(false);
         }
         self.meets_in(seen, fields)
@@ -114,7 +114,7 @@ impl<'a> Table<'a> {
         ensures found { (ps : List (ℕ × ℕ)) → IsRow self.now fields ps → result ≡ field_with name ps }
         ensures below { IfSome result (λ t. t < fields) }
     {
-        if fields == NO_FIELDS {
+        if self.is_empty(fields) {
             return None;
         }
         self.find_in(fields, name)
@@ -141,7 +141,7 @@ impl<'a> Table<'a> {
         ensures below { IfOk result (λ v. All (λ p. p.1 < fields) v.items) }
     {
         let mut found = Vec::new(alloc);
-        if fields == NO_FIELDS {
+        if self.is_empty(fields) {
             return Ok(found);
         }
         self.add_fields(&mut found, fields)?;
@@ -151,7 +151,7 @@ impl<'a> Table<'a> {
     // Adds the fields of a tree.
     fn add_fields(&self, found: &mut Vec<(usize, usize)>, list: usize) -> Result<(), NoMemory>
         ensures cells { (t : Row) → Stands self.now list t → OnOk result (found.new.items ≡ found.old.items ++ leaves t) }
-        ensures below { All (λ p. p.1 < list) found.old.items → OnOk result (All (λ p. p.1 < list) found.new.items) }
+        ensures below { (n : ℕ) → list ≤ n → All (λ p. p.1 < n) found.old.items → OnOk result (All (λ p. p.1 < n) found.new.items) }
     {
         match self.cell(list) {
             Some(Cell::Field(name, t)) => found.push((name, t))?,
@@ -169,7 +169,7 @@ impl<'a> Table<'a> {
         ensures { (ps : List (ℕ × ℕ)) → IsRow self.now list ps → IfOk result (λ v. AreOnes self.now v.items ps) }
     {
         let mut found = Vec::new(alloc);
-        if list == NO_FIELDS {
+        if self.is_empty(list) {
             return Ok(found);
         }
         self.add_leaves(&mut found, list)?;
