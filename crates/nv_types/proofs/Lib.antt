@@ -31,6 +31,7 @@ pub mod Growing
 pub mod Holding
 pub mod Images
 pub mod Joining
+pub mod KnownRows
 pub mod KnownTypes
 pub mod LayoutArms
 pub mod LayoutWalk
@@ -40,6 +41,7 @@ pub mod NumberNames
 pub mod OneNumber
 pub mod FieldPacking
 pub mod Params
+pub mod RowEdges
 pub mod RowNumbers
 pub mod Rows
 pub mod Shaping
