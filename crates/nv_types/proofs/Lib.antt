@@ -43,6 +43,7 @@ pub mod FieldPacking
 pub mod Params
 pub mod RowEdges
 pub mod RowNumbers
+pub mod RowMaking
 pub mod Rows
 pub mod Shaping
 pub mod SharedNames

@@ -57,7 +57,7 @@ impl<'a> Table<'a> {
         ensures of_forms { (fs gs : Forms) → IsForms self.old first fs → IsForms self.old second gs → IfOk result (λ i. IsForms self.new i (fs +++ gs)) }
         ensures grows { OnOk result (Grows self.old self.new) }
     {
-        if first == NO_FIELDS {
+        if let Some(Cell::NoFields) = self.cell(first) {
             return Ok(second);
         }
         let behind = self.leaves_of(alloc, second)?;
