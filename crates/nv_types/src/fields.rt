@@ -6,7 +6,7 @@ ghost use Rattle.std.specs.Prelude.{◌≡◌, ◌<◌, ◌≤◌, ◌==◌, ◌
 ghost use Rattle.nv_ast.specs.Tests.{has_twice};
 ghost use Rattle.nv_ast.specs.Types.{NamedTys, Forms, ◌+++◌};
 ghost use Rattle.nv_types.specs.inner.Rows.{Row, one, both, leaves, depth, ends_as_deep, carried, hung, grown, field_with};
-ghost use Rattle.nv_types.specs.inner.Store.{Grows, Stands, IsRow, IsFields, IsForms, halves_of, AreFields, AreForms, AreNames, AreNamed, AreSeen, form_names, field_names, fields_then};
+ghost use Rattle.nv_types.specs.inner.Store.{Grows, IsStore, Stands, IsRow, IsFields, IsForms, halves_of, AreFields, AreForms, AreNames, AreNamed, AreSeen, form_names, field_names, fields_then};
 ghost use Rattle.nv_types.specs.inner.Lists.{AreOnes, AreStacked, ArePut};
 ghost use Rattle.nv_types.specs.inner.Named.{named};
 
@@ -112,6 +112,7 @@ impl<'a> Table<'a> {
     /// What stands under a name in a list of fields, if one has that name: the type or form of the first.
     pub fn field_in(&self, fields: usize, name: usize) -> Option<usize>
         ensures found { (ps : List (ℕ × ℕ)) → IsRow self.now fields ps → result ≡ field_with name ps }
+        ensures store { IsStore self.now }
         ensures below { IfSome result (λ t. t < fields) }
     {
         if self.is_empty(fields) {
@@ -138,6 +139,7 @@ impl<'a> Table<'a> {
     /// The fields of a list, in order: the numbers of their names and of their types or forms.
     pub fn fields_in(&self, alloc: Global, fields: usize) -> Result<Vec<(usize, usize)>, NoMemory>
         ensures cells { (ps : List (ℕ × ℕ)) → IsRow self.now fields ps → IfOk result (λ v. v.items ≡ ps) }
+        ensures store { IsStore self.now }
         ensures below { IfOk result (λ v. All (λ p. p.1 < fields) v.items) }
     {
         let mut found = Vec::new(alloc);
