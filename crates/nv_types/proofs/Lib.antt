@@ -37,6 +37,7 @@ pub mod LayoutArms
 pub mod LayoutWalk
 pub mod Making
 pub mod Measured
+pub mod NumberNames
 pub mod OneNumber
 pub mod FieldPacking
 pub mod Params

@@ -2,11 +2,11 @@
 // fields it has alone, so that equal lists have equal numbers, and lists that begin or end alike share their parts.
 // A tree is as high as the logarithm of the number of its fields, so what goes down a tree calls itself.
 
-ghost use Rattle.std.specs.Prelude.{◌≡◌, ◌<◌, ◌==◌, ◌++◌, ◌∷◌, [], ℕ, All, IfSome, is_some, false, length, List, Some, None, IfOk, OnOk, slice_get};
+ghost use Rattle.std.specs.Prelude.{◌≡◌, ◌<◌, ◌≤◌, ◌==◌, ◌++◌, ◌∷◌, [], ℕ, All, IfSome, is_some, false, length, List, Some, None, IfOk, OnOk, slice_get};
 ghost use Rattle.nv_ast.specs.Tests.{has_twice};
 ghost use Rattle.nv_ast.specs.Types.{NamedTys, Forms, ◌+++◌};
 ghost use Rattle.nv_types.specs.inner.Rows.{Row, one, both, leaves, depth, ends_as_deep, carried, hung, grown, field_with};
-ghost use Rattle.nv_types.specs.inner.Store.{Grows, Stands, IsRow, IsFields, IsForms, halves_of, AreFields, AreForms, AreNames, AreNamed, AreSeen, form_names, field_names, fields_then};
+ghost use Rattle.nv_types.specs.inner.Store.{Grows, IsStore, Stands, IsRow, IsFields, IsForms, halves_of, AreFields, AreForms, AreNames, AreNamed, AreSeen, form_names, field_names, fields_then};
 ghost use Rattle.nv_types.specs.inner.Lists.{AreOnes, AreStacked, ArePut};
 ghost use Rattle.nv_types.specs.inner.Named.{named};
 
@@ -86,7 +86,7 @@ impl<'a> Table<'a> {
         ensures meets { (xs names : List (List ℕ)) → AreSeen self.now seen.old.keys xs → AreNamed self.now fields names → IfOk result (λ b. b ≡ has_twice (xs ++ names)) }
         ensures seen { (xs names : List (List ℕ)) → AreSeen self.now seen.old.keys xs → AreNamed self.now fields names → IfOk result (λ b. b ≡ false → AreSeen self.now seen.new.keys (xs ++ names)) }
     {
-        if fields == NO_FIELDS {
+        if self.is_empty(fields) {
             return Ok(false);
         }
         self.meets_in(seen, fields)
@@ -112,9 +112,10 @@ impl<'a> Table<'a> {
     /// What stands under a name in a list of fields, if one has that name: the type or form of the first.
     pub fn field_in(&self, fields: usize, name: usize) -> Option<usize>
         ensures found { (ps : List (ℕ × ℕ)) → IsRow self.now fields ps → result ≡ field_with name ps }
+        ensures store { IsStore self.now }
         ensures below { IfSome result (λ t. t < fields) }
     {
-        if fields == NO_FIELDS {
+        if self.is_empty(fields) {
             return None;
         }
         self.find_in(fields, name)
@@ -138,10 +139,11 @@ impl<'a> Table<'a> {
     /// The fields of a list, in order: the numbers of their names and of their types or forms.
     pub fn fields_in(&self, alloc: Global, fields: usize) -> Result<Vec<(usize, usize)>, NoMemory>
         ensures cells { (ps : List (ℕ × ℕ)) → IsRow self.now fields ps → IfOk result (λ v. v.items ≡ ps) }
+        ensures store { IsStore self.now }
         ensures below { IfOk result (λ v. All (λ p. p.1 < fields) v.items) }
     {
         let mut found = Vec::new(alloc);
-        if fields == NO_FIELDS {
+        if self.is_empty(fields) {
             return Ok(found);
         }
         self.add_fields(&mut found, fields)?;
@@ -151,7 +153,7 @@ impl<'a> Table<'a> {
     // Adds the fields of a tree.
     fn add_fields(&self, found: &mut Vec<(usize, usize)>, list: usize) -> Result<(), NoMemory>
         ensures cells { (t : Row) → Stands self.now list t → OnOk result (found.new.items ≡ found.old.items ++ leaves t) }
-        ensures below { All (λ p. p.1 < list) found.old.items → OnOk result (All (λ p. p.1 < list) found.new.items) }
+        ensures below { (n : ℕ) → list ≤ n → All (λ p. p.1 < n) found.old.items → OnOk result (All (λ p. p.1 < n) found.new.items) }
     {
         match self.cell(list) {
             Some(Cell::Field(name, t)) => found.push((name, t))?,
