@@ -1,14 +1,14 @@
 -- Trees of fields as they are made: two that hang together, more behind some rows, and the lists of single fields.
-use Rattle.std.proofs.Common.{◌≡◌, ◌∙◌, refl, ap, sym, subst, ℕ, ◌+◌, ◌==◌, ◌<◌, Bool, true, false, cond, List, [], ◌∷◌, ◌++◌, Some, None, Option, Result, Ok, Err, slice_get, get_or, take, length, length-append, arith, true≢false}
+use Rattle.std.proofs.Common.{◌≡◌, ◌∙◌, refl, ap, sym, subst, ℕ, ◌+◌, ◌==◌, ◌<◌, true, false, cond, List, [], ◌∷◌, ◌++◌, Some, None, Option, Result, Ok, Err, slice_get, get_or, take, length, length-append, arith, true≢false}
 use Rattle.std.specs.Borrow.{Bor}
-use Rattle.std.specs.Option.{is_some, IsSome, option_to_list}
+use Rattle.std.specs.Option.{IsSome, option_to_list}
 use Rattle.std.specs.Result.{IfOk, OnOk}
 use Rattle.std.proofs.lemmas.List.{same_from_push, take_more}
 use Rattle.nv_base.specs.declared.error.NoMemory.{NoMemory}
-use Rattle.nv_ast.specs.Types.{Ty, NamedTys, no_named_tys, named_ty_and, Form, Forms, no_forms, form_and}
+use Rattle.nv_ast.specs.Types.{NamedTys, no_named_tys, named_ty_and, Forms, no_forms, form_and}
 use Rattle.nv_types.specs.declared.table.Cell.TheVariants.{Field, Both}
 use Rattle.nv_types.specs.inner.Rows.{Row, one, both, depth, ends_as_deep, carried, hung, grown}
-use Rattle.nv_types.specs.inner.Store.{Store, IsStore, Grows, Stands, IsRow, IsType, IsForm, AreFieldCells, AreFormCells, IsFields, IsForms, AreFields, AreForms}
+use Rattle.nv_types.specs.inner.Store.{Store, IsStore, Grows, Stands, IsRow, AreFieldCells, AreFormCells, IsFields, IsForms, AreFields, AreForms}
 use Rattle.nv_types.specs.inner.Lists.{AreOnes, AreStacked, IsPut, ArePut}
 use Rattle.nv_types.specs.inner.Named.{named}
 use Rattle.nv_types.proofs.RowNumbers.{stands_stays, ones_stay, stacked_stay}

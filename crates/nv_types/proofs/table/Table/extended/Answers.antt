@@ -1,4 +1,4 @@
-use Rattle.std.proofs.Common.{◌≡◌, ◌+◌, ◌∷◌, [], get_or, drop, arith}
+use Rattle.std.proofs.Common.{◌≡◌, ◌+◌, [], get_or, drop, arith}
 use Rattle.std.proofs.lemmas.List.{drop_more, drop_all}
 use Rattle.nv_types.proofs.Growing.{Grows-trans, grows_after}
 use Rattle.nv_types.proofs.RowMaking.{grown_step, grown_end}

@@ -16,3 +16,9 @@ returns-clause-of_forms c =
     joined_forms a b c.args.first c.args.second c.extended.result c.extended.ensures.grows
     (joined_rows a b c.args.first c.args.second c.in_ok-rows.last c.extended.result c.in_ok-rows.rows.items c.in_ok-behind.behind.items c.deref.result.now c.if-is_empty.ensures.cells c.deref.ensures.value c.in_ok-behind.ensures c.in_ok-rows.ensures
     c.extended.ensures.extended)
+
+pub returns-then-is_empty-clause-of_fields : goal.returns-then-is_empty-clause-of_fields
+returns-then-is_empty-clause-of_fields c = fields_after c.args.self.now c.args.first c.args.second c.if-is_empty.ensures.cells
+
+pub returns-then-is_empty-clause-of_forms : goal.returns-then-is_empty-clause-of_forms
+returns-then-is_empty-clause-of_forms c = forms_after c.args.self.now c.args.first c.args.second c.if-is_empty.ensures.cells
