@@ -1,9 +1,12 @@
 -- Walks down a tree of fields: to what stands under a name, for a name that is there twice, and for the fields in order.
-use Rattle.std.proofs.Common.{◌≡◌, ◌∙◌, refl, ap, sym, subst, ℕ, Bool, true, false, cond, ◌||◌, eqb, List, [], ◌∷◌, ◌++◌, append_assoc, append-nil, get_or, position, Option, None, Some, slice_get, bytes_eq, true≢false, ◌<◌, IfSome, arith}
+use Rattle.std.proofs.Common.{◌≡◌, ◌∙◌, refl, ap, sym, subst, ℕ, Bool, true, false, cond, ◌||◌, eqb, List, [], ◌∷◌, ◌++◌, append_assoc, append-nil, get_or, position, Option, None, Some, slice_get, bytes_eq, true≢false, ◌<◌, IfSome, All, Result, arith}
+use Rattle.std.specs.Result.{OnOk}
+use Rattle.std.proofs.lemmas.Result.{on_ok_weaker}
 use Rattle.std.specs.Borrow.{Bor}
 use Rattle.std.specs.Cmp.Lexicographic.{bytes_decides, nat_list_eq_equiv}
 use Rattle.std.specs.List.{list_any}
 use Rattle.std.proofs.lemmas.List.Folds.{list_any-append}
+use Rattle.std.proofs.lemmas.List.Elements.{All-append, All-cons, All-nil}
 use Rattle.std.proofs.lemmas.Bool.{eqb-true, eq-eqb}
 use Rattle.std.proofs.lemmas.Option.{slice_get-get_or}
 use Rattle.std.proofs.lemmas.List.Quantifiers.{position-Some}
@@ -207,25 +210,32 @@ names_row s i b test e old Q so xs names before h =
     so v.tree xs names before v.stands (subst (λ ps. AreNames s ps names) (sym v.fields) h.2)
 
 -- ---- the fields in order
-pub cells_one : (s : Store) (i n j : ℕ) → slice_get s.cells i ≡ Some (Field n j) → (old : List (ℕ × ℕ)) (t : Row) → Stands s i t → old ++ (n, j) ∷ [] ≡ old ++ leaves t
-cells_one s i n j at old t h = ap (λ u. old ++ leaves u) (sym (stands_field s i n j at t h))
+pub cells_one : (s : Store) (i n j : ℕ) → slice_get s.cells i ≡ Some (Field n j) → (old new : List (ℕ × ℕ)) → new ≡ old ++ (n, j) ∷ [] → (t : Row) → Stands s i t → new ≡ old ++ leaves t
+cells_one s i n j at old new e t h = e ∙ ap (λ u. old ++ leaves u) (sym (stands_field s i n j at t h))
 
-pub cells_both : (s : Store) (i j k : ℕ) → slice_get s.cells i ≡ Some (Both j k) → (old front new : List (ℕ × ℕ)) → ((t : Row) → Stands s j t → front ≡ old ++ leaves t) → ((t : Row) → Stands s k t → new ≡ front ++ leaves t)
-    → (t : Row) → Stands s i t → new ≡ old ++ leaves t
-cells_both s i j k at old front new left right t h =
+pub cells_both : {T E : Type 0} (s : Store) (i j k : ℕ) → slice_get s.cells i ≡ Some (Both j k) → (r : Result T E) (old front new : List (ℕ × ℕ)) → ((t : Row) → Stands s j t → front ≡ old ++ leaves t)
+    → ((t : Row) → Stands s k t → OnOk r (new ≡ front ++ leaves t)) → (t : Row) → Stands s i t → OnOk r (new ≡ old ++ leaves t)
+cells_both s i j k at r old front new left right t h =
     let v = stands_both s i j k at t h in
-    right v.right v.of_right ∙ ap (λ l. l ++ leaves v.right) (left v.left v.of_left) ∙ append_assoc old (leaves v.left) (leaves v.right) ∙ ap (λ u. old ++ leaves u) (sym v.whole)
+    let behind : front ++ leaves v.right ≡ old ++ leaves t = ap (λ l. l ++ leaves v.right) (left v.left v.of_left) ∙ append_assoc old (leaves v.left) (leaves v.right) ∙ ap (λ u. old ++ leaves u) (sym v.whole) in
+    on_ok_weaker r (λ e. e ∙ behind) (right v.right v.of_right)
+
+pub below_one : (n x t : ℕ) (old : List (ℕ × ℕ)) → t < n → All (λ (p : ℕ × ℕ). p.1 < n) old → All (λ (p : ℕ × ℕ). p.1 < n) (old ++ (x, t) ∷ [])
+below_one n x t old less all = All-append (λ (p : ℕ × ℕ). p.1 < n) old ((x, t) ∷ []) all (All-cons (λ (p : ℕ × ℕ). p.1 < n) (x, t) [] less (All-nil (λ (p : ℕ × ℕ). p.1 < n)))
 
 -- ---- the lists of one field each
-abbrev pub LeavesSo : Store → ℕ → List ℕ → List ℕ → Type 0
-LeavesSo s i old new = (t : Row) → Stands s i t → (more : List ℕ) × (new ≡ old ++ more) × AreOnes s more (leaves t)
+abbrev pub LeavesSo : List ℕ → List ℕ → Store → Row → Type 0
+LeavesSo old new s t = (more : List ℕ) × (new ≡ old ++ more) × AreOnes s more (leaves t)
 
-pub leaves_one : (s : Store) (i n j : ℕ) → slice_get s.cells i ≡ Some (Field n j) → (old : List ℕ) → LeavesSo s i old (old ++ i ∷ [])
-leaves_one s i n j at old t h = (i ∷ [], refl, subst (λ u. AreOnes s (i ∷ []) (leaves u)) (sym (stands_field s i n j at t h)) (at, tt))
+pub leaves_one : (s : Store) (i n j : ℕ) → slice_get s.cells i ≡ Some (Field n j) → (old new : List ℕ) → new ≡ old ++ i ∷ [] → (t : Row) → Stands s i t → LeavesSo old new s t
+leaves_one s i n j at old new e t h = (i ∷ [], e, subst (λ u. AreOnes s (i ∷ []) (leaves u)) (sym (stands_field s i n j at t h)) (at, tt))
 
-pub leaves_both : (s : Store) (i j k : ℕ) → slice_get s.cells i ≡ Some (Both j k) → (old front new : List ℕ) → LeavesSo s j old front → LeavesSo s k front new → LeavesSo s i old new
-leaves_both s i j k at old front new left right t h =
+pub leaves_both : {T E : Type 0} (s : Store) (i j k : ℕ) → slice_get s.cells i ≡ Some (Both j k) → (r : Result T E) (old front new : List ℕ) → ((t : Row) → Stands s j t → LeavesSo old front s t)
+    → ((t : Row) → Stands s k t → OnOk r (LeavesSo front new s t)) → (t : Row) → Stands s i t → OnOk r (LeavesSo old new s t)
+leaves_both s i j k at r old front new left right t h =
     let v = stands_both s i j k at t h in
-    let a = left v.left v.of_left in
-    let b = right v.right v.of_right in
-    (a.0 ++ b.0, b.1 ∙ ap (λ l. l ++ b.0) a.1 ∙ append_assoc old a.0 b.0, subst (λ u. AreOnes s (a.0 ++ b.0) (leaves u)) (sym v.whole) (ones_then s a.0 b.0 (leaves v.left) (leaves v.right) a.2 b.2))
+    on_ok_weaker r (joins v.left v.right v.whole (left v.left v.of_left)) (right v.right v.of_right)
+  where
+    joins : (u w : Row) → t ≡ both u w → LeavesSo old front s u → LeavesSo front new s w → LeavesSo old new s t
+    joins u w e a b =
+        (a.0 ++ b.0, b.1 ∙ ap (λ l. l ++ b.0) a.1 ∙ append_assoc old a.0 b.0, subst (λ x. AreOnes s (a.0 ++ b.0) (leaves x)) (sym e) (ones_then s a.0 b.0 (leaves u) (leaves w) a.2 b.2))

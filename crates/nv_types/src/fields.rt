@@ -156,14 +156,16 @@ impl<'a> Table<'a> {
         ensures below { (n : ℕ) → list ≤ n → All (λ p. p.1 < n) found.old.items → OnOk result (All (λ p. p.1 < n) found.new.items) }
     {
         match self.cell(list) {
-            Some(Cell::Field(name, t)) => found.push((name, t))?,
+            Some(Cell::Field(name, t)) => {
+                found.push((name, t))?;
+                Ok(())
+            }
             Some(Cell::Both(left, right)) => {
                 self.add_fields(found, left)?;
-                self.add_fields(found, right)?;
+                self.add_fields(found, right)
             }
-            _ => {}
+            _ => Ok(()),
         }
-        Ok(())
     }
 
     // The lists of one field each of which a list is made, in order.
@@ -183,14 +185,16 @@ impl<'a> Table<'a> {
         ensures { (t : Row) → Stands self.now list t → OnOk result ((more : List ℕ) × (found.new.items ≡ found.old.items ++ more) × AreOnes self.now more (leaves t)) }
     {
         match self.cell(list) {
-            Some(Cell::Field(_, _)) => found.push(list)?,
+            Some(Cell::Field(_, _)) => {
+                found.push(list)?;
+                Ok(())
+            }
             Some(Cell::Both(left, right)) => {
                 self.add_leaves(found, left)?;
-                self.add_leaves(found, right)?;
+                self.add_leaves(found, right)
             }
-            _ => {}
+            _ => Ok(()),
         }
-        Ok(())
     }
 
     // The lists of one field of some named types.
