@@ -1,151 +1,190 @@
 -- Fields that are packed by forms, one after another.
-use Rattle.std.proofs.Common.{◌≡◌, ◌∙◌, refl, ap, sym, subst, ℕ, Bool, true, false, cond, ◌&&◌, ◌||◌, eqb, List, [], ◌∷◌, ◌++◌, None, Some, slice_get, Result}
+use Rattle.std.proofs.Common.{◌≡◌, ◌∙◌, refl, ap, sym, subst, ℕ, suc, Bool, true, false, true≢false, cond, ◌&&◌, ◌||◌, eqb, bytes_eq, length, get_or, drop, ◌+◌, ◌<◌, ◌≤◌, List, [], ◌∷◌, ◌++◌, Option, None, Some, slice_get, Result, arith}
 use Rattle.std.specs.Result.{IfOk}
+use Rattle.std.proofs.Math.ListN.{drop_of_length-le}
+use Rattle.std.proofs.Math.Seq.{drop-cons}
 use Rattle.nv_ast.specs.Types.{Ty, RecordTy, NamedTys, no_named_tys, named_ty_and, Form, ChoiceForm, Forms, no_forms, form_and, can_pack, can_pack_all, can_pack_one}
-use Rattle.nv_types.specs.inner.Store.{Store, IsStore, IsType, IsFields, IsForm, IsForms, field_of}
-use Rattle.nv_types.proofs.OneNumber.{fields_one}
-use Rattle.nv_types.proofs.FieldLists.{fields_none, fields_some, forms_none, forms_some}
-use Rattle.nv_types.proofs.FieldWalks.{number_name}
+use Rattle.nv_types.specs.declared.table.Cell.{Cell}
+use Rattle.nv_types.specs.declared.table.Cell.TheVariants.{Field}
+use Rattle.nv_types.specs.inner.Rows.{field_with}
+use Rattle.nv_types.specs.inner.Store.{Store, IsStore, IsRow, IsType, IsFields, IsForm, IsForms, AreFieldCells, AreFormCells}
+use Rattle.nv_types.proofs.RowNumbers.{row_one}
+use Rattle.nv_types.proofs.NumberNames.{number_name}
 use Rattle.std.specs.List.{list_any}
 use Rattle.std.proofs.lemmas.Bool.{eqb-true, eq-eqb, false≢true}
 use Rattle.std.proofs.lemmas.List.Elements.{All-head, All-tail, All-same, All-push}
 use Rattle.nv_types.specs.inner.Knowing.{ArePacked}
 
--- the rest of the fields is packed by the rest of the forms exactly where all are by all
-abbrev pub PackSo : Store → ℕ → ℕ → ℕ → ℕ → Type 0
-PackSo s forms fields forms_left fields_left = (fs : Forms) (ts : NamedTys) → IsForms s forms fs → IsFields s fields ts
-    → (gs : Forms) × (us : NamedTys) × IsForms s forms_left gs × IsFields s fields_left us × (can_pack_all fs ts ≡ can_pack_all gs us)
+-- the cells of a list
+abbrev pub HasCells : Store → ℕ → List (ℕ × ℕ) → Type 0
+HasCells s i ps = (qs : List (ℕ × ℕ)) → IsRow s i qs → ps ≡ qs
 
-pub pack_start : (s : Store) (forms fields : ℕ) → PackSo s forms fields forms fields
-pack_start s forms fields fs ts h k = (fs, ts, h, k, refl)
+form_cells : (s : Store) (i : ℕ) (ps : List (ℕ × ℕ)) → HasCells s i ps → (fs : Forms) → IsForms s i fs → AreFormCells s ps fs
+form_cells s i ps cells fs h = subst (λ l. AreFormCells s l fs) (sym (cells h.0 h.1)) h.2
 
--- no form is left
-pub pack_end : (s : Store) → IsStore s → (forms fields i j : ℕ) → PackSo s forms fields i j → field_of (slice_get s.cells i) ≡ None
-    → (fs : Forms) (ts : NamedTys) → IsForms s forms fs → IsFields s fields ts → eqb j 3 ≡ can_pack_all fs ts
-pack_end s is forms fields i j so none fs ts h k =
+field_cells : (s : Store) (i : ℕ) (ps : List (ℕ × ℕ)) → HasCells s i ps → (ts : NamedTys) → IsFields s i ts → AreFieldCells s ps ts
+field_cells s i ps cells ts h = subst (λ l. AreFieldCells s l ts) (sym (cells h.0 h.1)) h.2
+
+-- ---- what is left of the fields is packed by what is left of the forms exactly where all are by all
+abbrev pub PackSo : Store → ℕ → ℕ → List (ℕ × ℕ) → List (ℕ × ℕ) → Type 0
+PackSo s forms fields ps qs = (fs : Forms) (ts : NamedTys) → IsForms s forms fs → IsFields s fields ts
+    → (gs : Forms) × (us : NamedTys) × AreFormCells s ps gs × AreFieldCells s qs us × (can_pack_all fs ts ≡ can_pack_all gs us)
+
+pub pack_start : (s : Store) (forms fields : ℕ) (ps qs : List (ℕ × ℕ)) → HasCells s forms ps → HasCells s fields qs → PackSo s forms fields ps qs
+pack_start s forms fields ps qs a b fs ts h k = (fs, ts, form_cells s forms ps a fs h, field_cells s fields qs b ts k, refl)
+
+-- nothing is left
+pub pack_end : (s : Store) (forms fields : ℕ) (ps qs : List (ℕ × ℕ)) (i : ℕ) → length ps ≤ i → length qs ≤ i → PackSo s forms fields (drop i ps) (drop i qs)
+    → (fs : Forms) (ts : NamedTys) → IsForms s forms fs → IsFields s fields ts → true ≡ can_pack_all fs ts
+pack_end s forms fields ps qs i past along so fs ts h k =
     let v = so fs ts h k in
-    by v.1 v.3 ∙ sym (v.4 ∙ ap (λ (g : Forms). can_pack_all g v.1) (forms_none s i v.0 v.2 none))
+    by v.0 v.1 (subst (λ l. AreFormCells s l v.0) (drop_of_length-le ps past) v.2) (subst (λ l. AreFieldCells s l v.1) (drop_of_length-le qs along) v.3) ∙ sym v.4
   where
-    other : (p : Bool) → eqb j 3 ≡ p → (j ≡ 3 → ⊥) → eqb j 3 ≡ false
-    other true e n = absurd (n (eqb-true j 3 e))
-    other false e n = e
+    by : (gs : Forms) (us : NamedTys) → AreFormCells s [] gs → AreFieldCells s [] us → true ≡ can_pack_all gs us
+    by no_forms no_named_tys a b = refl
+    by (form_and x f gs) us a b = absurd a
+    by no_forms (named_ty_and x t us) a b = absurd b
 
-    not_none : (p : ℕ × ℕ × ℕ) → None ≡ Some p → ⊥
-    not_none p q = cc
+-- so many forms aren't so many fields
+pack_lengths : (s : Store) (ps qs : List (ℕ × ℕ)) → (length ps ≡ length qs → ⊥) → (fs : Forms) (ts : NamedTys) → AreFormCells s ps fs → AreFieldCells s qs ts → false ≡ can_pack_all fs ts
+pack_lengths s [] [] n fs ts h k = absurd (n refl)
+pack_lengths s [] (q ∷ qs) n no_forms (named_ty_and y t ts) h k = refl
+pack_lengths s [] (q ∷ qs) n no_forms no_named_tys h k = absurd k
+pack_lengths s [] (q ∷ qs) n (form_and x f fs) ts h k = absurd h
+pack_lengths s (p ∷ ps) [] n (form_and x f fs) no_named_tys h k = refl
+pack_lengths s (p ∷ ps) [] n (form_and x f fs) (named_ty_and y t ts) h k = absurd k
+pack_lengths s (p ∷ ps) [] n no_forms ts h k = absurd h
+pack_lengths s (p ∷ ps) (q ∷ qs) n no_forms ts h k = absurd h
+pack_lengths s (p ∷ ps) (q ∷ qs) n (form_and x f fs) no_named_tys h k = absurd k
+pack_lengths s (p ∷ ps) (q ∷ qs) n (form_and x f fs) (named_ty_and y t ts) h k = by (bytes_eq x y) (can_pack f t) (pack_lengths s ps qs (λ e. n (ap suc e)) fs ts h.2 k.2)
+  where
+    by : (a b : Bool) → false ≡ can_pack_all fs ts → false ≡ (a && (b && can_pack_all fs ts))
+    by true true e = e
+    by true false e = refl
+    by false b e = refl
 
-    by : (us : NamedTys) → IsFields s j us → eqb j 3 ≡ can_pack_all no_forms us
-    by no_named_tys l = eq-eqb j 3 l
-    by (named_ty_and x t us) l = other (eqb j 3) refl (λ e. not_none (l.0, l.1, l.2) (sym (ap (λ n. field_of (slice_get s.cells n)) e ∙ ap field_of is.no_fields) ∙ ap field_of l.3))
-
--- no field is left for a form
-pub pack_short : (s : Store) → IsStore s → (forms fields i j n form rest : ℕ) → PackSo s forms fields i j → field_of (slice_get s.cells i) ≡ Some (n, form, rest) → field_of (slice_get s.cells j) ≡ None
+pub pack_short : (s : Store) (forms fields : ℕ) (ps qs : List (ℕ × ℕ)) → HasCells s forms ps → HasCells s fields qs → (length ps ≡ length qs → ⊥)
     → (fs : Forms) (ts : NamedTys) → IsForms s forms fs → IsFields s fields ts → false ≡ can_pack_all fs ts
-pack_short s is forms fields i j n form rest so at none fs ts h k =
-    let v = so fs ts h k in
-    let p = forms_some s is i n form rest v.0 v.2 at in
-    sym (v.4 ∙ ap (λ (g : Forms). can_pack_all g v.1) p.3 ∙ ap (can_pack_all (form_and p.0 p.1 p.2)) (fields_none s j v.1 v.3 none))
+pack_short s forms fields ps qs a b n fs ts h k = pack_lengths s ps qs n fs ts (form_cells s forms ps a fs h) (field_cells s fields qs b ts k)
 
 -- a form and a field
-pub pack_both : (s : Store) → IsStore s → (forms fields i j n form more m t rest : ℕ) → PackSo s forms fields i j → field_of (slice_get s.cells i) ≡ Some (n, form, more) → field_of (slice_get s.cells j) ≡ Some (m, t, rest)
+first_form : (s : Store) (p : ℕ × ℕ) (ps : List (ℕ × ℕ)) (fs : Forms) → AreFormCells s (p ∷ ps) fs
+    → (x : List ℕ) × (f : Form) × (gs : Forms) × (fs ≡ form_and x f gs) × (slice_get s.names p.0 ≡ Some x) × IsForm s p.1 f × AreFormCells s ps gs
+first_form s p ps no_forms h = absurd h
+first_form s p ps (form_and x f fs) h = (x, f, fs, refl, h.0, h.1, h.2)
+
+first_field : (s : Store) (p : ℕ × ℕ) (ps : List (ℕ × ℕ)) (ts : NamedTys) → AreFieldCells s (p ∷ ps) ts
+    → (x : List ℕ) × (t : Ty) × (us : NamedTys) × (ts ≡ named_ty_and x t us) × (slice_get s.names p.0 ≡ Some x) × IsType s p.1 t × AreFieldCells s ps us
+first_field s p ps no_named_tys h = absurd h
+first_field s p ps (named_ty_and x t ts) h = (x, t, ts, refl, h.0, h.1, h.2)
+
+drop_here : (ps : List (ℕ × ℕ)) (i : ℕ) (p : ℕ × ℕ) → i < length ps → p ≡ get_or ps i p → drop i ps ≡ p ∷ drop (i + 1) ps
+drop_here ps i p inside at =
+    let next : suc i ≡ i + 1 = omega arith in
+    drop-cons ps i p inside ∙ ap (λ x. x ∷ drop (suc i) ps) (sym at) ∙ ap (λ n. p ∷ drop n ps) next
+
+pub pack_here : (s : Store) (forms fields : ℕ) (ps qs : List (ℕ × ℕ)) (i : ℕ) (p q : ℕ × ℕ) → i < length ps → i < length qs → p ≡ get_or ps i p → q ≡ get_or qs i q
+    → PackSo s forms fields (drop i ps) (drop i qs) → PackSo s forms fields (p ∷ drop (i + 1) ps) (q ∷ drop (i + 1) qs)
+pack_here s forms fields ps qs i p q inside along at here so =
+    subst (λ l. PackSo s forms fields l (q ∷ drop (i + 1) qs)) (drop_here ps i p inside at) (subst (λ l. PackSo s forms fields (drop i ps) l) (drop_here qs i q along here) so)
+
+pack_both : (s : Store) → IsStore s → (forms fields : ℕ) (p q : ℕ × ℕ) (ps qs : List (ℕ × ℕ)) → PackSo s forms fields (p ∷ ps) (q ∷ qs)
     → (fs : Forms) (ts : NamedTys) → IsForms s forms fs → IsFields s fields ts
-    → (f : Form) × (u : Ty) × (gs : Forms) × (us : NamedTys) × IsForm s form f × IsType s t u × IsForms s more gs × IsFields s rest us × (can_pack_all fs ts ≡ (eqb n m && (can_pack f u && can_pack_all gs us)))
-pack_both s is forms fields i j n form more m t rest so at along fs ts h k =
+    → (f : Form) × (u : Ty) × (gs : Forms) × (us : NamedTys) × IsForm s p.1 f × IsType s q.1 u × AreFormCells s ps gs × AreFieldCells s qs us × (can_pack_all fs ts ≡ (eqb p.0 q.0 && (can_pack f u && can_pack_all gs us)))
+pack_both s is forms fields p q ps qs so fs ts h k =
     let v = so fs ts h k in
-    let p = forms_some s is i n form more v.0 v.2 at in
-    let q = fields_some s is j m t rest v.1 v.3 along in (
-      p.1,
-      q.1,
-      p.2,
-      q.2,
-      p.5,
-      q.5,
-      p.6,
-      q.6,
-      v.4 ∙ ap (λ (g : Forms). can_pack_all g v.1) p.3 ∙ ap (can_pack_all (form_and p.0 p.1 p.2)) q.3
-          ∙ ap (λ b. b && (can_pack p.1 q.1 && can_pack_all p.2 q.2)) (sym (number_name s is n m p.0 q.0 p.4 q.4)),
+    let a = first_form s p ps v.0 v.2 in
+    let b = first_field s q qs v.1 v.3 in (
+      a.1,
+      b.1,
+      a.2,
+      b.2,
+      a.5,
+      b.5,
+      a.6,
+      b.6,
+      v.4 ∙ ap (λ (g : Forms). can_pack_all g v.1) a.3 ∙ ap (can_pack_all (form_and a.0 a.1 a.2)) b.3
+          ∙ ap (λ t. t && (can_pack a.1 b.1 && can_pack_all a.2 b.2)) (sym (number_name s is p.0 q.0 a.0 b.0 a.4 b.4)),
     )
 
-pub pack_other : (s : Store) → IsStore s → (forms fields i j n form more m t rest : ℕ) → PackSo s forms fields i j → field_of (slice_get s.cells i) ≡ Some (n, form, more) → field_of (slice_get s.cells j) ≡ Some (m, t, rest)
-    → eqb n m ≡ false → (fs : Forms) (ts : NamedTys) → IsForms s forms fs → IsFields s fields ts → false ≡ can_pack_all fs ts
-pack_other s is forms fields i j n form more m t rest so at along differs fs ts h k =
-    let v = pack_both s is forms fields i j n form more m t rest so at along fs ts h k in
+pub pack_other : (s : Store) → IsStore s → (forms fields : ℕ) (p q : ℕ × ℕ) (ps qs : List (ℕ × ℕ)) → PackSo s forms fields (p ∷ ps) (q ∷ qs)
+    → eqb p.0 q.0 ≡ false → (fs : Forms) (ts : NamedTys) → IsForms s forms fs → IsFields s fields ts → false ≡ can_pack_all fs ts
+pack_other s is forms fields p q ps qs so differs fs ts h k =
+    let v = pack_both s is forms fields p q ps qs so fs ts h k in
     sym (v.8 ∙ ap (λ b. b && (can_pack v.0 v.1 && can_pack_all v.2 v.3)) differs)
 
-pub pack_wrong : (s : Store) → IsStore s → (forms fields i j n form more m t rest : ℕ) → PackSo s forms fields i j → field_of (slice_get s.cells i) ≡ Some (n, form, more) → field_of (slice_get s.cells j) ≡ Some (m, t, rest)
-    → eqb n m ≡ true → ((f : Form) (u : Ty) → IsForm s form f → IsType s t u → false ≡ can_pack f u) → (fs : Forms) (ts : NamedTys) → IsForms s forms fs → IsFields s fields ts → false ≡ can_pack_all fs ts
-pack_wrong s is forms fields i j n form more m t rest so at along same wrong fs ts h k =
-    let v = pack_both s is forms fields i j n form more m t rest so at along fs ts h k in
+pub pack_wrong : (s : Store) → IsStore s → (forms fields : ℕ) (p q : ℕ × ℕ) (ps qs : List (ℕ × ℕ)) → PackSo s forms fields (p ∷ ps) (q ∷ qs)
+    → eqb p.0 q.0 ≡ true → ((f : Form) (u : Ty) → IsForm s p.1 f → IsType s q.1 u → false ≡ can_pack f u) → (fs : Forms) (ts : NamedTys) → IsForms s forms fs → IsFields s fields ts → false ≡ can_pack_all fs ts
+pack_wrong s is forms fields p q ps qs so same wrong fs ts h k =
+    let v = pack_both s is forms fields p q ps qs so fs ts h k in
     sym (v.8 ∙ ap (λ b. b && (can_pack v.0 v.1 && can_pack_all v.2 v.3)) same ∙ ap (λ b. b && can_pack_all v.2 v.3) (sym (wrong v.0 v.1 v.4 v.5)))
 
-pub pack_next : (s : Store) → IsStore s → (forms fields i j n form more m t rest : ℕ) → PackSo s forms fields i j → field_of (slice_get s.cells i) ≡ Some (n, form, more) → field_of (slice_get s.cells j) ≡ Some (m, t, rest)
-    → eqb n m ≡ true → ((f : Form) (u : Ty) → IsForm s form f → IsType s t u → true ≡ can_pack f u) → PackSo s forms fields more rest
-pack_next s is forms fields i j n form more m t rest so at along same right fs ts h k =
-    let v = pack_both s is forms fields i j n form more m t rest so at along fs ts h k in
+pub pack_next : (s : Store) → IsStore s → (forms fields : ℕ) (p q : ℕ × ℕ) (ps qs : List (ℕ × ℕ)) → PackSo s forms fields (p ∷ ps) (q ∷ qs)
+    → eqb p.0 q.0 ≡ true → ((f : Form) (u : Ty) → IsForm s p.1 f → IsType s q.1 u → true ≡ can_pack f u) → PackSo s forms fields ps qs
+pack_next s is forms fields p q ps qs so same right fs ts h k =
+    let v = pack_both s is forms fields p q ps qs so fs ts h k in
     (v.2, v.3, v.6, v.7, v.8 ∙ ap (λ b. b && (can_pack v.0 v.1 && can_pack_all v.2 v.3)) same ∙ ap (λ b. b && can_pack_all v.2 v.3) (sym (right v.0 v.1 v.4 v.5)))
 
--- ---- of a choice
-abbrev pub OneSo : Store → ℕ → ℕ → ℕ → ℕ → Type 0
-OneSo s forms name t list = (fs : Forms) (x : List ℕ) (u : Ty) → IsForms s forms fs → slice_get s.names name ≡ Some x → IsType s t u
-    → (gs : Forms) × IsForms s list gs × (can_pack_one fs x u ≡ can_pack_one gs x u)
+-- ---- the form of some with a name: what is packed by it
+abbrev OneSo : Store → Ty → Option ℕ → Bool → Type 0
+OneSo s u None v = false ≡ v
+OneSo s u (Some j) v = (f : Form) × IsForm s j f × (v ≡ can_pack f u)
 
-pub one_start : (s : Store) (forms name t : ℕ) → OneSo s forms name t forms
-one_start s forms name t fs x u h at k = (fs, h, refl)
+one_so : (s : Store) → IsStore s → (n : ℕ) (x : List ℕ) (u : Ty) → slice_get s.names n ≡ Some x → (ps : List (ℕ × ℕ)) (fs : Forms) → AreFormCells s ps fs → OneSo s u (field_with n ps) (can_pack_one fs x u)
+one_so s is n x u at [] no_forms h = refl
+one_so s is n x u at [] (form_and y f fs) h = absurd h
+one_so s is n x u at (p ∷ ps) no_forms h = absurd h
+one_so s is n x u at (p ∷ ps) (form_and y f fs) h = by (eqb p.0 n) (bytes_eq y x) (number_name s is p.0 n y x h.0 at) (field_with n ps) (one_so s is n x u at ps fs h.2)
+  where
+    by : (a b : Bool) → a ≡ b → (o : Option ℕ) → OneSo s u o (can_pack_one fs x u) → OneSo s u (cond a (Some p.1) o) (cond b (can_pack f u) (can_pack_one fs x u))
+    by true true e o rest = (f, h.1, refl)
+    by false false e o rest = rest
+    by true false e o rest = absurd (true≢false e)
+    by false true e o rest = absurd (false≢true e)
 
-pub one_end : (s : Store) (forms name t list : ℕ) → OneSo s forms name t list → field_of (slice_get s.cells list) ≡ None
-    → (fs : Forms) (x : List ℕ) (u : Ty) → IsForms s forms fs → slice_get s.names name ≡ Some x → IsType s t u → false ≡ can_pack_one fs x u
-one_end s forms name t list so none fs x u h at k =
-    let v = so fs x u h at k in
-    sym (v.2 ∙ ap (λ (g : Forms). can_pack_one g x u) (forms_none s list v.0 v.1 none))
+found_so : (s : Store) → IsStore s → (forms n : ℕ) (o : Option ℕ) → ((ps : List (ℕ × ℕ)) → IsRow s forms ps → o ≡ field_with n ps)
+    → (fs : Forms) (x : List ℕ) (u : Ty) → IsForms s forms fs → slice_get s.names n ≡ Some x → OneSo s u o (can_pack_one fs x u)
+found_so s is forms n o found fs x u h at = subst (λ a. OneSo s u a (can_pack_one fs x u)) (sym (found h.0 h.1)) (one_so s is n x u at h.0 fs h.2)
 
-one_both : (s : Store) → IsStore s → (forms name t list n form more : ℕ) → OneSo s forms name t list → field_of (slice_get s.cells list) ≡ Some (n, form, more)
-    → (fs : Forms) (x : List ℕ) (u : Ty) → IsForms s forms fs → slice_get s.names name ≡ Some x → IsType s t u
-    → (f : Form) × (gs : Forms) × IsForm s form f × IsForms s more gs × (can_pack_one fs x u ≡ cond (eqb n name) (can_pack f u) (can_pack_one gs x u))
-one_both s is forms name t list n form more so step fs x u h at k =
-    let v = so fs x u h at k in
-    let p = forms_some s is list n form more v.0 v.1 step in
-    (p.1, p.2, p.5, p.6, v.2 ∙ ap (λ (g : Forms). can_pack_one g x u) p.3 ∙ ap (λ b. cond b (can_pack p.1 u) (can_pack_one p.2 x u)) (sym (number_name s is n name p.0 x p.4 at)))
+pub one_none : (s : Store) → IsStore s → (forms n t : ℕ) → ((ps : List (ℕ × ℕ)) → IsRow s forms ps → None ≡ field_with n ps)
+    → (fs : Forms) (x : List ℕ) (u : Ty) → IsForms s forms fs → slice_get s.names n ≡ Some x → IsType s t u → false ≡ can_pack_one fs x u
+one_none s is forms n t found fs x u h at k = found_so s is forms n None found fs x u h at
 
-pub one_here : {E : Type 0} (s : Store) → IsStore s → (forms name t list n form more : ℕ) (r : Result Bool E) → OneSo s forms name t list → field_of (slice_get s.cells list) ≡ Some (n, form, more) → eqb n name ≡ true
-    → ((f : Form) (u : Ty) → IsForm s form f → IsType s t u → IfOk r (λ b. b ≡ can_pack f u))
-    → (fs : Forms) (x : List ℕ) (u : Ty) → IsForms s forms fs → slice_get s.names name ≡ Some x → IsType s t u → IfOk r (λ b. b ≡ can_pack_one fs x u)
-one_here s is forms name t list n form more r so step same one fs x u h at k =
-    let v = one_both s is forms name t list n form more so step fs x u h at k in
-    subst (λ a. IfOk r (λ b. b ≡ a)) (sym (v.4 ∙ ap (λ b. cond b (can_pack v.0 u) (can_pack_one v.1 x u)) same)) (one v.0 u v.2 k)
+pub one_some : {E : Type 0} (s : Store) → IsStore s → (forms n t j : ℕ) (r : Result Bool E) → ((ps : List (ℕ × ℕ)) → IsRow s forms ps → Some j ≡ field_with n ps)
+    → ((f : Form) (u : Ty) → IsForm s j f → IsType s t u → IfOk r (λ b. b ≡ can_pack f u))
+    → (fs : Forms) (x : List ℕ) (u : Ty) → IsForms s forms fs → slice_get s.names n ≡ Some x → IsType s t u → IfOk r (λ b. b ≡ can_pack_one fs x u)
+one_some s is forms n t j r found packs fs x u h at k =
+    let v = found_so s is forms n (Some j) found fs x u h at in
+    subst (λ a. IfOk r (λ b. b ≡ a)) (sym v.2) (packs v.0 u v.1 k)
 
-pub one_next : (s : Store) → IsStore s → (forms name t list n form more : ℕ) → OneSo s forms name t list → field_of (slice_get s.cells list) ≡ Some (n, form, more) → eqb n name ≡ false → OneSo s forms name t more
-one_next s is forms name t list n form more so step differs fs x u h at k =
-    let v = one_both s is forms name t list n form more so step fs x u h at k in
-    (v.1, v.3, v.4 ∙ ap (λ b. cond b (can_pack v.0 u) (can_pack_one v.1 x u)) differs)
+-- ---- a choice packs a record of one field
+single_field : (s : Store) (n t : ℕ) (ts : NamedTys) → AreFieldCells s ((n, t) ∷ []) ts → (x : List ℕ) × (u : Ty) × (ts ≡ named_ty_and x u no_named_tys) × (slice_get s.names n ≡ Some x) × IsType s t u
+single_field s n t no_named_tys h = absurd h
+single_field s n t (named_ty_and x u no_named_tys) h = (x, u, refl, h.0, h.1)
+single_field s n t (named_ty_and x u (named_ty_and y v ts)) h = absurd h.2
 
--- a record of one field
-pub choice_one : {E : Type 0} (s : Store) → IsStore s → (forms fields n t : ℕ) (r : Result Bool E) → field_of (slice_get s.cells fields) ≡ Some (n, t, 3)
+pub choice_one : {E : Type 0} (s : Store) → IsStore s → (forms fields n t : ℕ) (r : Result Bool E) → slice_get s.cells fields ≡ Some (Field n t)
     → ((fs : Forms) (x : List ℕ) (u : Ty) → IsForms s forms fs → slice_get s.names n ≡ Some x → IsType s t u → IfOk r (λ b. b ≡ can_pack_one fs x u))
     → (fs : Forms) (ts : NamedTys) → IsForms s forms fs → IsFields s fields ts → IfOk r (λ b. b ≡ can_pack (ChoiceForm fs) (RecordTy ts))
 choice_one s is forms fields n t r at one fs ts h k =
-    let p = fields_some s is fields n t 3 ts k at in
-    let last : p.2 ≡ no_named_tys = fields_one s is 3 p.2 no_named_tys p.6 refl in
-    subst (λ (l : NamedTys). IfOk r (λ b. b ≡ can_pack (ChoiceForm fs) (RecordTy l))) (sym (p.3 ∙ ap (named_ty_and p.0 p.1) last)) (one fs p.0 p.1 h p.4 p.5)
+    let v = single_field s n t ts (subst (λ l. AreFieldCells s l ts) (row_one s is fields k.0 ((n, t) ∷ []) k.1 at) k.2) in
+    subst (λ (l : NamedTys). IfOk r (λ b. b ≡ can_pack (ChoiceForm fs) (RecordTy l))) (sym v.2) (one fs v.0 v.1 h v.3 v.4)
 
--- another record
-pub choice_other : (s : Store) → IsStore s → (forms fields : ℕ) → ((n t : ℕ) → field_of (slice_get s.cells fields) ≡ Some (n, t, 3) → ⊥)
+-- another list has no field or some
+abbrev pub is_field_cell : Option Cell → Bool
+is_field_cell (Some (Field n t)) = true
+is_field_cell _ = false
+
+other_fields : (s : Store) (fields : ℕ) → is_field_cell (slice_get s.cells fields) ≡ false → (fs : Forms) (ps : List (ℕ × ℕ)) (ts : NamedTys) → IsRow s fields ps → AreFieldCells s ps ts → false ≡ can_pack (ChoiceForm fs) (RecordTy ts)
+other_fields s fields other fs ps no_named_tys h k = refl
+other_fields s fields other fs [] (named_ty_and x t no_named_tys) h k = absurd k
+other_fields s fields other fs (p ∷ []) (named_ty_and x t no_named_tys) h k = absurd (true≢false (sym (ap is_field_cell h) ∙ other))
+other_fields s fields other fs (p ∷ q ∷ ps) (named_ty_and x t no_named_tys) h k = absurd k.2
+other_fields s fields other fs ps (named_ty_and x t (named_ty_and y u ts)) h k = refl
+
+pub choice_none : (s : Store) (forms fields : ℕ) → is_field_cell (slice_get s.cells fields) ≡ false
     → (fs : Forms) (ts : NamedTys) → IsForms s forms fs → IsFields s fields ts → false ≡ can_pack (ChoiceForm fs) (RecordTy ts)
-choice_other s is forms fields none fs no_named_tys h k = refl
-choice_other s is forms fields none fs (named_ty_and x t no_named_tys) h k = absurd (none k.0 k.1 (ap field_of k.3 ∙ ap (λ m. Some (k.0, k.1, m)) k.6))
-choice_other s is forms fields none fs (named_ty_and x t (named_ty_and y u us)) h k = refl
-
-no_field : (p : ℕ × ℕ × ℕ) → None ≡ Some p → ⊥
-no_field p q = cc
-
-same_last : (p q : ℕ × ℕ × ℕ) → Some p ≡ Some q → p ≡ q
-same_last p q r = cc
-
-pub choice_none : (s : Store) → IsStore s → (forms fields : ℕ) → field_of (slice_get s.cells fields) ≡ None
-    → (fs : Forms) (ts : NamedTys) → IsForms s forms fs → IsFields s fields ts → false ≡ can_pack (ChoiceForm fs) (RecordTy ts)
-choice_none s is forms fields none = choice_other s is forms fields (λ n t e. no_field (n, t, 3) (sym none ∙ e))
-
-pub choice_long : (s : Store) → IsStore s → (forms fields n t rest : ℕ) → field_of (slice_get s.cells fields) ≡ Some (n, t, rest) → (rest ≡ 3 → ⊥)
-    → (fs : Forms) (ts : NamedTys) → IsForms s forms fs → IsFields s fields ts → false ≡ can_pack (ChoiceForm fs) (RecordTy ts)
-choice_long s is forms fields n t rest at long = choice_other s is forms fields (λ m u e. long (ap (λ (p : ℕ × ℕ × ℕ). p.2) (same_last (n, t, rest) (m, u, 3) (sym at ∙ e))))
+choice_none s forms fields other fs ts h k = other_fields s fields other fs k.0 ts k.1 k.2
 
 -- ---- pairs of which it is known
 abbrev pub IsPackedPair : Store → ℕ × ℕ → Type 0

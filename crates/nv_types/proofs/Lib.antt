@@ -37,10 +37,13 @@ pub mod LayoutArms
 pub mod LayoutWalk
 pub mod Making
 pub mod Measured
+pub mod NumberNames
 pub mod OneNumber
 pub mod FieldPacking
 pub mod Params
+pub mod RowEdges
 pub mod RowNumbers
+pub mod RowMaking
 pub mod Rows
 pub mod Shaping
 pub mod SharedNames

@@ -6,7 +6,7 @@ ghost use Rattle.std.specs.Prelude.{◌≡◌, ◌<◌, ◌≤◌, ◌==◌, ◌
 ghost use Rattle.nv_ast.specs.Tests.{has_twice};
 ghost use Rattle.nv_ast.specs.Types.{NamedTys, Forms, ◌+++◌};
 ghost use Rattle.nv_types.specs.inner.Rows.{Row, one, both, leaves, depth, ends_as_deep, carried, hung, grown, field_with};
-ghost use Rattle.nv_types.specs.inner.Store.{Grows, Stands, IsRow, IsFields, IsForms, halves_of, AreFields, AreForms, AreNames, AreNamed, AreSeen, form_names, field_names, fields_then};
+ghost use Rattle.nv_types.specs.inner.Store.{Grows, IsStore, Stands, IsRow, IsFields, IsForms, halves_of, AreFields, AreForms, AreNames, AreNamed, AreSeen, form_names, field_names, fields_then};
 ghost use Rattle.nv_types.specs.inner.Lists.{AreOnes, AreStacked, ArePut};
 ghost use Rattle.nv_types.specs.inner.Named.{named};
 
@@ -57,7 +57,7 @@ impl<'a> Table<'a> {
         ensures of_forms { (fs gs : Forms) → IsForms self.old first fs → IsForms self.old second gs → IfOk result (λ i. IsForms self.new i (fs +++ gs)) }
         ensures grows { OnOk result (Grows self.old self.new) }
     {
-        if first == NO_FIELDS {
+        if self.is_empty(first) {
             return Ok(second);
         }
         let behind = self.leaves_of(alloc, second)?;
@@ -112,6 +112,7 @@ impl<'a> Table<'a> {
     /// What stands under a name in a list of fields, if one has that name: the type or form of the first.
     pub fn field_in(&self, fields: usize, name: usize) -> Option<usize>
         ensures found { (ps : List (ℕ × ℕ)) → IsRow self.now fields ps → result ≡ field_with name ps }
+        ensures store { IsStore self.now }
         ensures below { IfSome result (λ t. t < fields) }
     {
         if self.is_empty(fields) {
@@ -126,9 +127,7 @@ impl<'a> Table<'a> {
         ensures below { IfSome result (λ t. t < list) }
     {
         match self.cell(list) {
-            Some(Cell::Field(x, t)) => {
-                if x == name { Some(t) } else { None }
-            }
+            Some(Cell::Field(x, t)) => { if x == name { Some(t) } else { None } }
             Some(Cell::Both(left, right)) => match self.find_in(left, name) {
                 Some(t) => Some(t),
                 None => self.find_in(right, name),
@@ -140,6 +139,7 @@ impl<'a> Table<'a> {
     /// The fields of a list, in order: the numbers of their names and of their types or forms.
     pub fn fields_in(&self, alloc: Global, fields: usize) -> Result<Vec<(usize, usize)>, NoMemory>
         ensures cells { (ps : List (ℕ × ℕ)) → IsRow self.now fields ps → IfOk result (λ v. v.items ≡ ps) }
+        ensures store { IsStore self.now }
         ensures below { IfOk result (λ v. All (λ p. p.1 < fields) v.items) }
     {
         let mut found = Vec::new(alloc);
@@ -266,7 +266,11 @@ impl<'a> Table<'a> {
     {
         match rows.last() {
             Some(before) => {
-                if self.is_as_deep(*before, row) { Some(*before) } else { None }
+                if self.is_as_deep(*before, row) {
+                    Some(*before)
+                } else {
+                    None
+                }
             }
             None => None,
         }
