@@ -1,5 +1,5 @@
 -- Lists of fields by the cells of their numbers: which tree stands there, and what is said of its fields.
-use Rattle.std.proofs.Common.{◌≡◌, ◌∙◌, refl, ap, sym, subst, ℕ, suc, Bool, true, false, eqb, List, [], ◌∷◌, ◌++◌, length, ◌<◌, ◌==◌, Option, None, Some, slice_get, true≢false, arith, tests, rules}
+use Rattle.std.proofs.Common.{◌≡◌, ◌∙◌, refl, ap, sym, subst, ℕ, suc, Bool, true, false, List, [], ◌∷◌, ◌++◌, length, ◌<◌, ◌==◌, Option, Some, slice_get, true≢false, arith, tests, rules}
 use Rattle.nv_ast.specs.Types.{Forms, no_forms, form_and}
 use Rattle.nv_types.specs.declared.table.Cell.{Cell}
 use Rattle.nv_types.specs.declared.table.Cell.TheVariants.{NoFields, Field, Both}

@@ -20,7 +20,7 @@ use Rattle.nv_types.specs.inner.Named.{plain_names}
 use Rattle.nv_types.specs.inner.Lists.{AreOnes}
 use Rattle.nv_types.proofs.Found.{name_at, any_name, absent_name}
 use Rattle.nv_types.proofs.FieldCells.{names_split, cells_names, form_cells_names}
-use Rattle.nv_types.proofs.FieldLists.{stands_field, stands_both, IsTest, row_ended, row_stands, ones_then}
+use Rattle.nv_types.proofs.FieldLists.{stands_field, stands_both, is_tree_cell, stands_other, IsTest, row_ended, row_stands, ones_then}
 use Rattle.nv_types.proofs.TypeCells.{record_some}
 use Rattle.nv_ast.proofs.Twice.{twice_more, twice_before}
 
@@ -213,6 +213,9 @@ names_row s i b test e old Q so xs names before h =
 pub cells_one : (s : Store) (i n j : ℕ) → slice_get s.cells i ≡ Some (Field n j) → (old new : List (ℕ × ℕ)) → new ≡ old ++ (n, j) ∷ [] → (t : Row) → Stands s i t → new ≡ old ++ leaves t
 cells_one s i n j at old new e t h = e ∙ ap (λ u. old ++ leaves u) (sym (stands_field s i n j at t h))
 
+pub cells_none : (s : Store) (i : ℕ) → is_tree_cell (slice_get s.cells i) ≡ false → (old : List (ℕ × ℕ)) (t : Row) → Stands s i t → old ≡ old ++ leaves t
+cells_none s i other old t h = absurd (stands_other s i other t h)
+
 pub cells_both : {T E : Type 0} (s : Store) (i j k : ℕ) → slice_get s.cells i ≡ Some (Both j k) → (r : Result T E) (old front new : List (ℕ × ℕ)) → ((t : Row) → Stands s j t → front ≡ old ++ leaves t)
     → ((t : Row) → Stands s k t → OnOk r (new ≡ front ++ leaves t)) → (t : Row) → Stands s i t → OnOk r (new ≡ old ++ leaves t)
 cells_both s i j k at r old front new left right t h =
@@ -220,8 +223,10 @@ cells_both s i j k at r old front new left right t h =
     let behind : front ++ leaves v.right ≡ old ++ leaves t = ap (λ l. l ++ leaves v.right) (left v.left v.of_left) ∙ append_assoc old (leaves v.left) (leaves v.right) ∙ ap (λ u. old ++ leaves u) (sym v.whole) in
     on_ok_weaker r (λ e. e ∙ behind) (right v.right v.of_right)
 
-pub below_one : (n x t : ℕ) (old : List (ℕ × ℕ)) → t < n → All (λ (p : ℕ × ℕ). p.1 < n) old → All (λ (p : ℕ × ℕ). p.1 < n) (old ++ (x, t) ∷ [])
-below_one n x t old less all = All-append (λ (p : ℕ × ℕ). p.1 < n) old ((x, t) ∷ []) all (All-cons (λ (p : ℕ × ℕ). p.1 < n) (x, t) [] less (All-nil (λ (p : ℕ × ℕ). p.1 < n)))
+pub below_one : (n x t : ℕ) (old new : List (ℕ × ℕ)) → new ≡ old ++ (x, t) ∷ [] → t < n → All (λ (p : ℕ × ℕ). p.1 < n) old → All (λ (p : ℕ × ℕ). p.1 < n) new
+below_one n x t old new e less all =
+    let P : ℕ × ℕ → Type 0 = λ (p : ℕ × ℕ). p.1 < n in
+    subst (All P) (sym e) (All-append P old ((x, t) ∷ []) all (All-cons P (x, t) [] less (All-nil P)))
 
 -- ---- the lists of one field each
 abbrev pub LeavesSo : List ℕ → List ℕ → Store → Row → Type 0

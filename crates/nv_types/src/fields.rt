@@ -69,6 +69,7 @@ impl<'a> Table<'a> {
     pub fn is_empty(&self, fields: usize) -> bool
         ensures cells { (ps : List (ℕ × ℕ)) → IsRow self.now fields ps → result ≡ (length ps == 0) }
         ensures forms { (fs : Forms) → IsForms self.now fields fs → result ≡ (length (form_names fs) == 0) }
+        ensures store { IsStore self.now }
     {
         matches!(self.cell(fields), Some(Cell::NoFields))
     }

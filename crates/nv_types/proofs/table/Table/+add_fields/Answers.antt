@@ -1,7 +1,7 @@
-use Rattle.std.proofs.Common.{◌≡◌, ◌∙◌, ◌<◌, ap, sym, subst, false, Some, slice_get, All, arith, rules}
+use Rattle.std.proofs.Common.{◌≡◌, ◌∙◌, ap, sym, false, Some, slice_get, arith, rules}
 use Rattle.nv_types.specs.declared.table.Cell.TheVariants.{Field, Both}
-use Rattle.nv_types.proofs.FieldLists.{is_tree_cell, stands_other}
-use Rattle.nv_types.proofs.FieldWalks.{cells_one, cells_both, below_one}
+use Rattle.nv_types.proofs.FieldLists.{is_tree_cell}
+use Rattle.nv_types.proofs.FieldWalks.{cells_one, cells_none, cells_both, below_one}
 use Rattle.nv_types.proofs.table.Table.+add_fields.Goals as goal
 
 pub add_fields-requires : goal.add_fields-requires
@@ -25,7 +25,7 @@ pub returns-in_ok-push-in-Some-Field-clause-below : goal.returns-in_ok-push-in-S
 returns-in_ok-push-in-Some-Field-clause-below t c =
     let at : slice_get c.args.self.now.cells c.args.list ≡ Some (Field c.in-Some-Field.name c.in-Some-Field.t) = cc in
     let less = c.cell.ensures.store.below c.args.list (Field c.in-Some-Field.name c.in-Some-Field.t) at in
-    λ n le all. subst (All (λ p. p.1 < n)) (sym c.in_ok-push-in-Some-Field.ensures.items) (below_one n c.in-Some-Field.name c.in-Some-Field.t c.args.found.now.items (omega (arith, less, le)) all)
+    λ n le all. below_one n c.in-Some-Field.name c.in-Some-Field.t c.args.found.now.items c.push.new.self.items c.in_ok-push-in-Some-Field.ensures.items (omega (arith, less, le)) all
 
 pub returns-in_ok-add_fields-in-Some-Both-clause-cells : goal.returns-in_ok-add_fields-in-Some-Both-clause-cells
 returns-in_ok-add_fields-in-Some-Both-clause-cells t c =
@@ -42,7 +42,7 @@ returns-in_ok-add_fields-in-Some-Both-clause-below t c =
 pub returns-in_default : goal.returns-in_default
 returns-in_default t c =
     let other : is_tree_cell c.cell.result ≡ false = search rules in
-    record { cells = λ u h. absurd (stands_other c.args.self.now c.args.list (ap is_tree_cell (sym c.cell.ensures.value) ∙ other) u h); below = λ n le all. all }
+    record { cells = cells_none c.args.self.now c.args.list (ap is_tree_cell (sym c.cell.ensures.value) ∙ other) c.args.found.now.items; below = λ n le all. all }
 
 pub returns-in_default-2-clause-cells : goal.returns-in_default-2-clause-cells
-returns-in_default-2-clause-cells t c = λ u h. absurd (stands_other c.args.self.now c.args.list (ap is_tree_cell (sym c.cell.ensures.value ∙ c.in_default.is)) u h)
+returns-in_default-2-clause-cells t c = cells_none c.args.self.now c.args.list (ap is_tree_cell (sym c.cell.ensures.value ∙ c.in_default.is)) c.args.found.now.items

@@ -19,6 +19,7 @@ returns-in_default c =
     record {
       cells = λ ps h. is ∙ empty_row c.args.self.now c.cell.ensures.store c.args.fields ps h;
       forms = λ fs h. is ∙ empty_list c.args.self.now c.cell.ensures.store c.args.fields fs h;
+      store = c.cell.ensures.store;
     }
 
 pub returns-in_default-2-clause-cells : goal.returns-in_default-2-clause-cells
