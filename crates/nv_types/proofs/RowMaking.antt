@@ -42,9 +42,6 @@ popped old new front i None e f some = absurd (true≢false (sym (some (subst (�
 abbrev pub ComesTo : {X : Type 0} → (List Row → Row → X) → Store → List ℕ → ℕ → Store → List ℕ → ℕ → Type 0
 ComesTo f a is i s js j = (ts : List Row) (t : Row) → AreStacked a is ts → Stands a i t → (us : List Row) × (u : Row) × (f ts t ≡ f us u) × AreStacked s js us × Stands s j u
 
-pub comes_start : {X : Type 0} (f : List Row → Row → X) (a : Store) (is : List ℕ) (i : ℕ) → ComesTo f a is i a is i
-comes_start f a is i ts t h k = (ts, t, refl, h, k)
-
 pub hung_step : (a s b : Store) (is js front : List ℕ) (i j before k : ℕ) → js ≡ front ++ before ∷ [] → Grows s b
     → ((t u : Row) → Stands s before t → Stands s j u → Stands b k (both t u)) → ComesTo hung a is i s js j → ComesTo hung a is i b front k
 hung_step a s b is js front i j before k e grows made so ts t h l =
@@ -89,9 +86,6 @@ carried_end a s is js new i j deep e so ts t h l =
 abbrev pub GrowsTo : Store → List ℕ → ℕ → List ℕ → Store → List ℕ → ℕ → List ℕ → Type 0
 GrowsTo a is i behind s js j left = (ts : List Row) (p : ℕ × ℕ) (ps : List (ℕ × ℕ)) → AreStacked a is ts → Stands a i (one p) → AreOnes a behind ps
     → (us : List Row) × (q : ℕ × ℕ) × (qs : List (ℕ × ℕ)) × (grown ts p ps ≡ grown us q qs) × AreStacked s js us × Stands s j (one q) × AreOnes s left qs
-
-pub grown_start : (a : Store) (is : List ℕ) (i : ℕ) (behind : List ℕ) → GrowsTo a is i behind a is i behind
-grown_start a is i behind ts p ps h k l = (ts, p, ps, refl, h, k, l)
 
 pub grown_step : (a s b : Store) (is behind js new left rest : List ℕ) (i j next : ℕ) → left ≡ next ∷ rest → Grows s b
     → ((us : List Row) (u : Row) → AreStacked s js us → Stands s j u → AreStacked b new (carried us u)) → GrowsTo a is i behind s js j left → GrowsTo a is i behind b new next rest
