@@ -9,7 +9,7 @@ use Rattle.nv_types.specs.declared.table.Cell.TheVariants.{Field}
 use Rattle.nv_types.specs.inner.Rows.{field_with}
 use Rattle.nv_types.specs.inner.Store.{Store, IsStore, IsRow, IsType, IsFields, IsForm, IsForms, AreFieldCells, AreFormCells}
 use Rattle.nv_types.proofs.RowNumbers.{row_one}
-use Rattle.nv_types.proofs.NumberNames.{number_name}
+use Rattle.nv_types.proofs.FieldWalks.{number_name}
 use Rattle.std.specs.List.{list_any}
 use Rattle.std.proofs.lemmas.Bool.{eqb-true, eq-eqb, false≢true}
 use Rattle.std.proofs.lemmas.List.Elements.{All-head, All-tail, All-same, All-push}

@@ -37,7 +37,6 @@ pub mod LayoutArms
 pub mod LayoutWalk
 pub mod Making
 pub mod Measured
-pub mod NumberNames
 pub mod OneNumber
 pub mod FieldPacking
 pub mod Params

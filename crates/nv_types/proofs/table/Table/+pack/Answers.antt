@@ -1,7 +1,7 @@
 use Rattle.std.proofs.Common.{◌≡◌, ◌∙◌, ◌<◌, ◌≤◌, ap, sym, false, length, Some, slice_get, arith, rules}
 use Rattle.std.proofs.lemmas.Bool.{eq-eqb}
 use Rattle.nv_types.specs.declared.table.Cell.TheVariants.{Word, Record, Choice, Field}
-use Rattle.nv_types.proofs.NumberNames.{eqb_other}
+use Rattle.nv_types.proofs.FieldWalks.{eqb_other}
 use Rattle.nv_types.proofs.TypeCells.{pack_word, pack_record, pack_choice, pack_record_none, pack_choice_none, is_form_cell, pack_no_form}
 use Rattle.nv_types.proofs.FieldPacking.{pack_start, pack_end, pack_short, pack_other, pack_wrong, pack_next, pack_here, one_none, one_some, choice_one, choice_none, is_field_cell, packed_there, packed_more, pair_same}
 use Rattle.nv_types.proofs.table.Table.+pack.Goals as goal
