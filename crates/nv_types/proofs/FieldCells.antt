@@ -15,20 +15,6 @@ form_cells_then s [] qs (form_and x f fs) gs h k = absurd h
 form_cells_then s (p ∷ ps) qs no_forms gs h k = absurd h
 form_cells_then s (p ∷ ps) qs (form_and x f fs) gs h k = (h.0, h.1, form_cells_then s ps qs fs gs h.2 k)
 
-pub cells_split : (s : Store) (ps qs : List (ℕ × ℕ)) (ts : NamedTys) → AreFieldCells s (ps ++ qs) ts → (us vs : NamedTys) × (ts ≡ fields_then us vs) × AreFieldCells s ps us × AreFieldCells s qs vs
-cells_split s [] qs ts h = (no_named_tys, ts, refl, tt, h)
-cells_split s (p ∷ ps) qs no_named_tys h = absurd h
-cells_split s (p ∷ ps) qs (named_ty_and x t ts) h =
-    let v = cells_split s ps qs ts h.2 in
-    (named_ty_and x t v.0, v.1, ap (named_ty_and x t) v.2, (h.0, h.1, v.3), v.4)
-
-pub form_cells_split : (s : Store) (ps qs : List (ℕ × ℕ)) (fs : Forms) → AreFormCells s (ps ++ qs) fs → (gs hs : Forms) × (fs ≡ gs +++ hs) × AreFormCells s ps gs × AreFormCells s qs hs
-form_cells_split s [] qs fs h = (no_forms, fs, refl, tt, h)
-form_cells_split s (p ∷ ps) qs no_forms h = absurd h
-form_cells_split s (p ∷ ps) qs (form_and x f fs) h =
-    let v = form_cells_split s ps qs fs h.2 in
-    (form_and x f v.0, v.1, ap (form_and x f) v.2, (h.0, h.1, v.3), v.4)
-
 -- ---- by their names
 pub names_split : (s : Store) (ps qs : List (ℕ × ℕ)) (xs : List (List ℕ)) → AreNames s (ps ++ qs) xs → (ys zs : List (List ℕ)) × (xs ≡ ys ++ zs) × AreNames s ps ys × AreNames s qs zs
 names_split s [] qs xs h = ([], xs, refl, tt, h)

@@ -7,15 +7,7 @@ use Rattle.nv_types.specs.inner.Rows.{Row, one, both, leaves, grown}
 use Rattle.nv_types.specs.inner.Store.{Store, IsStore, Stands, IsRow, AreFormCells, IsForms, form_names}
 use Rattle.nv_types.specs.inner.Lists.{AreOnes}
 use Rattle.nv_types.proofs.Rows.{leaves_row}
-
-same_field : (a b x y : ℕ) → Some (Field a b) ≡ Some (Field x y) → (a ≡ x) × (b ≡ y)
-same_field a b x y e = (cc, cc)
-
-same_halves : (j k m n : ℕ) → Some (Both j k) ≡ Some (Both m n) → (j ≡ m) × (k ≡ n)
-same_halves j k m n e = (cc, cc)
-
-field_both : (a b j k : ℕ) → Some (Field a b) ≡ Some (Both j k) → ⊥
-field_both a b j k e = cc
+use Rattle.nv_types.proofs.RowNumbers.{same_field, same_halves, field_both}
 
 -- ---- the tree of a number by its cell
 pub stands_field : (s : Store) (i n j : ℕ) → slice_get s.cells i ≡ Some (Field n j) → (t : Row) → Stands s i t → t ≡ one (n, j)

@@ -6,7 +6,7 @@ use Rattle.nv_ast.specs.Types.{Ty, WordTy, BoolTy, TupleTy, RecordTy, Tys, no_ty
 use Rattle.nv_ast.proofs.SameTypes.{same_itself, same_sound}
 use Rattle.nv_types.specs.declared.table.Cell.{Cell}
 use Rattle.nv_types.specs.declared.table.Cell.TheVariants.{Word, Bool as BoolCell, NoParts, Tuple, Record, Part}
-use Rattle.nv_types.specs.inner.Store.{Store, IsStore, IsType, IsParts, IsRow, IsFields, AreFieldCells}
+use Rattle.nv_types.specs.inner.Store.{Store, IsStore, IsType, IsParts, IsRow, AreFieldCells}
 use Rattle.nv_types.proofs.RowNumbers.{row_same, row_one}
 
 one_cell : (cells : List Cell) (i j : ℕ) (a b : Cell) → i ≡ j → slice_get cells j ≡ Some a → slice_get cells i ≡ Some b → a ≡ b
@@ -77,9 +77,6 @@ mutual
       let first = type_one s is p.1 t u h.1 k.1 in
       let rest = cells_one s is ps ts us h.2 k.2 in
       ap (λ (z : List ℕ). named_ty_and z t ts) name ∙ ap (λ (z : Ty). named_ty_and y z ts) first ∙ ap (named_ty_and y u) rest
-
-pub fields_one : (s : Store) → IsStore s → (i : ℕ) (ts us : NamedTys) → IsFields s i ts → IsFields s i us → ts ≡ us
-fields_one s is i ts us h k = cells_one s is h.0 ts us h.2 (subst (λ ps. AreFieldCells s ps us) (sym (row_one s is i h.0 k.0 h.1 k.1)) k.2)
 
 mutual
   pub number_one : (s : Store) → IsStore s → (i j : ℕ) (t : Ty) → IsType s i t → IsType s j t → i ≡ j

@@ -27,13 +27,13 @@ stacked_stay a b g is [] h = h
 stacked_stay a b g is (t ∷ ts) h = (h.0, h.1, h.2, stands_stays a b g h.1 t h.3, stacked_stay a b g h.0 ts h.4)
 
 -- ---- one number for each, and one tree for each number
-same_field : (a b x y : ℕ) → Some (Field a b) ≡ Some (Field x y) → (a ≡ x) × (b ≡ y)
+pub same_field : (a b x y : ℕ) → Some (Field a b) ≡ Some (Field x y) → (a ≡ x) × (b ≡ y)
 same_field a b x y e = (cc, cc)
 
-same_halves : (j k m n : ℕ) → Some (Both j k) ≡ Some (Both m n) → (j ≡ m) × (k ≡ n)
+pub same_halves : (j k m n : ℕ) → Some (Both j k) ≡ Some (Both m n) → (j ≡ m) × (k ≡ n)
 same_halves j k m n e = (cc, cc)
 
-field_both : (a b j k : ℕ) → Some (Field a b) ≡ Some (Both j k) → ⊥
+pub field_both : (a b j k : ℕ) → Some (Field a b) ≡ Some (Both j k) → ⊥
 field_both a b j k e = cc
 
 none_field : (a b : ℕ) → Some NoFields ≡ Some (Field a b) → ⊥
@@ -73,15 +73,6 @@ row_one s is i [] [] h k = refl
 row_one s is i [] (q ∷ qs) h k = absurd (stands_some s is (grown [] q qs) (subst (λ n. Stands s n (grown [] q qs)) h k))
 row_one s is i (p ∷ ps) [] h k = absurd (stands_some s is (grown [] p ps) (subst (λ n. Stands s n (grown [] p ps)) k h))
 row_one s is i (p ∷ ps) (q ∷ qs) h k = sym (leaves_row p ps) ∙ ap leaves (stands_one s i (grown [] p ps) (grown [] q qs) h k) ∙ leaves_row q qs
-
--- ---- a list by its number: the empty one, or a tree
-pub row_none : (s : Store) → IsStore s → (i : ℕ) (ps : List (ℕ × ℕ)) → IsRow s i ps → i ≡ 3 → ps ≡ []
-row_none s is i [] h e = refl
-row_none s is i (p ∷ ps) h e = absurd (stands_some s is (grown [] p ps) (subst (λ n. Stands s n (grown [] p ps)) e h))
-
-pub row_tree : (s : Store) (i : ℕ) (ps : List (ℕ × ℕ)) → IsRow s i ps → (i ≡ 3 → ⊥) → (t : Row) × Stands s i t × (leaves t ≡ ps)
-row_tree s i [] h some = absurd (some h)
-row_tree s i (p ∷ ps) h some = (grown [] p ps, h, leaves_row p ps)
 
 -- ---- what has a number has a cell
 pub stands_cell : (s : Store) (i : ℕ) (t : Row) → Stands s i t → (c : Cell) × (slice_get s.cells i ≡ Some c)
