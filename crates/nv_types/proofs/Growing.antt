@@ -6,8 +6,8 @@ use Rattle.std.proofs.lemmas.List.{get_or_append_left}
 use Rattle.std.proofs.Math.Seq.{get_or-append_seam}
 use Rattle.nv_types.specs.declared.table.Facts.{Facts}
 use Rattle.nv_types.specs.declared.table.Cell.{Cell}
-use Rattle.nv_types.specs.declared.table.Cell.TheVariants.{Word, Bool as BoolCell, NoParts, NoFields, Tuple, Record, Choice, Part, Field}
-use Rattle.nv_types.specs.inner.Cells.{nothing, fact_at, over, cell_facts, AreBelow, IsTable}
+use Rattle.nv_types.specs.declared.table.Cell.TheVariants.{Word, Bool as BoolCell, NoParts, NoFields, Tuple, Record, Choice, Part, Field, Both}
+use Rattle.nv_types.specs.inner.Cells.{nothing, fact_at, over, lone, cell_facts, AreBelow, IsTable}
 use Rattle.nv_types.specs.inner.Store.{Store, Grows}
 
 pub get_left : {A : Type 0} (xs ys : List A) (i : ℕ) (x : A) → slice_get xs i ≡ Some x → slice_get (xs ++ ys) i ≡ Some x
@@ -46,8 +46,9 @@ facts_stay facts more i (Record fields) h b = ap over (fact_stays facts more fie
 facts_stay facts more i (Choice forms) h b = ap over (fact_stays facts more forms (omega (arith, b, h)))
 facts_stay facts more i (Part t rest) h b =
     rw (fact_stays facts more t (omega (arith, b.0, h)), fact_stays facts more rest (omega (arith, b.1, h))) refl
-facts_stay facts more i (Field x t rest) h b =
-    rw (fact_stays facts more t (omega (arith, b.0, h)), fact_stays facts more rest (omega (arith, b.1, h))) refl
+facts_stay facts more i (Field x t) h b = ap lone (fact_stays facts more t (omega (arith, b, h)))
+facts_stay facts more i (Both left right) h b =
+    rw (fact_stays facts more left (omega (arith, b.0, h)), fact_stays facts more right (omega (arith, b.1, h))) refl
 
 -- one more cell, which isn't there yet
 pub IsTable-push : (names : List (List ℕ)) (cells : List Cell) (facts : List Facts) (c : Cell)

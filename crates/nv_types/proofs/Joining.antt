@@ -1,71 +1,54 @@
 -- The fields of one list put before those of another.
-use Rattle.std.proofs.Common.{◌≡◌, ap, sym, subst, ℕ, ◌≤◌, List, [], ◌∷◌, drop, length, Some, slice_get}
-use Rattle.std.proofs.Math.ListN.{drop_of_length-le}
-use Rattle.nv_ast.specs.Types.{Ty, NamedTys, no_named_tys, named_ty_and, Form, Forms, no_forms, form_and, ◌+++◌}
-use Rattle.nv_types.specs.inner.Store.{Store, IsStore, Grows, IsType, IsFields, IsForm, IsForms, field_of, AreCells, fields_then}
-use Rattle.nv_types.proofs.FieldLists.{fields_some, forms_some}
-use Rattle.nv_types.proofs.Staying.{type_stays, form_stays}
+use Rattle.std.proofs.Common.{◌≡◌, ◌∙◌, sym, subst, ℕ, List, [], ◌∷◌, ◌++◌, ◌==◌, length, true, false, true≢false, Result, Ok, Err}
+use Rattle.std.proofs.Math.Dec.{eqb-suc-zero}
+use Rattle.std.specs.Result.{IfOk, OnOk}
+use Rattle.nv_base.specs.declared.error.NoMemory.{NoMemory}
+use Rattle.nv_ast.specs.Types.{NamedTys, Forms, no_named_tys, named_ty_and, no_forms, form_and, ◌+++◌}
+use Rattle.nv_types.specs.inner.Rows.{Row, one, hung, grown}
+use Rattle.nv_types.specs.inner.Store.{Store, Grows, Stands, IsRow, IsFields, IsForms, AreFieldCells, AreFormCells, fields_then}
+use Rattle.nv_types.specs.inner.Lists.{AreOnes, AreStacked}
+use Rattle.nv_types.proofs.Rows.{grown_edge}
+use Rattle.nv_types.proofs.Staying.{cells_stay, form_cells_stay}
+use Rattle.nv_types.proofs.FieldCells.{cells_then, form_cells_then}
 
--- the fields of some cells, and their forms
-abbrev pub AreFieldCells : Store → List (ℕ × ℕ) → NamedTys → Type 0
-AreFieldCells s [] no_named_tys = Unit {0}
-AreFieldCells s (p ∷ ps) (named_ty_and x t ts) = (slice_get s.names p.0 ≡ Some x) × IsType s p.1 t × AreFieldCells s ps ts
-AreFieldCells s _ _ = ⊥
-
-abbrev pub AreFormCells : Store → List (ℕ × ℕ) → Forms → Type 0
-AreFormCells s [] no_forms = Unit {0}
-AreFormCells s (p ∷ ps) (form_and x f fs) = (slice_get s.names p.0 ≡ Some x) × IsForm s p.1 f × AreFormCells s ps fs
-AreFormCells s _ _ = ⊥
-
-pub cells_fields : (s : Store) → IsStore s → (i : ℕ) (ps : List (ℕ × ℕ)) (ts : NamedTys) → AreCells s i ps → IsFields s i ts → AreFieldCells s ps ts
-cells_fields s is i [] no_named_tys c h = tt
-cells_fields s is i [] (named_ty_and x t ts) c h = absurd (c h.0 h.1 h.2 h.3)
-cells_fields s is i (p ∷ ps) ts c h =
-    let q = fields_some s is i p.0 p.1 c.0 ts h (ap field_of c.1) in
-    subst (AreFieldCells s (p ∷ ps)) (sym q.3) (q.4, q.5, cells_fields s is c.0 ps q.2 c.2 q.6)
-
-pub cells_forms : (s : Store) → IsStore s → (i : ℕ) (ps : List (ℕ × ℕ)) (fs : Forms) → AreCells s i ps → IsForms s i fs → AreFormCells s ps fs
-cells_forms s is i [] no_forms c h = tt
-cells_forms s is i [] (form_and x f fs) c h = absurd (c h.0 h.1 h.2 h.3)
-cells_forms s is i (p ∷ ps) fs c h =
-    let q = forms_some s is i p.0 p.1 c.0 fs h (ap field_of c.1) in
-    subst (AreFormCells s (p ∷ ps)) (sym q.3) (q.4, q.5, cells_forms s is c.0 ps q.2 c.2 q.6)
-
--- some fields before those of a second list, and some forms
-abbrev pub JoinsFields : Store → Store → ℕ → List (ℕ × ℕ) → ℕ → Type 0
-JoinsFields a s second ps list = (ts us : NamedTys) → AreFieldCells a ps ts → IsFields a second us → IsFields s list (fields_then ts us)
-
-abbrev pub JoinsForms : Store → Store → ℕ → List (ℕ × ℕ) → ℕ → Type 0
-JoinsForms a s second ps list = (fs gs : Forms) → AreFormCells a ps fs → IsForms a second gs → IsForms s list (fs +++ gs)
-
-pub joins_fields-start : (a : Store) (second : ℕ) (ps : List (ℕ × ℕ)) (n : ℕ) → length ps ≤ n → JoinsFields a a second (drop n ps) second
-joins_fields-start a second ps n le ts us c h = by ts (subst (λ (l : List (ℕ × ℕ)). AreFieldCells a l ts) (drop_of_length-le ps le) c)
+-- ---- behind the empty list
+pub fields_after : (s : Store) (i j : ℕ) → ((ps : List (ℕ × ℕ)) → IsRow s i ps → true ≡ (length ps == 0)) → (ts us : NamedTys) → IsFields s i ts → IsFields s j us → IsFields s j (fields_then ts us)
+fields_after s i j none ts us h k = by h.0 (none h.0 h.1) ts h.2
   where
-    by : (vs : NamedTys) → AreFieldCells a [] vs → IsFields a second (fields_then vs us)
-    by no_named_tys k = h
-    by (named_ty_and x t vs) k = absurd k
+    by : (ps : List (ℕ × ℕ)) → true ≡ (length ps == 0) → (vs : NamedTys) → AreFieldCells s ps vs → IsFields s j (fields_then vs us)
+    by [] e no_named_tys cells = k
+    by [] e (named_ty_and x t vs) cells = absurd cells
+    by (p ∷ ps) e vs cells = absurd (true≢false (e ∙ eqb-suc-zero (length ps)))
 
-pub joins_forms-start : (a : Store) (second : ℕ) (ps : List (ℕ × ℕ)) (n : ℕ) → length ps ≤ n → JoinsForms a a second (drop n ps) second
-joins_forms-start a second ps n le fs gs c h = by fs (subst (λ (l : List (ℕ × ℕ)). AreFormCells a l fs) (drop_of_length-le ps le) c)
+pub forms_after : (s : Store) (i j : ℕ) → ((ps : List (ℕ × ℕ)) → IsRow s i ps → true ≡ (length ps == 0)) → (fs gs : Forms) → IsForms s i fs → IsForms s j gs → IsForms s j (fs +++ gs)
+forms_after s i j none fs gs h k = by h.0 (none h.0 h.1) fs h.2
   where
-    by : (vs : Forms) → AreFormCells a [] vs → IsForms a second (vs +++ gs)
-    by no_forms k = h
-    by (form_and x f vs) k = absurd k
+    by : (ps : List (ℕ × ℕ)) → true ≡ (length ps == 0) → (hs : Forms) → AreFormCells s ps hs → IsForms s j (hs +++ gs)
+    by [] e no_forms cells = k
+    by [] e (form_and x f hs) cells = absurd cells
+    by (p ∷ ps) e hs cells = absurd (true≢false (e ∙ eqb-suc-zero (length ps)))
 
-pub joins_fields-more : (a s b : Store) (second list j : ℕ) (p : ℕ × ℕ) (ps front : List (ℕ × ℕ)) → front ≡ p ∷ ps → Grows a s
-    → ((x : List ℕ) (t : Ty) (ts : NamedTys) → slice_get s.names p.0 ≡ Some x → IsType s p.1 t → IsFields s list ts → IsFields b j (named_ty_and x t ts))
-    → JoinsFields a s second ps list → JoinsFields a b second front j
-joins_fields-more a s b second list j p ps front e grows new so ts us c h = by ts (subst (λ (l : List (ℕ × ℕ)). AreFieldCells a l ts) e c)
-  where
-    by : (vs : NamedTys) → AreFieldCells a (p ∷ ps) vs → IsFields b j (fields_then vs us)
-    by no_named_tys k = absurd k
-    by (named_ty_and x t vs) k = new x t (fields_then vs us) (grows.names_stay p.0 x k.0) (type_stays a s grows p.1 t k.1) (so vs us k.2 h)
+-- ---- behind a tree: the rows along its right edge, and its last field
+abbrev pub JoinsRows : Store → Store → ℕ → ℕ → Result ℕ NoMemory → Type 0
+JoinsRows a b first second r = (ps qs : List (ℕ × ℕ)) → IsRow a first ps → IsRow a second qs → IfOk r (λ i. IsRow b i (ps ++ qs))
 
-pub joins_forms-more : (a s b : Store) (second list j : ℕ) (p : ℕ × ℕ) (ps front : List (ℕ × ℕ)) → front ≡ p ∷ ps → Grows a s
-    → ((x : List ℕ) (f : Form) (fs : Forms) → slice_get s.names p.0 ≡ Some x → IsForm s p.1 f → IsForms s list fs → IsForms b j (form_and x f fs))
-    → JoinsForms a s second ps list → JoinsForms a b second front j
-joins_forms-more a s b second list j p ps front e grows new so fs gs c h = by fs (subst (λ (l : List (ℕ × ℕ)). AreFormCells a l fs) e c)
-  where
-    by : (vs : Forms) → AreFormCells a (p ∷ ps) vs → IsForms b j (vs +++ gs)
-    by no_forms k = absurd k
-    by (form_and x f vs) k = new x f (vs +++ gs) (grows.names_stay p.0 x k.0) (form_stays a s grows p.1 f k.1) (so vs gs k.2 h)
+pub joined_rows : (a b : Store) (first second last : ℕ) (r : Result ℕ NoMemory) (rows behind seen : List ℕ) → ((ps : List (ℕ × ℕ)) → IsRow a first ps → false ≡ (length ps == 0)) → seen ≡ behind
+    → ((qs : List (ℕ × ℕ)) → IsRow a second qs → AreOnes a behind qs)
+    → ((ts : List Row) (p : ℕ × ℕ) → Stands a first (hung ts (one p)) → AreStacked a rows ts × Stands a last (one p))
+    → ((ts : List Row) (p : ℕ × ℕ) (ps : List (ℕ × ℕ)) → AreStacked a rows ts → Stands a last (one p) → AreOnes a seen ps → IfOk r (λ i. Stands b i (grown ts p ps)))
+    → JoinsRows a b first second r
+joined_rows a b first second last r rows behind seen some e ones edge grow [] qs h k = absurd (true≢false (sym (some [] h)))
+joined_rows a b first second last r rows behind seen some e ones edge grow (p ∷ ps) qs h k =
+    let g = grown_edge [] p ps in
+    let at = edge g.rows g.last (subst (Stands a first) g.whole h) in
+    subst (λ t. IfOk r (λ i. Stands b i t)) (sym (g.behind qs)) (grow g.rows g.last qs at.0 at.1 (subst (λ (l : List ℕ). AreOnes a l qs) (sym e) (ones qs k)))
+
+pub joined_fields : (a b : Store) (first second : ℕ) (r : Result ℕ NoMemory) → OnOk r (Grows a b) → JoinsRows a b first second r → (ts us : NamedTys) → IsFields a first ts → IsFields a second us → IfOk r (λ i. IsFields b i (fields_then ts us))
+joined_fields a b first second (Ok i) grows rows ts us h k =
+    (h.0 ++ k.0, rows h.0 k.0 h.1 k.1, cells_then b h.0 k.0 ts us (cells_stay a b grows h.0 ts h.2) (cells_stay a b grows k.0 us k.2))
+joined_fields a b first second (Err e) grows rows ts us h k = tt
+
+pub joined_forms : (a b : Store) (first second : ℕ) (r : Result ℕ NoMemory) → OnOk r (Grows a b) → JoinsRows a b first second r → (fs gs : Forms) → IsForms a first fs → IsForms a second gs → IfOk r (λ i. IsForms b i (fs +++ gs))
+joined_forms a b first second (Ok i) grows rows fs gs h k =
+    (h.0 ++ k.0, rows h.0 k.0 h.1 k.1, form_cells_then b h.0 k.0 fs gs (form_cells_stay a b grows h.0 fs h.2) (form_cells_stay a b grows k.0 gs k.2))
+joined_forms a b first second (Err e) grows rows fs gs h k = tt

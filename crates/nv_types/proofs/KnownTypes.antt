@@ -1,16 +1,13 @@
 -- What a table knows of its cells is right of the types that they stand for.
-use Rattle.std.proofs.Common.{◌≡◌, ◌∙◌, refl, ap, sym, subst, ℕ, Bool, false, ◌&&◌, ◌||◌, eqb, List, Some, slice_get, arith, rules, tests}
-use Rattle.std.proofs.lemmas.Option.{get_or_from_slice_get}
+use Rattle.std.proofs.Common.{◌≡◌, ◌∙◌, refl, ap, sym, subst, ℕ, Bool, false, ◌&&◌, ◌||◌, eqb, List, [], ◌∷◌, Some, slice_get, arith, rules, tests}
 use Rattle.nv_ast.specs.Types.{Ty, WordTy, BoolTy, TupleTy, RecordTy, Tys, no_tys, ty_and, NamedTys, no_named_tys, named_ty_and, same_type, has_bool}
 use Rattle.nv_types.specs.declared.table.Facts.{Facts}
 use Rattle.nv_types.specs.declared.table.Cell.{Cell}
-use Rattle.nv_types.specs.declared.table.Cell.TheVariants.{Word, Bool as BoolCell, NoParts, NoFields, Tuple, Record, Part, Field}
-use Rattle.nv_types.specs.inner.Cells.{nothing, fact_at, over, with_front, cell_facts, IsTable}
-use Rattle.nv_types.specs.inner.Store.{IsType, IsParts, IsFields}
+use Rattle.nv_types.specs.declared.table.Cell.TheVariants.{Word, Bool as BoolCell, NoParts, Tuple, Record, Part}
+use Rattle.nv_types.specs.inner.Cells.{fact_at, over, with_front, cell_facts, IsTable}
+use Rattle.nv_types.specs.inner.Store.{IsType, IsParts, AreFieldCells}
+use Rattle.nv_types.proofs.KnownRows.{fact_is, KnowCells, known_row}
 use Rattle.nv_types.specs.inner.Knowing.{IsKnown, AreKnown, KnowsFields}
-
-fact_is : (names : List (List ℕ)) (cells : List Cell) (facts : List Facts) → IsTable names cells facts → (i : ℕ) (c : Cell) → slice_get cells i ≡ Some c → fact_at facts i ≡ cell_facts facts c
-fact_is names cells facts is i c h = get_or_from_slice_get facts i (cell_facts facts c) nothing (is.known i c h)
 
 not_zero : (i : ℕ) → (i ≡ 0 → ⊥) → eqb i 0 ≡ false
 not_zero i h = search (tests, rules)
@@ -42,19 +39,12 @@ front_known f g rest b t ts e word k all = subst (λ (x : Facts). AreKnown x (ty
   of_alone = ap (λ c. c && rest.words_alone) word ∙ ap (λ c. same_type t WordTy && c) all.of_alone;
 })
 
-front_fields : (f g rest : Facts) (x : List ℕ) (t : Ty) (ts : NamedTys) → f ≡ with_front false g rest → IsKnown g t → KnowsFields rest ts → KnowsFields f (named_ty_and x t ts)
-front_fields f g rest x t ts e k all = subst (λ (y : Facts). KnowsFields y (named_ty_and x t ts)) (sym e) (record {
-  of_words = omega (arith, k.of_words, all.of_words);
-  of_height = omega (arith, k.of_height, all.of_height);
-  of_bool = ap (λ c. c || rest.has_bool) k.of_bool ∙ ap (λ c. has_bool t || c) all.of_bool;
-})
-
 mutual
   pub known_type : (names : List (List ℕ)) (cells : List Cell) (facts : List Facts) → IsTable names cells facts → (i : ℕ) (t : Ty) → IsType (record { names = names; cells = cells }) i t → IsKnown (fact_at facts i) t
   known_type names cells facts is i WordTy h = subst (λ (f : Facts). IsKnown f WordTy) (sym (ap (fact_at facts) h ∙ fact_is names cells facts is 0 Word is.word)) (record { of_words = refl; of_height = refl; of_bool = refl })
   known_type names cells facts is i BoolTy h = subst (λ (f : Facts). IsKnown f BoolTy) (sym (ap (fact_at facts) h ∙ fact_is names cells facts is 1 BoolCell is.bool)) (record { of_words = refl; of_height = refl; of_bool = refl })
   known_type names cells facts is i (TupleTy ts) h = over_known _ _ ts (fact_is names cells facts is i (Tuple h.0) h.1) (known_parts names cells facts is h.0 ts h.2)
-  known_type names cells facts is i (RecordTy ts) h = over_fields _ _ ts (fact_is names cells facts is i (Record h.0) h.1) (known_fields names cells facts is h.0 ts h.2)
+  known_type names cells facts is i (RecordTy ts) h = over_fields _ _ ts (fact_is names cells facts is i (Record h.0) h.1) (known_row names cells facts is h.0 h.2.0 ts h.2.1 (known_cells names cells facts is h.2.0 ts h.2.2))
 
   pub known_parts : (names : List (List ℕ)) (cells : List Cell) (facts : List Facts) → IsTable names cells facts → (i : ℕ) (ts : Tys) → IsParts (record { names = names; cells = cells }) i ts → AreKnown (fact_at facts i) ts
   known_parts names cells facts is i no_tys h = subst (λ (f : Facts). AreKnown f no_tys) (sym (ap (fact_at facts) h ∙ fact_is names cells facts is 2 NoParts is.no_parts)) (record { of_words = refl; of_height = refl; of_bool = refl; of_alone = refl })
@@ -62,8 +52,8 @@ mutual
       front_known _ (fact_at facts h.0) (fact_at facts h.1) (eqb h.0 0) t ts (fact_is names cells facts is i (Part h.0 h.1) h.2) (word_test names cells facts is h.0 t h.3)
       (known_type names cells facts is h.0 t h.3) (known_parts names cells facts is h.1 ts h.4)
 
-  pub known_fields : (names : List (List ℕ)) (cells : List Cell) (facts : List Facts) → IsTable names cells facts → (i : ℕ) (ts : NamedTys) → IsFields (record { names = names; cells = cells }) i ts → KnowsFields (fact_at facts i) ts
-  known_fields names cells facts is i no_named_tys h = subst (λ (f : Facts). KnowsFields f no_named_tys) (sym (ap (fact_at facts) h ∙ fact_is names cells facts is 3 NoFields is.no_fields)) (record { of_words = refl; of_height = refl; of_bool = refl })
-  known_fields names cells facts is i (named_ty_and x t ts) h =
-      front_fields _ (fact_at facts h.1) (fact_at facts h.2) x t ts (fact_is names cells facts is i (Field h.0 h.1 h.2) h.3)
-      (known_type names cells facts is h.1 t h.5) (known_fields names cells facts is h.2 ts h.6)
+  pub known_cells : (names : List (List ℕ)) (cells : List Cell) (facts : List Facts) → IsTable names cells facts → (ps : List (ℕ × ℕ)) (ts : NamedTys) → AreFieldCells (record { names = names; cells = cells }) ps ts → KnowCells facts ps ts
+  known_cells names cells facts is [] no_named_tys h = tt
+  known_cells names cells facts is [] (named_ty_and x t ts) h = absurd h
+  known_cells names cells facts is (p ∷ ps) no_named_tys h = absurd h
+  known_cells names cells facts is (p ∷ ps) (named_ty_and x t ts) h = (known_type names cells facts is p.1 t h.1, known_cells names cells facts is ps ts h.2)

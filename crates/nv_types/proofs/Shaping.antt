@@ -1,5 +1,5 @@
 -- Shapes and fields by numbers, as they are made of their parts.
-use Rattle.std.proofs.Common.{◌≡◌, ◌∙◌, refl, ap, sym, subst, ℕ, ◌+◌, ◌<◌, ◌≤◌, min, max, Bool, true, false, ◌||◌, List, [], ◌∷◌, ◌++◌, take, drop, length, get_or, Option, None, Some, slice_get, is_none, arith, rules, tests, ltb, lt-ltb, le-ltb, ltb-true, ltb-false}
+use Rattle.std.proofs.Common.{◌≡◌, ◌∙◌, refl, ap, sym, subst, ℕ, ◌+◌, ◌<◌, ◌≤◌, min, max, Bool, true, false, ◌||◌, List, [], ◌∷◌, ◌++◌, take, drop, length, get_or, arith, ltb, lt-ltb, le-ltb, ltb-true, ltb-false}
 use Rattle.std.specs.Prelude.{◌==◌, nat_lt}
 use Rattle.std.specs.Borrow.{Bor}
 use Rattle.std.proofs.Math.ListN.{drop_of_length-le}
@@ -13,11 +13,10 @@ use Rattle.nv_types.specs.declared.layouts.Member.{Member}
 use Rattle.nv_types.specs.inner.Cells.{most}
 use Rattle.nv_types.specs.inner.Costs.{still}
 use Rattle.nv_types.specs.inner.Named.{named}
-use Rattle.nv_types.specs.inner.Store.{Store, IsStore, Grows, IsType, IsFields, IsForm, IsForms, AreFields, AreForms, form_names, field_of, fields_then}
+use Rattle.nv_types.specs.inner.Store.{Store, Grows, IsType, IsFields, IsForm, IsForms, AreFields, AreForms, form_names, fields_then}
 use Rattle.nv_types.specs.inner.Layouts.{IsShape, IsDeclared, IsMember, IsJoined, AreShapes, AreMembers}
 use Rattle.nv_types.proofs.Staying.{type_stays, fields_stay, form_stays, forms_stay}
 use Rattle.nv_types.proofs.Holding.{shape_stays}
-use Rattle.nv_types.proofs.FieldLists.{forms_none, forms_some}
 use Rattle.nv_types.proofs.Sums.{Entry, joined_front, most_short}
 
 -- ---- a store that grows
@@ -80,16 +79,7 @@ entries_types s [] (named_outline_and x o os) h = h
 entries_types s (m ∷ ms) no_named_outlines h = h
 entries_types s (m ∷ ms) (named_outline_and x o os) h = (h.0, h.1.of_type, entries_types s ms os h.2)
 
--- ---- a list of forms is empty exactly where its record has no field
-pub empty_list : (s : Store) → IsStore s → (i : ℕ) (o : Option (ℕ × ℕ × ℕ)) (fs : Forms) → o ≡ field_of (slice_get s.cells i) → IsForms s i fs → is_none o ≡ (length (form_names fs) == 0)
-empty_list s is i None fs e h = ap (λ (gs : Forms). length (form_names gs) == 0) (sym (forms_none s i fs h (sym e)))
-empty_list s is i (Some (n, j, rest)) fs e h =
-    let f = forms_some s is i n j rest fs h (sym e) in
-    sym (some_number (length (form_names (form_and f.0 f.1 f.2))) (omega arith)) ∙ ap (λ (gs : Forms). length (form_names gs) == 0) (sym f.3)
-  where
-    some_number : (n : ℕ) → 0 < n → (n == 0) ≡ false
-    some_number n h = search (tests, rules)
-
+-- ---- the names of the fields of a layout
 pub names_then : (fs gs : Forms) → form_names (fs +++ gs) ≡ form_names fs ++ form_names gs
 names_then no_forms gs = refl
 names_then (form_and x f fs) gs = ap (λ l. x ∷ l) (names_then fs gs)
@@ -160,24 +150,24 @@ unpacked_then : (fs gs : Forms) → unpacked_all (fs +++ gs) ≡ fields_then (un
 unpacked_then no_forms gs = refl
 unpacked_then (form_and x f fs) gs = ap (named_ty_and x (unpacked f)) (unpacked_then fs gs)
 
-pub shape_front : (a b c : Store) (m rest whole : Shape) (o : OutlineTree) (os : OutlineTrees) → Grows a b → Grows b c → IsShape a m o → IsJoined a rest os
+pub shape_front : (a b : Store) (m rest whole : Shape) (o : OutlineTree) (os : OutlineTrees) → IsShape a m o → IsJoined a rest os
     → whole.bits ≡ min (m.bits + rest.bits) most → whole.fields ≡ min (m.fields + rest.fields) most → whole.height ≡ max m.height rest.height
     → ((fs gs : Forms) → IsForms a m.forms fs → IsForms a rest.forms gs → IsForms b whole.forms (fs +++ gs))
-    → ((ts us : NamedTys) → IsFields b m.types ts → IsFields b rest.types us → IsFields c whole.types (fields_then ts us))
-    → IsJoined c whole (outline_and o os)
-shape_front a b c m rest whole o os g k h j bits fields height forms types = record {
+    → ((ts us : NamedTys) → IsFields a m.types ts → IsFields a rest.types us → IsFields b whole.types (fields_then ts us))
+    → IsJoined b whole (outline_and o os)
+shape_front a b m rest whole o os h j bits fields height forms types = record {
   of_bits = omega (arith, bits, h.of_bits, j.of_bits);
   of_fields = omega (arith, fields, h.of_fields, j.of_fields, joined_front o os);
   of_height = omega (arith, height, h.of_height, j.of_height);
-  of_forms = forms_stay b c k whole.forms (record_forms o +++ joined_forms os) (forms (record_forms o) (joined_forms os) h.of_forms j.of_forms);
-  of_types = subst (IsFields c whole.types) (sym (unpacked_then (record_forms o) (joined_forms os))) (types (unpacked_all (record_forms o)) (unpacked_all (joined_forms os)) (fields_stay a b g m.types _ h.of_types) (fields_stay a b g rest.types _ j.of_types));
+  of_forms = forms (record_forms o) (joined_forms os) h.of_forms j.of_forms;
+  of_types = subst (IsFields b whole.types) (sym (unpacked_then (record_forms o) (joined_forms os))) (types (unpacked_all (record_forms o)) (unpacked_all (joined_forms os)) h.of_types j.of_types);
 }
 
 pub shapes_start : (s a : Store) (xs : List Shape) (n : ℕ) (whole : Shape) → length xs ≤ n → whole ≡ record { bits = 0; fields = 0; height = 0; forms = 3; types = 3 } → (os : OutlineTrees) → AreShapes a (drop n xs) os → IsJoined s whole os
 shapes_start s a xs n whole le e os h = subst (λ (w : Shape). IsJoined s w os) (sym e) (by os (subst (λ (l : List Shape). AreShapes a l os) (drop_of_length-le xs le) h))
   where
     by : (us : OutlineTrees) → AreShapes a [] us → IsJoined s (record { bits = 0; fields = 0; height = 0; forms = 3; types = 3 }) us
-    by no_outlines k = record { of_bits = refl; of_fields = refl; of_height = refl; of_forms = refl; of_types = refl }
+    by no_outlines k = record { of_bits = refl; of_fields = refl; of_height = refl; of_forms = ([], refl, tt); of_types = ([], refl, tt) }
     by (outline_and o us) k = absurd k
 
 pub shapes_step : (a s b : Store) (xs front : List Shape) (x rest whole : Shape) → front ≡ x ∷ xs → Grows a s → ((os : OutlineTrees) → AreShapes a xs os → IsJoined s rest os)

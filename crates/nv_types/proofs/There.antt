@@ -1,9 +1,11 @@
 -- What has a number has a cell there, so as a part it keeps its number.
 use Rattle.std.proofs.Common.{◌≡◌, ◌∙◌, ap, sym, subst, ℕ, Some, slice_get}
-use Rattle.nv_ast.specs.Types.{Ty, WordTy, BoolTy, TupleTy, RecordTy, Tys, no_tys, ty_and, NamedTys, no_named_tys, named_ty_and, Form, WordForm, RecordForm, ChoiceForm, Forms, no_forms, form_and}
+use Rattle.nv_ast.specs.Types.{Ty, WordTy, BoolTy, TupleTy, RecordTy, Tys, no_tys, ty_and, NamedTys, Form, WordForm, RecordForm, ChoiceForm, Forms}
 use Rattle.nv_types.specs.declared.table.Cell.{Cell}
-use Rattle.nv_types.specs.declared.table.Cell.TheVariants.{Word, Bool as BoolCell, NoParts, NoFields, Tuple, Record, Choice, Part, Field}
-use Rattle.nv_types.specs.inner.Store.{Store, IsStore, IsType, IsParts, IsFields, IsForm, IsForms}
+use Rattle.nv_types.specs.declared.table.Cell.TheVariants.{Word, Bool as BoolCell, NoParts, Tuple, Record, Choice, Part}
+use Rattle.nv_types.specs.inner.Store.{Store, IsStore, IsType, IsParts, IsFields, IsForm, IsForms, Stands}
+use Rattle.nv_types.specs.inner.Rows.{Row}
+use Rattle.nv_types.proofs.RowNumbers.{row_cell, stands_cell}
 
 -- a part as it is put into a cell
 abbrev pub IsSame : Store → ℕ → ℕ → Type 0
@@ -26,11 +28,9 @@ same_parts s is i j e ts h = subst (λ n. IsParts s n ts) (sym (by ts h)) h
     by (ty_and t us) k = e (Part k.0 k.1) k.2
 
 pub same_fields : (s : Store) → IsStore s → (i j : ℕ) → IsSame s i j → (ts : NamedTys) → IsFields s i ts → IsFields s j ts
-same_fields s is i j e ts h = subst (λ n. IsFields s n ts) (sym (by ts h)) h
-  where
-    by : (us : NamedTys) → IsFields s i us → j ≡ i
-    by no_named_tys k = e NoFields (ap (slice_get s.cells) k ∙ is.no_fields)
-    by (named_ty_and x t us) k = e (Field k.0 k.1 k.2) k.3
+same_fields s is i j e ts h =
+    let at = row_cell s is i h.0 h.1 in
+    subst (λ n. IsFields s n ts) (sym (e at.0 at.1)) h
 
 pub same_form : (s : Store) → IsStore s → (i j : ℕ) → IsSame s i j → (f : Form) → IsForm s i f → IsForm s j f
 same_form s is i j e f h = subst (λ n. IsForm s n f) (sym (by f h)) h
@@ -41,8 +41,11 @@ same_form s is i j e f h = subst (λ n. IsForm s n f) (sym (by f h)) h
     by (ChoiceForm fs) k = e (Choice k.0) k.1
 
 pub same_forms : (s : Store) → IsStore s → (i j : ℕ) → IsSame s i j → (fs : Forms) → IsForms s i fs → IsForms s j fs
-same_forms s is i j e fs h = subst (λ n. IsForms s n fs) (sym (by fs h)) h
-  where
-    by : (gs : Forms) → IsForms s i gs → j ≡ i
-    by no_forms k = e NoFields (ap (slice_get s.cells) k ∙ is.no_fields)
-    by (form_and x f gs) k = e (Field k.0 k.1 k.2) k.3
+same_forms s is i j e fs h =
+    let at = row_cell s is i h.0 h.1 in
+    subst (λ n. IsForms s n fs) (sym (e at.0 at.1)) h
+
+pub same_row : (s : Store) → (i j : ℕ) → IsSame s i j → (t : Row) → Stands s i t → Stands s j t
+same_row s i j e t h =
+    let at = stands_cell s i t h in
+    subst (λ n. Stands s n t) (sym (e at.0 at.1)) h

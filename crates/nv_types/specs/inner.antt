@@ -2,7 +2,9 @@ pub mod Named
 pub mod Stack
 pub mod Faulty
 pub mod Cells
+pub mod Rows
 pub mod Store
+pub mod Lists
 pub mod Costs
 pub mod Knowing
 pub mod Judging

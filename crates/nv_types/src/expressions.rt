@@ -127,7 +127,7 @@ impl<'a> Checker<'a> {
         ensures keeps { OnOk result (Keeps self.old self.new) }
         ensures writes { OnOk result (written_in self.new ≡ written_in self.old) }
     {
-        let list = self.table.fields_of(types)?;
+        let list = self.table.fields_of(self.alloc, types)?;
         let t = self.table.record_of(list)?;
         let repeats = self.table.repeats_a_name(self.alloc, list)?;
         let twice = kind_where(repeats, 18);

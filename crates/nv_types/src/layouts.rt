@@ -236,7 +236,7 @@ impl<'a> Checker<'a> {
         for m in members {
             forms.push((m.0, m.1.form))?;
         }
-        self.table.fields_of(&forms)
+        self.table.fields_of(self.alloc, &forms)
     }
 
     // The types of some fields' unpacked values.
@@ -248,7 +248,7 @@ impl<'a> Checker<'a> {
         for m in members {
             types.push((m.0, m.1.unpacked))?;
         }
-        self.table.fields_of(&types)
+        self.table.fields_of(self.alloc, &types)
     }
 
     // The field whose value is an inner layout's record.
@@ -312,12 +312,15 @@ impl<'a> Checker<'a> {
         ensures joined { (o : OutlineTree) (os : OutlineTrees) → IsShape self.old.table first o → IsJoined self.old.table rest os → IfOk result (λ whole. IsJoined self.new.table whole (outline_and o os)) }
         ensures keeps { OnOk result (Keeps self.old self.new) }
     {
+        let firsts = (first.forms, first.types);
+        let rests = (rest.forms, rest.types);
+        let (forms, types) = self.table.both_joined(self.alloc, firsts, rests)?;
         Ok(Shape {
             bits: first.bits.saturating_add(rest.bits),
             fields: first.fields.saturating_add(rest.fields),
             height: first.height.max(rest.height),
-            forms: self.table.joined(self.alloc, first.forms, rest.forms)?,
-            types: self.table.joined(self.alloc, first.types, rest.types)?,
+            forms,
+            types,
         })
     }
 }

@@ -1,14 +1,12 @@
 // Types by number, each kept once.
 
-ghost use Rattle.std.specs.Prelude.{◌≡◌, ◌<◌, ◌==◌, ◌++◌, ℕ, false, length, List, Some, None, IfOk, OnOk, slice_get};
-ghost use Rattle.nv_ast.specs.Tests.{has_twice};
-ghost use Rattle.nv_ast.specs.Types.{Ty, TupleTy, RecordTy, Tys, ty_and, NamedTys, named_ty_and, Form, RecordForm, ChoiceForm, Forms, form_and, ◌+++◌, words_ty, word_parts, same_type, is_too_large, can_pack, can_pack_all, can_pack_one};
+ghost use Rattle.std.specs.Prelude.{◌≡◌, ◌<◌, Some, IfOk, OnOk, length, slice_get};
+ghost use Rattle.nv_ast.specs.Types.{Ty, TupleTy, RecordTy, Tys, ty_and, NamedTys, Form, RecordForm, ChoiceForm, Forms, words_ty, word_parts, same_type, is_too_large};
 ghost use Rattle.nv_ast.specs.Faults.{can_store};
 ghost use Rattle.nv_ast.specs.Typing.{field_ty};
-ghost use Rattle.nv_types.specs.inner.Store.{Grows, IsType, IsParts, IsFields, IsForm, IsForms, IsValue, IsStore, tuple_of, record_in, part_of, field_of, AreTypes, AreFields, AreForms, AreCells, AreNamed, AreSeen, form_names, field_names, fields_then};
-ghost use Rattle.nv_types.specs.inner.Knowing.{IsKnown, AreKnown, ArePacked};
-ghost use Rattle.nv_types.specs.inner.Named.{named};
-ghost use Rattle.nv_types.specs.inner.Cells.{AreBelow, over, with_front, fact_at as fact_in, cell_facts as facts_of_cell};
+ghost use Rattle.nv_types.specs.inner.Store.{Grows, IsType, IsParts, IsFields, IsForm, IsForms, IsValue, IsStore, tuple_of, record_in, part_of, AreTypes};
+ghost use Rattle.nv_types.specs.inner.Knowing.{IsKnown, AreKnown};
+ghost use Rattle.nv_types.specs.inner.Cells.{AreBelow, over, lone, with_front, fact_at as fact_in, cell_facts as facts_of_cell};
 
 use crate::limits::{HIGHEST, MOST_WORDS};
 use indexmap::IndexSet;
@@ -18,7 +16,8 @@ use std::alloc::Global;
 use std::marker::Model;
 
 /// A type, or a part of one: a list of types, or of named types. Its parts stand before it in the table.
-/// A choice is the form of an overlay's value, of which one field is packed.
+/// A choice is the form of an overlay's value, of which one field is packed. A list of named types is a tree:
+/// one field with its name, or both of two lists one after the other.
 #[derive(Clone, Copy, Debug, PartialEq, Eq, Hash)]
 pub(crate) enum Cell {
     Word,
@@ -29,7 +28,8 @@ pub(crate) enum Cell {
     Record(usize),
     Choice(usize),
     Part(usize, usize),
-    Field(usize, usize, usize),
+    Field(usize, usize),
+    Both(usize, usize),
 }
 
 /// What is known of a cell: how many words its values have, its height, whether a bool is inside, and
@@ -114,8 +114,8 @@ impl<'a> Table<'a> {
         })
     }
 
-    // The number of a cell, whose parts are there.
-    fn number(&mut self, cell: Cell) -> Result<usize, NoMemory>
+    /// The number of a cell, whose parts are there.
+    pub fn number(&mut self, cell: Cell) -> Result<usize, NoMemory>
         requires below { AreBelow (length self.old.cells) cell }
         ensures there { IfOk result (λ i. slice_get self.new.cells i ≡ Some cell) }
         ensures grows { OnOk result (Grows self.old self.new) }
@@ -132,8 +132,8 @@ impl<'a> Table<'a> {
         Ok(i)
     }
 
-    // The number of a part: itself where it has a cell, as each number that this table gave has, else that of words.
-    fn part_number(&self, i: usize) -> usize
+    /// The number of a part: itself where it has a cell, as each number that this table gave has, else that of words.
+    pub fn part_number(&self, i: usize) -> usize
         ensures below { result < length self.now.cells }
         ensures same { (c : Cell) → slice_get self.now.cells i ≡ Some c → result ≡ i }
         ensures store { IsStore self.now }
@@ -141,8 +141,8 @@ impl<'a> Table<'a> {
         if i < self.cells.len() { i } else { WORD }
     }
 
-    // The cell of a number.
-    fn cell(&self, i: usize) -> Option<Cell>
+    /// The cell of a number.
+    pub fn cell(&self, i: usize) -> Option<Cell>
         ensures value { result ≡ slice_get self.now.cells i }
         ensures store { IsStore self.now }
     {
@@ -195,17 +195,6 @@ impl<'a> Table<'a> {
         self.number(Cell::Part(t, rest))
     }
 
-    // The list of named types, or of named forms, with one more in front.
-    fn field(&mut self, name: usize, t: usize, rest: usize) -> Result<usize, NoMemory>
-        ensures made { (x : List ℕ) (u : Ty) (us : NamedTys) → slice_get self.old.names name ≡ Some x → IsType self.old t u → IsFields self.old rest us → IfOk result (λ i. IsFields self.new i (named_ty_and x u us)) }
-        ensures forms { (x : List ℕ) (f : Form) (fs : Forms) → slice_get self.old.names name ≡ Some x → IsForm self.old t f → IsForms self.old rest fs → IfOk result (λ i. IsForms self.new i (form_and x f fs)) }
-        ensures grows { OnOk result (Grows self.old self.new) }
-    {
-        let t = self.part_number(t);
-        let rest = self.part_number(rest);
-        self.number(Cell::Field(name, t, rest))
-    }
-
     /// The list of some types.
     pub fn parts_of(&mut self, types: &[usize]) -> Result<usize, NoMemory>
         ensures made { (ts : Tys) → AreTypes self.old types.now ts → IfOk result (λ i. IsParts self.new i ts) }
@@ -220,25 +209,8 @@ impl<'a> Table<'a> {
         Ok(list)
     }
 
-    /// The list of some named types.
-    pub fn fields_of(&mut self, types: &[(&'a Name, usize)]) -> Result<usize, NoMemory>
-        ensures made { (ts : NamedTys) → AreFields self.old (named types.now) ts → IfOk result (λ i. IsFields self.new i ts) }
-        ensures forms { (fs : Forms) → AreForms self.old (named types.now) fs → IfOk result (λ i. IsForms self.new i fs) }
-        ensures grows { OnOk result (Grows self.old self.new) }
-    {
-        let mut list = NO_FIELDS;
-        let mut left = types.len();
-        while left > 0 {
-            left -= 1;
-            let entry = &types[left];
-            let number = self.name_number(entry.0)?;
-            list = self.field(number, entry.1, list)?;
-        }
-        Ok(list)
-    }
-
-    // The number of a field's name.
-    fn name_number(&mut self, name: &'a Name) -> Result<usize, NoMemory>
+    /// The number of a field's name.
+    pub fn name_number(&mut self, name: &'a Name) -> Result<usize, NoMemory>
         ensures there { IfOk result (λ i. slice_get self.new.names i ≡ Some name.now) }
         ensures grows { OnOk result (Grows self.old self.new) }
     {
@@ -324,8 +296,8 @@ impl<'a> Table<'a> {
         }
     }
 
-    // The fields of a record's type.
-    fn record_fields(&self, t: usize) -> Option<usize>
+    /// The fields of a record's type.
+    pub fn record_fields(&self, t: usize) -> Option<usize>
         ensures value { result ≡ record_in (slice_get self.now.cells t) }
         ensures store { IsStore self.now }
     {
@@ -346,222 +318,13 @@ impl<'a> Table<'a> {
         }
     }
 
-    // The first of a list of named types, and the others.
-    fn first_field(&self, list: usize) -> Option<(usize, usize, usize)>
-        ensures value { result ≡ field_of (slice_get self.now.cells list) }
-        ensures store { IsStore self.now }
-    {
-        match self.cell(list) {
-            Some(Cell::Field(name, t, rest)) => Some((name, t, rest)),
-            _ => None,
-        }
-    }
-
     /// The type of a field, if the type is a record with such a field.
     pub fn field_type(&self, name: &'a Name, t: usize) -> Option<usize>
         ensures { (u : Ty) → IsType self.now t u → IsValue self.now result (field_ty name.now (Some u)) }
     {
         let number = self.names.get_index_of(&name)?;
-        let mut list = self.record_fields(t)?;
-        while let Some((x, u, rest)) = self.first_field(list) {
-            if x == number {
-                return Some(u);
-            }
-            list = rest;
-        }
-        None
-    }
-
-    /// Whether a list of named types has none.
-    pub fn is_empty(&self, fields: usize) -> bool
-        ensures { (fs : Forms) → IsForms self.now fields fs → result ≡ (length (form_names fs) == 0) }
-    {
-        self.first_field(fields).is_none()
-    }
-
-    /// Whether two fields of a list have one name.
-    pub fn repeats_a_name(&self, alloc: Global, fields: usize) -> Result<bool, NoMemory>
-        ensures of_fields { (ts : NamedTys) → IsFields self.now fields ts → IfOk result (λ b. b ≡ has_twice (field_names ts)) }
-        ensures of_forms { (fs : Forms) → IsForms self.now fields fs → IfOk result (λ b. b ≡ has_twice (form_names fs)) }
-    {
-        self.meets_a_name(&mut IndexSet::new(alloc), fields)
-    }
-
-    /// The fields of one list and then those of another.
-    pub fn joined(&mut self, alloc: Global, first: usize, second: usize) -> Result<usize, NoMemory>
-        ensures of_fields { (ts us : NamedTys) → IsFields self.old first ts → IsFields self.old second us → IfOk result (λ i. IsFields self.new i (fields_then ts us)) }
-        ensures of_forms { (fs gs : Forms) → IsForms self.old first fs → IsForms self.old second gs → IfOk result (λ i. IsForms self.new i (fs +++ gs)) }
-        ensures grows { OnOk result (Grows self.old self.new) }
-    {
-        let cells = self.fields_in(alloc, first)?;
-        let mut list = second;
-        let mut left = cells.len();
-        while left > 0 {
-            left -= 1;
-            let (name, t) = cells[left];
-            list = self.field(name, t, list)?;
-        }
-        Ok(list)
-    }
-
-    // The fields of a list, in order.
-    fn fields_in(&self, alloc: Global, fields: usize) -> Result<Vec<(usize, usize)>, NoMemory>
-        ensures cells { IfOk result (λ v. AreCells self.now fields v.items) }
-        ensures store { IsStore self.now }
-    {
-        let mut found = Vec::new(alloc);
-        let mut list = fields;
-        while let Some((name, t, rest)) = self.first_field(list) {
-            found.push((name, t))?;
-            list = rest;
-        }
-        Ok(found)
-    }
-
-    /// Adds the names of a list of fields to those that were seen, up to the first that was among them.
-    pub fn meets_a_name(&self, seen: &mut IndexSet<usize>, fields: usize) -> Result<bool, NoMemory>
-        ensures meets { (xs names : List (List ℕ)) → AreSeen self.now seen.old.keys xs → AreNamed self.now fields names → IfOk result (λ b. b ≡ has_twice (xs ++ names)) }
-        ensures seen { (xs names : List (List ℕ)) → AreSeen self.now seen.old.keys xs → AreNamed self.now fields names → IfOk result (λ b. b ≡ false → AreSeen self.now seen.new.keys (xs ++ names)) }
-    {
-        let mut list = fields;
-        while let Some((name, _, rest)) = self.first_field(list) {
-            if !seen.insert(name)? {
-                return Ok(true);
-            }
-            list = rest;
-        }
-        Ok(false)
-    }
-
-    /// Whether a value of a type can be packed by the record of some forms.
-    pub fn can_pack_record(&self, alloc: Global, forms: usize, t: usize) -> Result<bool, NoMemory>
-        ensures { (u : Ty) (fs : Forms) → IsType self.now t u → IsForms self.now forms fs → IfOk result (λ b. b ≡ can_pack (RecordForm fs) u) }
-    {
-        match self.record_fields(t) {
-            Some(fields) => self.can_pack_all(&mut IndexSet::new(alloc), forms, fields),
-            None => Ok(false),
-        }
-    }
-
-    // Whether a value of a type can be packed by a form, beside the pairs of which that is known.
-    #[cycle(pack)]
-    fn can_pack(
-        &self,
-        known: &mut IndexSet<(usize, usize)>,
-        form: usize,
-        t: usize,
-    ) -> Result<bool, NoMemory>
-        requires known { ArePacked self.now known.old.keys }
-        ensures packs { (f : Form) (u : Ty) → IsForm self.now form f → IsType self.now t u → IfOk result (λ b. b ≡ can_pack f u) }
-        ensures still_known { OnOk result (ArePacked self.now known.new.keys) }
-    {
-        if known.contains(&(form, t)) {
-            return Ok(true);
-        }
-        let packs = self.packs(known, form, t)?;
-        if !packs {
-            return Ok(false);
-        }
-        known.insert((form, t))?;
-        Ok(true)
-    }
-
-    #[cycle(pack)]
-    fn packs(
-        &self,
-        known: &mut IndexSet<(usize, usize)>,
-        form: usize,
-        t: usize,
-    ) -> Result<bool, NoMemory>
-        requires known { ArePacked self.now known.old.keys }
-        ensures packs { (f : Form) (u : Ty) → IsForm self.now form f → IsType self.now t u → IfOk result (λ b. b ≡ can_pack f u) }
-        ensures still_known { OnOk result (ArePacked self.now known.new.keys) }
-    {
-        match self.cell(form) {
-            Some(Cell::Word) => Ok(t == WORD),
-            Some(Cell::Record(forms)) => match self.record_fields(t) {
-                Some(fields) => self.can_pack_all(known, forms, fields),
-                None => Ok(false),
-            },
-            Some(Cell::Choice(forms)) => match self.record_fields(t) {
-                Some(fields) => self.can_pack_choice(known, forms, fields),
-                None => Ok(false),
-            },
-            _ => Ok(false),
-        }
-    }
-
-    #[cycle(pack)]
-    fn can_pack_all(
-        &self,
-        known: &mut IndexSet<(usize, usize)>,
-        forms: usize,
-        fields: usize,
-    ) -> Result<bool, NoMemory>
-        requires known { ArePacked self.now known.old.keys }
-        ensures packs { (fs : Forms) (ts : NamedTys) → IsForms self.now forms fs → IsFields self.now fields ts → IfOk result (λ b. b ≡ can_pack_all fs ts) }
-        ensures still_known { OnOk result (ArePacked self.now known.new.keys) }
-    {
-        let mut forms_left = forms;
-        let mut fields_left = fields;
-        while let Some((x, form, more)) = self.first_field(forms_left) {
-            let Some((y, t, rest)) = self.first_field(fields_left) else {
-                return Ok(false);
-            };
-            if x != y {
-                return Ok(false);
-            }
-            let packs = self.can_pack(known, form, t)?;
-            if !packs {
-                return Ok(false);
-            }
-            forms_left = more;
-            fields_left = rest;
-        }
-        Ok(fields_left == NO_FIELDS)
-    }
-
-    // Whether a record of one field can be packed by a choice.
-    #[cycle(pack)]
-    fn can_pack_choice(
-        &self,
-        known: &mut IndexSet<(usize, usize)>,
-        forms: usize,
-        fields: usize,
-    ) -> Result<bool, NoMemory>
-        requires known { ArePacked self.now known.old.keys }
-        ensures packs { (fs : Forms) (ts : NamedTys) → IsForms self.now forms fs → IsFields self.now fields ts → IfOk result (λ b. b ≡ can_pack (ChoiceForm fs) (RecordTy ts)) }
-        ensures still_known { OnOk result (ArePacked self.now known.new.keys) }
-    {
-        let Some((name, t, rest)) = self.first_field(fields) else {
-            return Ok(false);
-        };
-        if rest != NO_FIELDS {
-            return Ok(false);
-        }
-        self.can_pack_one(known, forms, name, t)
-    }
-
-    #[cycle(pack)]
-    fn can_pack_one(
-        &self,
-        known: &mut IndexSet<(usize, usize)>,
-        forms: usize,
-        name: usize,
-        t: usize,
-    ) -> Result<bool, NoMemory>
-        requires known { ArePacked self.now known.old.keys }
-        ensures packs { (fs : Forms) (x : List ℕ) (u : Ty) → IsForms self.now forms fs → slice_get self.now.names name ≡ Some x → IsType self.now t u → IfOk result (λ b. b ≡ can_pack_one fs x u) }
-        ensures still_known { OnOk result (ArePacked self.now known.new.keys) }
-    {
-        let mut list = forms;
-        while let Some((x, form, more)) = self.first_field(list) {
-            if x == name {
-                return self.can_pack(known, form, t);
-            }
-            list = more;
-        }
-        Ok(false)
+        let fields = self.record_fields(t)?;
+        self.field_in(fields, number)
     }
 }
 
@@ -585,7 +348,8 @@ fn cell_facts(facts: &[Facts], cell: Cell) -> Facts
             above(fact_at(facts, parts))
         }
         Cell::Part(t, rest) => both(t == WORD, fact_at(facts, t), fact_at(facts, rest)),
-        Cell::Field(_, t, rest) => both(false, fact_at(facts, t), fact_at(facts, rest)),
+        Cell::Field(_, t) => of_field(fact_at(facts, t)),
+        Cell::Both(left, right) => both(false, fact_at(facts, left), fact_at(facts, right)),
     }
 }
 
@@ -597,6 +361,18 @@ fn above(parts: Facts) -> Facts
         words: parts.words,
         height: parts.height.saturating_add(1),
         has_bool: parts.has_bool,
+        words_alone: false,
+    }
+}
+
+// The facts of a list of one field.
+fn of_field(t: Facts) -> Facts
+    ensures { result ≡ lone t }
+{
+    Facts {
+        words: t.words,
+        height: t.height,
+        has_bool: t.has_bool,
         words_alone: false,
     }
 }

@@ -76,7 +76,7 @@ impl<'a> Checker<'a> {
         ensures typed { (ts : NamedTys) → AreFields self.old.table (named fields.now) ts → IfOk result (λ i. IsType self.new.table i (RecordTy ts)) }
         ensures keeps { OnOk result (Keeps self.old self.new) }
     {
-        let list = self.table.fields_of(fields)?;
+        let list = self.table.fields_of(self.alloc, fields)?;
         fault_where(self.table.repeats_a_name(self.alloc, list)?, 8, span)?;
         let t = self.table.record_of(list)?;
         self.without_excess(span, t)

@@ -2,7 +2,7 @@
 use Rattle.std.specs.Prelude.{◌≡◌, ℕ, ◌+◌, ◌<◌, ◌==◌, min, max, Bool, true, false, ◌&&◌, ◌||◌, length, List, [], ◌∷◌, Some, slice_get, slice_index_or}
 use Rattle.nv_types.specs.declared.table.Facts.{Facts}
 use Rattle.nv_types.specs.declared.table.Cell.{Cell}
-use Rattle.nv_types.specs.declared.table.Cell.TheVariants.{Word, Bool as BoolCell, NoParts, NoFields, Tuple, Record, Choice, Part, Field}
+use Rattle.nv_types.specs.declared.table.Cell.TheVariants.{Word, Bool as BoolCell, NoParts, NoFields, Tuple, Record, Choice, Part, Field, Both}
 
 -- the greatest number of a u64, at which sums stand still
 abbrev pub most : ℕ
@@ -18,7 +18,11 @@ fact_at facts i = slice_index_or facts i nothing
 abbrev pub over : Facts → Facts
 over f = record { words = f.words; height = min (f.height + 1) most; has_bool = f.has_bool; words_alone = false }
 
--- of a list with one more in front
+-- of a list of one field
+abbrev pub lone : Facts → Facts
+lone f = record { words = f.words; height = f.height; has_bool = f.has_bool; words_alone = false }
+
+-- of a list with one more in front, and of both of two lists
 abbrev pub with_front : Bool → Facts → Facts → Facts
 with_front is_word f rest = record { words = min (f.words + rest.words) most; height = max f.height rest.height; has_bool = f.has_bool || rest.has_bool; words_alone = is_word && rest.words_alone }
 
@@ -31,7 +35,8 @@ cell_facts facts (Tuple parts) = over (fact_at facts parts)
 cell_facts facts (Record fields) = over (fact_at facts fields)
 cell_facts facts (Choice forms) = over (fact_at facts forms)
 cell_facts facts (Part t rest) = with_front (t == 0) (fact_at facts t) (fact_at facts rest)
-cell_facts facts (Field x t rest) = with_front false (fact_at facts t) (fact_at facts rest)
+cell_facts facts (Field x t) = lone (fact_at facts t)
+cell_facts facts (Both left right) = with_front false (fact_at facts left) (fact_at facts right)
 
 -- the parts of a cell have lower numbers
 abbrev pub AreBelow : ℕ → Cell → Type 0
@@ -43,7 +48,8 @@ AreBelow i (Tuple parts) = parts < i
 AreBelow i (Record fields) = fields < i
 AreBelow i (Choice forms) = forms < i
 AreBelow i (Part t rest) = (t < i) × (rest < i)
-AreBelow i (Field x t rest) = (t < i) × (rest < i)
+AreBelow i (Field x t) = t < i
+AreBelow i (Both left right) = (left < i) × (right < i)
 
 -- a table of cells with what is known of them
 pub record IsTable (names : List (List ℕ)) (cells : List Cell) (facts : List Facts) : Type 0 where

@@ -11,12 +11,12 @@ use Rattle.nv_types.proofs.functions.Checker.fitting.Goals as goal
 pub returns-in_err-fault_where-clause-judged : goal.returns-in_err-fault_where-clause-judged
 returns-in_err-fault_where-clause-judged c = λ o h.
     let p = err_from_is_err_and c.from_residual.result c.from_residual.ensures.1 in
-    let test = c.is_unfit.ensures ∙ unfit_test c.args.self.now.table c.args.shape o c.is_empty-empty.result h (c.is_empty-empty.ensures (record_forms o) h.of_forms) in
+    let test = c.is_unfit.ensures ∙ unfit_test c.args.self.now.table c.args.shape o c.is_empty-empty.result h (c.is_empty-empty.ensures.forms (record_forms o) h.of_forms) in
     rw (p.1, p.2) (subst (λ (b : Bool). IsFirstOf (at_span c.args.span (where_true b 7)) c.in_err-fault_where.field-0.0) test c.in_err-fault_where.ensures)
 
 pub returns-clause-judged : goal.returns-clause-judged
 returns-clause-judged c = λ o h.
-    let test = c.is_unfit.ensures ∙ unfit_test c.args.self.now.table c.args.shape o c.is_empty-empty.result h (c.is_empty-empty.ensures (record_forms o) h.of_forms) in
+    let test = c.is_unfit.ensures ∙ unfit_test c.args.self.now.table c.args.shape o c.is_empty-empty.result h (c.is_empty-empty.ensures.forms (record_forms o) h.of_forms) in
     subst (λ (b : Bool). at_span c.args.span (where_true b 7) ≡ []) test c.in_ok-fault_where.ensures
 
 pub returns-clause-fits : goal.returns-clause-fits

@@ -1,21 +1,15 @@
-use Rattle.std.proofs.Common.{drop, arith}
 use Rattle.nv_types.specs.inner.Named.{named}
-use Rattle.nv_types.proofs.Growing.{Grows-trans}
-use Rattle.nv_types.proofs.Making.{fields_step, forms_step, drop_named}
+use Rattle.nv_types.proofs.Growing.{grows_after}
+use Rattle.nv_types.proofs.RowMaking.{made_fields, made_forms}
 use Rattle.nv_types.proofs.table.Table.fields_of.Goals as goal
 
-pub loop-left-preserved : goal.loop-left-preserved
-loop-left-preserved c =
-    let i = c.loop-left.left in
-    let xs = c.args.types.now in
-    let p = c.index-types-left.result in
-    let front = drop_named xs i p (omega (arith, c.loop-left-test.true)) c.loop-left.invariant.within c.index-types-left.is in
-    let more = Grows-trans c.loop-left.self c.name_number.new.self c.field.new.self c.in_ok-number.ensures.grows c.in_ok-list.ensures.grows in
-    record {
-      within = omega (arith, c.loop-left.invariant.within);
-      grows = Grows-trans c.args.self.now c.loop-left.self c.field.new.self c.loop-left.invariant.grows more;
-      made = fields_step c.args.self.now c.loop-left.self c.name_number.new.self c.field.new.self (named (drop i xs)) _ (p.0.now, p.1) c.in_ok-number.number c.loop-left.list c.in_ok-list.list
-          front c.loop-left.invariant.grows c.in_ok-number.ensures.grows c.in_ok-number.ensures.there c.in_ok-list.ensures.made c.loop-left.invariant.made;
-      forms = forms_step c.args.self.now c.loop-left.self c.name_number.new.self c.field.new.self (named (drop i xs)) _ (p.0.now, p.1) c.in_ok-number.number c.loop-left.list c.in_ok-list.list
-          front c.loop-left.invariant.grows c.in_ok-number.ensures.grows c.in_ok-number.ensures.there c.in_ok-list.ensures.forms c.loop-left.invariant.forms;
-    }
+pub returns-clause-made : goal.returns-clause-made
+returns-clause-made c =
+    made_fields c.args.self.now c.single_fields.new.self c.row.new.self (named c.args.types.now) c.in_ok-lists.lists.items c.deref.result.now c.row.result c.deref.ensures.value c.in_ok-lists.ensures.put c.row.ensures.row c.row.ensures.grows
+
+pub returns-clause-forms : goal.returns-clause-forms
+returns-clause-forms c =
+    made_forms c.args.self.now c.single_fields.new.self c.row.new.self (named c.args.types.now) c.in_ok-lists.lists.items c.deref.result.now c.row.result c.deref.ensures.value c.in_ok-lists.ensures.put c.row.ensures.row c.row.ensures.grows
+
+pub returns-clause-grows : goal.returns-clause-grows
+returns-clause-grows c = grows_after c.args.self.now c.single_fields.new.self c.row.new.self c.row.result c.in_ok-lists.ensures.grows c.row.ensures.grows
