@@ -6,7 +6,7 @@ use Rattle.nv_ast.specs.declared.token.Span.{Span}
 use Rattle.nv_ast.specs.Outline.{Layouts}
 use Rattle.nv_ast.specs.Tree.{LayoutTree, TypeTrees, FunTree, DeclTree, LayoutDecl, ExceptionDecl, GroupDecl}
 use Rattle.nv_ast.specs.Tests.{names_of, look_up, where_true}
-use Rattle.nv_ast.specs.Types.{Tys, NamedTys, no_named_tys, named_ty_and, types_of, type_of, named_types_of, words, total_words, total_named_words}
+use Rattle.nv_ast.specs.Types.{Tys, NamedTys, types_of, type_of, named_types_of}
 use Rattle.nv_ast.specs.Scope.{Signature, Known, callable, plain_tys, param_vars, signature, in_group}
 use Rattle.nv_ast.specs.Faults.{at_span, same_as, name_faults, signature_faults, signatures_faults, body_faults, bodies_faults, decl_faults}
 use Rattle.nv_ast.specs.Sizes.{param_words, body_vars, expanded, need, group_size, group_need}
@@ -30,7 +30,6 @@ use Rattle.nv_types.specs.inner.Standing.{IsFunction, Holds, Sees, KeepsDeclared
 use Rattle.nv_types.specs.inner.Texts.{ShapesWhole, TypesTexts}
 use Rattle.nv_types.specs.inner.Walk.{Checks}
 use Rattle.nv_types.specs.inner.Declarations.{Between, ChecksDecl, AreNew, SignsFunction, SignsAll, IsSigned, ChecksBody, ChecksBodies, costing, AddsCosts}
-use Rattle.nv_types.proofs.Growing.{Grows-refl, Grows-trans}
 use Rattle.nv_types.proofs.Staying.{type_stays, parts_stay}
 use Rattle.nv_types.proofs.Firsts.{first_append}
 use Rattle.nv_types.proofs.Alikes.{alike_at, both_none, both_some}

@@ -1,6 +1,6 @@
 -- Fields by the numbers of their names and types, or forms: those of two lists one after the other.
-use Rattle.std.proofs.Common.{◌≡◌, ◌∙◌, refl, ap, sym, subst, ℕ, List, [], ◌∷◌, ◌++◌, Some, slice_get}
-use Rattle.nv_ast.specs.Types.{Ty, NamedTys, no_named_tys, named_ty_and, Form, Forms, no_forms, form_and, ◌+++◌}
+use Rattle.std.proofs.Common.{◌≡◌, refl, ap, ℕ, List, [], ◌∷◌, ◌++◌}
+use Rattle.nv_ast.specs.Types.{NamedTys, no_named_tys, named_ty_and, Forms, no_forms, form_and, ◌+++◌}
 use Rattle.nv_types.specs.inner.Store.{Store, AreFieldCells, AreFormCells, AreNames, field_names, form_names, fields_then}
 
 pub cells_then : (s : Store) (ps qs : List (ℕ × ℕ)) (ts us : NamedTys) → AreFieldCells s ps ts → AreFieldCells s qs us → AreFieldCells s (ps ++ qs) (fields_then ts us)

@@ -11,7 +11,7 @@ use Rattle.nv_types.specs.inner.Store.{Store, IsStore, IsRow, IsType, IsFields, 
 use Rattle.nv_types.proofs.RowNumbers.{row_one}
 use Rattle.nv_types.proofs.FieldWalks.{number_name}
 use Rattle.std.specs.List.{list_any}
-use Rattle.std.proofs.lemmas.Bool.{eqb-true, eq-eqb, false≢true}
+use Rattle.std.proofs.lemmas.Bool.{eqb-true, false≢true}
 use Rattle.std.proofs.lemmas.List.Elements.{All-head, All-tail, All-same, All-push}
 use Rattle.nv_types.specs.inner.Knowing.{ArePacked}
 

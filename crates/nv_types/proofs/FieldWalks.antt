@@ -14,7 +14,7 @@ use Rattle.nv_ast.specs.Tests.{is_among, has_twice, look_up}
 use Rattle.nv_ast.specs.Types.{Ty, WordTy, BoolTy, TupleTy, RecordTy, NamedTys, no_named_tys, named_ty_and, Forms}
 use Rattle.nv_ast.specs.Typing.{fields_of, field_ty}
 use Rattle.nv_types.specs.declared.table.Cell.TheVariants.{Field, Both}
-use Rattle.nv_types.specs.inner.Rows.{Row, one, both, leaves, field_with}
+use Rattle.nv_types.specs.inner.Rows.{Row, both, leaves, field_with}
 use Rattle.nv_types.specs.inner.Store.{Store, IsStore, Stands, IsRow, IsType, AreFieldCells, IsFields, IsForms, IsValue, record_in, AreNames, AreNamed, AreSeen, field_names, form_names}
 use Rattle.nv_types.specs.inner.Named.{plain_names}
 use Rattle.nv_types.specs.inner.Lists.{AreOnes}

@@ -1,13 +1,13 @@
 -- What a table knows of a list of fields, by what it knows of their types.
 use Rattle.std.proofs.Common.{◌≡◌, ◌∙◌, refl, ap, sym, subst, ℕ, ◌+◌, max, Bool, true, false, ◌||◌, List, [], ◌∷◌, ◌++◌, Some, slice_get, arith}
 use Rattle.std.proofs.lemmas.Option.{get_or_from_slice_get}
-use Rattle.nv_ast.specs.Types.{NamedTys, no_named_tys, named_ty_and, words, total_named_words, ty_height, highest_named_ty, has_bool, some_named_bool}
+use Rattle.nv_ast.specs.Types.{NamedTys, no_named_tys, named_ty_and, total_named_words, highest_named_ty, has_bool, some_named_bool}
 use Rattle.nv_types.specs.declared.table.Facts.{Facts}
 use Rattle.nv_types.specs.declared.table.Cell.{Cell}
 use Rattle.nv_types.specs.declared.table.Cell.TheVariants.{NoFields, Field, Both}
 use Rattle.nv_types.specs.inner.Cells.{nothing, fact_at, lone, with_front, cell_facts, IsTable}
 use Rattle.nv_types.specs.inner.Rows.{Row, one, both, leaves, grown}
-use Rattle.nv_types.specs.inner.Store.{Store, Stands, IsRow, fields_then}
+use Rattle.nv_types.specs.inner.Store.{Stands, IsRow, fields_then}
 use Rattle.nv_types.specs.inner.Knowing.{IsKnown, KnowsFields}
 use Rattle.nv_types.proofs.Rows.{leaves_row}
 

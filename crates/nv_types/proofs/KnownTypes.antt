@@ -4,7 +4,7 @@ use Rattle.nv_ast.specs.Types.{Ty, WordTy, BoolTy, TupleTy, RecordTy, Tys, no_ty
 use Rattle.nv_types.specs.declared.table.Facts.{Facts}
 use Rattle.nv_types.specs.declared.table.Cell.{Cell}
 use Rattle.nv_types.specs.declared.table.Cell.TheVariants.{Word, Bool as BoolCell, NoParts, Tuple, Record, Part}
-use Rattle.nv_types.specs.inner.Cells.{fact_at, over, with_front, cell_facts, IsTable}
+use Rattle.nv_types.specs.inner.Cells.{fact_at, over, with_front, IsTable}
 use Rattle.nv_types.specs.inner.Store.{IsType, IsParts, AreFieldCells}
 use Rattle.nv_types.proofs.KnownRows.{fact_is, KnowCells, known_row}
 use Rattle.nv_types.specs.inner.Knowing.{IsKnown, AreKnown, KnowsFields}

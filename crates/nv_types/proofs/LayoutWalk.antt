@@ -1,21 +1,16 @@
 -- The walk over a layout in the text, as far as a loop has come.
-use Rattle.std.proofs.Common.{◌≡◌, ◌∙◌, refl, ap, sym, subst, ℕ, ◌+◌, ◌<◌, ◌≤◌, max, Bool, true, false, not, ◌||◌, ◌&&◌, List, [], ◌∷◌, ◌++◌, take, drop, length, get_or, arith, ltb, leb, le-leb, ltb-true, ltb-false, append_assoc, append-nil, Vec, Global}
+use Rattle.std.proofs.Common.{◌≡◌, ◌∙◌, refl, ap, sym, subst, ℕ, ◌+◌, ◌<◌, Bool, true, false, not, ◌||◌, ◌&&◌, List, [], ◌∷◌, ◌++◌, take, drop, length, get_or, ltb, leb, le-leb, ltb-true, ltb-false, append-nil}
 use borrow.Author.Tests.{lt-leb}
 use Rattle.std.specs.Borrow.{Bor}
 use Rattle.nv_ast.specs.declared.token.Span.{Span}
-use Rattle.nv_ast.specs.declared.tree.LayoutText
 use Rattle.nv_ast.specs.declared.tree.LayoutText.{LayoutText}
-use Rattle.nv_ast.specs.declared.tree.FieldText
-use Rattle.nv_ast.specs.declared.tree.FieldText.{FieldText}
-use Rattle.nv_ast.specs.Tree.{PartsLayout, JoinedLayout, OverlayField, FieldTrees, no_fields, field_and}
-use Rattle.nv_ast.specs.Height.{layout_height, highest_layout, field_height, highest_field}
+use Rattle.nv_ast.specs.Tree.{FieldTrees, no_fields, field_and}
 use Rattle.nv_ast.specs.LayoutView.{layout_tree, field_tree, list_fields, list_layouts}
-use Rattle.nv_ast.proofs.Rows.{fields_items, layouts_items}
-use Rattle.nv_ast.specs.Outline.{Layouts, outline, outlines, field_outline, field_outlines, size, sizes_of}
+use Rattle.nv_ast.specs.Outline.{Layouts, outline, outlines, field_outline, field_outlines}
 use Rattle.nv_ast.specs.Tests.{where_true, within}
 use Rattle.nv_ast.specs.Types.{forms_of}
 use Rattle.nv_ast.specs.Faults.{at_span}
-use Rattle.nv_ast.specs.LayoutFaults.{layout_faults, layouts_faults, field_faults, fields_faults, field_names, field_sizes}
+use Rattle.nv_ast.specs.LayoutFaults.{layout_faults, layouts_faults, field_faults, fields_faults, field_names}
 use Rattle.nv_ast.proofs.Items.{take_item, split_item}
 use Rattle.nv_ast.proofs.LayoutRows.{FieldNamed, fields_faults-append, layouts_faults-append}
 use Rattle.nv_ast.proofs.Faultless.{no_kinds}

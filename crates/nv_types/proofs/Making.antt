@@ -1,5 +1,5 @@
 -- Types that are made of types which are there.
-use Rattle.std.proofs.Common.{◌≡◌, ◌∙◌, refl, ap, sym, subst, ℕ, List, [], ◌∷◌, Some, slice_get, Result, Ok, Err, length, drop, get_or, ◌≤◌, ◌<◌, ◌-◌, suc, arith}
+use Rattle.std.proofs.Common.{◌≡◌, ◌∙◌, refl, ap, subst, ℕ, List, [], ◌∷◌, Some, slice_get, Result, Ok, Err, length, drop, get_or, ◌≤◌, ◌<◌, ◌-◌, suc, arith}
 use Rattle.std.proofs.Math.ListN.{drop_of_length-le}
 use Rattle.std.proofs.Math.Seq.{drop-cons}
 use Rattle.std.specs.Result.{IfOk, OnOk}

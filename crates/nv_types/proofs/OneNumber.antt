@@ -1,8 +1,6 @@
 -- A type has one number, and a number one type; so numbers are the same exactly where types are.
-use Rattle.std.proofs.Common.{◌≡◌, ◌∙◌, refl, ap, sym, subst, ℕ, Bool, true, false, ◌&&◌, eqb, List, [], ◌∷◌, Some, slice_get, arith, bytes_eq, rules, tests}
-use Rattle.std.specs.Cmp.Lexicographic.{bytes_decides}
-use Rattle.std.proofs.lemmas.Bool.{false≢true}
-use Rattle.nv_ast.specs.Types.{Ty, WordTy, BoolTy, TupleTy, RecordTy, Tys, no_tys, ty_and, NamedTys, no_named_tys, named_ty_and, same_type, same_types, same_named_types}
+use Rattle.std.proofs.Common.{◌≡◌, ◌∙◌, refl, ap, sym, subst, ℕ, Bool, true, false, eqb, List, [], ◌∷◌, Some, slice_get, arith, rules, tests}
+use Rattle.nv_ast.specs.Types.{Ty, WordTy, BoolTy, TupleTy, RecordTy, Tys, no_tys, ty_and, NamedTys, no_named_tys, named_ty_and, same_type}
 use Rattle.nv_ast.proofs.SameTypes.{same_itself, same_sound}
 use Rattle.nv_types.specs.declared.table.Cell.{Cell}
 use Rattle.nv_types.specs.declared.table.Cell.TheVariants.{Word, Bool as BoolCell, NoParts, Tuple, Record, Part}

@@ -1,8 +1,6 @@
 -- Walks down the edges of a tree of fields.
-use Rattle.std.proofs.Common.{◌≡◌, ◌∙◌, refl, ap, sym, subst, ◌⊎◌, inl, inr, ℕ, ◌+◌, suc, Bool, true, false, eqb, List, [], ◌∷◌, ◌++◌, append_assoc, append-nil, Option, None, Some, is_none, slice_get, arith, rules, tests}
+use Rattle.std.proofs.Common.{◌≡◌, ◌∙◌, refl, ap, sym, subst, ◌⊎◌, inl, inr, ℕ, ◌+◌, Bool, true, false, eqb, List, [], ◌∷◌, ◌++◌, append_assoc, append-nil, Option, None, Some, is_none, slice_get, arith, rules, tests}
 use Rattle.std.proofs.lemmas.Bool.{eqb-true, eq-eqb}
-use Rattle.nv_types.specs.declared.table.Cell.{Cell}
-use Rattle.nv_types.specs.declared.table.Cell.TheVariants.{Field, Both}
 use Rattle.nv_types.specs.inner.Rows.{Row, one, both, depth, hung}
 use Rattle.nv_types.specs.inner.Store.{Store, Stands, halves_of}
 use Rattle.nv_types.specs.inner.Lists.{AreStacked}

@@ -1,5 +1,5 @@
 -- The numbers of trees of fields: one for each, which stays as the store grows.
-use Rattle.std.proofs.Common.{◌≡◌, ◌∙◌, refl, ap, sym, subst, ℕ, List, [], ◌∷◌, ◌++◌, Some, slice_get}
+use Rattle.std.proofs.Common.{◌≡◌, ◌∙◌, refl, ap, sym, subst, ℕ, List, [], ◌∷◌, Some, slice_get}
 use Rattle.nv_types.specs.declared.table.Cell.{Cell}
 use Rattle.nv_types.specs.declared.table.Cell.TheVariants.{NoFields, Field, Both}
 use Rattle.nv_types.specs.inner.Rows.{Row, one, both, leaves, grown}

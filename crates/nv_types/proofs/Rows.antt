@@ -1,5 +1,5 @@
 -- Trees of fields: their leaves, and how one more field stands behind a tree.
-use Rattle.std.proofs.Common.{◌≡◌, ◌∙◌, refl, ap, sym, subst, ℕ, Bool, true, false, cond, eqb, List, [], ◌∷◌, ◌++◌, append_assoc, append-nil}
+use Rattle.std.proofs.Common.{◌≡◌, ◌∙◌, refl, ap, sym, ℕ, Bool, true, false, cond, eqb, List, [], ◌∷◌, ◌++◌, append_assoc}
 use Rattle.nv_types.specs.inner.Rows.{Row, one, both, leaves, depth, carried, hung, grown}
 
 -- the leaves of some rows, the last of them first

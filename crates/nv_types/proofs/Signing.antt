@@ -1,12 +1,11 @@
 -- The text of a function, and its signature.
-use Rattle.std.proofs.Common.{◌≡◌, ◌∙◌, refl, ap, sym, subst, ℕ, ◌+◌, Bool, true, false, cond, ◌||◌, ◌&&◌, List, [], ◌∷◌, ◌++◌, None, is_some, is_none, Result, Ok, Err, bytes_eq, append_assoc, Vec, Global, nat_lt, not, true≢false}
+use Rattle.std.proofs.Common.{◌≡◌, ◌∙◌, refl, ap, sym, subst, ℕ, Bool, true, false, cond, ◌||◌, ◌&&◌, List, [], ◌∷◌, ◌++◌, None, is_some, is_none, Result, Ok, Err, bytes_eq, append_assoc, Vec, Global, nat_lt, not, true≢false}
 use Rattle.std.specs.Borrow.{Bor}
 use Rattle.std.specs.Cmp.Lexicographic.{bytes_decides}
 use Rattle.std.proofs.lemmas.List.Folds.{list_any-append}
 use Rattle.nv_ast.specs.Tree.{FunTree}
 use Rattle.nv_ast.specs.Tests.{is_among, names_of, look_up, where_true}
-use Rattle.nv_ast.specs.Types.{Tys, NamedTys, type_of, named_types_of, words, total_words, total_named_words, some_bool, some_named_bool}
-use Rattle.nv_ast.specs.Types.{no_named_tys, named_ty_and, has_bool}
+use Rattle.nv_ast.specs.Types.{Tys, type_of, named_types_of, words, total_named_words, some_named_bool}
 use Rattle.nv_ast.specs.Scope.{Signature, Known, callable, plain_tys, signature}
 use Rattle.nv_ast.specs.Faults.{main_name, at_span, named_types_faults, type_faults, type_names, variable_twice, wide_main, signature_faults}
 use Rattle.nv_ast.proofs.TypeWords.{plain_bool, plain_words}

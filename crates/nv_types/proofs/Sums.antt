@@ -4,7 +4,7 @@ use Rattle.std.specs.Prelude.{◌==◌}
 use Rattle.std.specs.Borrow.{Bor}
 use Rattle.std.specs.List.{list_all}
 use Rattle.std.proofs.lemmas.Bool.Decides.{eqb_tells}
-use Rattle.nv_ast.specs.Outline.{OutlineTree, BitsOutline, GapOutline, PartsOutline, OverlayOutline, JoinedOutline, OutlineTrees, no_outlines, outline_and, NamedOutlines, no_named_outlines, named_outline_and, size, total_named_size, longest, highest_named_outline, bit_fields, part_fields, alternative_fields, joined_fields, sizes_of}
+use Rattle.nv_ast.specs.Outline.{OutlineTree, OutlineTrees, outline_and, NamedOutlines, no_named_outlines, named_outline_and, size, total_named_size, longest, highest_named_outline, bit_fields, part_fields, alternative_fields, joined_fields, sizes_of}
 use Rattle.nv_ast.specs.Tests.{all_same}
 use Rattle.nv_ast.proofs.Items.{take_item, split_item}
 use Rattle.nv_ast.proofs.FieldCounts.{parts_length, joined_length}

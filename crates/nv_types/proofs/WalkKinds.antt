@@ -1,17 +1,6 @@
 -- The tree of an expression whose kind the walk has read.
-use Rattle.std.proofs.Common.{◌≡◌, ◌∙◌, sym, ap, subst, ℕ, Bool, false, List, Vec, Box, Global, Result}
-use Rattle.nv_base.specs.declared.term.Mem.{Mem}
-use Rattle.nv_ast.specs.declared.tree.Op.{Op}
-use Rattle.nv_ast.specs.declared.tree.ShiftOp.{ShiftOp}
-use Rattle.nv_ast.specs.declared.tree.Expr.{Expr, out-Expr}
-use Rattle.nv_ast.specs.declared.tree.Stmt.{Stmt}
-use Rattle.nv_ast.specs.declared.tree.Pat.{Pat}
-use Rattle.nv_ast.specs.declared.tree.Kind.TheVariants as variants
-use Rattle.nv_ast.specs.declared.tree.Kind.TheViews as kinds
-use Rattle.nv_ast.specs.ExprView.{kind_tree, tree_of, list_trees, list_named_trees, list_statements}
-use Rattle.nv_ast.specs.PatternView.{list_patterns}
-use Rattle.nv_ast.specs.Tree.{Tree, NumberTree, TruthTree, VarTree, ParenTree, TupleTree, FieldsTree, DotTree, InvertTree, NegateTree, BinaryTree, ShiftTree, CallTree, UnpackTree, PackTree, RaiseTree, IfTree, TryTree, FetchTree, BlockTree}
-use Rattle.nv_ast.proofs.Reading.{tuple_is, fields_is, call_is, raise_is, block_is}
+use Rattle.std.proofs.Common.{◌≡◌, sym, subst, Bool, false, Result}
+use Rattle.nv_ast.specs.Tree.{Tree}
 use Rattle.nv_types.specs.declared.error.TypeError.{TypeError}
 use Rattle.nv_types.specs.declared.wanted.Wanted.{Wanted}
 use Rattle.nv_types.specs.declared.functions.Checker.{Checker}

@@ -1,6 +1,5 @@
 -- An expression without a fault of which a value is wanted has one.
 use Rattle.std.proofs.Common.{◌≡◌, ◌∙◌, refl, ap, sym, ℕ, Bool, true, List, [], ◌∷◌, ◌++◌, append_assoc, Option, None, Some}
-use Rattle.nv_ast.specs.declared.token.Span.{Span}
 use Rattle.nv_ast.specs.Tree.{Tree, NumberTree, TruthTree, VarTree, ParenTree, TupleTree, FieldsTree, DotTree, InvertTree, NegateTree, BinaryTree, ShiftTree, CallTree, UnpackTree, PackTree, RaiseTree, IfTree, TryTree, FetchTree, BlockTree, span_of}
 use Rattle.nv_ast.specs.Scope.{Place, inside, with_vars, bind_raised}
 use Rattle.nv_ast.specs.Types.{Ty, BoolTy}

@@ -1,4 +1,4 @@
-use Rattle.std.proofs.Common.{◌≡◌, sym, ◌∙◌, ap, Some, slice_get}
+use Rattle.std.proofs.Common.{◌≡◌, Some, slice_get}
 use Rattle.nv_types.specs.declared.table.Cell.TheVariants.{Both}
 use Rattle.nv_types.proofs.table.Table.halves.Goals as goal
 
