@@ -1,6 +1,5 @@
 -- The spine of a term, step by step.
-use Rattle.std.proofs.Common.{◌≡◌, ℕ, zero, suc, ◌+◌, ◌≤◌, ◌<◌, ◌==◌, max, Bool, true, false, List, [], ◌∷◌, ◌++◌, map, Option, Some, slice_get, get_or, drop, length, if◌then◌else◌, Result, Ok, Err, refl, sym, ap, ◌∙◌, arith}
-use Rattle.std.specs.Result.{IfOk}
+use Rattle.std.proofs.Common.{◌≡◌, ℕ, zero, suc, ◌+◌, ◌≤◌, ◌<◌, ◌==◌, max, Bool, true, false, List, [], ◌∷◌, ◌++◌, map, Option, Some, slice_get, get_or, drop, length, if◌then◌else◌, refl, sym, ap, ◌∙◌, arith}
 use Rattle.std.proofs.lemmas.Bool.{eqb-true}
 use Rattle.std.proofs.lemmas.Option.{none-some, same_Some, slice_get_read}
 use Rattle.nv_base.specs.declared.term.Atom.{Atom}
@@ -193,11 +192,6 @@ pub slice-view : (funs : List CpsFun) (i : ℕ) (f : CpsFun) → slice_get funs 
 slice-view [] i f e = absurd (none-some f e)
 slice-view (g ∷ funs) zero f e = ap (λ h. Some (fun_view h)) (same_Some g f e)
 slice-view (g ∷ funs) (suc i) f e = slice-view funs i f e
-
--- what an answer's value has
-pub ok-more : {A E : Type 0} (P Q : A → Type 0) (r : Result A E) → ((x : A) → P x → Q x) → IfOk r P → IfOk r Q
-ok-more P Q (Ok x) f h = f x h
-ok-more P Q (Err e) f h = tt
 
 -- how many numbers a call of an earlier group takes
 pub call-counted : (funs : List CpsFun) (own i k : ℕ) (f : CpsFun) (bs : List Atom) (to : Option ℕ) (hs : List Handler) → slice_get funs i ≡ Some f → to ≡ Some k → f.group < own

@@ -1,7 +1,7 @@
 -- The copies are well formed.
 use Rattle.std.proofs.Common.{◌≡◌, ℕ, zero, suc, ◌+◌, ◌≤◌, ◌<◌, nat_eq, nat_le, nat_lt, ◌==◌, Bool, true, false, ◌&&◌, List, [], ◌∷◌, ◌++◌, length, Option, Some, None, slice_get, if◌then◌else◌, refl, sym, ap, subst, ◌∙◌, ⊎_elim, arith}
 use Rattle.std.specs.List.{list_all}
-use Rattle.std.proofs.lemmas.Bool.{and_parts, and_from, or_cases, or_left, or_right, eq-eqb, eqb-true, false≢true}
+use Rattle.std.proofs.lemmas.Bool.{and_parts, and_from, or_cases, or_left, or_right, eq-eqb, eqb-true, false≢true, ne_eqb}
 use Rattle.std.proofs.lemmas.Bool.Decides.{nat_tests}
 use Rattle.std.proofs.lemmas.List.{length-map}
 use Rattle.std.proofs.lemmas.Option.{none-some, same_Some, slice_get_within}
@@ -17,7 +17,7 @@ use Rattle.cps_ir.specs.Formed.{Scoped, scoped, arity, takes_as_many, takes, is_
 use Rattle.cps_ir.specs.Meaning.{handler_of}
 use Rattle.cps_ir.specs.Term.{Handler, Term, Let, Read, Write, If, Fix, Call, Return, Throw, Jump, Halt, Labels, none, label, Fun}
 use Rattle.cps_inline.specs.inner.Inlined.{Counts, Entering, Place, lands, moved, moved_atom, moved_atoms, moved_primitive, moved_handlers, behind_handlers, term_span, labels_span, span, is_copied, is_one, term_count, labels_count, copy_count, copied, copied_labels, copies, entered, entered_call, entering, counts}
-use Rattle.cps_inline.proofs.Moved.{eq-moved, differ}
+use Rattle.cps_inline.proofs.Moved.{eq-moved}
 use Rattle.cps_inline.proofs.Simulates.{IsBelow, below-more, Below, start-far, start-far-other, handlers-below, to-below, earlier-group, class-from, group-less}
 use Rattle.cps_inline.proofs.Told.{Told, told-left, told-right}
 
@@ -83,7 +83,7 @@ module _ (funs : List Fun) (enter : Entering) (w : Counts) (p : Place) (b : ℕ)
   old-labels : (ls : Labels) (n l : ℕ) (ss' : Scoped) → l < b → arity l (scoped (copied_labels funs enter w p b ls n) ++ ss') ≡ arity l ss'
   old-labels none n l ss' lt = refl
   old-labels (label m xs t ls) n l ss' lt =
-      ap (λ c. if c then Some (length (moved b xs)) else arity l (scoped (copied_labels funs enter w p b ls (n + term_count funs w t)) ++ ss')) (differ (b + m) l (λ (e : b + m ≡ l). omega arith)) ∙ old-labels ls (n + term_count funs w t) l ss' lt
+      ap (λ c. if c then Some (length (moved b xs)) else arity l (scoped (copied_labels funs enter w p b ls (n + term_count funs w t)) ++ ss')) (ne_eqb (b + m) l (λ (e : b + m ≡ l). omega arith)) ∙ old-labels ls (n + term_count funs w t) l ss' lt
 
 -- ---- places
 
@@ -282,7 +282,7 @@ module _ (funs : List Fun) (enter : Entering) (w : Counts) (f : Fun) (p : Place)
   group-keeps j [] n l lt = refl
   group-keeps j (g ∷ gs) n l lt =
       scoped-either (is_copied f g) (label (p.first + j) (moved n g.params) (copied funs enter w p n g.body (n + span g)) (copies funs enter w f p (suc j) gs (n + copy_count funs w g))) (copies funs enter w f p (suc j) gs n) ss (arity l ss) l
-      (ap (λ c. if c then Some (length (moved n g.params)) else arity l (scoped (copies funs enter w f p (suc j) gs (n + copy_count funs w g)) ++ ss)) (differ (p.first + j) l (λ (e : p.first + j ≡ l). omega arith)) ∙ group-keeps (suc j) gs (n + copy_count funs w g) l lt)
+      (ap (λ c. if c then Some (length (moved n g.params)) else arity l (scoped (copies funs enter w f p (suc j) gs (n + copy_count funs w g)) ++ ss)) (ne_eqb (p.first + j) l (λ (e : p.first + j ≡ l). omega arith)) ∙ group-keeps (suc j) gs (n + copy_count funs w g) l lt)
       (group-keeps (suc j) gs n l lt)
 
   takes-either : (t : Bool) (ls ks : Labels) (l k : ℕ) → takes (scoped ls ++ ss) l k ≡ true → takes (scoped ks ++ ss) l k ≡ true → takes (scoped (if t then ls else ks) ++ ss) l k ≡ true
@@ -301,7 +301,7 @@ module _ (funs : List Fun) (enter : Entering) (w : Counts) (f : Fun) (p : Place)
       takes-head (is_copied f h) (ap (is_copied f) same ∙ c) (p.first + j) l (length g.params) n h.params (omega arith) (ap (λ x. length x.params) same) (copied funs enter w p n h.body (n + span h)) (copies funs enter w f p (suc j) gs (n + copy_count funs w h)) (copies funs enter w f p (suc j) gs n)
   group-takes j (h ∷ gs) n (suc i) l g el e c =
       takes-either (is_copied f h) (label (p.first + j) (moved n h.params) (copied funs enter w p n h.body (n + span h)) (copies funs enter w f p (suc j) gs (n + copy_count funs w h))) (copies funs enter w f p (suc j) gs n) l (length g.params)
-      (ap (λ t. takes_as_many (length g.params) (if t then Some (length (moved n h.params)) else arity l (scoped (copies funs enter w f p (suc j) gs (n + copy_count funs w h)) ++ ss))) (differ (p.first + j) l (λ (s : p.first + j ≡ l). omega arith))
+      (ap (λ t. takes_as_many (length g.params) (if t then Some (length (moved n h.params)) else arity l (scoped (copies funs enter w f p (suc j) gs (n + copy_count funs w h)) ++ ss))) (ne_eqb (p.first + j) l (λ (s : p.first + j ≡ l). omega arith))
       ∙ group-takes (suc j) gs (n + copy_count funs w h) i l g (omega arith) e c)
       (group-takes (suc j) gs n i l g (omega arith) e c)
 

@@ -1,18 +1,17 @@
 -- Which labels the copies have.
 use Rattle.std.proofs.Common.{◌≡◌, ℕ, zero, suc, ◌+◌, ◌≤◌, ◌<◌, nat_eq, Bool, true, false, List, [], ◌∷◌, length, Option, Some, None, slice_get, if◌then◌else◌, refl, sym, ap, subst, ◌∙◌, arith}
-use Rattle.std.proofs.lemmas.Bool.{eq-eqb, false≢true}
+use Rattle.std.proofs.lemmas.Bool.{eq-eqb, false≢true, ne_eqb}
 use Rattle.std.proofs.lemmas.Option.{none-some, same_Some}
 use Rattle.cps_ir.specs.Meaning.{Body, label_in}
 use Rattle.cps_ir.specs.Term.{Term, Labels, none, label, Fun}
 use Rattle.cps_inline.specs.inner.Inlined.{Counts, Entering, Place, moved, span, labels_span, copy_count, term_count, is_copied, copied, copied_labels, copies}
-use Rattle.cps_inline.proofs.Moved.{differ}
 
 -- labels are from here up to there
 abbrev pub Lie : Labels → ℕ → ℕ → Type 0
 Lie ls from to = (l : ℕ) → ((l < from → label_in l ls ≡ None) × (to ≤ l → label_in l ls ≡ None))
 
 pub skipped : (l k : ℕ) (b : Body) (o : Option Body) → (k ≡ l → ⊥) → o ≡ None → (if nat_eq k l then Some b else o) ≡ None
-skipped l k b o ne e = ap (λ t. if t then Some b else o) (differ k l ne) ∙ e
+skipped l k b o ne e = ap (λ t. if t then Some b else o) (ne_eqb k l ne) ∙ e
 
 pub lie-moved : (funs : List Fun) (enter : Entering) (w : Counts) (p : Place) (b s : ℕ) (ls : Labels) (n : ℕ) → labels_span ls ≤ s → Lie (copied_labels funs enter w p b ls n) b (b + s)
 lie-moved funs enter w p b s none n le = λ l. ((λ lt. refl), (λ far. refl))
@@ -54,7 +53,7 @@ copy-head funs enter w p g false e l l' n same rest ks = absurd (false≢true e)
 copy-tail : (funs : List Fun) (enter : Entering) (w : Counts) (p : Place) (g : Fun) (c : Bool) (l l' n m : ℕ) (xs : List ℕ) (t : Term) (rest ks : Labels) → (l ≡ l' → ⊥) → n ≤ m → IsCopy funs enter w p g m (label_in l' rest) → IsCopy funs enter w p g n (label_in l' ks)
     → IsCopy funs enter w p g n (label_in l' (if c then label l xs t rest else ks))
 copy-tail funs enter w p g true l l' n m xs t rest ks ne le h k =
-    copy-more funs enter w p g m n (label_in l' rest) (label_in l' (label l xs t rest)) le (ap (λ c. if c then Some (record { params = xs; term = t }) else label_in l' rest) (differ l l' ne)) h
+    copy-more funs enter w p g m n (label_in l' rest) (label_in l' (label l xs t rest)) le (ap (λ c. if c then Some (record { params = xs; term = t }) else label_in l' rest) (ne_eqb l l' ne)) h
 copy-tail funs enter w p g false l l' n m xs t rest ks ne le h k = k
 
 -- among the functions from j on, that of number i behind them

@@ -1,6 +1,6 @@
 -- Words under variables that are moved up.
-use Rattle.std.proofs.Common.{◌≡◌, ℕ, ◌+◌, ◌≤◌, ◌<◌, nat_eq, false, List, [], ◌∷◌, if◌then◌else◌, refl, sym, ap, ◌∙◌, ⊎_elim, arith}
-use Rattle.std.proofs.lemmas.Bool.{cases_eq, eq-eqb, eqb-true, false_from_ne_true}
+use Rattle.std.proofs.Common.{◌≡◌, ℕ, ◌+◌, ◌≤◌, ◌<◌, nat_eq, List, [], ◌∷◌, if◌then◌else◌, refl, sym, ap, ◌∙◌, ⊎_elim, arith}
+use Rattle.std.proofs.lemmas.Bool.{cases_eq, eq-eqb, ne_eqb}
 use Rattle.nv_base.specs.declared.term.Atom.{Atom}
 use Rattle.nv_base.specs.declared.term.Atom.TheVariants.{Var, Lit}
 use Rattle.nv_base.specs.declared.term.Primitive.{Primitive}
@@ -10,14 +10,11 @@ use Rattle.cps_inline.specs.inner.Inlined.{moved, moved_atom, moved_atoms, moved
 
 -- ---- numbers
 
-pub differ : (a b : ℕ) → (a ≡ b → ⊥) → nat_eq a b ≡ false
-differ a b ne = false_from_ne_true (nat_eq a b) (λ t. ne (eqb-true a b t))
-
 pub eq-moved : (b y x : ℕ) → nat_eq (b + y) (b + x) ≡ nat_eq y x
 eq-moved b y x =
     ⊎_elim
     (λ (e : y ≡ x). eq-eqb (b + y) (b + x) (ap (λ z. b + z) e) ∙ sym (eq-eqb y x e))
-    (λ (ne : y ≡ x → ⊥). differ (b + y) (b + x) (λ (e : b + y ≡ b + x). ne (omega arith)) ∙ sym (differ y x ne))
+    (λ (ne : y ≡ x → ⊥). ne_eqb (b + y) (b + x) (λ (e : b + y ≡ b + x). ne (omega arith)) ∙ sym (ne_eqb y x ne))
     (cases_eq y x)
 
 pub behind-moved : (b : ℕ) (xs : List ℕ) (s : ℕ) → behind xs ≤ s → behind (moved b xs) ≤ b + s
@@ -44,7 +41,7 @@ all-agree b (x ∷ xs) [] env env' h = all-agree b xs [] (assigned env x 0) (ass
 all-agree b (x ∷ xs) (w ∷ ws) env env' h = all-agree b xs ws (assigned env x w) (assigned env' (b + x) w) (assigned-agrees b env env' x w h)
 
 pub assigned-zeros : (env : Env) (n x w : ℕ) → x < n → Zeros env n → Zeros (assigned env x w) n
-assigned-zeros env n x w lt h y le = ap (λ t. if t then w else env y) (differ y x (λ (e : y ≡ x). omega arith)) ∙ h y le
+assigned-zeros env n x w lt h y le = ap (λ t. if t then w else env y) (ne_eqb y x (λ (e : y ≡ x). omega arith)) ∙ h y le
 
 pub all-zeros : (xs ws : List ℕ) (env : Env) (n : ℕ) → behind xs ≤ n → Zeros env n → Zeros (assigned_all env xs ws) n
 all-zeros [] ws env n le h = h

@@ -3,7 +3,7 @@ use Rattle.std.proofs.Common.{◌≡◌, ℕ, zero, suc, ◌+◌, ◌≤◌, ◌
 use Rattle.std.proofs.lemmas.Bool.{and_parts, and_from, or_cases, or_left, or_right, eq-eqb, eqb-true, false≢true}
 use Rattle.nv_base.specs.declared.term.Atom.{Atom}
 use Rattle.nv_base.specs.Sets.{is_in, all_different}
-use Rattle.nv_base.proofs.Sets.{in-append}
+use Rattle.nv_base.proofs.Sets.{in-append, within-left, within-right}
 use Rattle.cps_ir.specs.Formed.{defined, labels_defined, made, labels_made}
 use Rattle.cps_ir.specs.Meaning.{handler_of}
 use Rattle.cps_ir.specs.Term.{Handler, Term, Let, Read, Write, If, Fix, Call, Return, Throw, Jump, Halt, Labels, none, label, Fun}
@@ -14,12 +14,6 @@ use Rattle.cps_inline.proofs.Moved.{eq-moved}
 
 in-parts : (x : ℕ) (a b : List ℕ) → is_in x (a ++ b) ≡ true → (is_in x a ≡ true) ⊎ (is_in x b ≡ true)
 in-parts x a b h = or_cases (is_in x a) (is_in x b) (sym (in-append x a b) ∙ h)
-
-in-left : (x : ℕ) (a b : List ℕ) → is_in x a ≡ true → is_in x (a ++ b) ≡ true
-in-left x a b h = in-append x a b ∙ or_left (is_in x a) (is_in x b) h
-
-in-right : (x : ℕ) (a b : List ℕ) → is_in x b ≡ true → is_in x (a ++ b) ≡ true
-in-right x a b h = in-append x a b ∙ or_right (is_in x a) (is_in x b) h
 
 not-true : (b : Bool) → not b ≡ true → b ≡ true → ⊥
 not-true true h e = false≢true h
@@ -41,7 +35,7 @@ pub differ-first : (a b : List ℕ) → all_different (a ++ b) ≡ true → all_
 differ-first [] b h = refl
 differ-first (x ∷ a) b h =
     let parts = and_parts (not (is_in x (a ++ b))) (all_different (a ++ b)) h in
-    and_from (not (is_in x a)) (all_different a) (not-from (is_in x a) (λ i. not-true (is_in x (a ++ b)) parts.0 (in-left x a b i))) (differ-first a b parts.1)
+    and_from (not (is_in x a)) (all_different a) (not-from (is_in x a) (λ i. not-true (is_in x (a ++ b)) parts.0 (within-left a b x i))) (differ-first a b parts.1)
 
 pub differ-second : (a b : List ℕ) → all_different (a ++ b) ≡ true → all_different b ≡ true
 differ-second [] b h = h
@@ -52,7 +46,7 @@ differ-apart [] b h x i j = false≢true i
 differ-apart (y ∷ a) b h x i j =
     let parts = and_parts (not (is_in y (a ++ b))) (all_different (a ++ b)) h in
     ⊎_elim
-    (λ (e : nat_eq x y ≡ true). not-true (is_in y (a ++ b)) parts.0 (subst (λ z. is_in z (a ++ b) ≡ true) (eqb-true x y e) (in-right x a b j)))
+    (λ (e : nat_eq x y ≡ true). not-true (is_in y (a ++ b)) parts.0 (subst (λ z. is_in z (a ++ b) ≡ true) (eqb-true x y e) (within-right a b x j)))
     (λ (k : is_in x a ≡ true). differ-apart a b parts.1 x k j)
     (or_cases (nat_eq x y) (is_in x a) i)
 
@@ -208,10 +202,10 @@ spread-pick true b xs n = spread-moved b xs n
 spread-pick false b xs n = spread-none b n
 
 came-left : (b x : ℕ) (a c : List ℕ) → Came b x a → Came b x (a ++ c)
-came-left b x a c k = record { from = k.from; is = k.is; there = in-left k.from a c k.there }
+came-left b x a c k = record { from = k.from; is = k.is; there = within-left a c k.from k.there }
 
 came-right : (b x : ℕ) (a c : List ℕ) → Came b x c → Came b x (a ++ c)
-came-right b x a c k = record { from = k.from; is = k.is; there = in-right k.from a c k.there }
+came-right b x a c k = record { from = k.from; is = k.is; there = within-right a c k.from k.there }
 
 came-apart : (b x : ℕ) (a c : List ℕ) → all_different (a ++ c) ≡ true → Came b x a → Came b x c → ⊥
 came-apart b x a c d i j =
@@ -234,13 +228,13 @@ spread-both b s a c n m n' m' lo hi a' c' below far ln ln' mh mh' order h k = re
       (λ x i j.
       ⊎_elim
       (λ (p : Came b x a).
-      let lt : x < b + s = came-below b x s a (λ y z. below y (in-left y a c z)) p in
+      let lt : x < b + s = came-below b x s a (λ y z. below y (within-left a c y z)) p in
       ⊎_elim (λ (q : Came b x c). came-apart b x a c d p q) (λ (q : (n' ≤ x) × (x < m')). let q0 = q.0 in absurd (omega arith)) (k.each x j))
       (λ (p : (n ≤ x) × (x < m)).
       let p0 = p.0 in
       let p1 = p.1 in
       ⊎_elim
-      (λ (q : Came b x c). let lt : x < b + s = came-below b x s c (λ y z. below y (in-right y a c z)) q in absurd (omega arith))
+      (λ (q : Came b x c). let lt : x < b + s = came-below b x s c (λ y z. below y (within-right a c y z)) q in absurd (omega arith))
       (λ (q : (n' ≤ x) × (x < m')). let q0 = q.0 in let q1 = q.1 in ⊎_elim (λ (o : m ≤ n'). absurd (omega arith)) (λ (o : m' ≤ n). absurd (omega arith)) order)
       (k.each x j))
       (h.each x i));
@@ -324,8 +318,8 @@ module _ (v : Bool) (funs : List Fun) (w : Counts) (enter : Entering) (named : N
     labels-spread (label l xs t ls) le n far =
         spread-both b s ((pick (not v) (l ∷ []) ++ pick v xs) ++ names v t) (labels_names v ls) n (n + term_count funs w t) (n + term_count funs w t) (n + term_count funs w t + labels_count funs w ls) n (n + (term_count funs w t + labels_count funs w ls)) _ _
         (λ y i. all-below v (label l xs t ls) y s le i) far (omega arith) (omega arith) (omega arith) (omega arith) (inl (omega arith))
-        (spread-both b s (pick (not v) (l ∷ []) ++ pick v xs) (names v t) n n n (n + term_count funs w t) n (n + term_count funs w t) _ _ (λ y i. all-below v (label l xs t ls) y s le (in-left y ((pick (not v) (l ∷ []) ++ pick v xs) ++ names v t) (labels_names v ls) i)) far (omega arith) (omega arith) (omega arith) (omega arith) (inl (omega arith))
-        (spread-both b s (pick (not v) (l ∷ [])) (pick v xs) n n n n n n _ _ (λ y i. all-below v (label l xs t ls) y s le (in-left y ((pick (not v) (l ∷ []) ++ pick v xs) ++ names v t) (labels_names v ls) (in-left y (pick (not v) (l ∷ []) ++ pick v xs) (names v t) i))) far (omega arith) (omega arith) (omega arith) (omega arith) (inl (omega arith))
+        (spread-both b s (pick (not v) (l ∷ []) ++ pick v xs) (names v t) n n n (n + term_count funs w t) n (n + term_count funs w t) _ _ (λ y i. all-below v (label l xs t ls) y s le (within-left ((pick (not v) (l ∷ []) ++ pick v xs) ++ names v t) (labels_names v ls) y i)) far (omega arith) (omega arith) (omega arith) (omega arith) (inl (omega arith))
+        (spread-both b s (pick (not v) (l ∷ [])) (pick v xs) n n n n n n _ _ (λ y i. all-below v (label l xs t ls) y s le (within-left ((pick (not v) (l ∷ []) ++ pick v xs) ++ names v t) (labels_names v ls) y (within-left (pick (not v) (l ∷ []) ++ pick v xs) (names v t) y i))) far (omega arith) (omega arith) (omega arith) (omega arith) (inl (omega arith))
         (spread-pick (not v) b (l ∷ []) n) (spread-pick v b xs n))
         (names-spread t (omega arith) n far))
         (labels-spread ls (omega arith) (n + term_count funs w t) (omega arith))

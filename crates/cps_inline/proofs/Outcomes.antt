@@ -1,7 +1,7 @@
 -- The one function has the outcomes of the program: it takes one jump more, to main's copy.
-use Rattle.std.proofs.Common.{◌≡◌, ℕ, zero, suc, nat_eq, Bool, true, false, ◌&&◌, ◌||◌, not, List, [], ◌∷◌, ◌++◌, length, Some, None, slice_get, if◌then◌else◌, refl, sym, ap, subst, ◌∙◌, arith}
+use Rattle.std.proofs.Common.{◌≡◌, ℕ, zero, suc, nat_eq, Bool, true, false, ◌&&◌, not, List, [], ◌∷◌, ◌++◌, length, Some, None, slice_get, if◌then◌else◌, refl, sym, ap, subst, ◌∙◌, arith}
 use Rattle.std.specs.List.{list_all}
-use Rattle.std.proofs.lemmas.Bool.{and_parts, and_from, eq-eqb, false≢true}
+use Rattle.std.proofs.lemmas.Bool.{and_parts, eq-eqb, not-true, or_parts}
 use Rattle.std.proofs.lemmas.Option.{none-some, same_Some}
 use Rattle.nv_base.specs.Memories.{Memories}
 use Rattle.nv_base.specs.Meanings.{KeepsOutcomes}
@@ -16,6 +16,7 @@ use Rattle.cps_ir.proofs.Growth.{meaning-grows}
 use Rattle.cps_inline.specs.inner.Inlined.{behind, operands, entering, counts, inlined_main}
 use Rattle.cps_inline.proofs.Moved.{Zeros, all-zeros}
 use Rattle.cps_inline.proofs.Simulates.{AreFormed, Lands, misses-top, entering-alike, group-enters}
+use Rattle.cps_inline.proofs.Names.{differ-first}
 
 -- ---- what a well formed program tells of its functions
 
@@ -37,34 +38,12 @@ vars-differ funs main i g program there =
 
 -- ---- parameters have their words
 
-not-false : (b : Bool) → not b ≡ true → b ≡ false
-not-false true e = absurd (false≢true e)
-not-false false e = refl
-
-or-false : (a b : Bool) → (a || b) ≡ false → (a ≡ false) × (b ≡ false)
-or-false true b h = absurd (false≢true (sym h))
-or-false false b h = (refl, h)
-
-or-both : (a b : Bool) → a ≡ false → b ≡ false → (a || b) ≡ false
-or-both a b e f = ap (λ c. c || b) e ∙ f
-
-pub not-in-left : (x : ℕ) (a b : List ℕ) → is_in x (a ++ b) ≡ false → is_in x a ≡ false
-not-in-left x [] b e = refl
-not-in-left x (y ∷ a) b e =
-    let parts = or-false (nat_eq x y) (is_in x (a ++ b)) e in or-both (nat_eq x y) (is_in x a) parts.0 (not-in-left x a b parts.1)
-
-pub different-left : (a b : List ℕ) → all_different (a ++ b) ≡ true → all_different a ≡ true
-different-left [] b e = refl
-different-left (x ∷ a) b e =
-    let parts = and_parts (not (is_in x (a ++ b))) (all_different (a ++ b)) e in
-    and_from (not (is_in x a)) (all_different a) (ap not (not-in-left x a b (not-false (is_in x (a ++ b)) parts.0))) (different-left a b parts.1)
-
 others-keep : (x : ℕ) (xs ws : List ℕ) (env : Env) → is_in x xs ≡ false → assigned_all env xs ws x ≡ env x
 others-keep x [] ws env e = refl
 others-keep x (y ∷ xs) [] env e =
-    let parts = or-false (nat_eq x y) (is_in x xs) e in others-keep x xs [] (assigned env y 0) parts.1 ∙ ap (λ t. if t then 0 else env x) parts.0
+    let parts = or_parts (nat_eq x y) (is_in x xs) e in others-keep x xs [] (assigned env y 0) parts.1 ∙ ap (λ t. if t then 0 else env x) parts.0
 others-keep x (y ∷ xs) (w ∷ ws) env e =
-    let parts = or-false (nat_eq x y) (is_in x xs) e in others-keep x xs ws (assigned env y w) parts.1 ∙ ap (λ t. if t then w else env x) parts.0
+    let parts = or_parts (nat_eq x y) (is_in x xs) e in others-keep x xs ws (assigned env y w) parts.1 ∙ ap (λ t. if t then w else env x) parts.0
 
 given-words : (xs ws : List ℕ) (env : Env) → all_different xs ≡ true → length ws ≡ length xs → atom_words (assigned_all env xs ws) (operands xs) ≡ ws
 given-words [] [] env d e = refl
@@ -72,7 +51,7 @@ given-words [] (w ∷ ws) env d e = cc
 given-words (x ∷ xs) [] env d e = cc
 given-words (x ∷ xs) (w ∷ ws) env d e =
     let parts = and_parts (not (is_in x xs)) (all_different xs) d in
-    let here : assigned_all (assigned env x w) xs ws x ≡ w = others-keep x xs ws (assigned env x w) (not-false (is_in x xs) parts.0) ∙ ap (λ t. if t then w else env x) (eq-eqb x x refl) in
+    let here : assigned_all (assigned env x w) xs ws x ≡ w = others-keep x xs ws (assigned env x w) (not-true (is_in x xs) parts.0) ∙ ap (λ t. if t then w else env x) (eq-eqb x x refl) in
     ap (λ v. v ∷ atom_words (assigned_all (assigned env x w) xs ws) (operands xs)) here ∙ ap (λ vs. w ∷ vs) (given-words xs ws (assigned env x w) parts.1 (omega arith))
 
 -- ---- the program
@@ -87,7 +66,7 @@ pub program-runs : (funs : List Fun) (main : ℕ) (f : Fun) → is_program funs 
 program-runs funs main f program there args p long N =
     let top = inlined_main funs main f ∷ [] in
     let env = assigned_all blank f.params args in
-    let words : atom_words env (operands f.params) ≡ args = given-words f.params args blank (different-left f.params (defined f.body) (vars-differ funs main main f program there)) long in
+    let words : atom_words env (operands f.params) ≡ args = given-words f.params args blank (differ-first f.params (defined f.body) (vars-differ funs main main f program there)) long in
     sym (group-enters funs top (are-formed funs main program) (entering funs f.group) (counts funs f.group) f (entering-alike funs top (are-formed funs main program) f.group) (suc N) (behind f.params) None [] Bottom env Top
     (bottom-lands funs top (suc N)) tt (λ e. tt) (misses-top top (behind f.params)) (all-zeros f.params args blank (behind f.params) (omega arith) (blank-zeros (behind f.params))) main there (operands f.params) (begun p))
     ∙ ap (λ ws. enter_fun (run funs N) (slice_get funs main) ws Bottom (begun p)) words

@@ -13,7 +13,7 @@ use Rattle.nv_base.specs.Measures.{operands_wide, let_wide, entry_wide}
 use Rattle.nv_base.specs.Sets.{is_in, Within, different, without, all_vars}
 use Rattle.nv_base.specs.Words.{atom_vars, prim_vars}
 use Rattle.nv_base.proofs.Operands.{atom-known, atoms-known, prim-known}
-use Rattle.nv_base.proofs.Sets.{in-append, in-without, different-below, different-append, within-left, within-right, within-both}
+use Rattle.nv_base.proofs.Sets.{in-append, in-without, different-below, different-append, within-left, within-right, within-both, within-without}
 use Rattle.cps_ir.specs.Formed.{Scoped, scoped, takes, is_call, is_formed, are_formed}
 use Rattle.cps_ir.specs.Term.{Handler, Term, Let, Read, Write, If, Fix, Call, Return, Throw, Jump, Halt, Labels, none, label, Fun}
 use Rattle.cps_ir.specs.Wide.{Wants, with_wants, to_wants, handlers_want, kept, wants, labels_want, inside}
@@ -69,9 +69,6 @@ fits-moved b held a = record { by = λ x i. in-either x (moved b a) held (or_lef
 pub fits-in-held : (b : ℕ) (held a' a : List ℕ) → Within a' held → Fits b held a' a
 fits-in-held b held a' a w = record { by = λ x i. fits-held b held a x (w x i) }
 
-and-both : (c d : Bool) → c ≡ true → d ≡ true → (c && d) ≡ true
-and-both c d h g = and_from c d h g
-
 not-in-moved : (b y : ℕ) (gone : List ℕ) → not (is_in (b + y) (moved b gone)) ≡ true → not (is_in y gone) ≡ true
 not-in-moved b y gone h = at (is_in y gone) refl
   where
@@ -84,7 +81,7 @@ fits-without b held a' a gone h = record {
   by = λ x i.
       let parts = and_parts (is_in x a') (not (is_in x (moved b gone))) (sym (in-without x a' (moved b gone)) ∙ i) in
       fits-parts b held a x (is_in x (moved b (without a gone) ++ held) ≡ true) (h.by x parts.0)
-      (λ y e t. fits-came b held (without a gone) x y e (in-without y a gone ∙ and-both (is_in y a) (not (is_in y gone)) t (not-in-moved b y gone (sym (ap (λ z. not (is_in z (moved b gone))) e) ∙ parts.1))))
+      (λ y e t. fits-came b held (without a gone) x y e (in-without y a gone ∙ and_from (is_in y a) (not (is_in y gone)) t (not-in-moved b y gone (sym (ap (λ z. not (is_in z (moved b gone))) e) ∙ parts.1))))
       (λ t. fits-held b held (without a gone) x t);
 }
 
@@ -165,11 +162,6 @@ if-arms funs own n ss known c a d t u f =
 
 -- ---- a formed term wants no wider than what is known
 
-within-without-one : (a gone known : List ℕ) → Within a (gone ++ known) → Within (without a gone) known
-within-without-one a gone known h x i =
-    let parts = and_parts (is_in x a) (not (is_in x gone)) (sym (in-without x a gone) ∙ i) in
-    ⊎_elim (λ (j : is_in x gone ≡ true). absurd (false≢true (sym (ap not j) ∙ parts.1))) (λ (j : is_in x known ≡ true). j) (or_cases (is_in x gone) (is_in x known) (sym (in-append x gone known) ∙ h x parts.0))
-
 -- each label wants no wider than these
 pub record AllWithin (phi : Wants) (known : List ℕ) : Type 0 where
   pub by : (l : ℕ) → Within (phi l) known
@@ -198,12 +190,12 @@ module _ (funs : List Fun) (own n : ℕ) where
     pub wants-known : (t : Term) (ss : Scoped) (known : List ℕ) (phi : Wants) → is_formed funs own n ss known t ≡ true → AllWithin phi known → Within (wants phi t) known
     wants-known (Let x a t) ss known phi f h =
         let parts = and_parts (is_primitive known a) (is_formed funs own n ss (x ∷ known) t) f in
-        within-both (prim_vars a) (without (wants phi t) (x ∷ [])) known (prim-known known a parts.0) (within-without-one (wants phi t) (x ∷ []) known (wants-known t ss (x ∷ known) phi parts.1 (all-more phi known (x ∷ []) h)))
+        within-both (prim_vars a) (without (wants phi t) (x ∷ [])) known (prim-known known a parts.0) (within-without (wants phi t) (x ∷ []) known (wants-known t ss (x ∷ known) phi parts.1 (all-more phi known (x ∷ []) h)))
     wants-known (Read m xs a t) ss known phi f h =
         let p1 = and_parts (is_known known a) (can_move m (length xs) && (is_address m a (length xs) && is_formed funs own n ss (xs ++ known) t)) f in
         let p2 = and_parts (can_move m (length xs)) (is_address m a (length xs) && is_formed funs own n ss (xs ++ known) t) p1.1 in
         let p3 = and_parts (is_address m a (length xs)) (is_formed funs own n ss (xs ++ known) t) p2.1 in
-        within-both (atom_vars a) (without (wants phi t) xs) known (atom-known known a p1.0) (within-without-one (wants phi t) xs known (wants-known t ss (xs ++ known) phi p3.1 (all-more phi known xs h)))
+        within-both (atom_vars a) (without (wants phi t) xs) known (atom-known known a p1.0) (within-without (wants phi t) xs known (wants-known t ss (xs ++ known) phi p3.1 (all-more phi known xs h)))
     wants-known (Write m a bs t) ss known phi f h =
         let p1 = and_parts (is_known known a) (all_known known bs && (can_move m (length bs) && (is_address m a (length bs) && is_formed funs own n ss known t))) f in
         let p2 = and_parts (all_known known bs) (can_move m (length bs) && (is_address m a (length bs) && is_formed funs own n ss known t)) p1.1 in
@@ -231,4 +223,4 @@ module _ (funs : List Fun) (own n : ℕ) where
     labels-known none ss known phi f h = λ x i. absurd (false≢true i)
     labels-known (label l xs t ls) ss known phi f h =
         let parts = and_parts (is_formed funs own n ss (xs ++ known) t) (are_formed funs own n ss known ls) f in
-        within-both (without (wants phi t) xs) (labels_want phi ls) known (within-without-one (wants phi t) xs known (wants-known t ss (xs ++ known) phi parts.0 (all-more phi known xs h))) (labels-known ls ss known phi parts.1 h)
+        within-both (without (wants phi t) xs) (labels_want phi ls) known (within-without (wants phi t) xs known (wants-known t ss (xs ++ known) phi parts.0 (all-more phi known xs h))) (labels-known ls ss known phi parts.1 h)

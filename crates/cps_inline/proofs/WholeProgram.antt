@@ -11,11 +11,11 @@ use Rattle.cps_ir.specs.Formed.{Scoped, scoped, defined, made, is_formed, raised
 use Rattle.cps_ir.specs.Term.{Term, Let, Read, Write, If, Fix, Call, Return, Throw, Jump, Halt, Labels, none, label, Fun}
 use Rattle.cps_ir.specs.Callless.{only_jumps, labels_only_jump}
 use Rattle.cps_inline.specs.inner.Inlined.{behind, operands, entered, entering, counts, inlined_main}
-use Rattle.cps_inline.proofs.Names.{differ-both, in-behind, NamesDiffer, AllDiffer, names, names-defined, names-made, entering-named, entered-named}
+use Rattle.cps_inline.proofs.Names.{differ-both, in-behind, NamesDiffer, AllDiffer, names, names-defined, names-made, entering-named, entered-named, differ-first}
 use Rattle.cps_inline.proofs.Told.{words_in, told-all}
 use Rattle.cps_inline.proofs.Formed.{FunctionsFormed, entering-formed, entered-formed}
 use Rattle.cps_inline.proofs.Jumping.{entering-jumps, entered-jumps}
-use Rattle.cps_inline.proofs.Outcomes.{all-at, different-left}
+use Rattle.cps_inline.proofs.Outcomes.{all-at}
 
 -- ---- nothing is thrown
 
@@ -94,7 +94,7 @@ program-formed funs main f program there =
     let vars = entered-named true funs (all-vars funs funs p1.0) wc enter (entering-named true funs (all-vars funs funs p1.0) f.group) main f (operands f.params) None [] n in
     let labels = entered-named false funs (all-labels funs funs p1.0) wc enter (entering-named false funs (all-labels funs funs p1.0) f.group) main f (operands f.params) None [] n in
     let own = (and_parts (is_formed funs f.group f.results [] f.params f.body) (all_different (f.params ++ defined f.body) && all_different (made f.body)) (all-at (is_function funs) funs main f p1.0 there)).1 in
-    let params = different-left f.params (defined f.body) (and_parts (all_different (f.params ++ defined f.body)) (all_different (made f.body)) own).0 in
+    let params = differ-first f.params (defined f.body) (and_parts (all_different (f.params ++ defined f.body)) (all_different (made f.body)) own).0 in
     let all-vars-differ : all_different (f.params ++ defined body) ≡ true =
     ap (λ l. all_different (f.params ++ l)) (sym (names-defined body)) ∙ differ-both f.params (names true body) params vars.differ (λ x i j. let lt : x < behind f.params = in-behind x f.params i in let le : behind f.params ≤ x = (vars.each x j).0 in absurd (omega arith)) in
     let all-labels-differ : all_different (made body) ≡ true = ap all_different (sym (names-made body)) ∙ labels.differ in

@@ -1,7 +1,7 @@
 -- The copies of groups, and the program, want no more at once than the source counts.
 use Rattle.std.proofs.Common.{◌≡◌, ℕ, zero, suc, ◌+◌, ◌≤◌, ◌<◌, ◌==◌, Bool, true, false, not, max, List, [], ◌∷◌, ◌++◌, length, Option, Some, None, slice_get, if◌then◌else◌, refl, sym, ap, subst, ◌∙◌, ⊎_elim, arith}
 use Rattle.std.specs.List.{list_all}
-use Rattle.std.proofs.lemmas.Bool.{and_parts, or_cases, eq-eqb, eqb-true, false≢true}
+use Rattle.std.proofs.lemmas.Bool.{and_parts, or_cases, eq-eqb, eqb-true, false≢true, ne_eqb}
 use Rattle.std.proofs.lemmas.List.{length-map}
 use Rattle.std.proofs.lemmas.Option.{none-some, same_Some}
 use Rattle.nv_base.specs.declared.term.Atom.{Atom}
@@ -15,7 +15,6 @@ use Rattle.cps_ir.specs.Meaning.{handler_of}
 use Rattle.cps_ir.specs.Term.{Handler, Term, Labels, label, Fun}
 use Rattle.cps_ir.specs.Wide.{Wants, with_wants, to_wants, wants, labels_want, inside, nowhere, term_wide, labels_wide, function_wide, widths_within, group_wide, AreWidths}
 use Rattle.cps_inline.specs.inner.Inlined.{Counts, Entering, Place, moved, behind, span, is_copied, copy_count, copied, copies, entered, entering, counts, operands, inlined_main}
-use Rattle.cps_inline.proofs.Moved.{differ}
 use Rattle.cps_inline.proofs.Names.{came-moved}
 use Rattle.cps_inline.proofs.Formed.{function-body}
 use Rattle.cps_inline.proofs.Simulates.{IsBelow, below-more, Below, class-from, group-less}
@@ -33,14 +32,14 @@ module _ (funs : List Fun) (enter : Entering) (wc : Counts) (f : Fun) (p : Place
   group-low j [] n l lt = refl
   group-low j (g ∷ gs) n l lt =
       with-either (is_copied f g) phi (label (p.first + j) (moved n g.params) (copied funs enter wc p n g.body (n + span g)) (copies funs enter wc f p (suc j) gs (n + copy_count funs wc g))) (copies funs enter wc f p (suc j) gs n) vs (phi l) l
-      (ap (λ c. if c then vs else with_wants phi (copies funs enter wc f p (suc j) gs (n + copy_count funs wc g)) vs l) (differ (p.first + j) l (λ (e : p.first + j ≡ l). omega arith)) ∙ group-low (suc j) gs (n + copy_count funs wc g) l lt)
+      (ap (λ c. if c then vs else with_wants phi (copies funs enter wc f p (suc j) gs (n + copy_count funs wc g)) vs l) (ne_eqb (p.first + j) l (λ (e : p.first + j ≡ l). omega arith)) ∙ group-low (suc j) gs (n + copy_count funs wc g) l lt)
       (group-low (suc j) gs n l lt)
 
   group-high : (j : ℕ) (gs : List Fun) (n l : ℕ) → p.first + j + length gs ≤ l → with_wants phi (copies funs enter wc f p j gs n) vs l ≡ phi l
   group-high j [] n l far = refl
   group-high j (g ∷ gs) n l far =
       with-either (is_copied f g) phi (label (p.first + j) (moved n g.params) (copied funs enter wc p n g.body (n + span g)) (copies funs enter wc f p (suc j) gs (n + copy_count funs wc g))) (copies funs enter wc f p (suc j) gs n) vs (phi l) l
-      (ap (λ c. if c then vs else with_wants phi (copies funs enter wc f p (suc j) gs (n + copy_count funs wc g)) vs l) (differ (p.first + j) l (λ (e : p.first + j ≡ l). omega arith)) ∙ group-high (suc j) gs (n + copy_count funs wc g) l (omega arith))
+      (ap (λ c. if c then vs else with_wants phi (copies funs enter wc f p (suc j) gs (n + copy_count funs wc g)) vs l) (ne_eqb (p.first + j) l (λ (e : p.first + j ≡ l). omega arith)) ∙ group-high (suc j) gs (n + copy_count funs wc g) l (omega arith))
       (group-high (suc j) gs n l (omega arith))
 
   head-wants : (t : Bool) → t ≡ true → (l l' : ℕ) → l ≡ l' → (xs : List ℕ) (u : Term) (rest ks : Labels) → with_wants phi (if t then label l xs u rest else ks) vs l' ≡ vs
@@ -53,7 +52,7 @@ module _ (funs : List Fun) (enter : Entering) (wc : Counts) (f : Fun) (p : Place
       head-wants (is_copied f h) (ap (is_copied f) (same_Some h g e) ∙ c) (p.first + j) l (omega arith) (moved n h.params) (copied funs enter wc p n h.body (n + span h)) (copies funs enter wc f p (suc j) gs (n + copy_count funs wc h)) (copies funs enter wc f p (suc j) gs n)
   group-at j (h ∷ gs) n (suc i) l g el e c =
       with-either (is_copied f h) phi (label (p.first + j) (moved n h.params) (copied funs enter wc p n h.body (n + span h)) (copies funs enter wc f p (suc j) gs (n + copy_count funs wc h))) (copies funs enter wc f p (suc j) gs n) vs vs l
-      (ap (λ c. if c then vs else with_wants phi (copies funs enter wc f p (suc j) gs (n + copy_count funs wc h)) vs l) (differ (p.first + j) l (λ (s : p.first + j ≡ l). omega arith)) ∙ group-at (suc j) gs (n + copy_count funs wc h) i l g (omega arith) e c)
+      (ap (λ c. if c then vs else with_wants phi (copies funs enter wc f p (suc j) gs (n + copy_count funs wc h)) vs l) (ne_eqb (p.first + j) l (λ (s : p.first + j ≡ l). omega arith)) ∙ group-at (suc j) gs (n + copy_count funs wc h) i l g (omega arith) e c)
       (group-at (suc j) gs n i l g (omega arith) e c)
 
 nowhere-within : (known : List ℕ) → AllWithin nowhere known

@@ -1,6 +1,6 @@
 -- The copies want no wider at once than each call counts.
 use Rattle.std.proofs.Common.{◌≡◌, ℕ, ◌+◌, ◌≤◌, ◌<◌, nat_eq, nat_lt, ◌==◌, Bool, true, false, ◌&&◌, max, List, [], ◌∷◌, ◌++◌, length, Option, Some, None, slice_get, if◌then◌else◌, refl, sym, ap, subst, ◌∙◌, ⊎_elim, arith}
-use Rattle.std.proofs.lemmas.Bool.{and_parts, or_cases, eqb-true, false≢true}
+use Rattle.std.proofs.lemmas.Bool.{and_parts, or_cases, eqb-true, false≢true, ne_eqb}
 use Rattle.std.proofs.lemmas.Bool.Decides.{nat_tests}
 use Rattle.std.proofs.lemmas.List.{length-map}
 use Rattle.std.proofs.lemmas.Option.{slice_get_within}
@@ -15,7 +15,7 @@ use Rattle.cps_ir.specs.Meaning.{handler_of}
 use Rattle.cps_ir.specs.Term.{Handler, Term, Let, Read, Write, If, Fix, Call, Return, Throw, Jump, Halt, Labels, none, label, Fun}
 use Rattle.cps_ir.specs.Wide.{Wants, with_wants, to_wants, handlers_want, kept, wants, labels_want, inside, call_wide, term_wide, labels_wide}
 use Rattle.cps_inline.specs.inner.Inlined.{Counts, Entering, Place, lands, moved, moved_atom, moved_atoms, moved_primitive, moved_handlers, behind_handlers, term_span, labels_span, is_one, term_count, labels_count, copied, copied_labels, entered_call}
-use Rattle.cps_inline.proofs.Moved.{eq-moved, differ}
+use Rattle.cps_inline.proofs.Moved.{eq-moved}
 use Rattle.cps_inline.proofs.Wants.{Fits, fits-none, fits-within, fits-both, fits-moved, fits-in-held, fits-without, fits-different, fits-let, fits-entry, fits-operands, atom-vars-moved, all-vars-moved, prim-vars-moved, let-rest, read-rest, write-rest, if-arms}
 use Rattle.cps_inline.proofs.Simulates.{IsBelow, below-more, Below, start-far, start-far-other, handlers-below, to-below, earlier-group}
 
@@ -33,12 +33,12 @@ pub record Wanting (funs : List Fun) (group n b s : ℕ) (p : Place) (phi phi' :
 with-at : (phi : Wants) (ls : Labels) (vs : List ℕ) (b : ℕ) (funs : List Fun) (enter : Entering) (w : Counts) (p : Place) (k l : ℕ) → l < b → with_wants phi (copied_labels funs enter w p b ls k) vs l ≡ phi l
 with-at phi none vs b funs enter w p k l lt = refl
 with-at phi (label m xs t ls) vs b funs enter w p k l lt =
-    ap (λ c. if c then vs else with_wants phi (copied_labels funs enter w p b ls (k + term_count funs w t)) vs l) (differ (b + m) l (λ (e : b + m ≡ l). omega arith)) ∙ with-at phi ls vs b funs enter w p (k + term_count funs w t) l lt
+    ap (λ c. if c then vs else with_wants phi (copied_labels funs enter w p b ls (k + term_count funs w t)) vs l) (ne_eqb (b + m) l (λ (e : b + m ≡ l). omega arith)) ∙ with-at phi ls vs b funs enter w p (k + term_count funs w t) l lt
 
 with-far : (phi : Wants) (ls : Labels) (vs : List ℕ) (b s : ℕ) (funs : List Fun) (enter : Entering) (w : Counts) (p : Place) (k l : ℕ) → labels_span ls ≤ s → b + s ≤ l → with_wants phi (copied_labels funs enter w p b ls k) vs l ≡ phi l
 with-far phi none vs b s funs enter w p k l le far = refl
 with-far phi (label m xs t ls) vs b s funs enter w p k l le far =
-    ap (λ c. if c then vs else with_wants phi (copied_labels funs enter w p b ls (k + term_count funs w t)) vs l) (differ (b + m) l (λ (e : b + m ≡ l). omega arith)) ∙ with-far phi ls vs b s funs enter w p (k + term_count funs w t) l (omega arith) far
+    ap (λ c. if c then vs else with_wants phi (copied_labels funs enter w p b ls (k + term_count funs w t)) vs l) (ne_eqb (b + m) l (λ (e : b + m ≡ l). omega arith)) ∙ with-far phi ls vs b s funs enter w p (k + term_count funs w t) l (omega arith) far
 
 fits-if : (b : ℕ) (held vs' vs a' a : List ℕ) (t t' : Bool) → t' ≡ t → Fits b held vs' vs → Fits b held a' a → Fits b held (if t' then vs' else a') (if t then vs else a)
 fits-if b held vs' vs a' a true true e h g = h

@@ -1,13 +1,14 @@
 use Rattle.std.proofs.Common.{◌≡◌, ◌+◌, map, drop, length, refl, sym, ap, ◌∙◌, arith}
 use Rattle.std.proofs.lemmas.List.{drop_all}
 use Rattle.std.proofs.lemmas.Option.{slice_get_read}
+use Rattle.std.proofs.lemmas.Result.{IfOk-weaker}
 use Rattle.cps_ir.proofs.Views.{view-Cont}
 use Rattle.cps_ir.specs.Spine.{put_all}
 use Rattle.cps_ir.specs.Term as cps
 use Rattle.cps_ir.specs.View.{labels_view, fun_view}
 use Rattle.cps_inline.specs.inner.Inlined.{moved, moved_atom, counts, group_count}
 use Rattle.cps_inline.proofs.Seen.{seen-If, seen-Fix, seen-one, many-labels}
-use Rattle.cps_inline.proofs.Along.{label-within, function-within, item_next, in_next, in_end, copies_take, copies_pass, copies_end, on_if, on_one, on_several, call-counted, call-entered, body-at, ok-more}
+use Rattle.cps_inline.proofs.Along.{label-within, function-within, item_next, in_next, in_end, copies_take, copies_pass, copies_end, on_if, on_one, on_several, call-counted, call-entered, body-at}
 use Rattle.cps_inline.proofs.copying.+copies.Goals as goal
 use Rattle.cps_inline.proofs.copying.+copies.Goals.{copy_group-then-is_copied+in_ok-number+in_ok-copy_function+in_ok-push, copy_group-else-is_copied}
 
@@ -16,13 +17,13 @@ copy_call-returns-in_ok-words-in-Some-get-clause-count t c =
     let there = slice_get_read c.args.site.now.funs.now (length c.args.site.now.funs.now) c.args.i c.in-Some-get.f.now refl c.in-Some-get.ensures.lookup.3.0 c.in-Some-get.ensures.lookup.1 in
     let group = c.in_ok-inner-in-Some-get.ensures.group in
     let same = ap (λ g. group_count (map fun_view c.args.site.now.funs.now) (counts (map fun_view c.args.site.now.funs.now) g) (fun_view c.in-Some-get.f.now)) group ∙ sym (call-counted c.args.site.now.funs.now c.args.site.now.place.now.group c.args.i c.in-Some.k c.in-Some-get.f.now c.args.bs.now c.args.to c.args.hs.now there c.in-Some.is c.if-f-site.false) in
-    ok-more _ _ c.enter.result (λ u e. e ∙ ap (λ k. c.args.fresh.now + k) same) c.enter.ensures.count
+    IfOk-weaker c.enter.result _ _ (λ u e. e ∙ ap (λ k. c.args.fresh.now + k) same) c.enter.ensures.count
 
 pub copy_call-returns-in_ok-words-in-Some-get-clause-term : goal.copy_call-returns-in_ok-words-in-Some-get-clause-term
 copy_call-returns-in_ok-words-in-Some-get-clause-term t c =
     let there = slice_get_read c.args.site.now.funs.now (length c.args.site.now.funs.now) c.args.i c.in-Some-get.f.now refl c.in-Some-get.ensures.lookup.3.0 c.in-Some-get.ensures.lookup.1 in
     let same = call-entered c.args.site.now.funs.now c.args.site.now.place.now c.in_ok-inner-in-Some-get.inner c.args.site.now.base c.args.i c.in-Some.k c.in-Some-get.f.now c.args.bs.now c.args.to c.args.hs.now c.in_ok-words-in-Some-get.words.items c.args.fresh.now there c.in-Some.is c.if-f-site.false c.in_ok-inner-in-Some-get.ensures.group c.in_ok-inner-in-Some-get.ensures.view c.in_ok-words-in-Some-get.ensures in
-    ok-more _ _ c.enter.result (λ u e. e ∙ same) c.enter.ensures.term
+    IfOk-weaker c.enter.result _ _ (λ u e. e ∙ same) c.enter.ensures.term
 
 pub copy_function-returns-clause-body : goal.copy_function-returns-clause-body
 copy_function-returns-clause-body t c =
@@ -59,16 +60,16 @@ pub copy_labels-returns-clause-labels : goal.copy_labels-returns-clause-labels
 copy_labels-returns-clause-labels t c = in_end c.loop-c.invariant (drop_all c.loop-c.c-index c.args.conts.now c.loop-c-test.false)
 
 pub copy_first-returns-clause-step : goal.copy_first-returns-clause-step
-copy_first-returns-clause-step t c = ok-more _ _ c.push_if.result (λ u adds t'. adds t' ∙ ap (λ v. put_all c.args.steps.now.items (cps.If c.args.test.0 (moved_atom c.args.site.now.base c.args.test.1) (moved_atom c.args.site.now.base c.args.test.2) v t')) c.in_ok-part.ensures.term) c.push_if.ensures
+copy_first-returns-clause-step t c = IfOk-weaker c.push_if.result _ _ (λ u adds t'. adds t' ∙ ap (λ v. put_all c.args.steps.now.items (cps.If c.args.test.0 (moved_atom c.args.site.now.base c.args.test.1) (moved_atom c.args.site.now.base c.args.test.2) v t')) c.in_ok-part.ensures.term) c.push_if.ensures
 
 pub copy_around-returns-clause-step : goal.copy_around-returns-clause-step
-copy_around-returns-clause-step t c = ok-more _ _ c.push_label.result (λ u adds t'. adds t' ∙ ap (λ v. put_all c.args.steps.now.items (cps.Fix (cps.label (c.args.site.now.base + c.args.one.now.label) (moved c.args.site.now.base c.args.one.now.params.items) t' cps.none) v)) c.in_ok-around.ensures.term) c.push_label.ensures
+copy_around-returns-clause-step t c = IfOk-weaker c.push_label.result _ _ (λ u adds t'. adds t' ∙ ap (λ v. put_all c.args.steps.now.items (cps.Fix (cps.label (c.args.site.now.base + c.args.one.now.label) (moved c.args.site.now.base c.args.one.now.params.items) t' cps.none) v)) c.in_ok-around.ensures.term) c.push_label.ensures
 
 pub copy_several-returns-clause-step : goal.copy_several-returns-clause-step
-copy_several-returns-clause-step t c = ok-more _ _ c.push_labels.result (λ u adds t'. adds t' ∙ ap (λ v. put_all c.args.steps.now.items (cps.Fix v t')) c.in_ok-labels.ensures.labels) c.push_labels.ensures
+copy_several-returns-clause-step t c = IfOk-weaker c.push_labels.result _ _ (λ u adds t'. adds t' ∙ ap (λ v. put_all c.args.steps.now.items (cps.Fix v t')) c.in_ok-labels.ensures.labels) c.push_labels.ensures
 
 pub copy_last-returns-clause-term : goal.copy_last-returns-clause-term
-copy_last-returns-clause-term t c = ok-more _ _ c.joined.result (λ u e. e ∙ ap (put_all c.args.steps.items) c.in_ok-end.ensures.term) c.joined.ensures
+copy_last-returns-clause-term t c = IfOk-weaker c.joined.result _ _ (λ u e. e ∙ ap (put_all c.args.steps.items) c.in_ok-end.ensures.term) c.joined.ensures
 
 pub copy_term-spine-preserved-in-If : goal.copy_term-spine-preserved-in-If
 copy_term-spine-preserved-in-If t c =
