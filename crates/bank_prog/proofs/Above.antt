@@ -1,8 +1,8 @@
 -- Which values are defined at a point or above it: those whose point has it below.
-use Rattle.std.proofs.Common.{◌≡◌, ℕ, suc, ◌+◌, ◌<◌, ◌≤◌, Bool, true, false, ◌&&◌, ◌||◌, if◌then◌else◌, nat_eq, nat_le, List, [], ◌∷◌, ◌++◌, length, map, get_or, Option, Some, refl, sym, ap, subst, ◌∙◌, arith, rules, tests}
+use Rattle.std.proofs.Common.{◌≡◌, ℕ, suc, ◌+◌, ◌<◌, ◌≤◌, Bool, true, false, ◌&&◌, ◌||◌, if◌then◌else◌, nat_eq, nat_le, List, [], ◌∷◌, ◌++◌, length, map, get_or, Option, Some, refl, sym, ap, subst, ◌∙◌, arith}
 use Rattle.std.proofs.Math.Bool.{or-false}
 use Rattle.std.proofs.lemmas.List.{append-nil}
-use Rattle.std.proofs.lemmas.Bool.{false≢true}
+use Rattle.std.proofs.lemmas.Bool.{false≢true, le-leb, lt-leb}
 use Rattle.nv_base.specs.Sets.{is_in, all_different}
 use Rattle.nv_base.proofs.Sets.{in-append}
 use Rattle.ssu_ir.specs.Tree.{Lit, Una, Bin, Clone, Read, Write, Tree, Do, If, End, Label, Does, Forks, Ends, step_values}
@@ -12,24 +12,14 @@ use Rattle.place_ir.specs.Uses as pure
 use Rattle.place_ir.specs.Uses.{Sort, Parameter, Fetched, numbered, values_from}
 use Rattle.place_ir.specs.inner.Numbers.{values_among}
 use Rattle.place_ir.proofs.Scoped.{split-different}
+use Rattle.place_ir.proofs.Seen.{and-true', same-order}
 use Rattle.bank_prog.specs.inner.Waiting.{point_in, covers}
-use Rattle.bank_prog.proofs.FormLemmas.{turned}
 
 -- ---- truth values
-
-le-true : (a b : ℕ) → a ≤ b → nat_le a b ≡ true
-le-true a b h = search (tests, rules)
-
-le-false : (a b : ℕ) → b < a → nat_le a b ≡ false
-le-false a b h = search (tests, rules)
 
 and-false : (a : Bool) → (a && false) ≡ false
 and-false true = refl
 and-false false = refl
-
-and-true : (a : Bool) → (a && true) ≡ a
-and-true true = refl
-and-true false = refl
 
 or-assoc : (a b c : Bool) → ((a || b) || c) ≡ (a || (b || c))
 or-assoc true b c = refl
@@ -43,13 +33,13 @@ under x j [] k = false
 under x j (q ∷ ps) k = (is_in x (place_values q.place) && (nat_le j k && nat_le k (j + q.below))) || under x (suc j) ps k
 
 within : (v : Bool) (j n k : ℕ) → j ≤ k → k ≤ j + n → (v && (nat_le j k && nat_le k (j + n))) ≡ v
-within v j n k a b = ap (λ c. v && (c && nat_le k (j + n))) (le-true j k a) ∙ ap (λ c. v && c) (le-true k (j + n) b) ∙ and-true v
+within v j n k a b = ap (λ c. v && (c && nat_le k (j + n))) (le-leb j k a) ∙ ap (λ c. v && c) (le-leb k (j + n) b) ∙ and-true' v
 
 early : (v : Bool) (j n k : ℕ) → k < j → (v && (nat_le j k && nat_le k (j + n))) ≡ false
-early v j n k h = ap (λ c. v && (c && nat_le k (j + n))) (le-false j k h) ∙ and-false v
+early v j n k h = ap (λ c. v && (c && nat_le k (j + n))) (lt-leb j k h) ∙ and-false v
 
 late : (v : Bool) (j n k : ℕ) → j + n < k → (v && (nat_le j k && nat_le k (j + n))) ≡ false
-late v j n k h = ap (λ c. v && (nat_le j k && c)) (le-false k (j + n) h) ∙ ap (λ c. v && c) (and-false (nat_le j k)) ∙ and-false v
+late v j n k h = ap (λ c. v && (nat_le j k && c)) (lt-leb k (j + n) h) ∙ ap (λ c. v && c) (and-false (nat_le j k)) ∙ and-false v
 
 under-early : (x j : ℕ) (ps : List Point) (k : ℕ) → k < j → under x j ps k ≡ false
 under-early x j [] k h = refl
@@ -159,7 +149,7 @@ all-tested x n (l ∷ ls) j =
 
 numbered-in : (j : ℕ) (sort : ℕ → Sort) (i : ℕ) (xs : List ℕ) (rest : List pure.Value) (x : ℕ) → point_in (numbered j sort i xs ++ rest) x ≡ (if is_in x xs then Some j else point_in rest x)
 numbered-in j sort i [] rest x = refl
-numbered-in j sort i (y ∷ ys) rest x = pick (nat_eq y x) (nat_eq x y) (turned y x) (numbered-in j sort (suc i) ys rest x)
+numbered-in j sort i (y ∷ ys) rest x = pick (nat_eq y x) (nat_eq x y) (same-order y x) (numbered-in j sort (suc i) ys rest x)
   where
     pick : (a b : Bool) → a ≡ b → point_in (numbered j sort (suc i) ys ++ rest) x ≡ (if is_in x ys then Some j else point_in rest x)
         → (if a then Some j else point_in (numbered j sort (suc i) ys ++ rest) x) ≡ (if b || is_in x ys then Some j else point_in rest x)
@@ -169,7 +159,7 @@ numbered-in j sort i (y ∷ ys) rest x = pick (nat_eq y x) (nat_eq x y) (turned 
     pick false true e h = absurd (false≢true e)
 
 one-in : (j y : ℕ) (rest : Option ℕ) (x : ℕ) → (if nat_eq y x then Some j else rest) ≡ (if nat_eq x y || false then Some j else rest)
-one-in j y rest x = ap (λ b. if b then Some j else rest) (turned y x ∙ sym (or-false (nat_eq x y)))
+one-in j y rest x = ap (λ b. if b then Some j else rest) (same-order y x ∙ sym (or-false (nat_eq x y)))
 
 place-in : (j : ℕ) (p : Place) (rest : List pure.Value) (x : ℕ) → point_in (pure.place_values j p ++ rest) x ≡ (if is_in x (place_values p) then Some j else point_in rest x)
 place-in j (Entry l params) rest x = numbered-in j (Parameter l) 0 params rest x

@@ -1,7 +1,7 @@
 -- Columns that are all different, part by part.
-use Rattle.std.proofs.Common.{◌≡◌, ℕ, suc, ◌≤◌, Bool, true, false, not, ◌||◌, nat_eq, List, [], ◌∷◌, ◌++◌, map, refl, sym, ap, subst, ◌∙◌, arith}
+use Rattle.std.proofs.Common.{◌≡◌, ℕ, suc, ◌≤◌, true, false, not, ◌||◌, nat_eq, List, [], ◌∷◌, ◌++◌, map, refl, sym, ap, subst, ◌∙◌, arith}
 use Rattle.std.specs.List.{flat_map}
-use Rattle.std.proofs.lemmas.Bool.{and_parts, false≢true, false_from_ne_true}
+use Rattle.std.proofs.lemmas.Bool.{and_parts, false≢true, false_from_ne_true, or_parts, not-true}
 use Rattle.std.proofs.lemmas.Grind.{flat_map-append}
 use Rattle.nv_base.specs.Sets.{is_in, all_different}
 use Rattle.ssu_ir.specs.Points.{Point, place_values}
@@ -40,20 +40,12 @@ pub flat-points : {Y Z : Type 0} (h : Y → List Z) (f : ℕ → Point → List 
 flat-points h f k [] = refl
 flat-points h f k (q ∷ ps) = flat_map-append h (f k q) (each_point f (suc k) ps) ∙ ap (λ zs. flat_map h (f k q) ++ zs) (flat-points h f (suc k) ps)
 
-pub or-false : (a b : Bool) → (a || b) ≡ false → (a ≡ false) × (b ≡ false)
-or-false false b h = (refl, h)
-or-false true b h = absurd (false≢true (sym h))
-
-pub not-true : (b : Bool) → not b ≡ true → b ≡ false
-not-true false e = refl
-not-true true e = absurd (false≢true e)
-
 in-first : (x y : ℕ) (ys : List ℕ) → x ≡ y → is_in x (y ∷ ys) ≡ true
 in-first x y ys e = ap (λ z. is_in z (y ∷ ys)) e ∙ ap (λ b. b || is_in y ys) (in-itself y)
 
 -- ---- parts that differ by a property, or by a key
 
-apart-property : (P : Column → Type 0) (c d : Column) → P c → (P d → ⊥) → same_column c d ≡ false
+pub apart-property : (P : Column → Type 0) (c d : Column) → P c → (P d → ⊥) → same_column c d ≡ false
 apart-property P c d h n = false_from_ne_true (same_column c d) (λ e. n (subst P (column-true c d e) h))
 
 pub join : (P : Column → Type 0) (a b : List Priced) → Each (λ p. P p.0) a → Each (λ p. P p.0 → ⊥) b → Distinct a → Distinct b → Distinct (a ++ b)
@@ -66,7 +58,7 @@ join P (p ∷ a) b h g d e = (
 none-alike : (key : Column → ℕ) (p : Priced) (ps : List Priced) → is_in (key p.0) (map (λ q. key q.0) ps) ≡ false → Each (Apart p) ps
 none-alike key p [] h = tt
 none-alike key p (q ∷ ps) h =
-    let m = or-false (nat_eq (key p.0) (key q.0)) (is_in (key p.0) (map (λ q. key q.0) ps)) h in (
+    let m = or_parts (nat_eq (key p.0) (key q.0)) (is_in (key p.0) (map (λ q. key q.0) ps)) h in (
       false_from_ne_true (same_column p.0 q.0) (λ e. false≢true (sym m.0 ∙ ap (λ z. nat_eq (key p.0) z) (sym (ap key (column-true p.0 q.0 e))) ∙ in-itself (key p.0))),
       none-alike key p ps m.1,
     )

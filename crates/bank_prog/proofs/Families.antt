@@ -2,7 +2,7 @@
 use Rattle.std.proofs.Common.{◌≡◌, ℕ, zero, suc, ◌+◌, ◌*◌, ◌≤◌, Bool, true, false, not, cond, ◌&&◌, if◌then◌else◌, nat_eq, nat_le, ◌||◌, List, [], ◌∷◌, ◌++◌, map, length, refl, sym, ap, subst, ◌∙◌, arith}
 use Rattle.std.specs.Prelude.{slice_get}
 use Rattle.std.specs.List.{flat_map, filter, list_any, list_all}
-use Rattle.std.proofs.lemmas.Bool.{and_parts}
+use Rattle.std.proofs.lemmas.Bool.{and_parts, or_parts, not-true}
 use Rattle.std.proofs.lemmas.List.{append-nil}
 use Rattle.nv_base.specs.declared.term.Mem.{Mem}
 use Rattle.nv_base.specs.Sets.{is_in, all_different}
@@ -10,23 +10,22 @@ use Rattle.ssu_ir.specs.Tree.{Lit, Una, Bin, Clone, Read, Write, Label, Does, Fo
 use Rattle.ssu_ir.specs.Points.{Place, Entry, At, Point, place_values, points}
 use Rattle.ssu_ir.specs.Single.{single, is_entry, is_single, all_defined}
 use Rattle.place_ir.specs.Uses as pure
-use Rattle.place_ir.specs.Uses.{Access, Sort, Parameter, Result, Fetched, Value, values, values_from, Role, Operand, Address, Written, Argument, Ending, Use, uses, uses_at, place_roles, is_used, accesses, place_accesses}
+use Rattle.place_ir.specs.Uses.{Access, Sort, Parameter, Result, Fetched, Value, values, Role, Operand, Address, Written, Argument, Ending, Use, uses, uses_at, place_roles, is_used, accesses, place_accesses}
 use Rattle.place_ir.specs.Fits.{is_result}
 use Rattle.place_ir.specs.inner.Numbers.{values_among}
 use Rattle.place_ir.proofs.Scoped.{different-filter}
 use Rattle.place_ir.proofs.Numbering.{places-of-labels, different-labels}
 use Rattle.place_ir.proofs.Sound.{Each, each-append}
 use Rattle.place_ir.proofs.Spilled.{each-weaker}
+use Rattle.place_ir.proofs.Fitting.{values-are, vars-of-place}
 use Rattle.bank_prog.specs.declared.column.Bank.{Bank}
 use Rattle.bank_prog.specs.declared.column.Bank.TheVariants.{A, B, M, T, L, A15, W}
 use Rattle.bank_prog.specs.declared.column.Column.{Column}
 use Rattle.bank_prog.specs.declared.column.Column.TheVariants.{Def, Dir, Fill, Stay, Ear, First, Srv, PasL, PasS}
 use Rattle.bank_prog.specs.declared.column.Service.{Service}
 use Rattle.bank_prog.specs.Columns.{Priced, sort_of, is_fetched, point_uses, place_words, eight, may_begin, beginnings, role_beginnings, sort_beginnings, sort_defs, def_columns, dir_columns, point_dirs, fill_columns, stay_columns, point_stays, ear_columns, point_ears, first_columns, services, has_bank, srv_columns, for_eight, pas_l_columns, pas_s_columns, all_dirs, all_stays, all_ears, all_pas_l, all_pas_s, priced}
-use Rattle.bank_prog.proofs.Loops.{map-append}
 use Rattle.bank_prog.proofs.Tabled.{uses-each, accesses-each}
-use Rattle.bank_prog.proofs.Waits.{place-vars}
-use Rattle.bank_prog.proofs.Distinct.{Distinct, or-false, not-true, each-flat, each-points, each-map, flat-points, join, by-keys, by-register, by-point, by-use, uses-point, values-in, by-value, by-definition}
+use Rattle.bank_prog.proofs.Distinct.{Distinct, each-flat, each-points, each-map, flat-points, join, by-keys, by-register, by-point, by-use, uses-point, values-in, by-value, by-definition}
 
 -- ---- what tells columns apart
 
@@ -87,7 +86,7 @@ spot_of (PasS k r) = r
 some-beginnings : (m : Mem) (n : ℕ) → all_different (beginnings m n) ≡ true
 some-beginnings m n = different-filter (may_begin m n) eight refl
 
-role-beginnings : (n : ℕ) (r : Role) → all_different (role_beginnings n r) ≡ true
+pub role-beginnings : (n : ℕ) (r : Role) → all_different (role_beginnings n r) ≡ true
 role-beginnings n Operand = refl
 role-beginnings n Address = refl
 role-beginnings n (Written m i) = some-beginnings m n
@@ -111,7 +110,7 @@ all-services (Ending i) = refl
 
 fewer : (p : Service → Bool) (x : ℕ) (ss : List Service) → is_in x (map service_spot ss) ≡ false → is_in x (map service_spot (filter p ss)) ≡ false
 fewer p x [] h = refl
-fewer p x (s ∷ ss) h = pick (p s) (or-false (nat_eq x (service_spot s)) (is_in x (map service_spot ss)) h).0 (fewer p x ss (or-false (nat_eq x (service_spot s)) (is_in x (map service_spot ss)) h).1)
+fewer p x (s ∷ ss) h = pick (p s) (or_parts (nat_eq x (service_spot s)) (is_in x (map service_spot ss)) h).0 (fewer p x ss (or_parts (nat_eq x (service_spot s)) (is_in x (map service_spot ss)) h).1)
   where
     pick : (b : Bool) → nat_eq x (service_spot s) ≡ false → is_in x (map service_spot (filter p ss)) ≡ false → is_in x (map service_spot (cond b (s ∷ filter p ss) (filter p ss))) ≡ false
     pick true n d = ap (λ b. b || is_in x (map service_spot (filter p ss))) n ∙ d
@@ -183,20 +182,14 @@ stays-var labels n v = chosen-each (λ p. var_of p.0 ≡ v.var) (is_used labels 
 stays-family : (labels : List Label) (n : ℕ) (v : Value) → Each (λ p. family p.0 ≡ 3) (stay_columns labels n v)
 stays-family labels n v = chosen-each (λ p. family p.0 ≡ 3) (is_used labels v.var) (λ f. (Stay v.var f, 0)) (sort_beginnings n v.sort) (λ r. refl)
 
-values-vars : (k : ℕ) (ps : List Point) → map (λ v. v.var) (values_from k ps) ≡ values_among (map (λ q. q.place) ps)
-values-vars k [] = refl
-values-vars k (q ∷ ps) =
-    map-append (λ v. v.var) (pure.place_values k q.place) (values_from (suc k) ps) ∙ ap (λ xs. xs ++ map (λ v. v.var) (values_from (suc k) ps)) (place-vars k q.place)
-    ∙ ap (λ xs. place_values q.place ++ xs) (values-vars (suc k) ps)
-
 stays-values : (labels : List Label) (k : ℕ) (q : Point) → Each (λ p. is_in (var_of p.0) (place_values q.place) ≡ true) (point_stays labels k q)
 stays-values labels k q =
-    subst (λ (xs : List ℕ). Each (λ p. is_in (var_of p.0) xs ≡ true) (point_stays labels k q)) (place-vars k q.place)
+    subst (λ (xs : List ℕ). Each (λ p. is_in (var_of p.0) xs ≡ true) (point_stays labels k q)) (vars-of-place k q.place)
     (values-in var_of (stay_columns labels (place_words q.place)) (stays-var labels (place_words q.place)) (pure.place_values k q.place))
 
 stays-point : (labels : List Label) (k : ℕ) (q : Point) → all_different (place_values q.place) ≡ true → Distinct (point_stays labels k q)
 stays-point labels k q d =
-    by-value var_of (stay_columns labels (place_words q.place)) (stays-var labels (place_words q.place)) (stays-distinct labels (place_words q.place)) (pure.place_values k q.place) (ap all_different (place-vars k q.place) ∙ d)
+    by-value var_of (stay_columns labels (place_words q.place)) (stays-var labels (place_words q.place)) (stays-distinct labels (place_words q.place)) (pure.place_values k q.place) (ap all_different (vars-of-place k q.place) ∙ d)
 
 -- ---- uses
 
@@ -333,7 +326,7 @@ pub priced-distinct : (labels : List Label) → single labels ≡ true → Disti
 priced-distinct labels h =
     let ps = points labels in
     let d = different-values labels h in
-    let vars = ap all_different (values-vars 0 ps) ∙ d in
+    let vars = ap all_different (values-are 0 ps) ∙ d in
     let pas_s = last 8 (all_pas_s labels) (each-points (λ p. family p.0 ≡ 8) (pas_s_columns labels) (λ k q. eight-each (λ p. family p.0 ≡ 8) (list_any (λ v. is_used labels v.var) (pure.place_values k q.place)) (PasS k) (λ r. refl)) 0 ps)
     (by-point point_of (pas_s_columns labels) (λ k q. eight-each (λ p. point_of p.0 ≡ k) (list_any (λ v. is_used labels v.var) (pure.place_values k q.place)) (PasS k) (λ r. refl))
     (λ k q. eight-distinct (list_any (λ v. is_used labels v.var) (pure.place_values k q.place)) (PasS k) (λ r. refl)) 0 ps) in

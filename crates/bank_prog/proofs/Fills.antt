@@ -2,7 +2,7 @@
 use Rattle.std.proofs.Common.{◌≡◌, ℕ, zero, suc, ◌+◌, ◌<◌, ◌≤◌, Bool, true, false, if◌then◌else◌, List, [], ◌∷◌, ◌++◌, map, length, drop, get_or, refl, sym, ap, subst, ◌∙◌, append_assoc, arith, pos, neg_ℤ}
 use Rattle.std.specs.List.{flat_map, AllZip}
 use Rattle.std.proofs.lemmas.Bool.{false≢true}
-use Rattle.std.proofs.lemmas.List.{at_drop_more, at_drop_all, append-nil, drop_all}
+use Rattle.std.proofs.lemmas.List.{at_drop_more, at_drop_all, append-nil, drop_all, map-append}
 use Rattle.nv_base.specs.Sets.{is_in, all_different, Within, without}
 use Rattle.zo_model.specs.declared.program.Row.{Row}
 use Rattle.zo_model.specs.Contents.{RowContents, row_contents}
@@ -20,7 +20,6 @@ use Rattle.bank_prog.specs.inner.Adds.{Adds, add_each}
 use Rattle.bank_prog.specs.inner.Form as form
 use Rattle.bank_prog.specs.inner.Form.{Part, part_of}
 use Rattle.bank_prog.specs.inner.Owners.{value_stays, other, part_fills, first_row, rest, fills}
-use Rattle.bank_prog.proofs.Loops.{map-append}
 use Rattle.bank_prog.proofs.RowTerms.{terms-alone}
 use Rattle.bank_prog.proofs.Order.{ordered, each-append}
 

@@ -8,7 +8,7 @@ use Rattle.bank_prog.specs.declared.column.Column.{Column}
 use Rattle.bank_prog.specs.declared.column.Column.TheVariants.{Def, Dir, Fill, Stay, Ear, First, Srv, PasL, PasS}
 use Rattle.bank_prog.specs.Program.{same_bank, same_column}
 
-bank-itself : (h : Bank) → same_bank h h ≡ true
+pub bank-itself : (h : Bank) → same_bank h h ≡ true
 bank-itself A = refl
 bank-itself B = refl
 bank-itself M = refl

@@ -153,7 +153,7 @@ compare c = fun_ext {f = column.eq-value.it c} {g = same_column c} (λ d. alike 
 
 -- ---- columns that compare alike are one
 
-bank-true : (h j : Bank) → same_bank h j ≡ true → h ≡ j
+pub bank-true : (h j : Bank) → same_bank h j ≡ true → h ≡ j
 bank-true A A e = refl
 bank-true A B e = absurd (false≢true e)
 bank-true A M e = absurd (false≢true e)

@@ -1,6 +1,6 @@
 -- A row over the columns' numbers says what its line says by name.
 use Rattle.std.proofs.Common.{◌≡◌, ◌↔◌, ℕ, nat_eq, nat_lt, Bool, true, false, if◌then◌else◌, List, [], ◌∷◌, map, Option, Some, None, ℤ, ◌+ℤ◌, ◌≤ℤ◌, All, refl, sym, ap, subst, ◌∙◌}
-use Rattle.std.proofs.Math.IntN.{+ℤ_idl, +ℤ_comm, +ℤ_assoc}
+use Rattle.std.proofs.Math.IntN.{+ℤ_idl, +ℤ_assoc}
 use Rattle.std.proofs.lemmas.List.Elements.{All-nil, All-cons, All-head, All-tail}
 use Rattle.nv_base.proofs.Sets.{same-number}
 use Rattle.ssu_ir.specs.Tree.{Label}
@@ -12,15 +12,13 @@ use Rattle.bank_prog.specs.declared.column.Column.{Column}
 use Rattle.bank_prog.specs.Meaning.{number_on, on, named_sum, Holds}
 use Rattle.bank_prog.specs.Program.{Numbers, Terms, add_term, add_named, terms_of, row_of, number_of, bank_program}
 use Rattle.bank_prog.specs.Rows.{Line, lines}
+use Rattle.bank_prog.proofs.RowTerms.{crossed}
 
 -- ---- sums
 
 both-where : (b : Bool) (a c : ℤ) → where_one b (a +ℤ c) ≡ (where_one b a +ℤ where_one b c)
 both-where true a c = refl
 both-where false a c = refl
-
-crossed : (a b c : ℤ) → (a +ℤ (b +ℤ c)) ≡ (b +ℤ (a +ℤ c))
-crossed a b c = sym (+ℤ_assoc a b c) ∙ ap (λ s. s +ℤ c) (+ℤ_comm a b) ∙ +ℤ_assoc b a c
 
 term-sum : (x : ℕ → Bool) (j : ℕ) (a : ℤ) (ts : Terms) → total (λ t. where_one (x t.0) t.1) (add_term j a ts) ≡ (where_one (x j) a +ℤ total (λ t. where_one (x t.0) t.1) ts)
 term-sum x j a [] = refl

@@ -1,7 +1,7 @@
 -- Steps of loops that put one piece for each element behind others.
 use Rattle.std.proofs.Common.{◌≡◌, Bool, true, false, cond, if◌then◌else◌, ◌||◌, ℕ, zero, suc, ◌+◌, ◌<◌, ◌≤◌, List, [], ◌∷◌, ◌++◌, length, map, take, drop, get_or, refl, sym, ap, ◌∙◌, append_assoc, arith}
 use Rattle.std.specs.List.{flat_map, filter, list_any}
-use Rattle.std.proofs.lemmas.List.{at_drop_more, at_drop_all, append-nil, take_more}
+use Rattle.std.proofs.lemmas.List.{at_drop_more, at_drop_all, append-nil, map-append}
 use Rattle.zo_model.specs.declared.program.Row.{Row}
 use Rattle.zo_model.specs.Contents.{RowContents, row_contents}
 use Rattle.nv_base.specs.declared.term.Mem.{Mem}
@@ -13,13 +13,6 @@ use Rattle.bank_prog.specs.inner.Adds.{Adds}
 use Rattle.bank_prog.specs.inner.Form.{Part, part_of, beginning}
 
 -- ---- lists
-
-pub map-append : {A B : Type 0} (f : A → B) (xs ys : List A) → map f (xs ++ ys) ≡ map f xs ++ map f ys
-map-append f [] ys = refl
-map-append f (x ∷ xs) ys = ap (λ zs. f x ∷ zs) (map-append f xs ys)
-
-pub map-last : {A B : Type 0} (f : A → B) (xs : List A) (i : ℕ) (d : A) → i < length xs → map f (take (i + 1) xs) ≡ map f (take i xs) ++ f (get_or xs i d) ∷ []
-map-last f xs i d l = ap (map f) (take_more xs i d l) ∙ map-append f (take i xs) (get_or xs i d ∷ [])
 
 pub length-taken : {A B : Type 0} (f : A → B) (i : ℕ) (xs : List A) → i ≤ length xs → length (map f (take i xs)) ≡ i
 length-taken f zero xs l = refl
@@ -112,9 +105,6 @@ adds-both number a b c ls ms p q =
 pub adds-as : (number : Numbers) (a b : List Row) (ls ms : List Line) → Adds number a b ls → ls ≡ ms → Adds number a b ms
 adds-as number a b ls ms h e = h ∙ ap (λ xs. map row_contents a ++ map (row_of number) xs) e
 
-pub adds-none : (number : Numbers) (a : List Row) → Adds number a a []
-adds-none number a = sym (append-nil (map row_contents a))
-
 pub adds-more : {V A : Type 0} (number : Numbers) (f : A → List Line) (view : V → A) (xs : List V) (i : ℕ) (d : V) (rows rows' : List Row) (goal : List RowContents) → i < length xs
     → Adds number rows rows' (f (view (get_or xs i d))) → map row_contents rows ++ map (row_of number) (flat_map f (map view (drop i xs))) ≡ goal
     → map row_contents rows' ++ map (row_of number) (flat_map f (map view (drop (i + 1) xs))) ≡ goal
@@ -143,10 +133,6 @@ pub adds-plain-all : {V : Type 0} (number : Numbers) (f : V → List Line) (xs :
     → map row_contents rows ++ map (row_of number) (flat_map f (drop i xs)) ≡ goal → map row_contents rows ≡ goal
 adds-plain-all number f xs i rows goal l h =
     sym (append-nil (map row_contents rows)) ∙ sym (at_drop_all (λ ys. map row_contents rows ++ map (row_of number) (flat_map f ys)) xs i l) ∙ h
-
-pub flat-map : {X Y : Type 0} (f : X → Y) (xs : List X) → flat_map (λ x. f x ∷ []) xs ≡ map f xs
-flat-map f [] = refl
-flat-map f (x ∷ xs) = ap (λ ys. f x ∷ ys) (flat-map f xs)
 
 -- ---- points by what is kept of them
 

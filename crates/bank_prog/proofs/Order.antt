@@ -1,8 +1,9 @@
 -- Rows over the values that are held at a point don't depend on their order.
-use Rattle.std.proofs.Common.{◌≡◌, ℕ, suc, Bool, true, false, not, ◌||◌, nat_eq, ◌⊎◌, inl, inr, ⊎_elim, List, [], ◌∷◌, ◌++◌, map, length, length-append, refl, sym, ap, ◌∙◌, arith, ℤ, pos, neg_ℤ}
+use Rattle.std.proofs.Common.{◌≡◌, ℕ, suc, true, false, not, ◌||◌, nat_eq, ◌⊎◌, inl, inr, ⊎_elim, List, [], ◌∷◌, ◌++◌, map, length, length-append, refl, sym, ap, ◌∙◌, arith, ℤ, pos, neg_ℤ}
 use Rattle.std.specs.List.{flat_map, AllZip}
 use Rattle.std.proofs.lemmas.Grind.{flat_map-append}
-use Rattle.std.proofs.lemmas.Bool.{and_parts, or_cases, false≢true}
+use Rattle.std.proofs.lemmas.Bool.{and_parts, or_cases, false≢true, not-true}
+use Rattle.std.proofs.lemmas.List.{map-append}
 use Rattle.nv_base.specs.Sets.{is_in, all_different, Within}
 use Rattle.nv_base.proofs.Sets.{same-number}
 use Rattle.ssu_ir.specs.Points.{Point}
@@ -12,7 +13,7 @@ use Rattle.bank_prog.specs.declared.column.Column.{Column}
 use Rattle.bank_prog.specs.declared.column.Bank.{Bank}
 use Rattle.bank_prog.specs.declared.column.Bank.TheVariants.{A, B, M}
 use Rattle.bank_prog.specs.Columns.{each_point}
-use Rattle.bank_prog.specs.Rows.{Line, at_most, home, held_in, room_lines}
+use Rattle.bank_prog.specs.Rows.{at_most, home, held_in, room_lines}
 use Rattle.bank_prog.specs.Program.{Numbers, Terms, add_named, row_of}
 use Rattle.bank_prog.specs.inner.Adds.{add_each}
 use Rattle.bank_prog.proofs.RowTerms.{named-swap, terms-alone}
@@ -56,10 +57,6 @@ elsewhere x z xs front back n h e = pick (in-either z front (x ∷ back) e)
     pick : (is_in z front ≡ true) ⊎ (is_in z (x ∷ back) ≡ true) → is_in z (front ++ back) ≡ true
     pick (inl q) = in-left z front back q
     pick (inr q) = ⊎_elim here (λ (r : is_in z back ≡ true). in-right z front back r) (or_cases (nat_eq z x) (is_in z back) q)
-
-not-true : (b : Bool) → not b ≡ true → b ≡ false
-not-true false e = refl
-not-true true e = absurd (false≢true e)
 
 -- ---- the same values in another order
 
@@ -109,16 +106,12 @@ rooms number slots row q h =
     ∙ ap (λ z. row_of number (at_most 15 (held_in q.before A)) ∷ z ∷ row_of number (at_most slots (held_in row M)) ∷ []) (home-row number 15 B row q h)
     ∙ ap (λ z. row_of number (at_most 15 (held_in q.before A)) ∷ row_of number (at_most 15 (held_in q.before B)) ∷ z ∷ []) (home-row number slots M row q h)
 
-map-behind : {X : Type 0} (f : Line → X) (xs ys : List Line) → map f (xs ++ ys) ≡ map f xs ++ map f ys
-map-behind f [] ys = refl
-map-behind f (x ∷ xs) ys = ap (λ zs. f x ∷ zs) (map-behind f xs ys)
-
 pub all-rooms : (number : Numbers) (slots k : ℕ) (rows : List (List ℕ)) (ps : List Point) → AllZip IsRow rows ps
     → map (row_of number) (flat_map (room_lines slots) rows) ≡ map (row_of number) (each_point (λ k q. room_lines slots q.before) k ps)
 all-rooms number slots k [] [] h = refl
 all-rooms number slots k [] (q ∷ ps) h = absurd h
 all-rooms number slots k (r ∷ rows) [] h = absurd h
 all-rooms number slots k (r ∷ rows) (q ∷ ps) h =
-    map-behind (row_of number) (room_lines slots r) (flat_map (room_lines slots) rows) ∙ ap (λ zs. zs ++ map (row_of number) (flat_map (room_lines slots) rows)) (rooms number slots r q h.0)
+    map-append (row_of number) (room_lines slots r) (flat_map (room_lines slots) rows) ∙ ap (λ zs. zs ++ map (row_of number) (flat_map (room_lines slots) rows)) (rooms number slots r q h.0)
     ∙ ap (λ zs. map (row_of number) (room_lines slots q.before) ++ zs) (all-rooms number slots (suc k) rows ps h.1)
-    ∙ sym (map-behind (row_of number) (room_lines slots q.before) (each_point (λ k q. room_lines slots q.before) (suc k) ps))
+    ∙ sym (map-append (row_of number) (room_lines slots q.before) (each_point (λ k q. room_lines slots q.before) (suc k) ps))

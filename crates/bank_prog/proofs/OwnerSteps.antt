@@ -1,7 +1,7 @@
 -- Rows of owners, point by point.
 use Rattle.std.proofs.Common.{◌≡◌, ℕ, suc, ◌+◌, ◌<◌, ◌≤◌, true, false, List, [], ◌∷◌, ◌++◌, map, length, drop, get_or, refl, sym, ap, ◌∙◌, append_assoc, arith}
 use Rattle.std.specs.List.{flat_map, AllZip}
-use Rattle.std.proofs.lemmas.List.{at_drop_more, at_drop_all, append-nil}
+use Rattle.std.proofs.lemmas.List.{at_drop_more, at_drop_all, append-nil, map-append}
 use Rattle.zo_model.specs.declared.program.Row.{Row}
 use Rattle.zo_model.specs.Contents.{RowContents, row_contents}
 use Rattle.ssu_ir.specs.Tree.{Label}
@@ -13,7 +13,6 @@ use Rattle.bank_prog.specs.Rows.{Line, at_most, stays_at, read_owners}
 use Rattle.bank_prog.specs.Program.{Numbers, row_of}
 use Rattle.bank_prog.specs.inner.Adds.{Adds}
 use Rattle.bank_prog.specs.inner.Owners.{value_stays, read_owner, sdram_owner, row_owners, each_row}
-use Rattle.bank_prog.proofs.Loops.{map-append}
 use Rattle.bank_prog.proofs.Order.{row-ordered, alone-ordered}
 
 pub rows-more : (number : Numbers) (f : ℕ → List ℕ → List Line) (vs : List Kept) (i : ℕ) (d : Kept) (rows rows' : List Row) (goal : List RowContents) → i < length vs

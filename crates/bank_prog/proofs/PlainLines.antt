@@ -1,8 +1,9 @@
 -- In each line of the bank program the columns all differ, where the form is single.
-use Rattle.std.proofs.Common.{◌≡◌, ℕ, zero, suc, ◌+◌, ◌-◌, ◌*◌, ◌^◌, ◌<◌, ◌≤◌, Bool, true, false, not, cond, ◌&&◌, ◌||◌, nat_eq, nat_le, nat_lt, if◌then◌else◌, List, [], ◌∷◌, ◌++◌, map, length, All, ◌⊎◌, inl, inr, ⊎_elim, refl, sym, ap, subst, ◌∙◌, arith}
+use Rattle.std.proofs.Common.{◌≡◌, ℕ, zero, suc, ◌+◌, ◌-◌, ◌*◌, ◌^◌, ◌<◌, ◌≤◌, Bool, true, false, not, cond, ◌&&◌, nat_eq, nat_le, nat_lt, if◌then◌else◌, List, [], ◌∷◌, ◌++◌, map, length, All, ◌⊎◌, inl, inr, ⊎_elim, refl, sym, ap, subst, ◌∙◌, arith}
 use Rattle.std.specs.List.{flat_map, filter, list_any}
-use Rattle.std.proofs.lemmas.Bool.{and_parts, and_from, false≢true, false_from_ne_true, not_from_false}
+use Rattle.std.proofs.lemmas.Bool.{and_parts, false≢true, or_parts, not-true}
 use Rattle.std.proofs.lemmas.List.Elements.{All-map}
+use Rattle.std.proofs.lemmas.List.{length-map}
 use Rattle.nv_base.specs.Sets.{is_in, all_different, without}
 use Rattle.ssu_ir.specs.Tree.{Lit, Una, Bin, Clone, Read, Write, Label, Does, Forks, Ends}
 use Rattle.ssu_ir.specs.Points.{Place, Entry, At, Point, points, IsHeld}
@@ -10,7 +11,7 @@ use Rattle.ssu_ir.specs.Single.{single}
 use Rattle.ssu_ir.proofs.Held.{points_held}
 use Rattle.place_ir.specs.Uses.{Access, accesses, reads_at, writes_at, Sort, Parameter, Result, Fetched, Value, values, place_values, Role, Operand, Address, Written, Argument, Ending, Use, uses, uses_from, uses_at, place_roles, uses_of, is_used}
 use Rattle.place_ir.specs.Fits.{is_result, parameter, point_values}
-use Rattle.place_ir.proofs.Scoped.{in-itself, different-filter}
+use Rattle.place_ir.proofs.Scoped.{in-itself, different-filter, different-without}
 use Rattle.place_ir.proofs.Sound.{Each, each-append}
 use Rattle.place_ir.proofs.Spilled.{each-all, all-each, each-weaker}
 use Rattle.zo_model.specs.declared.program.ZeroOne.{ZeroOne}
@@ -27,23 +28,18 @@ use Rattle.bank_prog.specs.Columns.{each_point, sort_of, is_fetched, eight, poin
 use Rattle.bank_prog.specs.Rows.{Line, at_most, covers, exactly_one, homes, def, home, stay, srv, srv_from, srv_at, dir, ear, is_parameter, is_written, parameter_choice, result_choice, access_choice, early, use_choice, one_choice, served_home, served_stay, use_stay, use_cover, in_register, fill, word_from_register, copy_lines, copy_cover, at_home, argument_lines, argument_cover, homes_cover, two_operands, both_at, pair_lines, operand_lines, operand_banks, held_in, room_lines, capacity, is_sdram, same_side, run_at, sort_stays, stays_at, role_early, early_at, covering, side_covering, waiting, read_owners, access_owners, fill_owners, side_owners, write_owners, owners, stay_begins, word_begins, begins_at, adjacency, is_slot, slot_read, slot_written, result_written, value_written, passes, lines}
 use Rattle.bank_prog.specs.Program as program
 use Rattle.bank_prog.specs.Program.{same_column, bank_program}
-use Rattle.bank_prog.proofs.Keys.{column-true}
-use Rattle.bank_prog.proofs.Distinct.{or-false, not-true, each-flat, each-points, each-map}
+use Rattle.bank_prog.proofs.Distinct.{each-flat, each-points, each-map, apart-property}
 use Rattle.bank_prog.proofs.Families.{family, var_of, point_of, operand_of, bank_number}
 use Rattle.bank_prog.proofs.Fills.{is_read, After, Chained, labels-chained}
-use Rattle.bank_prog.proofs.FormLemmas.{length-map}
 use Rattle.bank_prog.proofs.PlainRows.{Differ, IsPlain, covers-plain, most-plain, one-plain, rows-fit}
 
 -- ---- columns that differ by a key, or by a property
 
-apart-by : (P : Column → Type 0) (c d : Column) → P c → (P d → ⊥) → same_column c d ≡ false
-apart-by P c d h n = false_from_ne_true (same_column c d) (λ e. n (subst P (column-true c d e) h))
-
 keys-alike : (key : Column → ℕ) (c : Column) (cs : List Column) → is_in (key c) (map key cs) ≡ false → Each (λ d. same_column c d ≡ false) cs
 keys-alike key c [] h = tt
 keys-alike key c (d ∷ cs) h =
-    let m = or-false (nat_eq (key c) (key d)) (is_in (key c) (map key cs)) h in
-    (apart-by (λ e. nat_eq (key c) (key e) ≡ true) c d (in-itself (key c)) (λ e. false≢true (sym m.0 ∙ e)), keys-alike key c cs m.1)
+    let m = or_parts (nat_eq (key c) (key d)) (is_in (key c) (map key cs)) h in
+    (apart-property (λ e. nat_eq (key c) (key e) ≡ true) c d (in-itself (key c)) (λ e. false≢true (sym m.0 ∙ e)), keys-alike key c cs m.1)
 
 keys-differ : (key : Column → ℕ) (cs : List Column) → all_different (map key cs) ≡ true → Differ cs
 keys-differ key [] h = tt
@@ -54,7 +50,7 @@ keys-differ key (c ∷ cs) h =
 join-differ : (P : Column → Type 0) (a b : List Column) → Each P a → Each (λ c. P c → ⊥) b → Differ a → Differ b → Differ (a ++ b)
 join-differ P [] b h g d e = e
 join-differ P (c ∷ a) b h g d e = (
-  each-append (λ x. same_column c x ≡ false) a b d.0 (each-weaker (λ x. P x → ⊥) (λ x. same_column c x ≡ false) b (λ x n. apart-by P c x h.0 n) g),
+  each-append (λ x. same_column c x ≡ false) a b d.0 (each-weaker (λ x. P x → ⊥) (λ x. same_column c x ≡ false) b (λ x n. apart-property P c x h.0 n) g),
   join-differ P a b h.1 g d.1 e,
 )
 
@@ -68,11 +64,11 @@ registers-differ key make h rs d = keys-differ key (map make rs) (ap all_differe
 
 -- ---- columns of each of some things, no two of which are the same
 
-abbrev Pairs : {X : Type 0} → (X → X → Type 0) → List X → Type 0
+abbrev pub Pairs : {X : Type 0} → (X → X → Type 0) → List X → Type 0
 Pairs R [] = Unit {0}
 Pairs R (x ∷ xs) = Each (R x) xs × Pairs R xs
 
-each-kept : {X : Type 0} (P : X → Type 0) (p : X → Bool) (xs : List X) → Each P xs → Each P (filter p xs)
+pub each-kept : {X : Type 0} (P : X → Type 0) (p : X → Bool) (xs : List X) → Each P xs → Each P (filter p xs)
 each-kept P p [] h = tt
 each-kept P p (x ∷ xs) h = pick (p x) h.0 (each-kept P p xs h.1)
   where
@@ -117,7 +113,7 @@ vars-clash x y a c h g = false≢true (sym a ∙ ap (nat_eq x) (sym g ∙ h) ∙
 
 each-apart : (x : ℕ) (ys : List ℕ) → is_in x ys ≡ false → Each (Apart x) ys
 each-apart x [] h = tt
-each-apart x (y ∷ ys) h = let m = or-false (nat_eq x y) (is_in x ys) h in (m.0, each-apart x ys m.1)
+each-apart x (y ∷ ys) h = let m = or_parts (nat_eq x y) (is_in x ys) h in (m.0, each-apart x ys m.1)
 
 vars-apart : (xs : List ℕ) → all_different xs ≡ true → Pairs Apart xs
 vars-apart [] h = tt
@@ -420,25 +416,6 @@ reads-plain labels k xs (At (Does (Write m y ys))) d = tt
 reads-plain labels k xs (At (Forks c x y)) d = tt
 reads-plain labels k xs (At (Ends l)) d = tt
 
--- some values without others
-not-without : (x : ℕ) (xs gone : List ℕ) → is_in x xs ≡ false → is_in x (without xs gone) ≡ false
-not-without x [] gone h = refl
-not-without x (y ∷ xs) gone h = let m = or-false (nat_eq x y) (is_in x xs) h in pick (is_in y gone) m.0 (not-without x xs gone m.1)
-  where
-    pick : (b : Bool) → nat_eq x y ≡ false → is_in x (without xs gone) ≡ false → is_in x (if b then without xs gone else y ∷ without xs gone) ≡ false
-    pick true n r = r
-    pick false n r = ap (λ b. b || is_in x (without xs gone)) n ∙ r
-
-without-different : (xs gone : List ℕ) → all_different xs ≡ true → all_different (without xs gone) ≡ true
-without-different [] gone h = refl
-without-different (x ∷ xs) gone h =
-    let m = and_parts (not (is_in x xs)) (all_different xs) h in
-    pick (is_in x gone) (not-without x xs gone (not-true (is_in x xs) m.0)) (without-different xs gone m.1)
-  where
-    pick : (b : Bool) → is_in x (without xs gone) ≡ false → all_different (without xs gone) ≡ true → all_different (if b then without xs gone else x ∷ without xs gone) ≡ true
-    pick true n r = r
-    pick false n r = and_from (not (is_in x (without xs gone))) (all_different (without xs gone)) (not_from_false (is_in x (without xs gone)) n) r
-
 after-different : (after : List ℕ) (ps : List Point) → Each IsHeld ps → After after ps → all_different after ≡ true
 after-different after [] h a = absurd a
 after-different after (q ∷ ps) h a = ap all_different a ∙ h.0.different
@@ -448,7 +425,7 @@ fills-plain labels k [] h c = tt
 fills-plain labels k (q ∷ ps) h c =
     let gone = point_values k q in
     each-append IsPlain (fill_owners labels k q) (each_point (fill_owners labels) (suc k) ps)
-    (reads-plain labels k (without q.after gone) q.place (λ e. without-different q.after gone (after-different q.after ps h.1 (c.0 e)))) (fills-plain labels (suc k) ps h.1 c.1)
+    (reads-plain labels k (without q.after gone) q.place (λ e. different-without q.after gone (after-different q.after ps h.1 (c.0 e)))) (fills-plain labels (suc k) ps h.1 c.1)
 
 role-each : (P : Column → Type 0) (sdram : Bool) (r k i : ℕ) (role : Role) → ((f : ℕ) → P (Dir k i f)) → ((f : ℕ) → P (Ear k i f)) → Each P (role_early sdram r k i role)
 role-each P sdram r k i Operand h g = tt
@@ -605,7 +582,7 @@ services-cheap (Argument l i) =
     (omega arith, (omega arith, (omega arith, (omega arith, (omega arith, (omega arith, (omega arith, (omega arith, (omega arith, (omega arith, (omega arith, (omega arith, tt))))))))))))
 services-cheap (Ending i) = (omega arith, (omega arith, (omega arith, (omega arith, tt))))
 
-mapped-each : {X Y : Type 0} (P : Y → Type 0) (f : X → Y) (xs : List X) → Each (λ x. P (f x)) xs → Each P (map f xs)
+pub mapped-each : {X Y : Type 0} (P : Y → Type 0) (f : X → Y) (xs : List X) → Each (λ x. P (f x)) xs → Each P (map f xs)
 mapped-each P f [] h = tt
 mapped-each P f (x ∷ xs) h = (h.0, mapped-each P f xs h.1)
 
@@ -642,8 +619,8 @@ costs-fit labels =
 
 program-fits : (labels : List Label) (slots : ℕ) → single labels ≡ true → slots ≤ 128 → length (columns labels) ≤ 2 ^ 26 → length (program.rows labels slots) ≤ 2 ^ 26 → IsValidContents (bank_program labels slots)
 program-fits labels slots s l n m =
-    let one = length-map (λ (p : Priced). p.0) (priced labels) in
-    let two = length-map (λ (p : Priced). p.1) (priced labels) in
+    let one = length-map (priced labels) (λ (p : Priced). p.0) in
+    let two = length-map (priced labels) (λ (p : Priced). p.1) in
     let same : length (columns labels) ≡ length (costs labels) = one ∙ sym two in
     record {
       columns_fit = omega (arith, n, same);

@@ -1,5 +1,5 @@
 -- Which columns there are: the column of each thing that the form has one for is among the columns.
-use Rattle.std.proofs.Common.{◌≡◌, ℕ, zero, suc, ◌+◌, ◌<◌, nat_le, Bool, true, false, cond, if◌then◌else◌, ◌||◌, Some, List, [], ◌∷◌, ◌++◌, length, map, refl, sym, ap, subst, ◌∙◌, ◌⊎◌, inl, inr, ⊎_elim, arith, rules, tests}
+use Rattle.std.proofs.Common.{◌≡◌, ℕ, zero, suc, ◌+◌, ◌<◌, nat_le, Bool, true, false, cond, if◌then◌else◌, Some, List, [], ◌∷◌, ◌++◌, length, map, refl, sym, ap, subst, ◌∙◌, ◌⊎◌, inl, inr, ⊎_elim, arith}
 use Rattle.std.specs.Prelude.{slice_get, slice_index_or}
 use Rattle.std.specs.List.{Contains, flat_map, filter, list_any}
 use Rattle.std.proofs.lemmas.Bool.{false≢true}
@@ -84,21 +84,6 @@ contains-point f j (p ∷ ps) zero k q y e g m =
 contains-point f j (p ∷ ps) (suc i) k q y e g m =
     Contains-append_right (f j p) (each_point f (suc j) ps) y (contains-point f (suc j) ps i k q y (omega (arith, e)) g m)
 
-or-left : (a b : Bool) → a ≡ true → (a || b) ≡ true
-or-left true b e = refl
-or-left false b e = absurd (false≢true e)
-
-or-right : (a b : Bool) → b ≡ true → (a || b) ≡ true
-or-right true b e = refl
-or-right false b e = e
-
-pub any-contained : {X : Type 0} (p : X → Bool) (xs : List X) (x : X) → Contains xs x → p x ≡ true → list_any p xs ≡ true
-any-contained p [] x m t = contains-none _ x m
-any-contained p (z ∷ xs) x m t = ⊎_elim
-    (λ (e : z ≡ x). or-left (p z) (list_any p xs) (ap p e ∙ t))
-    (λ (n : Contains xs x). or-right (p z) (list_any p xs) (any-contained p xs x n t))
-    (first-or-other x z xs m.0 m.1 m.2)
-
 -- ---- registers, banks, and where an access may begin
 
 pub contains-eight : (r : ℕ) → r < 8 → Contains eight r
@@ -120,9 +105,6 @@ home-a = (0, omega arith, refl)
 
 pub home-b : Contains homes B
 home-b = (1, omega arith, refl)
-
-pub home-m : Contains homes M
-home-m = (2, omega arith, refl)
 
 -- ---- where a use, a value and an access stand
 
@@ -407,22 +389,3 @@ pas-s-there labels k q r g e m =
     let c : Priced = (PasS k r, 0) in
     named labels c (to-pas-l labels c (Contains-append_right (all_pas_l labels) (all_pas_s labels) c
     (contains-point (pas_s_columns labels) 0 (points labels) k k q c (zero-from k) g (eight-here (list_any (λ v. is_used labels v.var) (place_values k q.place)) (PasS k) r e m))))
-
--- ---- passes by a use and by a value
-
-le-true : (n : ℕ) → nat_le 1 (suc n) ≡ true
-le-true n = search (tests, rules)
-
-has-use : (u : Use) (k i : ℕ) (xs : List ℕ) (rs : List Role) → Contains (uses_at k i xs rs) u → nat_le 1 (length xs) ≡ true
-has-use u k i [] rs m = contains-none _ u m
-has-use u k i (x ∷ xs) rs m = le-true (length xs)
-
-pub use-pass : (labels : List Label) (u : Use) (r : ℕ) → Contains (uses labels) u → r < 8 → Contains (columns labels) (PasL u.point r)
-use-pass labels u r m l =
-    let w = use-place labels u m in
-    pas-l-there labels u.point w.0 r w.1 (has-use u u.point 0 w.0.uses (place_roles w.0.place) w.2) (contains-eight r l)
-
-pub value-pass : (labels : List Label) (v : Value) (r : ℕ) → Contains (values labels) v → is_used labels v.var ≡ true → r < 8 → Contains (columns labels) (PasS v.point r)
-value-pass labels v r m e l =
-    let w = value-place labels v m in
-    pas-s-there labels v.point w.0 r w.1 (any-contained (λ (z : Value). is_used labels z.var) (place_values v.point w.0.place) v w.2 e) (contains-eight r l)

@@ -1,12 +1,12 @@
 -- Terms of a row: columns rise, terms of one column are added up, and their order doesn't matter.
-use Rattle.std.proofs.Common.{◌≡◌, ℕ, zero, suc, ◌≤◌, ◌<◌, nat_eq, nat_lt, Bool, true, false, if◌then◌else◌, List, [], ◌∷◌, ◌++◌, length, map, get_or, set, ℤ, pos, ◌+ℤ◌, Option, Some, None, refl, sym, ap, subst, ◌∙◌, arith, rules, tests}
+use Rattle.std.proofs.Common.{◌≡◌, ℕ, zero, suc, ◌≤◌, ◌<◌, nat_eq, nat_lt, Bool, true, false, if◌then◌else◌, List, [], ◌∷◌, ◌++◌, length, map, get_or, set, ℤ, pos, ◌+ℤ◌, Option, Some, None, refl, sym, ap, subst, ◌∙◌, arith}
 use Rattle.std.proofs.Math.IntN.{+ℤ_comm, +ℤ_assoc}
-use Rattle.std.proofs.lemmas.Bool.{false≢true, false_from_ne_true}
+use Rattle.std.proofs.lemmas.Bool.{false≢true, ne_eqb, lt-ltb, le-ltb}
 use Rattle.std.specs.List.{insert}
-use Rattle.nv_base.proofs.Sets.{same-number}
 use Rattle.bank_prog.specs.declared.column.Column.{Column}
 use Rattle.bank_prog.specs.Program.{Numbers, Terms, add_term, add_named, terms_of}
 use Rattle.bank_prog.specs.inner.Adds.{Rising, add_each}
+use Rattle.place_ir.proofs.Scoped.{in-itself}
 
 -- ---- choices that are known
 
@@ -17,18 +17,6 @@ if-true false x y e = absurd (false≢true e)
 if-false : {A : Type 0} (b : Bool) (x y : A) → b ≡ false → (if b then x else y) ≡ y
 if-false false x y e = refl
 if-false true x y e = absurd (false≢true (sym e))
-
-pub eq-itself : (x : ℕ) → nat_eq x x ≡ true
-eq-itself x = search (tests, rules)
-
-other-test : (a b : ℕ) → (a ≡ b → ⊥) → nat_eq a b ≡ false
-other-test a b h = false_from_ne_true (nat_eq a b) (λ e. h (same-number a b e))
-
-lt-true : (a b : ℕ) → a < b → nat_lt a b ≡ true
-lt-true a b h = search (tests, rules)
-
-lt-false : (a b : ℕ) → b ≤ a → nat_lt a b ≡ false
-lt-false a b h = search (tests, rules)
 
 pub data Order (a b : ℕ) : Type 0 where
   less : a < b → Order a b
@@ -49,17 +37,17 @@ order (suc a) (suc b) = up (order a b)
 -- ---- one term more
 
 add-less : (j : ℕ) (a : ℤ) (t : ℕ × ℤ) (ts : Terms) → j < t.0 → add_term j a (t ∷ ts) ≡ (j, a) ∷ t ∷ ts
-add-less j a t ts h = if-true (nat_lt j t.0) ((j, a) ∷ t ∷ ts) (if nat_eq j t.0 then (j, a +ℤ t.1) ∷ ts else t ∷ add_term j a ts) (lt-true j t.0 h)
+add-less j a t ts h = if-true (nat_lt j t.0) ((j, a) ∷ t ∷ ts) (if nat_eq j t.0 then (j, a +ℤ t.1) ∷ ts else t ∷ add_term j a ts) (lt-ltb j t.0 h)
 
 add-same : (j : ℕ) (a : ℤ) (t : ℕ × ℤ) (ts : Terms) → j ≡ t.0 → add_term j a (t ∷ ts) ≡ (j, a +ℤ t.1) ∷ ts
 add-same j a t ts h =
-    if-false (nat_lt j t.0) ((j, a) ∷ t ∷ ts) (if nat_eq j t.0 then (j, a +ℤ t.1) ∷ ts else t ∷ add_term j a ts) (lt-false j t.0 (omega (arith, h)))
-    ∙ if-true (nat_eq j t.0) ((j, a +ℤ t.1) ∷ ts) (t ∷ add_term j a ts) (ap (nat_eq j) (sym h) ∙ eq-itself j)
+    if-false (nat_lt j t.0) ((j, a) ∷ t ∷ ts) (if nat_eq j t.0 then (j, a +ℤ t.1) ∷ ts else t ∷ add_term j a ts) (le-ltb j t.0 (omega (arith, h)))
+    ∙ if-true (nat_eq j t.0) ((j, a +ℤ t.1) ∷ ts) (t ∷ add_term j a ts) (ap (nat_eq j) (sym h) ∙ in-itself j)
 
 add-more : (j : ℕ) (a : ℤ) (t : ℕ × ℤ) (ts : Terms) → t.0 < j → add_term j a (t ∷ ts) ≡ t ∷ add_term j a ts
 add-more j a t ts h =
-    if-false (nat_lt j t.0) ((j, a) ∷ t ∷ ts) (if nat_eq j t.0 then (j, a +ℤ t.1) ∷ ts else t ∷ add_term j a ts) (lt-false j t.0 (omega (arith, h)))
-    ∙ if-false (nat_eq j t.0) ((j, a +ℤ t.1) ∷ ts) (t ∷ add_term j a ts) (other-test j t.0 (λ e. omega (arith, h, e)))
+    if-false (nat_lt j t.0) ((j, a) ∷ t ∷ ts) (if nat_eq j t.0 then (j, a +ℤ t.1) ∷ ts else t ∷ add_term j a ts) (le-ltb j t.0 (omega (arith, h)))
+    ∙ if-false (nat_eq j t.0) ((j, a +ℤ t.1) ∷ ts) (t ∷ add_term j a ts) (ne_eqb j t.0 (λ e. omega (arith, h, e)))
 
 -- ---- where it goes
 
@@ -104,7 +92,7 @@ rising-named (Some j) a ts r = rising-add 0 j a ts (omega arith) r
 
 -- ---- the order doesn't matter
 
-crossed : (a b c : ℤ) → (a +ℤ (b +ℤ c)) ≡ (b +ℤ (a +ℤ c))
+pub crossed : (a b c : ℤ) → (a +ℤ (b +ℤ c)) ≡ (b +ℤ (a +ℤ c))
 crossed a b c = sym (+ℤ_assoc a b c) ∙ ap (λ s. s +ℤ c) (+ℤ_comm a b) ∙ +ℤ_assoc b a c
 
 -- both go before all

@@ -1,7 +1,7 @@
 -- The tables of a form are made in one walk over its points.
 use Rattle.std.proofs.Common.{◌≡◌, ℕ, suc, ◌+◌, ◌<◌, ◌≤◌, Bool, true, false, if◌then◌else◌, nat_eq, nat_le, List, [], ◌∷◌, ◌++◌, length, map, drop, get_or, Option, Some, None, refl, sym, ap, ◌∙◌, append_assoc, arith}
 use Rattle.std.specs.List.{flat_map}
-use Rattle.std.proofs.lemmas.List.{at_drop_more, at_drop_all, append-nil}
+use Rattle.std.proofs.lemmas.List.{at_drop_more, at_drop_all, append-nil, length-map}
 use Rattle.ssu_ir.specs.Tree.{Label}
 use Rattle.ssu_ir.specs.Points.{Names, Place, Point, points}
 use Rattle.place_ir.specs.Uses as pure
@@ -15,7 +15,6 @@ use Rattle.bank_prog.specs.declared.form.Sort.{Sort}
 use Rattle.bank_prog.specs.inner.Form as form
 use Rattle.bank_prog.specs.inner.Form.{Part, part_of, part_at, parts_at, part_values, part_uses, part_accesses, sort_view, sort_found, sort_noted, known_sort, used_by, use_of}
 use Rattle.bank_prog.proofs.Loops.{each-parts, flat-filter, map-itself}
-use Rattle.bank_prog.proofs.FormLemmas.{length-map}
 
 -- ---- numbered pieces
 
@@ -81,7 +80,7 @@ part-same of k q h =
       uses = uses_at k 0 (map of (place_names q.place)) (place_roles q.place);
       reads = reads_at k q.place;
       writes = writes_at k q.place;
-    }) (ap (nat_le 1) (sym (length-map of (place_names q.place)) ∙ ap length (sym h)))
+    }) (ap (nat_le 1) (sym (length-map (place_names q.place) of) ∙ ap length (sym h)))
     ∙ ap (λ us. record {
       point = k;
       words = place_words q.place;
@@ -97,7 +96,7 @@ pub parts-gathered : (of : Names) (k : ℕ) (ps : List Point) → Each (IsNamed 
 parts-gathered of k [] h = refl
 parts-gathered of k (q ∷ ps) h = ap (λ p. p ∷ gather (parts_at of) (suc k) (map (λ p. p.place) ps)) (part-same of k q h.0) ∙ ap (λ rest. part_of k q ∷ rest) (parts-gathered of (suc k) ps h.1)
 
-values-each : (k : ℕ) (ps : List Point) → each_point (λ k q. place_values k q.place) k ps ≡ values_from k ps
+pub values-each : (k : ℕ) (ps : List Point) → each_point (λ k q. place_values k q.place) k ps ≡ values_from k ps
 values-each k [] = refl
 values-each k (q ∷ ps) = ap (λ vs. place_values k q.place ++ vs) (values-each (suc k) ps)
 

@@ -3,12 +3,13 @@ use Rattle.std.proofs.Common.{◌≡◌, ℕ, suc, ◌+◌, ◌<◌, ◌≤◌, 
 use Rattle.std.specs.List.{flat_map, filter}
 use Rattle.std.proofs.lemmas.List.{at_drop_more, at_drop_all, append-nil}
 use Rattle.nv_base.specs.Sets.{is_in, all_different}
-use Rattle.ssu_ir.specs.Tree.{Lit, Una, Bin, Clone, Read, Write, Label, Does, Forks, Ends}
-use Rattle.ssu_ir.specs.Points.{Place, Entry, At, Point, place_values, points}
+use Rattle.ssu_ir.specs.Tree.{Label}
+use Rattle.ssu_ir.specs.Points.{Point, place_values, points}
 use Rattle.place_ir.specs.Uses as pure
-use Rattle.place_ir.specs.Uses.{Sort, Parameter, Fetched, numbered, values_from}
+use Rattle.place_ir.specs.Uses.{values_from}
 use Rattle.place_ir.specs.Fits.{point_values}
 use Rattle.place_ir.specs.inner.Numbers.{values_among}
+use Rattle.place_ir.proofs.Fitting.{vars-of-place}
 use Rattle.bank_prog.specs.Columns.{each_point}
 use Rattle.bank_prog.specs.Rows.{waiting, is_written}
 use Rattle.bank_prog.specs.inner.Form.{part_of}
@@ -69,27 +70,12 @@ both-filters p w (u ∷ us) h = ap (λ b. cond b (u ∷ filter p us) (filter p u
     pick false true e r = r ∙ ap (λ c. cond c (u ∷ filter (λ u. is_written u.role) (filter w us)) (filter (λ u. is_written u.role) (filter w us))) (sym e)
     pick false false e r = r
 
-numbered-vars : (j : ℕ) (sort : ℕ → Sort) (i : ℕ) (xs : List ℕ) → map (λ v. v.var) (numbered j sort i xs) ≡ xs
-numbered-vars j sort i [] = refl
-numbered-vars j sort i (x ∷ xs) = ap (λ ys. x ∷ ys) (numbered-vars j sort (suc i) xs)
-
-pub place-vars : (j : ℕ) (p : Place) → map (λ v. v.var) (pure.place_values j p) ≡ place_values p
-place-vars j (Entry l params) = numbered-vars j (Parameter l) 0 params
-place-vars j (At (Does (Lit v n))) = refl
-place-vars j (At (Does (Una v op y))) = refl
-place-vars j (At (Does (Bin v op y z))) = refl
-place-vars j (At (Does (Clone xs y))) = refl
-place-vars j (At (Does (Read m xs y))) = numbered-vars j (Fetched m) 0 xs
-place-vars j (At (Does (Write m y xs))) = refl
-place-vars j (At (Forks c y z)) = refl
-place-vars j (At (Ends l)) = refl
-
 point-words : (labels : List Label) (below : List ℕ) (point : ℕ → Option ℕ) (k : ℕ) (q : Point) → ((x : ℕ) → is_in x (q.above ++ place_values q.place) ≡ covers (read_from below) (point x) k) → read_from below k ≡ q.below
     → flat_map (kept_waiting below point k) (pure.uses labels) ≡ filter (λ u. is_written u.role) (waiting labels k q)
 point-words labels below point k q h b =
     flat-filter (waits_by below point k) (λ u. u) (pure.uses labels) ∙ map-itself (filter (waits_by below point k) (pure.uses labels))
     ∙ both-filters (waits_by below point k) (λ u. is_in u.value (q.above ++ point_values k q) && (nat_lt k u.point && nat_le u.point (k + q.below))) (pure.uses labels)
-    (λ u. ap (λ c. is_written u.role && (c && (nat_lt k u.point && nat_le u.point (k + read_from below k)))) (sym (h u.value) ∙ ap (λ vs. is_in u.value (q.above ++ vs)) (sym (place-vars k q.place)))
+    (λ u. ap (λ c. is_written u.role && (c && (nat_lt k u.point && nat_le u.point (k + read_from below k)))) (sym (h u.value) ∙ ap (λ vs. is_in u.value (q.above ++ vs)) (sym (vars-of-place k q.place)))
     ∙ ap (λ m. is_written u.role && (is_in u.value (q.above ++ point_values k q) && (nat_lt k u.point && nat_le u.point (k + m)))) b)
 
 points-words : {V : Type 0} (labels : List Label) (below : List ℕ) (point : ℕ → Option ℕ) (k : ℕ) (xs : List V) (ps : List Point) → length xs ≡ length ps

@@ -1,7 +1,7 @@
 -- Rows of write registers, point by point.
 use Rattle.std.proofs.Common.{◌≡◌, ℕ, zero, suc, ◌+◌, ◌<◌, ◌≤◌, Bool, true, false, cond, List, [], ◌∷◌, ◌++◌, map, length, drop, get_or, refl, sym, ap, ◌∙◌, append_assoc, arith}
 use Rattle.std.specs.List.{flat_map, filter}
-use Rattle.std.proofs.lemmas.List.{at_drop_more, at_drop_all, append-nil, drop_all}
+use Rattle.std.proofs.lemmas.List.{at_drop_more, at_drop_all, append-nil, drop_all, map-append}
 use Rattle.std.proofs.lemmas.Bool.{false≢true}
 use Rattle.std.specs.declared.vec.Vec.{Vec}
 use Rattle.std.specs.declared.alloc.Global.{Global}
@@ -20,7 +20,6 @@ use Rattle.bank_prog.specs.inner.Adds.{Adds}
 use Rattle.bank_prog.specs.inner.Form as form
 use Rattle.bank_prog.specs.inner.Form.{Part, part_of}
 use Rattle.bank_prog.specs.inner.Waiting.{waiting_from, all_waiting, lists_of, write_owner, sdram_write_owner, part_writes, first_list, rest_lists, writes}
-use Rattle.bank_prog.proofs.Loops.{map-append}
 
 pub rest-dropped : (j : ℕ) (vs : List (Vec Use Global)) → rest_lists (lists_of (drop j vs)) ≡ lists_of (drop (j + 1) vs)
 rest-dropped zero [] = refl

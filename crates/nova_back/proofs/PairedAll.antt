@@ -1,5 +1,5 @@
 -- The vector of the paired choice: it meets all lines, and costs little.
-use Rattle.std.proofs.Common.{◌≡◌, ℕ, ◌+◌, ◌*◌, ◌≤◌, nat_eq, Bool, true, not, ◌&&◌, List, [], ◌∷◌, ◌++◌, length, map, refl, ap, ◌∙◌, arith}
+use Rattle.std.proofs.Common.{◌≡◌, ℕ, ◌+◌, ◌*◌, ◌≤◌, nat_eq, Bool, true, not, ◌&&◌, List, [], ◌++◌, length, map, refl, ap, ◌∙◌, arith}
 use Rattle.std.specs.Prelude.{All, is_some}
 use Rattle.std.specs.List.{flat_map}
 use Rattle.ssu_ir.specs.Measures.{peak}
@@ -98,7 +98,3 @@ paired-costs labels x g =
     let a = costs-by-name labels x g.form in
     let b = paired-cost labels (on labels x) g in
     omega (arith, a, b)
-
-pub same-count : {X Y : Type 0} (f : X → Y) (xs : List X) → length (map f xs) ≡ length xs
-same-count f [] = refl
-same-count f (x ∷ xs) = omega (arith, same-count f xs)

@@ -14,9 +14,10 @@ use Rattle.bank_prog.specs.declared.column.Service.{Service}
 use Rattle.bank_prog.specs.Columns.{sort_of, is_fetched, eight, beginnings, role_beginnings, sort_beginnings, place_words, point_uses, Priced, sort_defs, def_columns, dir_columns, point_dirs, fill_columns, stay_columns, point_stays, ear_columns, point_ears, first_columns, services, has_bank, srv_columns, for_eight, pas_l_columns, pas_s_columns, all_dirs, all_stays, all_ears, all_pas_l, all_pas_s, priced}
 use Rattle.bank_prog.specs.Meaning.{Chosen, named_cost}
 use Rattle.bank_prog.specs.Program.{number_of}
+use Rattle.bank_prog.proofs.PlainLines.{mapped-each, each-kept}
 use Rattle.nova_back.specs.inner.Paired.{paired}
 use Rattle.nova_back.proofs.PairedOn.{IsPaired, off, each-any}
-use Rattle.reg_assign.proofs.ChosenHolds.{flat-each, map-each, if-each, points-each}
+use Rattle.reg_assign.proofs.ChosenHolds.{flat-each, if-each, points-each}
 use Rattle.reg_assign.proofs.CostSums.{cost-append}
 
 -- ---- columns that cost nothing
@@ -73,7 +74,7 @@ dirs-free labels on g = points-each (IsFree on) (point_dirs labels) 0 (points la
     flat-each (IsFree on) (dir_columns labels n) us (each-any (λ u. Each (IsFree on) (dir_columns labels n u)) us (λ u.
     let fs = role_beginnings n u.role in
     if-each (IsFree on) (is_result (sort_of labels u.value)) (map (λ f. (Dir u.point u.operand f, 0)) fs) (λ t.
-    map-each (IsFree on) (λ f. (Dir u.point u.operand f, 0)) fs (each-any (λ f. IsFree on (Dir u.point u.operand f, 0)) fs (λ f. free-zero on (Dir u.point u.operand f)))))))
+    mapped-each (IsFree on) (λ f. (Dir u.point u.operand f, 0)) fs (each-any (λ f. IsFree on (Dir u.point u.operand f, 0)) fs (λ f. free-zero on (Dir u.point u.operand f)))))))
 
 fill-cost : (labels : List Label) (on : Chosen) (v : Value) → IsPaired labels on → named_cost on (fill_columns labels v) ≤ 2
 fill-cost labels on v g = by (is_used labels v.var)
@@ -93,7 +94,7 @@ stays-free labels on g = points-each (IsFree on) (point_stays labels) 0 (points 
     flat-each (IsFree on) (stay_columns labels n) vs (each-any (λ v. Each (IsFree on) (stay_columns labels n v)) vs (λ v.
     let fs = sort_beginnings n v.sort in
     if-each (IsFree on) (is_used labels v.var) (map (λ f. (Stay v.var f, 0)) fs) (λ t.
-    map-each (IsFree on) (λ f. (Stay v.var f, 0)) fs (each-any (λ f. IsFree on (Stay v.var f, 0)) fs (λ f. free-zero on (Stay v.var f)))))))
+    mapped-each (IsFree on) (λ f. (Stay v.var f, 0)) fs (each-any (λ f. IsFree on (Stay v.var f, 0)) fs (λ f. free-zero on (Stay v.var f)))))))
 
 ears-free : (labels : List Label) (on : Chosen) → IsPaired labels on → Each (IsFree on) (all_ears labels)
 ears-free labels on g = points-each (IsFree on) point_ears 0 (points labels) (λ i k q e s.
@@ -101,15 +102,15 @@ ears-free labels on g = points-each (IsFree on) point_ears 0 (points labels) (λ
     let us = point_uses k q in
     flat-each (IsFree on) (ear_columns n) us (each-any (λ u. Each (IsFree on) (ear_columns n u)) us (λ u.
     let fs = role_beginnings n u.role in
-    map-each (IsFree on) (λ f. (Ear u.point u.operand f, 1)) fs (each-any (λ f. IsFree on (Ear u.point u.operand f, 1)) fs (λ f. paid labels on (Ear u.point u.operand f) 1 g refl)))))
+    mapped-each (IsFree on) (λ f. (Ear u.point u.operand f, 1)) fs (each-any (λ f. IsFree on (Ear u.point u.operand f, 1)) fs (λ f. paid labels on (Ear u.point u.operand f) 1 g refl)))))
 
 firsts-free : (on : Chosen) (as' : List Access) → Each (IsFree on) (flat_map first_columns as')
 firsts-free on as' = flat-each (IsFree on) first_columns as' (each-any (λ a. Each (IsFree on) (first_columns a)) as' (λ (a : Access).
     let fs = beginnings a.mem a.words in
-    map-each (IsFree on) (λ f. (First a.point f, 0)) fs (each-any (λ f. IsFree on (First a.point f, 0)) fs (λ f. free-zero on (First a.point f)))))
+    mapped-each (IsFree on) (λ f. (First a.point f, 0)) fs (each-any (λ f. IsFree on (First a.point f, 0)) fs (λ f. free-zero on (First a.point f)))))
 
 eight-free : (on : Chosen) (b : Bool) (column : ℕ → Column) → Each (IsFree on) (for_eight b column)
-eight-free on true column = map-each (IsFree on) (λ r. (column r, 0)) eight (each-any (λ r. IsFree on (column r, 0)) eight (λ r. free-zero on (column r)))
+eight-free on true column = mapped-each (IsFree on) (λ r. (column r, 0)) eight (each-any (λ r. IsFree on (column r, 0)) eight (λ r. free-zero on (column r)))
 eight-free on false column = tt
 
 pas-l-free : (labels : List Label) (on : Chosen) → Each (IsFree on) (all_pas_l labels)
@@ -120,14 +121,6 @@ pas-s-free labels on = points-each (IsFree on) (pas_s_columns labels) 0 (points 
 
 -- ---- services
 
-kept-each : {X : Type 0} (P : X → Type 0) (p : X → Bool) (xs : List X) → Each P xs → Each P (filter p xs)
-kept-each P p [] h = tt
-kept-each P p (x ∷ xs) h = by (p x) (kept-each P p xs h.1)
-  where
-    by : (b : Bool) → Each P (filter p xs) → Each P (if b then x ∷ filter p xs else filter p xs)
-    by true k = (h.0, k)
-    by false k = k
-
 abbrev IsFreeWay : Chosen → ℕ → ℕ → Service → Type 0
 IsFreeWay on k i s = IsFree on (Srv k i s.from s.at, s.cost)
 
@@ -136,7 +129,7 @@ free-ways : (on : Chosen) (k i : ℕ) (fetched : Bool) (ss : List Service) → E
 free-ways on k i fetched ss h =
     let kept = filter (λ (s : Service). has_bank fetched s.from) ss in
     let z = free-cost on (map (λ (s : Service). (Srv k i s.from s.at, s.cost)) kept)
-    (map-each (IsFree on) (λ (s : Service). (Srv k i s.from s.at, s.cost)) kept (kept-each (IsFreeWay on k i) (λ (s : Service). has_bank fetched s.from) ss h)) in
+    (mapped-each (IsFree on) (λ (s : Service). (Srv k i s.from s.at, s.cost)) kept (each-kept (IsFreeWay on k i) (λ (s : Service). has_bank fetched s.from) ss h)) in
     omega (arith, z)
 
 role-cost : (labels : List Label) (on : Chosen) (fetched : Bool) (k i : ℕ) (r : Role) → IsPaired labels on → named_cost on (map (λ s. (Srv k i s.from s.at, s.cost)) (filter (λ s. has_bank fetched s.from) (services r))) ≤ 1

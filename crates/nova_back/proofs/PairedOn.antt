@@ -1,15 +1,13 @@
 -- The columns that the paired choice has on, one by one and in counts.
-use Rattle.std.proofs.Common.{◌≡◌, ℕ, suc, ◌+◌, ◌≤◌, nat_eq, Bool, true, false, not, ◌&&◌, inl, inr, ⊎_elim, Option, Some, None, List, [], ◌∷◌, map, refl, sym, ap, subst, ◌∙◌, arith}
+use Rattle.std.proofs.Common.{◌≡◌, ℕ, suc, ◌+◌, ◌≤◌, nat_eq, Bool, true, false, not, ◌&&◌, inl, inr, Option, Some, None, List, [], ◌∷◌, map, refl, sym, ap, subst, ◌∙◌, arith}
 use Rattle.std.specs.Prelude.{slice_get, Contains, is_some}
-use Rattle.std.proofs.lemmas.Bool.{and_parts, or_left, or_right, false≢true, false_from_ne_true}
-use Rattle.nv_base.specs.Sets.{is_in}
+use Rattle.std.proofs.lemmas.Bool.{and_parts, false≢true, false_from_ne_true}
 use Rattle.ssu_ir.specs.Points.{Point, points}
 use Rattle.ssu_ir.specs.Single.{single}
 use Rattle.ssu_ir.specs.Tree.{Label}
-use Rattle.place_ir.specs.Uses.{Value, values, Role, Operand, Address, Written, Argument, Ending, Use, uses_at, uses, place_roles, is_used}
+use Rattle.place_ir.specs.Uses.{Value, values, Role, Operand, Address, Written, Argument, Ending, Use, uses, place_roles, is_used}
 use Rattle.place_ir.specs.inner.Numbers.{values_among}
 use Rattle.place_ir.proofs.Fitting.{apart-from}
-use Rattle.place_ir.proofs.Scoped.{in-itself}
 use Rattle.place_ir.proofs.Sound.{Each, Sound, sound-points, uses_among}
 use Rattle.place_ir.proofs.Spilled.{each-at}
 use Rattle.zo_model.specs.Program.{vector, cost_where}
@@ -31,6 +29,7 @@ use Rattle.reg_assign.proofs.ChosenHolds.{in-test}
 use Rattle.reg_assign.proofs.Counts.{In, in-contained, contained-in, map-in, each-in, some-counted}
 use Rattle.reg_assign.proofs.FactsThere.{there, IsService}
 use Rattle.reg_assign.proofs.FactsValues.{same-use}
+use Rattle.reg_assign.proofs.LabelPoints.{used-here}
 
 -- these columns are on: those of the paired choice that are there
 pub record IsPaired (labels : List Label) (on : Chosen) : Type 0 where
@@ -156,14 +155,6 @@ each-any P (x ∷ xs) h = (h x, each-any P xs h)
 
 -- ---- uses and their values
 
-value-in : (u : Use) (k i : ℕ) (xs : List ℕ) (rs : List Role) → In u (uses_at k i xs rs) → is_in u.value xs ≡ true
-value-in u k i [] rs h = absurd h
-value-in u k i (x ∷ xs) [] h = absurd h
-value-in u k i (x ∷ xs) (r ∷ rs) h = ⊎_elim
-    (λ (e : ◌≡◌ {A = Use} (record { point = k; operand = i; value = x; role = r }) u). or_left (nat_eq u.value x) (is_in u.value xs) (subst (λ (z : Use). nat_eq z.value x ≡ true) e (in-itself x)))
-    (λ (j : In u (uses_at k (suc i) xs rs)). or_right (nat_eq u.value x) (is_in u.value xs) (value-in u k (suc i) xs rs j))
-    h
-
 -- the point of a use
 pub use-at : (labels : List Label) (u : Use) → In u (uses labels) → (q : Point) × (slice_get (points labels) u.point ≡ Some q) × In u (point_uses u.point q)
 use-at labels u i = let w = use-place labels u (contained-in u (uses labels) i) in (w.0, w.1, in-contained u (point_uses u.point w.0) w.2)
@@ -179,7 +170,7 @@ pub used-value : (labels : List Label) (u : Use) → single labels ≡ true → 
 used-value labels u s i =
     let w = use-at labels u i in
     let sound = point-sound labels u.point w.0 s w.1 in
-    held-value labels u.point w.0 u.value s w.1 (sound.uses_held u.value (value-in u u.point 0 w.0.uses (place_roles w.0.place) w.2))
+    held-value labels u.point w.0 u.value s w.1 (sound.uses_held u.value (used-here u u.point 0 w.0.uses (place_roles w.0.place) w.2))
 
 pub is-used : (labels : List Label) (u : Use) → In u (uses labels) → is_used labels u.value ≡ true
 is-used labels u i = in-test u.value (map (λ (w : Use). w.value) (uses labels)) (map-in (λ (w : Use). w.value) u (uses labels) i)

@@ -22,11 +22,12 @@ use Rattle.bank_prog.specs.Meaning.{Chosen, Holds}
 use Rattle.bank_prog.specs.Program.{number_of}
 use Rattle.bank_prog.specs.Rows.{at_most, covers, home, srv_at, two_operands, both_at, pair_lines, operand_lines, operand_banks, held_in, room_lines, capacity, is_sdram, same_side, run_at, sort_stays, stays_at, role_early, early_at, covering, side_covering, waiting, read_owners, access_owners, fill_owners, side_owners, write_owners, owners, stay_begins, word_begins, begins_at, adjacency, is_slot, slot_read, slot_written, result_written, value_written, passes}
 use Rattle.bank_prog.proofs.Present.{srv-there}
+use Rattle.bank_prog.proofs.PlainLines.{mapped-each}
 use Rattle.nova_back.specs.inner.Paired.{is_there, is_second, serves_a, serves_b}
 use Rattle.nova_back.proofs.PairedOn.{IsPaired, on-paired, off, contained-there, count-off, count-none, first-most, each-any, use-at, home-most, home-b-most, home-m-none}
 use Rattle.nova_back.proofs.PairedRows.{AreOff, zero-most, zero-covers, numbered-off, at-a, at-off, serves-none}
 use Rattle.reg_assign.specs.inner.Facts.{count}
-use Rattle.reg_assign.proofs.ChosenHolds.{most-holds, flat-each, map-each, if-each, points-each, only-most}
+use Rattle.reg_assign.proofs.ChosenHolds.{most-holds, flat-each, if-each, points-each, only-most}
 use Rattle.reg_assign.proofs.Counts.{In, contained-in, in-kept, each-from, count-append}
 use Rattle.reg_assign.proofs.FactsThere.{there}
 
@@ -240,16 +241,16 @@ writes-once labels on sdram r k (At (Ends l)) g = omega arith
 reads-own : (labels : List Label) (on : Chosen) (k : ℕ) (q : Point) → IsPaired labels on → Each (Holds on) (read_owners labels k q)
 reads-own labels on k q g =
     each-append (Holds on) (map (λ r. at_most 1 (stays_at labels false r q.before ++ PasL k r ∷ [])) eight) (map (λ r. at_most 1 (stays_at labels true r q.before)) eight)
-    (map-each (Holds on) (λ r. at_most 1 (stays_at labels false r q.before ++ PasL k r ∷ [])) eight
+    (mapped-each (Holds on) (λ r. at_most 1 (stays_at labels false r q.before ++ PasL k r ∷ [])) eight
     (each-any (λ r. Holds on (at_most 1 (stays_at labels false r q.before ++ PasL k r ∷ []))) eight (λ r.
     zero-most on 1 (stays_at labels false r q.before ++ PasL k r ∷ [])
     (each-append (λ c. on c ≡ false) (stays_at labels false r q.before) (PasL k r ∷ []) (stays-off labels on false r q.before g) (off labels on g (PasL k r) refl, tt)))))
-    (map-each (Holds on) (λ r. at_most 1 (stays_at labels true r q.before)) eight
+    (mapped-each (Holds on) (λ r. at_most 1 (stays_at labels true r q.before)) eight
     (each-any (λ r. Holds on (at_most 1 (stays_at labels true r q.before))) eight (λ r. zero-most on 1 (stays_at labels true r q.before) (stays-off labels on true r q.before g))))
 
 access-owns : (labels : List Label) (on : Chosen) (xs : List ℕ) (a : Access) → IsPaired labels on → Each (Holds on) (access_owners labels xs a)
 access-owns labels on xs a g =
-    map-each (Holds on) (λ r. at_most 1 (stays_at labels (is_sdram a.mem) r xs ++ covering r a)) eight
+    mapped-each (Holds on) (λ r. at_most 1 (stays_at labels (is_sdram a.mem) r xs ++ covering r a)) eight
     (each-any (λ r. Holds on (at_most 1 (stays_at labels (is_sdram a.mem) r xs ++ covering r a))) eight (λ r.
     let stays = stays_at labels (is_sdram a.mem) r xs in
     let z = count-none on stays (stays-off labels on (is_sdram a.mem) r xs g) in
@@ -260,7 +261,7 @@ access-owns labels on xs a g =
 side-owns : (labels : List Label) (on : Chosen) (k : ℕ) (q : Point) (sdram : Bool) (pass : ℕ → List Column) → IsPaired labels on → ((r : ℕ) → AreOff on (pass r)) → Each (Holds on) (side_owners labels k q sdram pass)
 side-owns labels on k q sdram pass g h =
     let owned : ℕ → List Column = λ r. early_at sdram r (waiting labels k q) ++ (pass r ++ flat_map (side_covering sdram r) (writes_at k q.place)) in
-    map-each (Holds on) (λ r. at_most 1 (owned r)) eight (each-any (λ r. Holds on (at_most 1 (owned r))) eight (λ r.
+    mapped-each (Holds on) (λ r. at_most 1 (owned r)) eight (each-any (λ r. Holds on (at_most 1 (owned r))) eight (λ r.
     let early = early_at sdram r (waiting labels k q) in
     let writes = flat_map (side_covering sdram r) (writes_at k q.place) in
     let a = count-none on early (waits-off labels on sdram r (waiting labels k q) g) in
@@ -293,14 +294,14 @@ stay-lines : (labels : List Label) (on : Chosen) (n : ℕ) (v : Value) → IsPai
 stay-lines labels on n v g =
     let line = λ (f : ℕ). covers (First v.point f ∷ []) (Stay v.var f ∷ []) in
     let fs = sort_beginnings n v.sort in
-    if-each (Holds on) (is_used labels v.var) (map line fs) (λ e. map-each (Holds on) line fs (each-any (λ f. Holds on (line f)) fs (λ f.
+    if-each (Holds on) (is_used labels v.var) (map line fs) (λ e. mapped-each (Holds on) line fs (each-any (λ f. Holds on (line f)) fs (λ f.
     zero-covers on (First v.point f ∷ []) (Stay v.var f ∷ []) (off labels on g (Stay v.var f) refl, tt))))
 
 word-lines : (labels : List Label) (on : Chosen) (n : ℕ) (u : Use) → IsPaired labels on → Each (Holds on) (word_begins n u)
 word-lines labels on n u g =
     let line = λ (f : ℕ). covers (First u.point f ∷ []) (Dir u.point u.operand f ∷ Ear u.point u.operand f ∷ []) in
     let fs = role_beginnings n u.role in
-    map-each (Holds on) line fs (each-any (λ f. Holds on (line f)) fs (λ f.
+    mapped-each (Holds on) line fs (each-any (λ f. Holds on (line f)) fs (λ f.
     zero-covers on (First u.point f ∷ []) (Dir u.point u.operand f ∷ Ear u.point u.operand f ∷ []) (off labels on g (Dir u.point u.operand f) refl, (off labels on g (Ear u.point u.operand f) refl, tt))))
 
 pub adjacency-lines : (labels : List Label) (on : Chosen) → IsPaired labels on → Each (Holds on) (adjacency labels)
@@ -326,7 +327,7 @@ slot-off labels on k i W p g e = absurd (false≢true e)
 reads-slot : (labels : List Label) (on : Chosen) (u : Use) → IsPaired labels on → Each (Holds on) (slot_read u)
 reads-slot labels on u g =
     let from-slot = filter (λ (s : Service). is_slot s.from) (services u.role) in
-    map-each (Holds on) (λ (s : Service). covers (map (PasL u.point) eight) (Srv u.point u.operand s.from s.at ∷ [])) from-slot
+    mapped-each (Holds on) (λ (s : Service). covers (map (PasL u.point) eight) (Srv u.point u.operand s.from s.at ∷ [])) from-slot
     (each-from (λ (s : Service). Holds on (covers (map (PasL u.point) eight) (Srv u.point u.operand s.from s.at ∷ []))) from-slot (λ s i.
     zero-covers on (map (PasL u.point) eight) (Srv u.point u.operand s.from s.at ∷ [])
     (slot-off labels on u.point u.operand s.from s.at g (in-kept (λ (t : Service). is_slot t.from) s (services u.role) i).1, tt)))

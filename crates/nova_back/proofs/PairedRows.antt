@@ -2,14 +2,14 @@
 use Rattle.std.proofs.Common.{◌≡◌, ℕ, suc, ◌+◌, ◌≤◌, nat_eq, nat_le, Bool, true, false, not, ◌&&◌, inl, List, [], ◌∷◌, ◌++◌, map, refl, sym, ap, subst, ◌∙◌, arith}
 use Rattle.std.specs.Prelude.{Contains, ◌%◌}
 use Rattle.std.specs.List.{flat_map}
-use Rattle.std.proofs.lemmas.Bool.{and_parts, and_from, false≢true}
+use Rattle.std.proofs.lemmas.Bool.{and_parts, and_from, not-true, le-leb}
 use Rattle.nv_base.specs.Access.{can_move}
 use Rattle.nv_base.specs.declared.term.Mem.{Mem}
 use Rattle.nv_base.specs.declared.term.Mem.TheVariants.{Sram, Sdram, Scratch}
 use Rattle.ssu_ir.specs.Points.{Place, Entry, At, Point, points}
 use Rattle.ssu_ir.specs.Tree.{Label, Lit, Una, Bin, Clone, Read, Write, Does, Forks, Ends}
 use Rattle.place_ir.specs.Fits.{is_result, parameter}
-use Rattle.place_ir.specs.Uses.{Access, place_accesses, accesses_from, accesses, Sort, Parameter, Result, Fetched, Value, values, Role, Operand, Address, Written, Argument, Ending, Use, uses_of, uses, is_used}
+use Rattle.place_ir.specs.Uses.{Access, place_accesses, accesses_from, accesses, Value, values, Role, Operand, Address, Written, Argument, Ending, Use, uses_of, uses, is_used}
 use Rattle.place_ir.specs.inner.Numbers.{values_among}
 use Rattle.place_ir.proofs.Slotted.{first-fits}
 use Rattle.place_ir.proofs.Sound.{Each, each-append, Sound, sound-points, place_ok, uses_among}
@@ -23,13 +23,14 @@ use Rattle.bank_prog.specs.Meaning.{Chosen, Holds}
 use Rattle.bank_prog.specs.Program.{number_of}
 use Rattle.bank_prog.specs.Rows.{at_most, covers, exactly_one, homes, banks, def, home, stay, srv, srv_from, srv_at, dir, ear, early, is_parameter, is_written, parameter_choice, result_choice, access_choice, use_choice, served_home, use_stay, use_cover, in_register, fill, word_from_register, copy_lines, copy_cover, at_home, argument_lines, argument_cover}
 use Rattle.bank_prog.proofs.Present.{contains-beginning, first-there, srv-there}
+use Rattle.bank_prog.proofs.PlainLines.{mapped-each}
 use Rattle.nova_back.specs.inner.Paired.{is_second, serves_a, serves_b, serves, paired}
 use Rattle.nova_back.proofs.PairedOn.{IsPaired, off, put, is_operand, first-use, not-both, count-off, count-none, first-most, first-one, each-any, used-value, is-used, home-most, home-a-some, home-b-most, home-b-some, home-m-none, put-a}
 use Rattle.reg_assign.specs.inner.Facts.{count}
-use Rattle.reg_assign.proofs.ChosenHolds.{most-holds, covers-hold, one-holds, flat-each, map-each, if-each, unsaid}
+use Rattle.reg_assign.proofs.ChosenHolds.{most-holds, covers-hold, one-holds, flat-each, if-each}
 use Rattle.reg_assign.proofs.ChosenSource.{argument-value}
 use Rattle.reg_assign.proofs.Counts.{In, contained-in, each-in, count-append, some-counted}
-use Rattle.reg_assign.proofs.FactsPoints.{le-test}
+use Rattle.reg_assign.proofs.ChosenValues.{unfetched, result-unfetched}
 
 -- ---- lines of columns that are off
 
@@ -43,7 +44,7 @@ pub zero-covers : (on : Chosen) (cs ds : List Column) → AreOff on ds → Holds
 zero-covers on cs ds h = covers-hold on cs ds (let z = count-none on ds h in omega (arith, z))
 
 pub numbered-off : (labels : List Label) (on : Chosen) (c : ℕ → Column) (rs : List ℕ) → IsPaired labels on → ((r : ℕ) → paired (number_of labels) (c r) ≡ false) → AreOff on (map c rs)
-numbered-off labels on c rs g h = map-each (λ d. on d ≡ false) c rs (each-any (λ r. on (c r) ≡ false) rs (λ r. off labels on g (c r) (h r)))
+numbered-off labels on c rs g h = mapped-each (λ d. on d ≡ false) c rs (each-any (λ r. on (c r) ≡ false) rs (λ r. off labels on g (c r) (h r)))
 
 pub dirs-off : (labels : List Label) (on : Chosen) (u : Use) → IsPaired labels on → AreOff on (dir u)
 dirs-off labels on u g = numbered-off labels on (Dir u.point u.operand) eight g (λ f. refl)
@@ -57,28 +58,18 @@ early-off labels on u g =
 
 -- ---- each parameter and each result is put into A
 
-parameter-plain : (s : Sort) → is_parameter s ≡ true → is_fetched s ≡ false
-parameter-plain (Parameter l i) e = refl
-parameter-plain Result e = absurd (false≢true e)
-parameter-plain (Fetched m i) e = absurd (false≢true e)
-
-result-plain : (s : Sort) → is_result s ≡ true → is_fetched s ≡ false
-result-plain (Parameter l i) e = absurd (false≢true e)
-result-plain Result e = refl
-result-plain (Fetched m i) e = absurd (false≢true e)
-
 put-once : (labels : List Label) (on : Chosen) (v : Value) → IsPaired labels on → In v (values labels) → is_fetched v.sort ≡ false → count on (def v.var) ≡ 1
 put-once labels on v g i n =
     first-one on (Def v.var A) (Def v.var B ∷ Def v.var M ∷ []) (put-a labels on v g i n) (off labels on g (Def v.var B) refl, (off labels on g (Def v.var M) refl, tt))
 
 pub parameter-lines : (labels : List Label) (on : Chosen) (v : Value) → IsPaired labels on → In v (values labels) → Each (Holds on) (parameter_choice v)
-parameter-lines labels on v g i = if-each (Holds on) (is_parameter v.sort) (exactly_one (def v.var)) (λ e. one-holds on (def v.var) (put-once labels on v g i (parameter-plain v.sort e)))
+parameter-lines labels on v g i = if-each (Holds on) (is_parameter v.sort) (exactly_one (def v.var)) (λ e. one-holds on (def v.var) (put-once labels on v g i (unfetched v.sort e)))
 
 pub result-lines : (labels : List Label) (on : Chosen) (v : Value) → IsPaired labels on → In v (values labels) → Each (Holds on) (result_choice labels v)
 result-lines labels on v g i =
     let us = uses_of labels v.var in
     if-each (Holds on) (is_result v.sort) (exactly_one (def v.var ++ flat_map dir us)) (λ e.
-    let a = put-once labels on v g i (result-plain v.sort e) in
+    let a = put-once labels on v g i (result-unfetched v.sort e) in
     let z = count-none on (flat_map dir us) (flat-each (λ c. on c ≡ false) dir us (each-any (λ u. AreOff on (dir u)) us (λ u. dirs-off labels on u g))) in
     let s = count-append on (def v.var) (flat_map dir us) in
     one-holds on (def v.var ++ flat_map dir us) (omega (arith, a, z, s)))
@@ -86,9 +77,9 @@ result-lines labels on v g i =
 -- ---- each access begins at the first register
 
 may-first : (m : Mem) (n : ℕ) → can_move m n ≡ true → may_begin m n 0 ≡ true
-may-first Sram n e = le-test (0 + n) 8 (first-fits Sram n 0 refl e)
-may-first Sdram n e = and_from (nat_le (0 + n) 8) (nat_eq (0 % 2) 0) (le-test (0 + n) 8 (first-fits Sdram n 0 refl e).0) refl
-may-first Scratch n e = le-test (0 + n) 8 (first-fits Scratch n 0 refl e)
+may-first Sram n e = le-leb (0 + n) 8 (first-fits Sram n 0 refl e)
+may-first Sdram n e = and_from (nat_le (0 + n) 8) (nat_eq (0 % 2) 0) (le-leb (0 + n) 8 (first-fits Sdram n 0 refl e).0) refl
+may-first Scratch n e = le-leb (0 + n) 8 (first-fits Scratch n 0 refl e)
 
 abbrev CanMove : Access → Type 0
 CanMove a = can_move a.mem a.words ≡ true
@@ -192,7 +183,7 @@ from-b labels on k i g =
     (off labels on g (Srv k i B M) refl, (off labels on g (Srv k i B T) refl, (off labels on g (Srv k i B L) refl, (off labels on g (Srv k i B A15) refl, (off labels on g (Srv k i B W) refl, tt))))))
 
 from-off : (labels : List Label) (on : Chosen) (k i : ℕ) (h : Bank) → IsPaired labels on → ((p : Bank) → paired (number_of labels) (Srv k i h p) ≡ false) → AreOff on (srv_from k i h)
-from-off labels on k i h g e = map-each (λ c. on c ≡ false) (Srv k i h) banks (each-any (λ p. on (Srv k i h p) ≡ false) banks (λ p. off labels on g (Srv k i h p) (e p)))
+from-off labels on k i h g e = mapped-each (λ c. on c ≡ false) (Srv k i h) banks (each-any (λ p. on (Srv k i h p) ≡ false) banks (λ p. off labels on g (Srv k i h p) (e p)))
 
 pub cover-lines : (labels : List Label) (on : Chosen) (u : Use) → IsPaired labels on → In u (uses labels) → Each (Holds on) (use_cover labels u)
 cover-lines labels on u g i =
@@ -224,7 +215,7 @@ copies-lines labels on v g i =
     let x = v.var in
     let us = uses_of labels x in
     if-each (Holds on) (is_used labels x && not (is_fetched v.sort)) (copy_lines labels x) (λ e.
-    let n : is_fetched v.sort ≡ false = unsaid (is_fetched v.sort) (and_parts (is_used labels x) (not (is_fetched v.sort)) e).1 in
+    let n : is_fetched v.sort ≡ false = not-true (is_fetched v.sort) (and_parts (is_used labels x) (not (is_fetched v.sort)) e).1 in
     let a = put-a labels on v g i n in
     let z = home-m-none labels on x g in
     each-append (Holds on) (map (λ h. at_most 1 (home x h)) homes) (map (λ h. covers (in_register x) (fill x h)) homes ++ flat_map (word_from_register x) us)
@@ -242,7 +233,7 @@ at-a labels on k i g =
     (off labels on g (Srv k i B A) refl, (off labels on g (Srv k i M A) refl, (off labels on g (Srv k i T A) refl, (off labels on g (Srv k i L A) refl, (off labels on g (Srv k i A15 A) refl, (off labels on g (Srv k i W A) refl, tt))))))
 
 pub at-off : (labels : List Label) (on : Chosen) (k i : ℕ) (p : Bank) → IsPaired labels on → ((h : Bank) → paired (number_of labels) (Srv k i h p) ≡ false) → AreOff on (srv_at k i p)
-at-off labels on k i p g e = map-each (λ c. on c ≡ false) (λ h. Srv k i h p) banks (each-any (λ h. on (Srv k i h p) ≡ false) banks (λ h. off labels on g (Srv k i h p) (e h)))
+at-off labels on k i p g e = mapped-each (λ c. on c ≡ false) (λ h. Srv k i h p) banks (each-any (λ h. on (Srv k i h p) ≡ false) banks (λ h. off labels on g (Srv k i h p) (e h)))
 
 pub serves-none : (second : Bool) (p : Bank) → serves_a second p ≡ false → serves_b second p ≡ false → (h : Bank) → serves second h p ≡ false
 serves-none second p a b A = a
@@ -262,7 +253,7 @@ arguments-of labels on u (Argument l j) g i e =
     let k = u.point in
     let o = u.operand in
     let w = argument-value labels u l j g.form i e in
-    let here : on (Def y A) ≡ true = subst (λ z. on (Def z A) ≡ true) w.2 (put-a labels on w.0 g w.1 (parameter-plain w.0.sort w.3)) in
+    let here : on (Def y A) ≡ true = subst (λ z. on (Def z A) ≡ true) w.2 (put-a labels on w.0 g w.1 (unfetched w.0.sort w.3)) in
     let a = some-counted on (Def y A) (at_home y A) (inl refl) here in
     let b = at-a labels on k o g in
     let f = first-use labels u i (ap is_operand e) in (

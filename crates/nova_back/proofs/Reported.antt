@@ -1,7 +1,7 @@
 -- What the report of a search says of the form whose program was searched.
-use Rattle.std.proofs.Common.{◌≡◌, ◌⊎◌, inl, inr, ℕ, ◌+◌, ◌-◌, ◌^◌, ◌<◌, ◌≤◌, List, Option, Some, None, length, refl, sym, ap, subst, ◌∙◌, Result, Ok, Err, IfOk, IfErr, IfSome, arith}
+use Rattle.std.proofs.Common.{◌≡◌, ℕ, ◌+◌, ◌-◌, ◌^◌, ◌≤◌, List, Option, Some, None, length, sym, ap, subst, ◌∙◌, Result, Ok, Err, IfOk, IfErr, IfSome, arith}
 use Rattle.std.proofs.lemmas.List.{length-map}
-use Rattle.ssu_ir.specs.Measures.{code_bound, peak}
+use Rattle.ssu_ir.specs.Measures.{peak}
 use Rattle.ssu_ir.specs.Tree.{Label}
 use Rattle.zo_model.specs.Contents.{contents}
 use Rattle.zo_model.specs.Program.{Feasible as Meeting, cost_of, costs_of, vector}
@@ -21,14 +21,13 @@ use Rattle.zo_solve.specs.Solved.{CostsAtMost, HadNoStart, IsDecided, OfVector, 
 use Rattle.zo_solve.specs.Vector.{IsVector, cost_at, start_cost}
 use Rattle.zo_solve.specs.declared.search.Solved.{Solved}
 use Rattle.zo_solve.specs.declared.search.Solved.TheVariants as answers
-use Rattle.bank_prog.specs.Columns.{columns, costs, priced}
-use Rattle.bank_prog.specs.Program.{bank_program, rows, IsTooLarge}
+use Rattle.bank_prog.specs.Columns.{columns, priced}
+use Rattle.bank_prog.specs.Program.{bank_program}
 use Rattle.bank_prog.proofs.LawsRows.{feasible-by-name}
-use Rattle.uc_isa.specs.Code.{CodeView}
-use Rattle.nova_back.specs.Causes.{HasVector, IsCause, IsCodeOf, IsEnded, IsLong, IsReportOn, IsWithout, claim_of, report_cost}
+use Rattle.nova_back.specs.Causes.{HasVector, IsEnded, IsReportOn, IsWithout, claim_of, report_cost}
 use Rattle.nova_back.specs.declared.error.BackError.{BackError}
 use Rattle.nova_back.specs.declared.error.BackError.TheVariants as back
-use Rattle.nova_back.specs.inner.Search.{IsChoice, IsCrowded, IsStart, IsCheap, HadNone, IsNoDearer, IsFound, IsCrowdedWithout, IsSearchOn, IsChosen, IsTold, IsUnbuilt, IsUnfound, copies_cost}
+use Rattle.nova_back.specs.inner.Search.{IsChoice, IsCrowded, IsStart, IsCheap, HadNone, IsNoDearer, IsFound, IsCrowdedWithout, IsSearchOn, IsChosen, IsTold, IsUnfound, copies_cost}
 
 -- ---- from an answer to its report
 
@@ -134,9 +133,6 @@ choice-of-report labels slots budget r h g = record {
   feasible = (feasible-by-name r.z labels slots (vector r.x.on.items) h.program).0 (vector-meets r.verdict r g h.holds.verdict_holds);
 }
 
-pub cost-of-report : (labels : List Label) (slots budget : ℕ) (r : Report) → IsReportOn labels slots budget r → report_cost r ≡ costs_of (costs labels) (vector r.x.on.items)
-cost-of-report labels slots budget r h = ap (λ c. costs_of c.costs (vector r.x.on.items)) h.program
-
 at-most-start : (z : ZeroOne) (start : Option Assignment) (v : Verdict) (r : Report) → HasVector v → IsNoDearer z start v r → CostsAtMost (report_cost r) (start_cost z start)
 at-most-start z start Optimal r g h = h
 at-most-start z start Feasible r g h = h
@@ -192,42 +188,3 @@ told-unfound labels slots budget report (back.StoreFull n) f h = absurd h
 pub unfound-report : (labels : List Label) (slots budget : ℕ) (report : Report) (result : Result Report BackError) → IsSearchOn labels slots budget report → IfErr result (IsTold report) → IfErr result (IsUnfound labels slots budget)
 unfound-report labels slots budget report (Ok r) f h = tt
 unfound-report labels slots budget report (Err e) f h = told-unfound labels slots budget report e f h
-
-pub unbuilt-unfound : (labels : List Label) (slots budget : ℕ) (e : BackError) → IsUnbuilt labels slots e → IsUnfound labels slots budget e
-unbuilt-unfound labels slots budget back.NoMemory h = tt
-unbuilt-unfound labels slots budget (back.TooLarge n) h = h
-unbuilt-unfound labels slots budget (back.Infeasible r) h = absurd h
-unbuilt-unfound labels slots budget (back.Spent r) h = absurd h
-unbuilt-unfound labels slots budget (back.StoreFull n) h = absurd h
-
--- ---- sizes
-
--- no form has two sizes that are told
-one-large : (labels : List Label) (slots m n : ℕ) → IsTooLarge labels slots m → IsTooLarge labels slots n → m ≡ n
-one-large labels slots m n (inl a) (inl b) = a.0 ∙ sym b.0
-one-large labels slots m n (inl a) (inr b) = absurd (omega (arith, a.0, a.1, b.0))
-one-large labels slots m n (inr a) (inl b) = absurd (omega (arith, b.0, b.1, a.0))
-one-large labels slots m n (inr a) (inr b) = a.1.0 ∙ sym b.1.0
-
-pub unbuilt-large : (labels : List Label) (slots n : ℕ) (e : BackError) → IsUnbuilt labels slots e → IsTooLarge labels slots n → (e ≡ back.NoMemory) ⊎ (e ≡ back.TooLarge n)
-unbuilt-large labels slots n back.NoMemory h l = inl refl
-unbuilt-large labels slots n (back.TooLarge m) h l = inr (ap back.TooLarge (one-large labels slots m n h l))
-unbuilt-large labels slots n (back.Infeasible r) h l = absurd h
-unbuilt-large labels slots n (back.Spent r) h l = absurd h
-unbuilt-large labels slots n (back.StoreFull k) h l = absurd h
-
-pub few-not-large : (labels : List Label) (slots n : ℕ) → length (columns labels) ≤ 2 ^ 26 → length (rows labels slots) ≤ 2 ^ 26 → IsTooLarge labels slots n → ⊥
-few-not-large labels slots n c r (inl a) = omega (arith, c, a.0, a.1)
-few-not-large labels slots n c r (inr a) = omega (arith, r, a.1.0, a.1.1)
-
--- ---- the whole
-
-pub unfound-cause : (labels : List Label) (slots budget store : ℕ) (e : BackError) → IsUnfound labels slots budget e → (e ≡ back.NoMemory) ⊎ IsCause labels slots budget store e
-unfound-cause labels slots budget store back.NoMemory h = inl refl
-unfound-cause labels slots budget store (back.TooLarge n) h = inr h
-unfound-cause labels slots budget store (back.Infeasible r) h = inr h
-unfound-cause labels slots budget store (back.Spent r) h = inr h
-unfound-cause labels slots budget store (back.StoreFull n) h = absurd h
-
-pub long-code : (labels : List Label) (store n : ℕ) (c : CodeView) → IsCodeOf labels c → n ≡ length c.list → length c.list ≤ code_bound labels → store < n → IsLong labels store n
-long-code labels store n c code counted bounded long = record { c = c; code = code; counted = counted; bounded = omega (arith, counted, bounded); long = long }

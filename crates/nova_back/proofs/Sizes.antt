@@ -4,10 +4,7 @@ use Rattle.std.proofs.Common.{◌≡◌, ℕ, zero, suc, ◌+◌, ◌*◌, ◌^�
 use Rattle.std.specs.List.{flat_map}
 use Rattle.std.proofs.lemmas.List.{length-append, length-map}
 use Rattle.std.proofs.lemmas.Grind.{flat_map-append}
-use Rattle.nv_base.specs.declared.term.Mem.{Mem}
-use Rattle.nv_base.specs.declared.term.Mem.TheVariants.{Sram, Sdram, Scratch}
-use Rattle.nv_base.specs.Memories.{IsAccess}
-use Rattle.nv_base.proofs.Operands.{is_access}
+use Rattle.nv_base.proofs.Operands.{is_access, access_eight}
 use Rattle.ssu_ir.specs.Measures.{size, point_size, total}
 use Rattle.ssu_ir.specs.Points.{Place, Entry, At, Point, points}
 use Rattle.ssu_ir.specs.Points as pure
@@ -28,17 +25,12 @@ parameters-defs k l i [] = refl
 parameters-defs k zero i (x ∷ xs) = omega (arith, parameters-defs k zero (suc i) xs)
 parameters-defs k (suc l) i (x ∷ xs) = omega (arith, parameters-defs k (suc l) (suc i) xs)
 
-access-short : (m : Mem) (n : ℕ) → IsAccess m n → n ≤ 8
-access-short Sram n h = h.1
-access-short Scratch n h = h.1
-access-short Sdram n h = omega (arith, h.1, h.3)
-
 step-defs : (k : ℕ) (s : Step) → is_step s ≡ true → 3 * length (pure.place_values (At (Does s))) ≤ 24 + length (flat_map def_columns (place_values k (At (Does s))))
 step-defs k (Lit x v) h = omega arith
 step-defs k (Una x op y) h = omega arith
 step-defs k (Bin x op y z) h = omega arith
 step-defs k (Clone xs y) h = omega arith
-step-defs k (Read m xs y) h = omega (arith, access-short m (length xs) (is_access m (length xs) h))
+step-defs k (Read m xs y) h = omega (arith, access_eight m (length xs) (is_access m (length xs) h))
 step-defs k (Write m y xs) h = omega arith
 
 place-defs : (labels : List Label) (k : ℕ) (q : Place) → place_ok labels q ≡ true → 3 * length (pure.place_values q) ≤ 24 + length (flat_map def_columns (place_values k q))

@@ -29,11 +29,6 @@ over-plus f g h e i [] = refl
 over-plus f g h e i (None ∷ os) = over-plus f g h e (suc i) os
 over-plus f g h e i (Some p ∷ os) = let rest = over-plus f g h e (suc i) os in let here = e i in omega arith
 
-over-same : (f g : ℕ → ℕ) → ((k : ℕ) → f k ≡ g k) → (i : ℕ) (os : Table) → over f i os ≡ over g i os
-over-same f g e i [] = refl
-over-same f g e i (None ∷ os) = over-same f g e (suc i) os
-over-same f g e i (Some p ∷ os) = let rest = over-same f g e (suc i) os in let here = e i in omega arith
-
 -- where each of them gives at least 1, their sum is at least their number
 count-le-over : (g : ℕ → ℕ) (i : ℕ) (os : Table) → ((j : ℕ) → is_some (get_or os j None) ≡ true → 1 ≤ g (i + j)) → count_by is_some os ≤ over g i os
 count-le-over g i [] h = omega arith
@@ -51,10 +46,6 @@ at_one n k = one_if (nat_eq n k)
 
 at_one-other : (n k : ℕ) → (n ≡ k → ⊥) → at_one n k ≡ 0
 at_one-other n k h = ap one_if (ne_eqb n k h)
-
-at_one-le : (b : Bool) → one_if b ≤ 1
-at_one-le true = omega arith
-at_one-le false = omega arith
 
 over-past : (n i : ℕ) (os : Table) → n < i → over (at_one n) i os ≡ 0
 over-past n i [] h = refl

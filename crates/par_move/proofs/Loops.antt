@@ -1,5 +1,5 @@
 -- What the loops keep.
-use Rattle.std.proofs.Common.{◌≡◌, ℕ, ◌+◌, ◌*◌, ◌<◌, ◌≤◌, true, Option, Some, None, is_some, List, [], ◌∷◌, ◌++◌, length, get_or, set, drop, refl, sym, ap, subst, ◌∙◌, inl, inr, arith}
+use Rattle.std.proofs.Common.{◌≡◌, ℕ, ◌+◌, ◌*◌, ◌<◌, ◌≤◌, Some, None, is_some, List, [], ◌∷◌, ◌++◌, length, get_or, set, drop, sym, ap, subst, ◌∙◌, inl, inr, arith}
 use Rattle.std.proofs.lemmas.Bool.{false≢true}
 use Rattle.std.proofs.lemmas.List.{drop_more, drop_all}
 use Rattle.place_ir.specs.declared.place.Place.{Place}
@@ -9,7 +9,7 @@ use Rattle.par_move.specs.inner.Pending.{number, Table, source_at, readings, pen
 use Rattle.par_move.proofs.Numbers.{number-injective}
 use Rattle.par_move.proofs.Keeping.{count-added, pending-before}
 use Rattle.par_move.proofs.Runs.{ran-more, free-more}
-use Rattle.par_move.proofs.Starts.{begun-more, begun-same, not-yet, apart-from, not-among}
+use Rattle.par_move.proofs.Starts.{begun-more, begun-same, not-yet, apart-from, not-among, none-unless}
 
 -- ---- moves are added
 
@@ -116,10 +116,6 @@ turning-more ms i m p p' l e h a counted t = record {
 
 pub turning-end : (ms : List Move) (i : ℕ) (p : Pending) → length ms ≤ i → Turning ms i p → GoTo p.sources.items []
 turning-end ms i p l a = subst (λ (ns : List Move). GoTo p.sources.items ns) (drop_all i ms l) a.left
-
-none-unless : (o : Option Place) → (is_some o ≡ true → ⊥) → o ≡ None
-none-unless None n = refl
-none-unless (Some p) n = absurd (n refl)
 
 -- no move is pending to the compiler's own register
 pub spared : (ms : List Move) (i : ℕ) (p : Pending) → SpareTemporary ms → Turning ms i p → source_at p.sources.items (number temporary) ≡ None

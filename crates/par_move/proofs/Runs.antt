@@ -10,16 +10,6 @@ use Rattle.par_move.proofs.Counts.{within-table, nothing-else-read}
 use Rattle.par_move.proofs.Steps.{entry-same, entry-other, pending-some}
 use Rattle.par_move.proofs.Keeping.{count-gone, count-saved, readings-gone, readings-saved, none-at, not-read, stands-run, stands-save}
 
-pub ran-none : (src : Table) (done : List Move) → Ran src done src done
-ran-none src done = record {
-  stands = λ ms a st. st;
-  total = refl;
-  fewer = omega arith;
-  kept = λ k. inl refl;
-  unread = λ k h e. h;
-  two = λ k h p g. absurd (false≢true (sym (ap is_some g) ∙ p));
-}
-
 still : (src : Table) (i k : ℕ) (p : Place) (was : Option Place) → source_at src i ≡ Some p → (source_at src k ≡ was) ⊎ (source_at src k ≡ None) → (source_at (set src i None) k ≡ was) ⊎ (source_at (set src i None) k ≡ None)
 still src i k p was e h = ⊎_elim
     (λ (same : k ≡ i). inr (ap (λ n. source_at (set src i None) n) same ∙ entry-same src i None (within-table src i p e)))

@@ -23,12 +23,6 @@ pub target-last : (ms : List Move) (m : Move) → HasTarget (ms ++ m ∷ []) (nu
 target-last [] m = inl refl
 target-last (n ∷ ms) m = inr (target-last ms m)
 
--- a move that is in the list has its target there
-pub target-at : (ms : List Move) (i : ℕ) (d : Move) → i < length ms → HasTarget ms (number (get_or ms i d).1)
-target-at [] i d h = absurd (omega arith)
-target-at (m ∷ ms) zero d h = inl refl
-target-at (m ∷ ms) (suc i) d h = inr (target-at ms i d (omega arith))
-
 tail-pairs : (m : Move) (ms : List Move) → HaveOwnTargets (m ∷ ms) → HaveOwnTargets ms
 tail-pairs m ms h = λ i j d a b. h (suc i) (suc j) d (omega arith) (omega arith)
 
@@ -49,9 +43,6 @@ not-before (m ∷ ms) (suc i) d l h (inl e) = h zero (suc i) d (omega arith) l (
 not-before (m ∷ ms) (suc i) d l h (inr x) = not-before ms i d (omega arith) (tail-pairs m ms h) x
 
 -- ---- the start
-
-pub begun-none : (ms : List Move) (src : Table) → ((k : ℕ) → source_at src k ≡ None) → Begun ms 0 src
-begun-none ms src h = record { each = λ j d l. absurd (omega arith); others = λ k w. absurd (false≢true (sym (ap is_some (h k)) ∙ w)) }
 
 pub not-yet : (ms : List Move) (i : ℕ) (m : Move) (src : Table) → i < length ms → m ≡ get_or ms i m → HaveOwnTargets ms → Begun ms i src → source_at src (number m.1) ≡ None
 not-yet ms i m src l e h b = none-when (source_at src (number m.1)) (λ w. not-before ms i m l h (subst (λ (n : Move). HasTarget (take i ms) (number n.1)) e (b.others (number m.1) w)))
@@ -158,7 +149,7 @@ begun-moves src os v b (inner.around {s} {t} {w} {ms} a c g e n d) =
 pub begun-goes : (ms : List Move) (src : Table) → Begun ms (length ms) src → GoTo src ms
 begun-goes ms src b = λ k w. subst (λ (n : List Move). HasTarget n k) (take_all (length ms) ms (omega arith)) (b.others k w)
 
-none-unless : (o : Option Place) → (is_some o ≡ true → ⊥) → o ≡ None
+pub none-unless : (o : Option Place) → (is_some o ≡ true → ⊥) → o ≡ None
 none-unless None n = refl
 none-unless (Some p) n = absurd (n refl)
 

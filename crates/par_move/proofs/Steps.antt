@@ -47,10 +47,6 @@ none-is-no-some o p e f = let bad : None ≡ Some p = sym e ∙ f in cc
 pub pending-some : (src : Table) (k : ℕ) (p : Place) → source_at src k ≡ Some p → IsPending src k
 pending-some src k p e = ap is_some e
 
-pub some-pending : (o : Option Place) → is_some o ≡ true → (p : Place) × (o ≡ Some p)
-some-pending None e = absurd (false≢true e)
-some-pending (Some p) e = (p, refl)
-
 -- ---- the single moves that are still to come
 
 pub rest-same : (src src' : Table) (ms r : List Move) → ((k : ℕ) → HasTarget ms k → source_at src' k ≡ source_at src k) → StandForRest src' ms r → StandForRest src ms r

@@ -2,7 +2,7 @@
 use Rattle.std.proofs.Common.{◌≡◌, ℕ, zero, suc, ◌+◌, nat_eq, nat_le, Bool, true, false, not, ◌&&◌, Some, List, [], ◌∷◌, ◌++◌, length, map, refl, sym, ap, subst, inl, inr, ⊎_elim, ◌∙◌, arith}
 use Rattle.std.specs.Prelude.{slice_get}
 use Rattle.std.specs.List.{flat_map}
-use Rattle.std.proofs.lemmas.Bool.{false≢true, and_parts, and_from, or_cases}
+use Rattle.std.proofs.lemmas.Bool.{false≢true, and_parts, and_from, or_cases, not-true}
 use Rattle.std.proofs.lemmas.List.Elements.{All-contains}
 use Rattle.nv_base.specs.Sets.{is_in, all_different}
 use Rattle.nv_base.proofs.Sets.{same-number}
@@ -11,21 +11,22 @@ use Rattle.ssu_ir.specs.Points.{Point, points}
 use Rattle.ssu_ir.specs.Single.{single}
 use Rattle.place_ir.specs.Costs.{cost}
 use Rattle.place_ir.specs.Plan.{Plan, first}
-use Rattle.place_ir.specs.Uses.{Access, accesses, Value, values, Role, Operand, Address, Written, Argument, Ending, Use, uses, uses_from}
+use Rattle.place_ir.specs.Uses.{Access, accesses, Value, values, Use, uses, uses_from}
 use Rattle.place_ir.specs.Fits.{IsFirst, is_early, Fits}
-use Rattle.place_ir.proofs.Scoped.{in-itself, different-filter}
+use Rattle.place_ir.proofs.Scoped.{in-itself}
 use Rattle.place_ir.proofs.Sound.{Each}
 use Rattle.zo_model.specs.Program.{cost_where}
 use Rattle.bank_prog.specs.declared.column.Column.{Column}
 use Rattle.bank_prog.specs.declared.column.Column.TheVariants.{Dir, Stay, Ear, First, PasL, PasS}
-use Rattle.bank_prog.specs.Columns.{Priced, each_point, eight, point_uses, place_words, may_begin, beginnings, role_beginnings, sort_beginnings, def_columns, fill_columns, dir_columns, point_dirs, stay_columns, point_stays, ear_columns, first_columns, srv_columns, for_eight, pas_l_columns, pas_s_columns, all_dirs, all_stays, all_ears, all_pas_l, all_pas_s, priced, columns}
+use Rattle.bank_prog.specs.Columns.{Priced, each_point, eight, point_uses, place_words, beginnings, role_beginnings, sort_beginnings, def_columns, fill_columns, dir_columns, point_dirs, stay_columns, point_stays, ear_columns, first_columns, srv_columns, for_eight, pas_l_columns, pas_s_columns, all_dirs, all_stays, all_ears, all_pas_l, all_pas_s, priced, columns}
 use Rattle.bank_prog.specs.Meaning.{Chosen, named_cost}
+use Rattle.bank_prog.proofs.Families.{role-beginnings}
 use Rattle.reg_assign.specs.inner.Facts.{count}
 use Rattle.reg_assign.specs.inner.Chosen.{waits, goes_there, chosen, IsChosen}
 use Rattle.reg_assign.proofs.Counts.{In, contained-in, map-in, some-counted, each-from}
 use Rattle.reg_assign.proofs.FactsAll.{values-differ}
 use Rattle.reg_assign.proofs.CostSums.{sum_of, sum-append, cost-append, by_value, one-more, none-more}
-use Rattle.reg_assign.proofs.ChosenHolds.{flat-each, if-each, points-each, in-test, unsaid, only-most, counted-one}
+use Rattle.reg_assign.proofs.ChosenHolds.{flat-each, if-each, points-each, in-test, only-most, counted-one}
 use Rattle.reg_assign.proofs.ChosenForm.{early-written, use-there}
 use Rattle.reg_assign.proofs.ChosenCostValues.{early_price, values-priced}
 use Rattle.reg_assign.proofs.ChosenThere.{use-among, use-stands, place_access, word-access, access-words, first-begins}
@@ -110,13 +111,6 @@ one-of on c g false rs h d i = by (count on (map c rs)) refl
     by zero e = e
     by (suc n) e = let w = counted-one on c rs (omega (arith, e)) in absurd (false≢true (and_parts (nat_eq g w.0) false (sym (h w.0) ∙ w.2)).1)
 
-beginnings-differ : (n : ℕ) (r : Role) → all_different (role_beginnings n r) ≡ true
-beginnings-differ n Operand = refl
-beginnings-differ n Address = refl
-beginnings-differ n (Written m i) = different-filter (may_begin m n) eight refl
-beginnings-differ n (Argument l i) = refl
-beginnings-differ n (Ending i) = refl
-
 -- the write of a word begins at one of the registers where it may
 begins-among : (labels : List Label) (p : Plan) (k : ℕ) (q : Point) (u : Use) → single labels ≡ true → Fits labels p → slice_get (points labels) k ≡ Some q → In u (point_uses k q) → is_early p u ≡ true → In (first p u.point) (role_beginnings (place_words q.place) u.role)
 begins-among labels p k q u s f at i e =
@@ -135,7 +129,7 @@ ear-cost labels p k q u s f at i =
     unit-count (chosen labels p) (Ear u.point u.operand) rs
     ∙ one-of (chosen labels p) (Ear u.point u.operand) (first p u.point) b rs
     (λ r. ap (λ (w : Use). nat_eq (first p u.point) r && (waits p u.point u.operand && not (goes_there p w.value))) there)
-    (beginnings-differ (place_words q.place) u.role)
+    (role-beginnings (place_words q.place) u.role)
     (λ e. begins-among labels p k q u s f at i (and_parts (waits p u.point u.operand) (not (goes_there p u.value)) e).0)
 
 flat-cost : (on : Chosen) (f : Use → List Priced) (g : Use → ℕ) (us : List Use) → ((u : Use) → In u us → named_cost on (f u) ≡ g u) → named_cost on (flat_map f us) ≡ sum_of g us
@@ -173,7 +167,7 @@ found-once g u us (v ∷ vs) d i =
         → (is_in u.value (map (λ v. v.var) vs) ≡ true → by_value g (u ∷ us) vs ≡ g u + by_value g us vs)
         → by_value g (u ∷ us) (v ∷ vs) ≡ g u + by_value g us (v ∷ vs)
     by true e n f h =
-        let s = f (subst (λ x. is_in x (map (λ v. v.var) vs) ≡ false) (sym (same-number u.value v.var e)) (unsaid (is_in v.var (map (λ v. v.var) vs)) n)) in
+        let s = f (subst (λ x. is_in x (map (λ v. v.var) vs) ≡ false) (sym (same-number u.value v.var e)) (not-true (is_in v.var (map (λ v. v.var) vs)) n)) in
         let c = one-more g u us v.var true e in
         omega (arith, s, c)
     by false e n f h =

@@ -1,7 +1,7 @@
 -- What the uses of a placement that fits cost: the columns by which they are served.
 use Rattle.std.proofs.Common.{◌≡◌, ℕ, ◌+◌, ◌<◌, nat_eq, Bool, true, false, not, ◌&&◌, ◌||◌, if◌then◌else◌, Option, List, [], ◌∷◌, length, map, filter, refl, sym, ap, subst, ⊎_elim, ◌∙◌, arith}
 use Rattle.std.specs.List.{flat_map, list_any}
-use Rattle.std.proofs.lemmas.Bool.{false≢true, false_from_ne_true}
+use Rattle.std.proofs.lemmas.Bool.{false≢true, false_from_ne_true, leb-true}
 use Rattle.nv_base.proofs.Sets.{same-number}
 use Rattle.nv_base.specs.declared.term.Mem.{Mem}
 use Rattle.nv_base.specs.declared.term.Mem.TheVariants.{Sram, Sdram, Scratch}
@@ -27,12 +27,12 @@ use Rattle.bank_prog.specs.Program.{same_bank}
 use Rattle.bank_prog.specs.Meaning.{named_cost}
 use Rattle.reg_assign.specs.inner.Chosen.{use_at, bank_of, is_in_bank, wanted_bank, chosen}
 use Rattle.reg_assign.proofs.Counts.{In, each-from}
-use Rattle.reg_assign.proofs.FactsPoints.{le-from}
+use Rattle.reg_assign.proofs.FactsPoints.{role-among}
 use Rattle.reg_assign.proofs.CostSums.{sum_of, cost-append}
 use Rattle.reg_assign.proofs.ChosenForm.{use-there, use-served, word-is}
-use Rattle.reg_assign.proofs.ChosenThere.{use-point, role-among}
-use Rattle.reg_assign.proofs.ChosenSource.{use-value, sort-is, source, source-fetched, roles-below, argument-value}
-use Rattle.reg_assign.proofs.ChosenCostValues.{parameter-general}
+use Rattle.reg_assign.proofs.ChosenThere.{use-point}
+use Rattle.reg_assign.proofs.ChosenSource.{use-value, sort-is, source, source-fetched, roles-below}
+use Rattle.reg_assign.proofs.ChosenServes.{argument-general}
 
 -- ---- which service is taken
 
@@ -208,12 +208,6 @@ not-write false c e = refl
 home-not-write : (p : Plan) (x : ℕ) (q : Place) → is_home p x q ≡ true → is_write_register q ≡ false
 home-not-write p x q e = not-write (is_write_register q) (same_place q (home p x).defined || list_any (same_place q) (home p x).copied) e
 
--- an argument is wanted where its parameter is first put
-argument-general : (labels : List Label) (p : Plan) (u : Use) (l j : ℕ) → single labels ≡ true → Fits labels p → In u (uses labels) → u.role ≡ Argument l j → IsGeneral p (home p (parameter labels l j)).defined
-argument-general labels p u l j s f i e =
-    let v = argument-value labels u l j s i e in
-    subst (λ x. IsGeneral p (home p x).defined) v.2 (parameter-general labels p v.0 f v.1 v.3)
-
 not-ending : (r : Role) (j : ℕ) → r ≡ Operand → r ≡ Ending j → ⊥
 not-ending r j e f = absurd (cc)
 
@@ -251,7 +245,7 @@ ending-low labels (At (Forks c x y)) j e h = absurd (not-ending (Ending j) j (tw
 ending-low labels (At (Ends (Jump l xs))) j e h = let w = roles-below (Ending j) (Argument l) 0 xs h in absurd (not-argument l w.0 j w.2)
 ending-low labels (At (Ends (Halt n xs))) j e h =
     let w = roles-below (Ending j) Ending 0 xs h in
-    let few = le-from (length xs) 8 e in
+    let few = leb-true (length xs) 8 e in
     let below = w.1 in
     let same = same-ending w.0 j w.2 in
     omega (arith, few, below, same)
@@ -261,7 +255,7 @@ use-ending labels u j s i e =
     let ps = points labels in
     let w = use-point labels u i in
     let sound = each-at (Sound labels (values_among (map (λ (q : Point). q.place) ps)) (uses_among ps)) ps u.point w.point (sound-points labels s) w.at in
-    ending-low labels w.point.place j sound.node (subst (λ r. In r (place_roles w.point.place)) e (role-among u u.point 0 w.point.uses (place_roles w.point.place) w.here))
+    ending-low labels w.point.place j sound.node (subst (λ r. In r (place_roles w.point.place)) e (role-among u.point 0 w.point.uses (place_roles w.point.place) u w.here))
 
 use-price : (labels : List Label) (p : Plan) (u : Use) (role : Role) → single labels ≡ true → Fits labels p → In u (uses labels) → u.role ≡ role → IsServedAt labels p u (served p u) role
     → price (is_fetched (sort_of labels u.value)) role (served p u).from (served p u).at ≡ served_cost (served p u).from (served p u).at

@@ -3,8 +3,6 @@ use Rattle.std.proofs.Common.{◌≡◌, ℕ, zero, suc, ◌+◌, Bool, true, fa
 use Rattle.std.specs.List.{flat_map, list_any}
 use Rattle.std.proofs.lemmas.Bool.{false≢true, false_from_ne_true}
 use Rattle.nv_base.specs.Sets.{is_in}
-use Rattle.nv_base.specs.declared.term.Mem.{Mem}
-use Rattle.nv_base.specs.declared.term.Mem.TheVariants.{Sram, Sdram, Scratch}
 use Rattle.ssu_ir.specs.Tree.{Label}
 use Rattle.ssu_ir.specs.Single.{single}
 use Rattle.place_ir.specs.declared.place.Place.{Place}
@@ -12,7 +10,7 @@ use Rattle.place_ir.specs.declared.place.Place.TheVariants as place
 use Rattle.place_ir.specs.Costs.{entry_cost, result_cost, defined_cost, copied_cost, all_copied_cost, values_cost}
 use Rattle.place_ir.specs.Plan.{Plan, home, first}
 use Rattle.place_ir.specs.Uses.{Sort, Parameter, Result, Fetched, Value, values, Use, uses, uses_of, is_used}
-use Rattle.place_ir.specs.Fits.{read_place, IsGeneral, is_write_register, word_register, is_early, early_uses, maybe, AreCopies, IsPutEarly, is_sort_homed, wants_home, Fits}
+use Rattle.place_ir.specs.Fits.{IsGeneral, is_write_register, word_register, is_early, early_uses, maybe, AreCopies, IsPutEarly, is_sort_homed, wants_home, Fits}
 use Rattle.place_ir.proofs.Sound.{Each}
 use Rattle.zo_model.specs.Program.{cost_where}
 use Rattle.bank_prog.specs.declared.column.Bank.TheVariants.{A, B, M}
@@ -28,6 +26,7 @@ use Rattle.reg_assign.proofs.FitHomes.{uses-none}
 use Rattle.reg_assign.proofs.CostSums.{sum_of, cost-append}
 use Rattle.reg_assign.proofs.CostValues.{copied-append, missing, vars-in}
 use Rattle.reg_assign.proofs.ChosenForm.{Housing, put_general, put_read, put_early, housing, put-writes, word-writes, words-write}
+use Rattle.reg_assign.proofs.ChosenServes.{general-not-write, read-not-write, parameter-general}
 
 -- ---- the definition
 
@@ -162,20 +161,6 @@ stays-apart false = refl
 
 -- ---- a value
 
-general-not-write : (p : Plan) (q : Place) → IsGeneral p q → is_write_register q ≡ false
-general-not-write p (place.A k) g = refl
-general-not-write p (place.B k) g = refl
-general-not-write p (place.Slot k) g = refl
-general-not-write p (place.L k) g = absurd g
-general-not-write p (place.LD k) g = absurd g
-general-not-write p (place.S k) g = absurd g
-general-not-write p (place.SD k) g = absurd g
-
-read-not-write : (m : Mem) (n : ℕ) → is_write_register (read_place m n) ≡ false
-read-not-write Sram n = refl
-read-not-write Sdram n = refl
-read-not-write Scratch n = refl
-
 -- what the copies of a value cost, by columns
 abbrev copies_price : List Label → Plan → Value → ℕ
 copies_price labels p v = named_cost (chosen labels p) (fill_columns labels v) + sum_of (early_price p) (uses_of labels v.var)
@@ -246,20 +231,6 @@ value-copies labels p v s f i = by (is_fetched v.sort) (is_used labels v.var) re
     by true false e o = unused-price labels p v o ∙ sym (homeless labels p v s f i e o)
     by true true e o = housed-sum labels p v f (housing labels p v f i (λ r. o))
     by false b e o = housed-sum labels p v f (housing labels p v f i (λ r. absurd (false≢true (sym e ∙ r))))
-
-param-general : (labels : List Label) (p : Plan) (v : Value) → Housing labels p v → is_parameter v.sort ≡ true → IsGeneral p (home p v.var).defined
-param-general labels p v (put_general u g c) e = g
-param-general labels p v (put_read m i s d c) e = absurd (false≢true (ap is_parameter (sym s) ∙ e))
-param-general labels p v (put_early s c) e = absurd (false≢true (ap is_parameter (sym s) ∙ e))
-
-param-unread : (s : Sort) → is_parameter s ≡ true → is_fetched s ≡ true → ⊥
-param-unread (Parameter l i) e f = false≢true f
-param-unread Result e f = false≢true e
-param-unread (Fetched m i) e f = false≢true e
-
--- a parameter is first put into a general register or a slot
-pub parameter-general : (labels : List Label) (p : Plan) (v : Value) → Fits labels p → In v (values labels) → is_parameter v.sort ≡ true → IsGeneral p (home p v.var).defined
-parameter-general labels p v f i e = param-general labels p v (housing labels p v f i (λ r. absurd (param-unread v.sort e r))) e
 
 value-definition : (labels : List Label) (p : Plan) (v : Value) → Fits labels p → In v (values labels) → named_cost (chosen labels p) (def_columns v) ≡ defined_cost v.sort (home p v.var).defined
 value-definition labels p v f i = defs-cost labels p v.var v.sort (parameter-general labels p v f i)

@@ -121,7 +121,7 @@ use-served labels p u f i = All-contains (IsServed labels p) (uses labels) u f.u
 pub early-written : (labels : List Label) (p : Plan) (u : Use) → Fits labels p → In u (uses labels) → is_early p u ≡ true → (m : Mem) × (i : ℕ) × (u.role ≡ Written m i)
 early-written labels p u f i e = early-by labels p u u.role refl (use-served labels p u f i) e
 
-write-is : (m : Mem) (n : ℕ) → is_write_register (write_place m n) ≡ true
+pub write-is : (m : Mem) (n : ℕ) → is_write_register (write_place m n) ≡ true
 write-is Sram n = refl
 write-is Sdram n = refl
 write-is Scratch n = refl

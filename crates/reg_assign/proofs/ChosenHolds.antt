@@ -3,7 +3,7 @@ use Rattle.std.proofs.Common.{◌≡◌, ◌≢◌, ℕ, zero, suc, ◌+◌, ◌
 use Rattle.std.specs.Prelude.{◌≤ℤ◌, slice_get}
 use Rattle.std.specs.List.{flat_map}
 use Rattle.std.proofs.lemmas.Int.{ints}
-use Rattle.std.proofs.lemmas.Bool.{false≢true, and_parts, or_left, or_right}
+use Rattle.std.proofs.lemmas.Bool.{false≢true, and_parts, or_left, or_right, not-true}
 use Rattle.nv_base.specs.Sets.{is_in, all_different}
 use Rattle.ssu_ir.specs.Points.{Point}
 use Rattle.zo_model.specs.Program.{cost_where}
@@ -11,6 +11,7 @@ use Rattle.bank_prog.specs.declared.column.Column.{Column}
 use Rattle.bank_prog.specs.Columns.{each_point}
 use Rattle.bank_prog.specs.Rows.{at_least, at_most, covers, exactly_one}
 use Rattle.bank_prog.specs.Meaning.{Chosen, Holds}
+use Rattle.bank_prog.proofs.PlainLines.{mapped-each, Pairs}
 use Rattle.place_ir.proofs.Scoped.{in-itself}
 use Rattle.place_ir.proofs.Sound.{Each, each-append}
 use Rattle.reg_assign.specs.inner.Facts.{count}
@@ -45,10 +46,6 @@ pub flat-each : {X Y : Type 0} (P : Y → Type 0) (f : X → List Y) (xs : List 
 flat-each P f [] h = tt
 flat-each P f (x ∷ xs) h = each-append P (f x) (flat_map f xs) h.0 (flat-each P f xs h.1)
 
-pub map-each : {X Y : Type 0} (P : Y → Type 0) (f : X → Y) (xs : List X) → Each (λ x. P (f x)) xs → Each P (map f xs)
-map-each P f [] h = tt
-map-each P f (x ∷ xs) h = (h.0, map-each P f xs h.1)
-
 pub if-each : {X : Type 0} (P : X → Type 0) (b : Bool) (xs : List X) → (b ≡ true → Each P xs) → Each P (if b then xs else [])
 if-each P true xs h = h refl
 if-each P false xs h = tt
@@ -61,11 +58,6 @@ points-each P f j (p ∷ ps) h =
 
 -- ---- at most one of some columns
 
--- each two of a list have this
-abbrev pub Pairs : {X : Type 0} → (X → X → Type 0) → List X → Type 0
-Pairs R [] = Unit {0}
-Pairs R (x ∷ xs) = Each (R x) xs × Pairs R xs
-
 pub in-test : (x : ℕ) (xs : List ℕ) → In x xs → is_in x xs ≡ true
 in-test x [] i = absurd i
 in-test x (y ∷ ys) i = ⊎_elim
@@ -73,21 +65,17 @@ in-test x (y ∷ ys) i = ⊎_elim
     (λ (j : In x ys). or_right (nat_eq x y) (is_in x ys) (in-test x ys j))
     i
 
-pub unsaid : (b : Bool) → not b ≡ true → b ≡ false
-unsaid true e = absurd (false≢true e)
-unsaid false e = refl
-
 pub pairs-different : (R : ℕ → ℕ → Type 0) (xs : List ℕ) → all_different xs ≡ true → ((x y : ℕ) → In x xs → In y xs → x ≢ y → R x y) → Pairs R xs
 pairs-different R [] d h = tt
 pairs-different R (x ∷ xs) d h =
     let w = and_parts (not (is_in x xs)) (all_different xs) d in (
-      each-from (R x) xs (λ y j. h x y (inl refl) (inr j) (λ e. false≢true (sym (unsaid (is_in x xs) w.0) ∙ in-test x xs (subst (λ z. In z xs) (sym e) j)))),
+      each-from (R x) xs (λ y j. h x y (inl refl) (inr j) (λ e. false≢true (sym (not-true (is_in x xs) w.0) ∙ in-test x xs (subst (λ z. In z xs) (sym e) j)))),
       pairs-different R xs w.1 (λ y z i j n. h y z (inr i) (inr j) n),
     )
 
 pub pairs-map : {X Y : Type 0} (f : X → Y) (R : Y → Y → Type 0) (xs : List X) → Pairs (λ x y. R (f x) (f y)) xs → Pairs R (map f xs)
 pairs-map f R [] h = tt
-pairs-map f R (x ∷ xs) h = (map-each (R (f x)) f xs h.0, pairs-map f R xs h.1)
+pairs-map f R (x ∷ xs) h = (mapped-each (R (f x)) f xs h.0, pairs-map f R xs h.1)
 
 none-count : {X : Type 0} (on : Chosen) (f : X → List Column) (xs : List X) → Each (λ x. 1 ≤ count on (f x) → ⊥) xs → count on (flat_map f xs) ≡ 0
 none-count on f [] h = refl
@@ -147,7 +135,7 @@ only-most on c g (r ∷ rs) h d =
     by (on (c r)) refl w.0 (only-most on c g rs h w.1)
   where
     by : (b : Bool) → on (c r) ≡ b → not (is_in r rs) ≡ true → count on (map c rs) ≤ 1 → cost_where b 1 + count on (map c rs) ≤ 1
-    by true e n ih = let z = off-elsewhere on c g r rs h e (unsaid (is_in r rs) n) in omega (arith, z)
+    by true e n ih = let z = off-elsewhere on c g r rs h e (not-true (is_in r rs) n) in omega (arith, z)
     by false e n ih = omega (arith, ih)
 
 -- a numbered column that is on

@@ -1,8 +1,8 @@
 -- Each transfer register belongs to one: the columns of a placement that fits take none twice.
-use Rattle.std.proofs.Common.{◌≡◌, ◌≢◌, ℕ, zero, suc, ◌+◌, ◌-◌, ◌<◌, ◌≤◌, nat_eq, nat_lt, nat_le, Bool, true, false, not, ◌&&◌, if◌then◌else◌, ◌⊎◌, inl, inr, ⊎_elim, Option, Some, None, List, [], ◌∷◌, ◌++◌, map, filter, refl, sym, ap, subst, ◌∙◌, arith, rules, tests}
+use Rattle.std.proofs.Common.{◌≡◌, ◌≢◌, ℕ, zero, suc, ◌+◌, ◌-◌, ◌<◌, ◌≤◌, nat_eq, nat_lt, nat_le, Bool, true, false, not, ◌&&◌, if◌then◌else◌, ◌⊎◌, inl, inr, ⊎_elim, Option, Some, None, List, [], ◌∷◌, ◌++◌, map, filter, refl, sym, ap, subst, ◌∙◌, arith}
 use Rattle.std.specs.Prelude.{slice_get}
 use Rattle.std.specs.List.{flat_map, list_any}
-use Rattle.std.proofs.lemmas.Bool.{false≢true, and_parts, and_from, or_left, or_right, cases_lt}
+use Rattle.std.proofs.lemmas.Bool.{false≢true, and_parts, and_from, or_left, or_right, cases_lt, ltb-true, leb-true}
 use Rattle.std.proofs.lemmas.List.Elements.{All-contains}
 use Rattle.nv_base.specs.Sets.{is_in, without, all_different}
 use Rattle.nv_base.proofs.Sets.{same-number}
@@ -27,16 +27,18 @@ use Rattle.bank_prog.specs.declared.column.Column.TheVariants.{Dir, Stay, Ear, F
 use Rattle.bank_prog.specs.Columns.{each_point, sort_of, eight}
 use Rattle.bank_prog.specs.Rows.{Line, at_most, is_sdram, same_side, run_at, sort_stays, stays_at, role_early, early_at, covering, side_covering, waiting, read_owners, access_owners, fill_owners, side_owners, write_owners, owners}
 use Rattle.bank_prog.specs.Meaning.{Chosen, Holds}
+use Rattle.bank_prog.proofs.PlainLines.{mapped-each, each-kept, Pairs}
 use Rattle.reg_assign.specs.inner.Facts.{count, waits_at}
 use Rattle.reg_assign.specs.inner.Chosen.{names, value_at, waits, goes_there, use_at, IsChosen}
 use Rattle.reg_assign.proofs.Counts.{In, contained-in, count-append, counted-some, some-counted, in-either as in-parts, in-flat, in-map, in-kept, in-if, each-in, each-from}
 use Rattle.reg_assign.proofs.FactsThere.{there}
 use Rattle.reg_assign.proofs.FactsValues.{sort-found, on-one}
 use Rattle.reg_assign.proofs.FactsAll.{values-differ}
-use Rattle.reg_assign.proofs.FactsPoints.{in-is, le-from}
-use Rattle.reg_assign.proofs.ChosenHolds.{most-holds, flat-each, map-each, points-each, in-test, Pairs, pairs-different, most-one, both-most, only-most, one-most, counted-one}
+use Rattle.reg_assign.proofs.FactsPoints.{in-is}
+use Rattle.reg_assign.proofs.ChosenHolds.{most-holds, flat-each, points-each, in-test, pairs-different, most-one, both-most, only-most, one-most, counted-one}
 use Rattle.reg_assign.proofs.ChosenForm.{Placed, chosen-on, value-there, point-held, word-is, shared}
 use Rattle.reg_assign.proofs.ChosenAfter.{after-different}
+use Rattle.reg_assign.proofs.FitWaiting.{same-itself}
 
 -- ---- numbers and sides
 
@@ -44,7 +46,7 @@ run-in : (r i f : ℕ) → In f (run_at r i) → r ≡ f + i
 run-in r i f h = by (nat_le i r) refl h
   where
     by : (b : Bool) → nat_le i r ≡ b → In f (if b then (r - i) ∷ [] else []) → r ≡ f + i
-    by true e j = let l = le-from i r e in ⊎_elim (λ (s : r - i ≡ f). omega (arith, l, s)) (λ z. absurd z) j
+    by true e j = let l = leb-true i r e in ⊎_elim (λ (s : r - i ≡ f). omega (arith, l, s)) (λ z. absurd z) j
     by false e j = absurd j
 
 run-most : (on : Chosen) (c : ℕ → Column) (r i : ℕ) → count on (map c (run_at r i)) ≤ 1
@@ -86,11 +88,6 @@ write-same Scratch Sram r e = refl
 write-same Scratch Sdram r e = absurd (false≢true e)
 write-same Scratch Scratch r e = refl
 
-write-itself : (m : Mem) (r : ℕ) → same_place (write_place m r) (write_place m r) ≡ true
-write-itself Sram r = in-itself r
-write-itself Sdram r = in-itself r
-write-itself Scratch r = in-itself r
-
 run-has : (place : ℕ → Place) (f n r : ℕ) → f ≤ r → r < f + n → In (place r) (run_of place f n)
 run-has place f zero r l h = absurd (omega (arith, l, h))
 run-has place f (suc n) r l h = ⊎_elim
@@ -108,9 +105,6 @@ place-there w q (r ∷ qs) i e = ⊎_elim
 named : (o : Option ℕ) (r : ℕ) → names o r ≡ true → o ≡ Some r
 named (Some n) r e = ap Some (same-number n r e)
 named None r e = absurd (false≢true e)
-
-lt-from : (m n : ℕ) → nat_lt m n ≡ true → m < n
-lt-from m n e = search (tests, rules)
 
 -- ---- values that stay in read registers
 
@@ -204,8 +198,8 @@ read-owners labels p on k q g at =
     let f : ℕ → Line = λ r. at_most 1 (stays_at labels false r q.before ++ PasL k r ∷ []) in
     let h : ℕ → Line = λ r. at_most 1 (stays_at labels true r q.before) in
     each-append (Holds on) (map f eight) (map h eight)
-    (map-each (Holds on) f eight (each-from (λ r. Holds on (f r)) eight (λ r i. most-holds on 1 (stays_at labels false r q.before ++ PasL k r ∷ []) (pass-read labels p on k q r g at))))
-    (map-each (Holds on) h eight (each-from (λ r. Holds on (h r)) eight (λ r i. most-holds on 1 (stays_at labels true r q.before) (before-most labels p on k q true r g at))))
+    (mapped-each (Holds on) f eight (each-from (λ r. Holds on (f r)) eight (λ r i. most-holds on 1 (stays_at labels false r q.before ++ PasL k r ∷ []) (pass-read labels p on k q r g at))))
+    (mapped-each (Holds on) h eight (each-from (λ r. Holds on (h r)) eight (λ r i. most-holds on 1 (stays_at labels true r q.before) (before-most labels p on k q true r g at))))
 
 -- ---- runs
 
@@ -226,8 +220,8 @@ covering-runs labels p on a r g h =
     let k = in-kept (λ f. nat_le f r && nat_lt r (f + a.words)) w.0 eight w.1 in
     let t = and_parts (nat_le w.0 r) (nat_lt r (w.0 + a.words)) k.1 in
     let e = same-number (first p a.point) w.0 (chosen-on labels p on g (First a.point w.0) w.2) in
-    let l = le-from w.0 r t.0 in
-    let m = lt-from r (w.0 + a.words) t.1 in
+    let l = leb-true w.0 r t.0 in
+    let m = ltb-true r (w.0 + a.words) t.1 in
     record { low = omega (arith, e, l); high = omega (arith, e, m) }
 
 in-run : (p : Plan) (a : Access) (r : ℕ) (place : ℕ → Place) → RunsOver p a r → In (place r) (run_of place (first p a.point) a.words)
@@ -279,7 +273,7 @@ fill-owners labels p on k q g at =
     let xs = without q.after (point_values k q) in
     flat-each (Holds on) (access_owners labels xs) (reads_at k q.place) (each-from (λ a. Each (Holds on) (access_owners labels xs a)) (reads_at k q.place) (λ a i.
     let f : ℕ → Line = λ r. at_most 1 (stays_at labels (is_sdram a.mem) r xs ++ covering r a) in
-    map-each (Holds on) f eight (each-from (λ r. Holds on (f r)) eight (λ r j. most-holds on 1 (stays_at labels (is_sdram a.mem) r xs ++ covering r a) (fill-line labels p on k q a r g at i)))))
+    mapped-each (Holds on) f eight (each-from (λ r. Holds on (f r)) eight (λ r j. most-holds on 1 (stays_at labels (is_sdram a.mem) r xs ++ covering r a) (fill-line labels p on k q a r g at i)))))
 
 -- ---- words that wait in write registers
 
@@ -350,20 +344,12 @@ waits-there labels p k q u sdram r i w =
     let m = in-kept (waits_at k q) u (uses labels) i in
     record { there = in-at u (uses labels) m.0; waiting = and_from (is_early p u) (waits_at k q u) w.early m.1 }
 
-each-filtered : {X : Type 0} (P : X → Type 0) (f : X → Bool) (xs : List X) → Each P xs → Each P (filter f xs)
-each-filtered P f [] h = tt
-each-filtered P f (x ∷ xs) h = by (f x) (each-filtered P f xs h.1)
-  where
-    by : (b : Bool) → Each P (filter f xs) → Each P (if b then x ∷ filter f xs else filter f xs)
-    by true r = (h.0, r)
-    by false r = r
-
 apart-filtered : (f : Use → Bool) (us : List Use) → Apart us → Apart (filter f us)
 apart-filtered f [] h = tt
 apart-filtered f (u ∷ us) h = by (f u) (apart-filtered f us h.1)
   where
     by : (b : Bool) → Apart (filter f us) → Apart (if b then u ∷ filter f us else filter f us)
-    by true r = (each-filtered (λ v. same_use u v ≡ false) f us h.0, r)
+    by true r = (each-kept (λ v. same_use u v ≡ false) f us h.0, r)
     by false r = r
 
 pairs-apart : (R : Use → Use → Type 0) (us : List Use) → Apart us → ((u v : Use) → In u us → In v us → same_use u v ≡ false → R u v) → Pairs R us
@@ -457,7 +443,7 @@ wait-written labels p on k q sdram r u g at i s w =
     let among : In (write_place a.mem r) (run_of (write_place a.mem) (first p k) a.words) = subst (λ n. In (write_place a.mem r) (run_of (write_place a.mem) (first p n) a.words)) w.point (in-run p a r (write_place a.mem) w.runs) in
     let same : word_register p u ≡ write_place a.mem r = s.is ∙ write-same s.mem a.mem r (s.side ∙ sym w.side) in
     false≢true (sym off ∙ place-there (word_register p u) (write_place a.mem r) (run_of (write_place a.mem) (first p k) a.words) among
-    (subst (λ z. same_place z (write_place a.mem r) ≡ true) (sym same) (write-itself a.mem r)))
+    (subst (λ z. same_place z (write_place a.mem r) ≡ true) (sym same) (same-itself a.mem r)))
 
 -- a word that waits, and a slot that is written
 wait-passed : (labels : List Label) (p : Plan) (on : Chosen) (k : ℕ) (q : Point) (r : ℕ) (u : Use) → Placed labels p on → IsThere labels k q → In u (waiting labels k q) → WaitsAt p u false r → on (PasS k r) ≡ true → ⊥
@@ -526,7 +512,7 @@ write-owners labels p on k q g at =
     line sdram r = at_most 1 (early_at sdram r (waiting labels k q) ++ (passed sdram k r ++ written_at sdram r k q.place))
 
     side-owners : (sdram : Bool) → Each (Holds on) (map (line sdram) eight)
-    side-owners sdram = map-each (Holds on) (line sdram) eight (each-from (λ r. Holds on (line sdram r)) eight (λ r i.
+    side-owners sdram = mapped-each (Holds on) (line sdram) eight (each-from (λ r. Holds on (line sdram r)) eight (λ r i.
         most-holds on 1 (early_at sdram r (waiting labels k q) ++ (passed sdram k r ++ written_at sdram r k q.place)) (side-line labels p on k q sdram r g at)))
 
 -- ---- all

@@ -3,6 +3,7 @@ use Rattle.std.proofs.Common.{◌≡◌, ◌≢◌, ℕ, zero, suc, ◌+◌, ◌
 use Rattle.std.specs.Prelude.{slice_get}
 use Rattle.std.specs.List.{list_any}
 use Rattle.std.proofs.lemmas.Bool.{false≢true, or_cases, or_left, or_right, cases_lt}
+use Rattle.std.proofs.lemmas.List.{length-map}
 use Rattle.nv_base.proofs.Sets.{same-number}
 use Rattle.ssu_ir.specs.Tree.{Label}
 use Rattle.ssu_ir.specs.Points.{Point, points}
@@ -24,6 +25,7 @@ use Rattle.bank_prog.specs.declared.column.Column.TheVariants.{Def, Fill}
 use Rattle.bank_prog.specs.Columns.{is_fetched}
 use Rattle.bank_prog.specs.Rows.{home, held_in, room_lines, capacity}
 use Rattle.bank_prog.specs.Meaning.{Chosen, Holds}
+use Rattle.bank_prog.proofs.PlainLines.{mapped-each, Pairs}
 use Rattle.reg_assign.specs.inner.Facts.{count, in_bank}
 use Rattle.reg_assign.specs.inner.ReadOff.{room}
 use Rattle.reg_assign.specs.inner.Chosen.{is_in_bank, IsChosen}
@@ -32,7 +34,7 @@ use Rattle.reg_assign.proofs.FactsThere.{there}
 use Rattle.reg_assign.proofs.FactsValues.{same-value}
 use Rattle.reg_assign.proofs.FactsAll.{values-differ}
 use Rattle.reg_assign.proofs.FitHomes.{is_home_bank}
-use Rattle.reg_assign.proofs.ChosenHolds.{most-holds, map-each, points-each, in-test, Pairs, pairs-different, pairs-map}
+use Rattle.reg_assign.proofs.ChosenHolds.{most-holds, points-each, in-test, pairs-different, pairs-map}
 use Rattle.reg_assign.proofs.ChosenSource.{in-any-place}
 use Rattle.reg_assign.proofs.ChosenForm.{Placed, chosen-on, held-value, point-held, Housing, put_general, put_read, put_early, put-writes, housing, IsCopy, copy_general, copy_word, copies-are, shared}
 
@@ -363,10 +365,6 @@ counted on h (x ∷ xs) c = by (on (Def x h)) (on (Fill x h)) refl refl (counted
         let m : count on (home x h) ≡ 0 = ap (λ c. cost_where c 1 + (cost_where (on (Fill x h)) 1 + 0)) e ∙ ap (λ c. 0 + (cost_where c 1 + 0)) f in
         omega (arith, a, k, m, ih)
 
-map-length : {X Y : Type 0} (f : X → Y) (xs : List X) → length (map f xs) ≡ length xs
-map-length f [] = refl
-map-length f (x ∷ xs) = ap suc (map-length f xs)
-
 -- the numbers of the held values in a bank
 abbrev numbers_in : Plan → Chosen → Bank → List ℕ → List ℕ
 numbers_in p on h xs = map (λ x. bank_number h (general_places p x)) (filter (in_bank on h) xs)
@@ -395,7 +393,7 @@ numbers-apart labels p on k q h g at b =
 numbers-below : (labels : List Label) (p : Plan) (on : Chosen) (k : ℕ) (q : Point) (h : Bank) → Placed labels p on → slice_get (points labels) k ≡ Some q → is_home_bank h ≡ true → Each (λ n. n < room p.slots h) (numbers_in p on h q.before)
 numbers-below labels p on k q h g at b =
     let xs = filter (in_bank on h) q.before in
-    map-each (λ n. n < room p.slots h) (λ x. bank_number h (general_places p x)) xs (each-from (λ x. bank_number h (general_places p x) < room p.slots h) xs (λ x i.
+    mapped-each (λ n. n < room p.slots h) (λ x. bank_number h (general_places p x)) xs (each-from (λ x. bank_number h (general_places p x) < room p.slots h) xs (λ x i.
     let a = place-held labels p on k q h g at b x i in
     let l = number-below h p a.place_ a.general b a.bank in
     let e = a.number in
@@ -407,7 +405,7 @@ room-at labels p on k q h g at b =
     let v = held-value labels k q x g.form at (in-test x q.before i) in
     subst (λ y. count on (home y h) ≤ 1) v.2 (once-in labels p on v.0 h g v.1 b))) in
     let most = few (room p.slots h) (numbers_in p on h q.before) (numbers-apart labels p on k q h g at b) (numbers-below labels p on k q h g at b) in
-    let same = map-length (λ x. bank_number h (general_places p x)) (filter (in_bank on h) q.before) in
+    let same = length-map (filter (in_bank on h) q.before) (λ x. bank_number h (general_places p x)) in
     omega (arith, once, most, same)
 
 pub capacity-holds : (labels : List Label) (p : Plan) (on : Chosen) → single labels ≡ true → Fits labels p → IsChosen labels p on → Each (Holds on) (capacity labels p.slots)

@@ -1,7 +1,7 @@
 -- How many of the columns of a use are on: one way to serve it, or one place where its word is put early.
 use Rattle.std.proofs.Common.{◌≡◌, ℕ, ◌+◌, nat_eq, Bool, true, false, not, ◌&&◌, if◌then◌else◌, inl, inr, ⊎_elim, Option, List, [], ◌∷◌, ◌++◌, map, refl, sym, ap, subst, ◌∙◌, arith}
 use Rattle.std.proofs.lemmas.List.Elements.{All-contains}
-use Rattle.std.proofs.lemmas.Bool.{false≢true, and_parts, and_from, and_left, and_right}
+use Rattle.std.proofs.lemmas.Bool.{false≢true, and_parts, and_from, and_left, and_right, not-true, false_from_ne_true}
 use Rattle.nv_base.proofs.Sets.{same-number}
 use Rattle.nv_base.specs.declared.term.Mem.{Mem}
 use Rattle.nv_base.specs.declared.term.Mem.TheVariants.{Sram, Sdram, Scratch}
@@ -13,7 +13,7 @@ use Rattle.place_ir.specs.declared.place.Place.{Place}
 use Rattle.place_ir.specs.declared.place.Place.TheVariants as place
 use Rattle.place_ir.specs.Plan.{Plan, home, first, pass}
 use Rattle.place_ir.specs.Uses.{Access, accesses, Sort, Parameter, Result, Fetched, Value, values, Role, Operand, Address, Written, Argument, Ending, Use, uses, is_used}
-use Rattle.place_ir.specs.Fits.{read_place, write_place, IsGeneral, is_write_register, is_result, IsHome, IsHoused, served, is_early, IsFirst, parameter, IsOperandAt, IsAddressAt, IsServedAt, Fits}
+use Rattle.place_ir.specs.Fits.{read_place, IsGeneral, is_write_register, is_result, IsHome, IsHoused, served, is_early, IsFirst, parameter, IsOperandAt, IsAddressAt, IsServedAt, Fits}
 use Rattle.place_ir.proofs.Scoped.{in-itself}
 use Rattle.place_ir.proofs.Fitting.{apart-from}
 use Rattle.bank_prog.specs.declared.column.Bank.{Bank}
@@ -25,15 +25,16 @@ use Rattle.bank_prog.specs.Columns.{sort_of, is_fetched, eight, place_words, beg
 use Rattle.bank_prog.specs.Program.{same_bank}
 use Rattle.bank_prog.specs.Rows.{srv, dir, ear, early, is_written, is_parameter}
 use Rattle.bank_prog.specs.Meaning.{Chosen}
+use Rattle.bank_prog.proofs.Keys.{bank-true}
 use Rattle.reg_assign.specs.inner.Facts.{count, OnlyThere}
 use Rattle.reg_assign.specs.inner.Chosen.{bank_of, is_in_bank, operand_bank, wanted_bank, goes_there, chosen}
 use Rattle.reg_assign.proofs.Counts.{In, contained-in, some-counted, count-append, map-in}
 use Rattle.reg_assign.proofs.FactsValues.{same-use, role-eight}
 use Rattle.reg_assign.proofs.FactsThere.{there}
 use Rattle.reg_assign.proofs.ChosenHolds.{OnlyAt, only-most}
-use Rattle.reg_assign.proofs.ChosenForm.{Placed, chosen-on, use-there, use-served, Housing, early-written, word-is}
+use Rattle.reg_assign.proofs.ChosenForm.{Placed, chosen-on, use-there, use-served, Housing, early-written, word-is, write-is}
 use Rattle.reg_assign.proofs.ChosenThere.{UsePoint, use-point, word-access, access-words, first-begins, place_access, srv-there, dir-there, ear-there}
-use Rattle.reg_assign.proofs.ChosenSource.{bank-same, write-bank, use-value, sort-is, IsSource, source, used-housing, source-fetched, argument-value}
+use Rattle.reg_assign.proofs.ChosenSource.{write-bank, use-value, sort-is, IsSource, source, used-housing, source-fetched, argument-value}
 
 -- ---- counts
 
@@ -46,14 +47,6 @@ counts-one on c g o i e =
     let most = only-most on c g eight o refl in
     let least = some-counted on (c g) (map c eight) (map-in c g eight i) e in
     omega (arith, most, least)
-
-pub unsaid : (b : Bool) → not b ≡ true → b ≡ false
-unsaid true e = absurd (false≢true e)
-unsaid false e = refl
-
-pub off : (b : Bool) → (b ≡ true → ⊥) → b ≡ false
-off true n = absurd (n refl)
-off false n = refl
 
 -- ---- how a use is served
 
@@ -84,18 +77,13 @@ ear-chosen labels p u f i = ap (λ (w : Use). nat_eq (first p u.point) f && (is_
 
 -- ---- from where a use is served
 
-write-place : (m : Mem) (n : ℕ) → is_write_register (write_place m n) ≡ true
-write-place Sram n = refl
-write-place Sdram n = refl
-write-place Scratch n = refl
-
 from-source : (labels : List Label) (p : Plan) (u : Use) (role : Role) → u.role ≡ role → IsServedAt labels p u (served p u) role → is_early p u ≡ false → IsSource p u.value (served p u).from
 from-source labels p u Operand r h e = source p u.value (served p u).from h.0
 from-source labels p u Address r h e = source p u.value (served p u).from h.0
 from-source labels p u (Written m i) r h e = ⊎_elim
     (λ a. source p u.value (served p u).from a)
     (λ (b : (served p u).from ≡ (served p u).at).
-    absurd (false≢true (sym e ∙ ap is_write_register (b ∙ h.0 ∙ word-is p u m i r) ∙ write-place m (first p u.point + i))))
+    absurd (false≢true (sym e ∙ ap is_write_register (b ∙ h.0 ∙ word-is p u m i r) ∙ write-is m (first p u.point + i))))
     h.1
 from-source labels p u (Argument l i) r h e = source p u.value (served p u).from h.0
 from-source labels p u (Ending i) r h e = source p u.value (served p u).from h.0
@@ -110,7 +98,7 @@ early-bank p u e = write-bank (served p u).from e
 pub from-fetched : (labels : List Label) (p : Plan) (u : Use) → single labels ≡ true → Fits labels p → In u (uses labels) → from_bank p u ≡ T → is_fetched (sort_of labels u.value) ≡ true
 from-fetched labels p u s f i t =
     let v = use-value labels u s i in
-    let kept : is_early p u ≡ false = off (is_early p u) (λ e. absurd (let w : T ≡ W = sym t ∙ early-bank p u e in cc)) in
+    let kept : is_early p u ≡ false = false_from_ne_true (is_early p u) (λ e. absurd (let w : T ≡ W = sym t ∙ early-bank p u e in cc)) in
     let src : IsSource p v.value.var (served p u).from = subst (λ x. IsSource p x (served p u).from) (sym v.var) (use-source labels p u f i kept) in
     ap (λ x. is_fetched (sort_of labels x)) (sym v.var)
     ∙ ap is_fetched (sort-is labels v.value s v.there)
@@ -128,7 +116,7 @@ without-bank f A15 e = absurd (false≢true (sym e))
 without-bank f W e = absurd (false≢true (sym e))
 
 way-off : (labels : List Label) (on : Chosen) (u : Use) (s : Service) → OnlyThere labels on → In u (uses labels) → has_bank (is_fetched (sort_of labels u.value)) s.from ≡ false → on (Srv u.point u.operand s.from s.at) ≡ false
-way-off labels on u s only i b = off (on (Srv u.point u.operand s.from s.at)) (λ e.
+way-off labels on u s only i b = false_from_ne_true (on (Srv u.point u.operand s.from s.at)) (λ e.
     let t = there labels on (Srv u.point u.operand s.from s.at) only e in
     let same : t.use_ ≡ u = same-use (uses labels) u t.use_ (apart-from 0 (points labels)) i t.there t.point t.operand in
     let c = subst (λ h. has_bank (is_fetched (sort_of labels u.value)) h ≡ true) t.from (subst (λ (z : Use). has_bank (is_fetched (sort_of labels z.value)) t.service.from ≡ true) same t.bank) in
@@ -141,8 +129,8 @@ way-on labels p on u s g i j = by (has_bank (is_fetched (sort_of labels u.value)
     by true b = g.is.same (Srv u.point u.operand s.from s.at) (srv-there labels u s i j b) ∙ way-chosen labels p u s i
     by false b =
         let w = without-bank (is_fetched (sort_of labels u.value)) s.from b in
-        let apart : same_bank s.from (from_bank p u) ≡ false = off (same_bank s.from (from_bank p u)) (λ e.
-        let t : from_bank p u ≡ T = sym (bank-same s.from (from_bank p u) e) ∙ w.0 in
+        let apart : same_bank s.from (from_bank p u) ≡ false = false_from_ne_true (same_bank s.from (from_bank p u)) (λ e.
+        let t : from_bank p u ≡ T = sym (bank-true s.from (from_bank p u) e) ∙ w.0 in
         false≢true (sym w.1 ∙ from-fetched labels p u g.form g.fits i t)) in
         way-off labels on u s g.is.only i b ∙ sym (ap (λ c. c && same_bank s.at (at_bank p u)) apart)
 
@@ -238,7 +226,7 @@ argument-one l i M M e = refl
 argument-one l i T M e = refl
 argument-one l i _ _ e = absurd (false≢true e)
 
-parameter-general : (labels : List Label) (p : Plan) (v : Value) → Fits labels p → In v (values labels) → is_parameter v.sort ≡ true → IsGeneral p (home p v.var).defined
+pub parameter-general : (labels : List Label) (p : Plan) (v : Value) → Fits labels p → In v (values labels) → is_parameter v.sort ≡ true → IsGeneral p (home p v.var).defined
 parameter-general labels p v f i e = by v.sort e (All-contains (IsHoused labels p) (values labels) v f.values (contained-in v (values labels) i))
   where
     by : (s : Sort) → is_parameter s ≡ true → IsHome labels p v (home p v.var) s → IsGeneral p (home p v.var).defined
@@ -265,12 +253,12 @@ one-way labels p u (Ending j) r s f i h e = ending-one j (from_bank p u) (lastin
 -- ---- words that are put early
 
 dir-off : (labels : List Label) (p : Plan) (on : Chosen) (u : Use) → Placed labels p on → In u (uses labels) → (is_early p u && goes_there p u.value) ≡ false → (f : ℕ) → on (Dir u.point u.operand f) ≡ false
-dir-off labels p on u g i n f = off (on (Dir u.point u.operand f)) (λ e.
+dir-off labels p on u g i n f = false_from_ne_true (on (Dir u.point u.operand f)) (λ e.
     let w = and_parts (nat_eq (first p u.point) f) (is_early p u && goes_there p u.value) (sym (dir-chosen labels p u f i) ∙ chosen-on labels p on g (Dir u.point u.operand f) e) in
     false≢true (sym n ∙ w.1))
 
 ear-off : (labels : List Label) (p : Plan) (on : Chosen) (u : Use) → Placed labels p on → In u (uses labels) → (is_early p u && not (goes_there p u.value)) ≡ false → (f : ℕ) → on (Ear u.point u.operand f) ≡ false
-ear-off labels p on u g i n f = off (on (Ear u.point u.operand f)) (λ e.
+ear-off labels p on u g i n f = false_from_ne_true (on (Ear u.point u.operand f)) (λ e.
     let w = and_parts (nat_eq (first p u.point) f) (is_early p u && not (goes_there p u.value)) (sym (ear-chosen labels p u f i) ∙ chosen-on labels p on g (Ear u.point u.operand f) e) in
     false≢true (sym n ∙ w.1))
 
@@ -294,7 +282,7 @@ pub ear-on : (labels : List Label) (p : Plan) (on : Chosen) (u : Use) → Placed
 ear-on labels p on u g i f e =
     let w = and_parts (nat_eq (first p u.point) f) (is_early p u && not (goes_there p u.value)) (sym (ear-chosen labels p u f i) ∙ chosen-on labels p on g (Ear u.point u.operand f) e) in
     let v = and_parts (is_early p u) (not (goes_there p u.value)) w.1 in
-    (v.0, unsaid (goes_there p u.value) v.1)
+    (v.0, not-true (goes_there p u.value) v.1)
 
 -- where the write of a written word begins
 pub word-begins : (labels : List Label) (p : Plan) (u : Use) (m : Mem) (j : ℕ) (w : UsePoint labels u) → single labels ≡ true → Fits labels p → u.role ≡ Written m j → In (first p u.point) (beginnings m (place_words w.point.place))
@@ -318,7 +306,7 @@ general-not-write p (place.LD k) g = absurd g
 general-not-write p (place.S k) g = absurd g
 general-not-write p (place.SD k) g = absurd g
 
-read-not-write : (m : Mem) (k : ℕ) → is_write_register (read_place m k) ≡ false
+pub read-not-write : (m : Mem) (k : ℕ) → is_write_register (read_place m k) ≡ false
 read-not-write Sram k = refl
 read-not-write Sdram k = refl
 read-not-write Scratch k = refl

@@ -23,12 +23,13 @@ use Rattle.place_ir.proofs.Sound.{place_ok, Sound, sound-points, uses_among}
 use Rattle.place_ir.proofs.Spilled.{each-at, sort_param, param_vars}
 use Rattle.place_ir.proofs.Fitting.{entries-in, label-entry}
 use Rattle.bank_prog.specs.declared.column.Bank.{Bank}
-use Rattle.bank_prog.specs.declared.column.Bank.TheVariants.{A, B, M, T, L, A15, W}
+use Rattle.bank_prog.specs.declared.column.Bank.TheVariants.{A, B, M, T, W}
 use Rattle.bank_prog.specs.declared.column.Column.TheVariants.{Def, Fill}
 use Rattle.bank_prog.specs.Columns.{sort_of, is_fetched}
 use Rattle.bank_prog.specs.Rows.{homes, home as home_columns, is_parameter}
 use Rattle.bank_prog.specs.Program.{same_bank}
 use Rattle.bank_prog.specs.Meaning.{Chosen}
+use Rattle.bank_prog.proofs.Itself.{bank-itself}
 use Rattle.reg_assign.specs.inner.Facts.{count}
 use Rattle.reg_assign.specs.inner.Chosen.{bank_of, is_in_bank}
 use Rattle.reg_assign.proofs.Counts.{In, some-counted, each-in, kept-in}
@@ -36,28 +37,10 @@ use Rattle.reg_assign.proofs.FactsAll.{values-differ}
 use Rattle.reg_assign.proofs.FactsValues.{sort-found, used-of}
 use Rattle.reg_assign.proofs.LabelPoints.{used-here}
 use Rattle.reg_assign.proofs.ChosenForm.{Placed, Housing, housing, held-value, put-writes, copies-are, IsCopy}
-use Rattle.reg_assign.proofs.ChosenThere.{use-point, role-among, def-there, fill-there}
+use Rattle.reg_assign.proofs.ChosenThere.{use-point, def-there, fill-there}
+use Rattle.reg_assign.proofs.FactsPoints.{role-among}
 
 -- ---- banks
-
-pub bank-itself : (h : Bank) → same_bank h h ≡ true
-bank-itself A = refl
-bank-itself B = refl
-bank-itself M = refl
-bank-itself T = refl
-bank-itself L = refl
-bank-itself A15 = refl
-bank-itself W = refl
-
-pub bank-same : (h j : Bank) → same_bank h j ≡ true → h ≡ j
-bank-same A A e = refl
-bank-same B B e = refl
-bank-same M M e = refl
-bank-same T T e = refl
-bank-same L L e = refl
-bank-same A15 A15 e = refl
-bank-same W W e = refl
-bank-same _ _ e = absurd (false≢true e)
 
 pub general-bank : (p : Plan) (q : Place) → IsGeneral p q → In (bank_of q) homes
 general-bank p (place.A k) g = inl refl
@@ -296,5 +279,5 @@ argument-value labels u l i s j e =
     let P = param_vars (values labels) in
     let v = param-value (parameter labels l i) (values labels)
     (argument-among labels P l i w.point.place (λ m g. label-entry P 0 labels (entries-in 0 ps) l m g) sound.node
-    (subst (λ r. In r (place_roles w.point.place)) e (role-among u u.point 0 w.point.uses (place_roles w.point.place) w.here))) in
+    (subst (λ r. In r (place_roles w.point.place)) e (role-among u.point 0 w.point.uses (place_roles w.point.place) u w.here))) in
     (v.value, v.there, v.var, v.parameter)

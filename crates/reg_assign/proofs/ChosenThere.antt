@@ -1,5 +1,5 @@
 -- Which columns there are: the columns that each value, use, access and point of a form has.
-use Rattle.std.proofs.Common.{◌≡◌, ℕ, zero, suc, ◌+◌, ◌*◌, ◌<◌, ◌≤◌, true, false, ◌||◌, nat_eq, Some, List, [], ◌∷◌, ◌++◌, length, map, refl, sym, ap, subst, ◌∙◌, inl, inr, ⊎_elim, arith}
+use Rattle.std.proofs.Common.{◌≡◌, ℕ, zero, suc, ◌+◌, ◌*◌, ◌<◌, ◌≤◌, true, false, ◌||◌, nat_eq, Some, List, [], ◌∷◌, length, map, sym, ap, subst, ◌∙◌, inl, ⊎_elim, arith}
 use Rattle.std.specs.Prelude.{◌%◌, ◌==◌, nat_le, slice_get, Contains}
 use Rattle.std.specs.List.{list_any}
 use Rattle.std.proofs.lemmas.Bool.{and_parts, and_from, or_cases, le-leb, leb-true, eq-eqb}
@@ -10,7 +10,7 @@ use Rattle.nv_base.proofs.Sets.{same-number}
 use Rattle.ssu_ir.specs.Tree.{Lit, Una, Bin, Clone, Read, Write, Jump, Halt, Label, Does, Forks, Ends}
 use Rattle.ssu_ir.specs.Points.{Place, Entry, At, Point, points}
 use Rattle.ssu_ir.specs.Single.{single}
-use Rattle.place_ir.specs.Uses.{Access, accesses, reads_at, writes_at, place_accesses, Sort, Parameter, Result, Fetched, Value, values, numbered, result, place_values, values_from, Role, Operand, Address, Written, Argument, Ending, Use, uses, uses_at, roles, place_roles, is_used}
+use Rattle.place_ir.specs.Uses.{Access, accesses, reads_at, writes_at, place_accesses, Sort, Parameter, Result, Fetched, Value, values, numbered, result, place_values, Role, Operand, Address, Written, Argument, Ending, Use, uses, roles, place_roles, is_used}
 use Rattle.place_ir.specs.Fits.{IsFirst, is_result}
 use Rattle.place_ir.specs.inner.Numbers.{values_among}
 use Rattle.place_ir.proofs.Sound.{place_ok, Sound, sound-points, uses_among}
@@ -21,10 +21,11 @@ use Rattle.bank_prog.specs.declared.column.Service.{Service}
 use Rattle.bank_prog.specs.Columns.{each_point, may_begin, sort_of, is_fetched, point_uses, place_words, eight, beginnings, role_beginnings, sort_beginnings, services, has_bank, columns}
 use Rattle.bank_prog.specs.Rows.{homes}
 use Rattle.bank_prog.proofs.Present as present
-use Rattle.bank_prog.proofs.Tabled.{uses-each, accesses-each}
+use Rattle.bank_prog.proofs.Tabled.{uses-each, accesses-each, values-each}
 use Rattle.reg_assign.proofs.Counts.{In, in-contained, contained-in, in-left, in-right, kept-in}
 use Rattle.reg_assign.proofs.FactsThere.{point-of}
-use Rattle.reg_assign.proofs.FactsPoints.{below-eight}
+use Rattle.reg_assign.proofs.FactsPoints.{below-eight, role-among}
+use Rattle.reg_assign.proofs.FitPasses.{value-point as value-here}
 
 -- ---- elements of a list that is made piece by piece
 
@@ -62,9 +63,6 @@ value-point labels v i =
     let w = present.value-place labels v (contained-in v (values labels) i) in
     record { point = w.0; at = w.1; here = in-contained v (place_values v.point w.0.place) w.2 }
 
-pub value-here : (v : Value) (k : ℕ) (q : Place) → In v (place_values k q) → v.point ≡ k
-value-here v k q i = present.value-point v k q (contained-in v (place_values k q) i)
-
 numbered-sort : (v : Value) (k : ℕ) (sort : ℕ → Sort) (i : ℕ) (xs : List ℕ) → In v (numbered k sort i xs) → (j : ℕ) × (v.sort ≡ sort j)
 numbered-sort v k sort i [] h = absurd h
 numbered-sort v k sort i (x ∷ xs) h = ⊎_elim
@@ -77,10 +75,6 @@ one-sort v k x h = ⊎_elim
     (λ (e : ◌≡◌ {A = Value} (record { point = k; var = x; sort = Result }) v). ap (λ (w : Value). w.sort) (sym e))
     (λ z. absurd z)
     h
-
-values-each : (k : ℕ) (ps : List Point) → each_point (λ k q. place_values k q.place) k ps ≡ values_from k ps
-values-each k [] = refl
-values-each k (q ∷ ps) = ap (λ vs. place_values k q.place ++ vs) (values-each (suc k) ps)
 
 -- a value or use of a point is one of the form, and stands there
 pub value-among : (labels : List Label) (k : ℕ) (q : Point) (v : Value) → slice_get (points labels) k ≡ Some q → In v (place_values k q.place) → In v (values labels)
@@ -129,14 +123,6 @@ value-read v m i k (At (Does (Read n xs y))) h e =
 value-read v m i k (At (Does (Write n y xs))) h e = absurd h
 value-read v m i k (At (Forks c x y)) h e = absurd h
 value-read v m i k (At (Ends l)) h e = absurd h
-
-pub role-among : (u : Use) (k i : ℕ) (xs : List ℕ) (rs : List Role) → In u (uses_at k i xs rs) → In u.role rs
-role-among u k i [] rs h = absurd h
-role-among u k i (x ∷ xs) [] h = absurd h
-role-among u k i (x ∷ xs) (r ∷ rs) h = ⊎_elim
-    (λ (e : ◌≡◌ {A = Use} (record { point = k; operand = i; value = x; role = r }) u). inl (ap (λ (w : Use). w.role) e))
-    (λ (j : In u (uses_at k (suc i) xs rs)). inr (role-among u k (suc i) xs rs j))
-    h
 
 roles-at : (r : Role) (role : ℕ → Role) (i : ℕ) (xs : List ℕ) → In r (roles role i xs) → (j : ℕ) × (role j ≡ r)
 roles-at r role i [] h = absurd h
@@ -190,7 +176,7 @@ pub word-access : (labels : List Label) (u : Use) (m : Mem) (i : ℕ) (w : UsePo
 word-access labels u m i w e =
     access-among labels u.point w.point (place_access u.point m w.point.place) w.at
     (in-right (place_access u.point m w.point.place) (reads_at u.point w.point.place) (writes_at u.point w.point.place)
-    (role-written m i u.point w.point.place (subst (λ r. In r (place_roles w.point.place)) e (role-among u u.point 0 w.point.uses (place_roles w.point.place) w.here))))
+    (role-written m i u.point w.point.place (subst (λ r. In r (place_roles w.point.place)) e (role-among u.point 0 w.point.uses (place_roles w.point.place) u w.here))))
 
 moves-some : (m : Mem) (n : ℕ) → can_move m n ≡ true → 1 ≤ n
 moves-some Sram n e = leb-true 1 n (and_parts (nat_le 1 n) (nat_le n 8) e).0

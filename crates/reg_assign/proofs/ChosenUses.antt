@@ -2,7 +2,7 @@
 use Rattle.std.proofs.Common.{◌≡◌, ℕ, ◌+◌, ◌≤◌, nat_eq, Bool, true, false, ◌&&◌, inl, ⊎_elim, List, [], ◌∷◌, ◌++◌, map, filter, refl, sym, ap, subst, ◌∙◌, arith}
 use Rattle.std.specs.List.{list_any}
 use Rattle.std.proofs.lemmas.List.Elements.{All-contains}
-use Rattle.std.proofs.lemmas.Bool.{false≢true, and_parts, and_from, or_left, or_right}
+use Rattle.std.proofs.lemmas.Bool.{false≢true, and_parts, and_from, or_left, or_right, false_from_ne_true}
 use Rattle.nv_base.specs.declared.term.Mem.{Mem}
 use Rattle.ssu_ir.specs.Tree.{Label}
 use Rattle.zo_model.specs.Program.{cost_where}
@@ -18,20 +18,23 @@ use Rattle.bank_prog.specs.declared.column.Bank.TheVariants.{A, B, M, T, L, A15,
 use Rattle.bank_prog.specs.declared.column.Column.{Column}
 use Rattle.bank_prog.specs.declared.column.Column.TheVariants.{Def, Dir, Stay, Ear, First, Srv, PasL}
 use Rattle.bank_prog.specs.declared.column.Service.{Service}
-use Rattle.bank_prog.specs.Columns.{sort_of, is_fetched, eight, place_words, may_begin, beginnings, role_beginnings, sort_beginnings, services, point_uses}
+use Rattle.bank_prog.specs.Columns.{sort_of, is_fetched, eight, place_words, beginnings, role_beginnings, sort_beginnings, services, point_uses}
 use Rattle.bank_prog.specs.Program.{same_bank}
 use Rattle.bank_prog.specs.Rows.{Line, covers, homes, banks, home as home_columns, stay, srv, early, srv_from, srv_at, use_choice, served_home, served_stay, use_stay, use_cover, at_home, argument_lines, argument_cover, word_begins, is_slot as is_slot_bank, slot_read}
 use Rattle.bank_prog.specs.Meaning.{Chosen, Holds}
+use Rattle.bank_prog.proofs.PlainLines.{mapped-each}
+use Rattle.bank_prog.proofs.Keys.{bank-true}
 use Rattle.reg_assign.specs.inner.Facts.{count}
 use Rattle.reg_assign.specs.inner.Chosen.{bank_of, wanted_bank}
 use Rattle.reg_assign.proofs.Counts.{In, contained-in, in-kept, in-map, map-in, some-counted, counted-some, each-from}
 use Rattle.reg_assign.proofs.FactsPoints.{below-eight}
-use Rattle.reg_assign.proofs.ChosenHolds.{one-holds, map-each, if-each}
+use Rattle.reg_assign.proofs.ChosenHolds.{one-holds, if-each}
 use Rattle.reg_assign.proofs.ChosenForm.{Placed, chosen-on, value-there, use-there, use-served}
 use Rattle.reg_assign.proofs.ChosenThere.{UsePoint, use-point, value-point, value-access, word-access, access-words, first-begins, place_access, def-there, stay-there, first-there, pas-l-there}
-use Rattle.reg_assign.proofs.ChosenSource.{bank-same, no-write-home, write-bank, UseValue, use-value, of-value, sort-is, IsSource, source-on, argument-value}
-use Rattle.reg_assign.proofs.ChosenServes.{off, from_bank, at_bank, use-source, use-once, dir-at, ear-at, dir-goes, ear-on}
-use Rattle.reg_assign.proofs.ChosenValues.{small-covers, covers-column, two-most, named-register, in-bank, unfetched}
+use Rattle.reg_assign.proofs.ChosenSource.{no-write-home, write-bank, UseValue, use-value, of-value, sort-is, IsSource, source-on, argument-value}
+use Rattle.reg_assign.proofs.ChosenServes.{from_bank, at_bank, use-source, use-once, dir-at, ear-at, dir-goes, ear-on}
+use Rattle.reg_assign.proofs.ChosenValues.{small-covers, covers-column, two-most, named-register, in-bank, unfetched, slot-bank as slot-place}
+use Rattle.reg_assign.proofs.FactsValues.{in-eight}
 
 pub choice-lines : (labels : List Label) (p : Plan) (on : Chosen) (u : Use) → Placed labels p on → In u (uses labels) → Each (Holds on) (use_choice u)
 choice-lines labels p on u g i = one-holds on (srv u ++ early u) (use-once labels p on u g i)
@@ -85,7 +88,7 @@ some-bank on c h =
 
 -- a use that is served from a bank isn't put early
 not-early : (p : Plan) (u : Use) (h : Bank) → from_bank p u ≡ h → (W ≡ h → ⊥) → is_early p u ≡ false
-not-early p u h e n = off (is_early p u) (λ w. n (sym (write-bank (served p u).from w) ∙ e))
+not-early p u h e n = false_from_ne_true (is_early p u) (λ w. n (sym (write-bank (served p u).from w) ∙ e))
 
 value-source : (labels : List Label) (p : Plan) (u : Use) (v : UseValue labels u) → Fits labels p → In u (uses labels) → is_early p u ≡ false → IsSource p v.value.var (served p u).from
 value-source labels p u v f i e = subst (λ x. IsSource p x (served p u).from) (sym v.var) (use-source labels p u f i e)
@@ -93,7 +96,7 @@ value-source labels p u v f i e = subst (λ x. IsSource p x (served p u).from) (
 home-covers : (labels : List Label) (p : Plan) (on : Chosen) (u : Use) (h : Bank) → Placed labels p on → In u (uses labels) → In h homes → Holds on (served_home u h)
 home-covers labels p on u h g i j = small-covers on (home_columns u.value h) (srv_from u.point u.operand h) (from-most labels p on u h g i) (λ l.
     let w = some-bank on (Srv u.point u.operand h) l in
-    let b : from_bank p u ≡ h = sym (bank-same h (from_bank p u) (way-said labels p on u h w.0 g i w.1).0) in
+    let b : from_bank p u ≡ h = sym (bank-true h (from_bank p u) (way-said labels p on u h w.0 g i w.1).0) in
     let v = use-value labels u g.form i in
     let e = not-early p u h b (λ z. no-write-home (subst (λ x. In x homes) (sym z) j)) in
     subst (λ x. 1 ≤ count on (home_columns x h)) v.var (source-on labels p on v.value (served p u).from h g v.there v.used (value-source labels p u v g.fits i e) b j))
@@ -115,9 +118,6 @@ fetched-sort (Parameter l i) e = absurd (false≢true e)
 fetched-sort Result e = absurd (false≢true e)
 fetched-sort (Fetched m i) e = (m, i, refl)
 
-in-eight : (m : Mem) (n f : ℕ) → In f (beginnings m n) → In f eight
-in-eight m n f i = (in-kept (may_begin m n) f eight i).0
-
 -- where a use of a read value is served from its read register, it stays there
 stay-counted : (labels : List Label) (p : Plan) (on : Chosen) (v : Value) → Placed labels p on → In v (values labels) → is_used labels v.var ≡ true → is_fetched v.sort ≡ true → stays labels p v.var ≡ true → 1 ≤ count on (stay v.var)
 stay-counted labels p on v g i u e s =
@@ -137,7 +137,7 @@ stay-counted labels p on v g i u e s =
 stay-covers : (labels : List Label) (p : Plan) (on : Chosen) (u : Use) → Placed labels p on → In u (uses labels) → is_fetched (sort_of labels u.value) ≡ true → Holds on (served_stay u)
 stay-covers labels p on u g i e = small-covers on (stay u.value) (srv_from u.point u.operand T) (from-most labels p on u T g i) (λ l.
     let w = some-bank on (Srv u.point u.operand T) l in
-    let b : from_bank p u ≡ T = sym (bank-same T (from_bank p u) (way-said labels p on u T w.0 g i w.1).0) in
+    let b : from_bank p u ≡ T = sym (bank-true T (from_bank p u) (way-said labels p on u T w.0 g i w.1).0) in
     let v = use-value labels u g.form i in
     let s : stays labels p u.value ≡ true = any-use (λ u. is_read_register (served p u).from) u (uses_of labels u.value) (of-value labels u i) (read-register (served p u).from b) in
     let t : is_fetched v.value.sort ≡ true = ap is_fetched (sym (sort-is labels v.value g.form v.there)) ∙ ap (λ x. is_fetched (sort_of labels x)) v.var ∙ e in
@@ -146,7 +146,7 @@ stay-covers labels p on u g i e = small-covers on (stay u.value) (srv_from u.poi
 pub cover-lines : (labels : List Label) (p : Plan) (on : Chosen) (u : Use) → Placed labels p on → In u (uses labels) → Each (Holds on) (use_cover labels u)
 cover-lines labels p on u g i =
     each-append (Holds on) (map (served_home u) homes) (use_stay labels u)
-    (map-each (Holds on) (served_home u) homes (each-from _ homes (λ h j. home-covers labels p on u h g i j)))
+    (mapped-each (Holds on) (served_home u) homes (each-from _ homes (λ h j. home-covers labels p on u h g i j)))
     (if-each (Holds on) (is_fetched (sort_of labels u.value)) (served_stay u ∷ []) (λ e. (stay-covers labels p on u g i e, tt)))
 
 -- ---- an argument is brought to where its parameter is first put
@@ -167,7 +167,7 @@ argument-covers labels p on u l i q g j r k = small-covers on (at_home (paramete
     let v = argument-value labels u l i g.form j r in
     let at = argument-at labels p u l i u.role refl r (use-served labels p u g.fits j) in
     let bank : at_bank p u ≡ bank_of (home p v.0.var).defined = ap (λ z. wanted_bank z (from_bank p u) (served p u).at) r ∙ ap bank_of at ∙ ap (λ x. bank_of (home p x).defined) (sym v.2) in
-    let b : bank_of (home p v.0.var).defined ≡ q = sym (bank-same q (at_bank p u) (way-said labels p on u w.0 q g j w.1).1 ∙ bank) in
+    let b : bank_of (home p v.0.var).defined ≡ q = sym (bank-true q (at_bank p u) (way-said labels p on u w.0 q g j w.1).1 ∙ bank) in
     let d : on (Def v.0.var q) ≡ true = g.is.same (Def v.0.var q) (def-there labels v.0 q v.1 (unfetched v.0.sort v.3) k) ∙ in-bank q (home p v.0.var).defined b in
     some-counted on (Def (parameter labels l i) q) (at_home (parameter labels l i) q) (inl refl) (subst (λ x. on (Def x q) ≡ true) v.2 d))
 
@@ -178,7 +178,7 @@ argument-cover-holds labels p on u g i = by u.role refl
     by Operand e = tt
     by Address e = tt
     by (Written m j) e = tt
-    by (Argument l j) e = map-each (Holds on) (λ q. covers (at_home (parameter labels l j) q) (srv_at u.point u.operand q)) homes (each-from _ homes (λ q k. argument-covers labels p on u l j q g i e k))
+    by (Argument l j) e = mapped-each (Holds on) (λ q. covers (at_home (parameter labels l j) q) (srv_at u.point u.operand q)) homes (each-from _ homes (λ q k. argument-covers labels p on u l j q g i e k))
     by (Ending j) e = tt
 
 -- ---- a run begins where a word that is put early asks for it
@@ -218,14 +218,10 @@ word-begin-holds labels p on u f w g i b =
 pub begin-lines : (labels : List Label) (p : Plan) (on : Chosen) (u : Use) (w : UsePoint labels u) → Placed labels p on → In u (uses labels) → Each (Holds on) (word_begins (place_words w.point.place) u)
 begin-lines labels p on u w g i =
     let n = place_words w.point.place in
-    map-each (Holds on) (λ f. covers (First u.point f ∷ []) (Dir u.point u.operand f ∷ Ear u.point u.operand f ∷ [])) (role_beginnings n u.role)
+    mapped-each (Holds on) (λ f. covers (First u.point f ∷ []) (Dir u.point u.operand f ∷ Ear u.point u.operand f ∷ [])) (role_beginnings n u.role)
     (each-from _ (role_beginnings n u.role) (λ f b. word-begin-holds labels p on u f w g i b))
 
 -- ---- slots that are read
-
-slot-place : (q : Place) → bank_of q ≡ M → is_slot q ≡ true
-slot-place (place.Slot k) e = refl
-slot-place _ e = absurd (cc)
 
 slot-bank : (h : Bank) → is_slot_bank h ≡ true → h ≡ M
 slot-bank M e = refl
@@ -244,8 +240,8 @@ pub read-lines : (labels : List Label) (p : Plan) (on : Chosen) (u : Use) → Pl
 read-lines labels p on u g i =
     let f : Service → Line = λ (s : Service). covers (map (PasL u.point) eight) (Srv u.point u.operand s.from s.at ∷ []) in
     let ss = filter (λ (s : Service). is_slot_bank s.from) (services u.role) in
-    map-each (Holds on) f ss (each-from _ ss (λ s j.
+    mapped-each (Holds on) f ss (each-from _ ss (λ s j.
     covers-column on (map (PasL u.point) eight) (Srv u.point u.operand s.from s.at) (λ e.
     let m = slot-bank s.from (in-kept (λ (s : Service). is_slot_bank s.from) s (services u.role) j).1 in
-    let b : from_bank p u ≡ M = sym (bank-same s.from (from_bank p u) (way-said labels p on u s.from s.at g i e).0) ∙ m in
+    let b : from_bank p u ≡ M = sym (bank-true s.from (from_bank p u) (way-said labels p on u s.from s.at g i e).0) ∙ m in
     read-counted labels p on u g i (slot-place (served p u).from b))))

@@ -2,7 +2,7 @@
 use Rattle.std.proofs.Common.{◌≡◌, ℕ, zero, suc, ◌+◌, ◌<◌, ◌≤◌, nat_eq, Bool, true, false, not, ◌&&◌, ◌||◌, ◌⊎◌, inl, inr, ⊎_elim, Option, Some, None, List, [], ◌∷◌, ◌++◌, map, refl, sym, ap, subst, ◌∙◌, arith}
 use Rattle.std.specs.Prelude.{is_some}
 use Rattle.std.specs.List.{flat_map, list_any}
-use Rattle.std.proofs.lemmas.Bool.{false≢true, and_parts, and_from, or_cases, or_left, or_right}
+use Rattle.std.proofs.lemmas.Bool.{false≢true, and_parts, and_from, or_left, or_right, not-true}
 use Rattle.nv_base.specs.declared.term.Mem.{Mem}
 use Rattle.ssu_ir.specs.Tree.{Label}
 use Rattle.zo_model.specs.Program.{cost_where}
@@ -20,16 +20,20 @@ use Rattle.bank_prog.specs.declared.column.Column.TheVariants.{Def, Fill, Stay, 
 use Rattle.bank_prog.specs.Columns.{is_fetched, eight, place_words, beginnings, sort_beginnings}
 use Rattle.bank_prog.specs.Rows.{at_most, covers, exactly_one, homes, def, home as home_columns, dir, ear, is_parameter, is_written, in_register, fill, word_from_register, copy_lines, copy_cover, parameter_choice, result_choice, stay_begins, slot_written, result_written, value_written}
 use Rattle.bank_prog.specs.Meaning.{Chosen, Holds}
+use Rattle.bank_prog.proofs.PlainLines.{mapped-each}
+use Rattle.bank_prog.proofs.Keys.{bank-true}
+use Rattle.bank_prog.proofs.Itself.{bank-itself}
 use Rattle.reg_assign.specs.inner.Facts.{count}
 use Rattle.reg_assign.specs.inner.Chosen.{value_at, bank_of, is_in_bank, goes_there, names}
 use Rattle.reg_assign.proofs.Counts.{In, kept-in, map-in, in-right, some-counted, count-append, each-in, each-from}
 use Rattle.reg_assign.proofs.FactsPoints.{below-eight}
-use Rattle.reg_assign.proofs.FactsValues.{used-of}
-use Rattle.reg_assign.proofs.ChosenHolds.{covers-hold, most-holds, one-holds, map-each, flat-each, if-each, only-most, counted-one, one-most}
+use Rattle.reg_assign.proofs.FactsValues.{used-of, on-one}
+use Rattle.reg_assign.proofs.ChosenHolds.{covers-hold, most-holds, one-holds, flat-each, if-each, only-most, counted-one, one-most}
 use Rattle.reg_assign.proofs.ChosenForm.{Placed, chosen-on, value-there, Housing, housing, put-writes, copies-are, IsCopy}
 use Rattle.reg_assign.proofs.ChosenThere.{ValuePoint, value-access, place_access, def-there, first-there, pas-s-there}
-use Rattle.reg_assign.proofs.ChosenSource.{bank-itself, bank-same, no-write-home, write-bank, in-any-place, none-in}
-use Rattle.reg_assign.proofs.ChosenServes.{unsaid, dir-one, dir-none, ear-at, ear-on, general-not-write}
+use Rattle.reg_assign.proofs.ChosenSource.{no-write-home, write-bank, in-any-place, none-in}
+use Rattle.reg_assign.proofs.ChosenServes.{dir-one, dir-none, ear-at, ear-on, general-not-write}
+use Rattle.reg_assign.proofs.FitRead.{any-in}
 
 -- ---- counts
 
@@ -40,16 +44,9 @@ small-covers on cs ds h f = covers-hold on cs ds (by (count on ds) refl h f)
     by zero e l g = omega (arith, e)
     by (suc n) e l g = let c = g (omega (arith, e)) in omega (arith, c, l)
 
-pub one-column : (on : Chosen) (c : Column) → 1 ≤ count on (c ∷ []) → on c ≡ true
-one-column on c h = by (on c) h
-  where
-    by : (b : Bool) → 1 ≤ cost_where b 1 + 0 → b ≡ true
-    by true l = refl
-    by false l = absurd (omega (arith, l))
-
 -- a column covers another
 pub covers-column : (on : Chosen) (cs : List Column) (d : Column) → (on d ≡ true → 1 ≤ count on cs) → Holds on (covers cs (d ∷ []))
-covers-column on cs d f = small-covers on cs (d ∷ []) (one-most on d) (λ h. f (one-column on d h))
+covers-column on cs d f = small-covers on cs (d ∷ []) (one-most on d) (λ h. f (on-one on d h))
 
 pub two-most : (on : Chosen) (c d : Column) → (on c ≡ true → on d ≡ true → ⊥) → count on (c ∷ d ∷ []) ≤ 1
 two-most on c d n = by (on c) refl (on d) refl
@@ -109,7 +106,7 @@ unfetched (Parameter l i) e = refl
 unfetched Result e = refl
 unfetched (Fetched m i) e = absurd (false≢true e)
 
-result-unfetched : (s : Sort) → is_result s ≡ true → is_fetched s ≡ false
+pub result-unfetched : (s : Sort) → is_result s ≡ true → is_fetched s ≡ false
 result-unfetched (Parameter l i) e = refl
 result-unfetched Result e = refl
 result-unfetched (Fetched m i) e = absurd (false≢true e)
@@ -181,17 +178,10 @@ record Copy (p : Plan) (x : ℕ) (h : Bank) : Type 0 where
   there : In at (home p x).copied
   bank : bank_of at ≡ h
 
-some-place : (f : Place → Bool) (qs : List Place) → list_any f qs ≡ true → (q : Place) × In q qs × (f q ≡ true)
-some-place f [] e = absurd (false≢true e)
-some-place f (q ∷ qs) e = ⊎_elim
-    (λ (a : f q ≡ true). (q, inl refl, a))
-    (λ (b : list_any f qs ≡ true). let w = some-place f qs b in (w.0, inr w.1, w.2))
-    (or_cases (f q) (list_any f qs) e)
-
 fill-copy : (labels : List Label) (p : Plan) (on : Chosen) (x : ℕ) (h : Bank) → Placed labels p on → on (Fill x h) ≡ true → Copy p x h
 fill-copy labels p on x h g e =
-    let w = some-place (is_in_bank h) (home p x).copied (chosen-on labels p on g (Fill x h) e) in
-    record { at = w.0; there = w.1; bank = sym (bank-same h (bank_of w.0) w.2) }
+    let w = any-in (is_in_bank h) (home p x).copied (chosen-on labels p on g (Fill x h) e) in
+    record { at = w.0; there = w.1; bank = sym (bank-true h (bank_of w.0) w.2) }
 
 same-bank-of : (p : Plan) (q r : Place) → IsGeneral p q → bank_of q ≡ bank_of r → same_bank q r ≡ true
 same-bank-of p (place.A i) (place.A j) g e = refl
@@ -215,7 +205,7 @@ copied-elsewhere labels p x h f c i w e = by (each-in (IsCopy p (home p x).defin
 
 once-home : (labels : List Label) (p : Plan) (on : Chosen) (v : Value) (h : Bank) → Placed labels p on → In v (values labels) → is_fetched v.sort ≡ false → In h homes → Holds on (at_most 1 (home_columns v.var h))
 once-home labels p on v h g i n j = most-holds on 1 (home_columns v.var h) (two-most on (Def v.var h) (Fill v.var h) (λ e f.
-    by (housing-of labels p v g.fits i n) (fill-copy labels p on v.var h g f) (sym (bank-same h (bank_of (home p v.var).defined) (chosen-on labels p on g (Def v.var h) e)))))
+    by (housing-of labels p v g.fits i n) (fill-copy labels p on v.var h g f) (sym (bank-true h (bank_of (home p v.var).defined) (chosen-on labels p on g (Def v.var h) e)))))
   where
     by : Housing labels p v → Copy p v.var h → bank_of (home p v.var).defined ≡ h → ⊥
     by (Housing.put_general m d c) w e = copied-elsewhere labels p v.var h g.fits c j w e
@@ -275,12 +265,12 @@ word-line labels p on v u g i n j =
 
 pub copy-cover-holds : (labels : List Label) (p : Plan) (on : Chosen) (v : Value) → Placed labels p on → In v (values labels) → Each (Holds on) (copy_cover labels v)
 copy-cover-holds labels p on v g i = if-each (Holds on) (is_used labels v.var && not (is_fetched v.sort)) (copy_lines labels v.var) (λ e.
-    let n = unsaid (is_fetched v.sort) (and_parts (is_used labels v.var) (not (is_fetched v.sort)) e).1 in
+    let n = not-true (is_fetched v.sort) (and_parts (is_used labels v.var) (not (is_fetched v.sort)) e).1 in
     let words = flat_map (word_from_register v.var) (uses_of labels v.var) in
     each-append (Holds on) (map (λ h. at_most 1 (home_columns v.var h)) homes) (map (λ h. covers (in_register v.var) (fill v.var h)) homes ++ words)
-    (map-each (Holds on) (λ h. at_most 1 (home_columns v.var h)) homes (each-from _ homes (λ h j. once-home labels p on v h g i n j)))
+    (mapped-each (Holds on) (λ h. at_most 1 (home_columns v.var h)) homes (each-from _ homes (λ h j. once-home labels p on v h g i n j)))
     (each-append (Holds on) (map (λ h. covers (in_register v.var) (fill v.var h)) homes) words
-    (map-each (Holds on) (λ h. covers (in_register v.var) (fill v.var h)) homes (each-from _ homes (λ h j. fill-from-register labels p on v h g i n)))
+    (mapped-each (Holds on) (λ h. covers (in_register v.var) (fill v.var h)) homes (each-from _ homes (λ h j. fill-from-register labels p on v h g i n)))
     (flat-each (Holds on) (word_from_register v.var) (uses_of labels v.var) (each-from _ (uses_of labels v.var) (λ u j.
     if-each (Holds on) (is_written u.role) (covers (in_register v.var) (ear u) ∷ []) (λ r. (word-line labels p on v u g i n j, tt)))))))
 
@@ -303,12 +293,12 @@ pub stay-lines : (labels : List Label) (p : Plan) (on : Chosen) (v : Value) (w :
 stay-lines labels p on v w g i =
     let n = place_words w.point.place in
     if-each (Holds on) (is_used labels v.var) (map (λ f. covers (First v.point f ∷ []) (Stay v.var f ∷ [])) (sort_beginnings n v.sort)) (λ u.
-    map-each (Holds on) (λ f. covers (First v.point f ∷ []) (Stay v.var f ∷ [])) (sort_beginnings n v.sort) (each-from _ (sort_beginnings n v.sort) (λ f b.
+    mapped-each (Holds on) (λ f. covers (First v.point f ∷ []) (Stay v.var f ∷ [])) (sort_beginnings n v.sort) (each-from _ (sort_beginnings n v.sort) (λ f b.
     covers-column on (First v.point f ∷ []) (Stay v.var f) (λ e. some-counted on (First v.point f) (First v.point f ∷ []) (inl refl) (stay-first labels p on v f w g i b e)))))
 
 -- ---- values that come to slots
 
-slot-bank : (q : Place) → bank_of q ≡ M → is_slot q ≡ true
+pub slot-bank : (q : Place) → bank_of q ≡ M → is_slot q ≡ true
 slot-bank (place.Slot k) e = refl
 slot-bank _ e = absurd (cc)
 
@@ -341,7 +331,7 @@ fill-comes labels p on v g u e =
 def-comes : (labels : List Label) (p : Plan) (on : Chosen) (v : Value) → Placed labels p on → is_used labels v.var ≡ true → is_result v.sort ≡ true → on (Def v.var M) ≡ true → comes_to_slot labels p v ≡ true
 def-comes labels p on v g u r e =
     let copied = list_any is_slot (home p v.var).copied in
-    let slot = slot-bank (home p v.var).defined (sym (bank-same M (bank_of (home p v.var).defined) (chosen-on labels p on g (Def v.var M) e))) in
+    let slot = slot-bank (home p v.var).defined (sym (bank-true M (bank_of (home p v.var).defined) (chosen-on labels p on g (Def v.var M) e))) in
     let defined = is_result v.sort && is_slot (home p v.var).defined in
     and_from (is_used labels v.var) (copied || defined) u (or_right copied defined (and_from (is_result v.sort) (is_slot (home p v.var).defined) r slot))
 

@@ -1,5 +1,6 @@
 -- The vector of a placement that fits: it meets the rows of the bank program, and costs what the placement does.
 use Rattle.std.proofs.Common.{◌≡◌, ℕ, nat_eq, Bool, true, not, ◌&&◌, ◌||◌, List, [], ◌∷◌, length, map, refl, sym, ap, subst, ◌∙◌}
+use Rattle.std.proofs.lemmas.List.{length-map}
 use Rattle.std.specs.List.{list_any}
 use Rattle.ssu_ir.specs.Tree.{Label}
 use Rattle.ssu_ir.specs.Single.{single}
@@ -13,7 +14,6 @@ use Rattle.bank_prog.specs.declared.column.Column.TheVariants.{Def, Dir, Fill, S
 use Rattle.bank_prog.specs.Columns.{columns, costs}
 use Rattle.bank_prog.specs.Program.{same_bank}
 use Rattle.bank_prog.specs.Meaning.{on, IsFeasible}
-use Rattle.bank_prog.proofs.FormLemmas.{length-map}
 use Rattle.bank_prog.proofs.LawsColumns.{on-there, chosen-on}
 use Rattle.bank_prog.proofs.LawsCost.{costs-by-name}
 use Rattle.reg_assign.specs.declared.plan_tables.PlanTables.{PlanTables}
@@ -87,7 +87,7 @@ is-chosen labels p = record {
 }
 
 pub vector-long : (labels : List Label) (p : Plan) (xs : List Bool) → IsVector labels p xs → length xs ≡ length (columns labels)
-vector-long labels p xs v = ap length v.is ∙ length-map (chosen labels p) (columns labels)
+vector-long labels p xs v = ap length v.is ∙ length-map (columns labels) (chosen labels p)
 
 pub vector-feasible : (labels : List Label) (p : Plan) (xs : List Bool) → single labels ≡ true → Fits labels p → IsVector labels p xs → IsFeasible labels p.slots (vector xs)
 vector-feasible labels p xs s f v =

@@ -1,9 +1,9 @@
 -- The plan that is read off costs no more than the columns that are on.
-use Rattle.std.proofs.Common.{◌≡◌, ℕ, zero, suc, ◌+◌, ◌≤◌, nat_eq, Bool, true, false, ◌||◌, if◌then◌else◌, Some, List, [], ◌∷◌, ◌++◌, map, filter, refl, sym, ap, subst, ◌∙◌, inl, inr, ⊎_elim, arith}
+use Rattle.std.proofs.Common.{◌≡◌, ℕ, zero, suc, ◌+◌, ◌≤◌, nat_eq, Bool, true, false, if◌then◌else◌, Some, List, [], ◌∷◌, ◌++◌, map, filter, refl, sym, ap, subst, ◌∙◌, inl, inr, ⊎_elim, arith}
 use Rattle.std.specs.Prelude.{slice_get, All}
 use Rattle.std.specs.List.{flat_map, list_any}
 use Rattle.std.proofs.lemmas.List.Elements.{All-contains}
-use Rattle.std.proofs.lemmas.Bool.{false≢true, and_from}
+use Rattle.std.proofs.lemmas.Bool.{false≢true, and_from, or_left, or_right}
 use Rattle.nv_base.specs.Sets.{all_different}
 use Rattle.nv_base.proofs.Sets.{same-number}
 use Rattle.ssu_ir.specs.Tree.{Label}
@@ -23,6 +23,7 @@ use Rattle.bank_prog.specs.declared.column.Service.{Service}
 use Rattle.bank_prog.specs.Columns.{Priced, eight, sort_of, is_fetched, point_uses, place_words, role_beginnings, sort_defs, def_columns, fill_columns, ear_columns, first_columns, services, has_bank, srv_columns, all_dirs, all_stays, all_ears, all_pas_l, all_pas_s, priced}
 use Rattle.bank_prog.specs.Rows.{ear, lines}
 use Rattle.bank_prog.specs.Meaning.{Chosen, on, named_cost, Holds}
+use Rattle.bank_prog.proofs.PlainLines.{each-kept}
 use Rattle.reg_assign.specs.ByLabel.{lies_in, point_in, column_point, label_cost, label_price}
 use Rattle.reg_assign.specs.inner.Facts.{OnlyThere, ValueFacts, UseFacts, Facts}
 use Rattle.reg_assign.specs.inner.ReadOff.{Numbers, AreRead, read_off}
@@ -33,18 +34,10 @@ use Rattle.reg_assign.proofs.FactsUses.{early-there}
 use Rattle.reg_assign.proofs.FactsAll.{values-differ, known, facts}
 use Rattle.reg_assign.proofs.ReadParts.{IsFound, serves-found}
 use Rattle.reg_assign.proofs.CostSums.{sum_of, cost-append, cost-one, cost-points, each-once}
-use Rattle.reg_assign.proofs.CostKept.{filter-all, each-kept, sum-kept, sum-less, and_passes, cost-kept, cost-of-kept}
+use Rattle.reg_assign.proofs.CostKept.{filter-all, sum-kept, sum-less, and_passes, cost-kept, cost-of-kept}
 use Rattle.reg_assign.proofs.CostUses.{uses-bounded}
 use Rattle.reg_assign.proofs.CostValues.{early_price, in-any, Eighths, values-bounded}
 use Rattle.reg_assign.proofs.LabelPoints.{uses-in-label}
-
-or-first : (a b : Bool) → a ≡ true → (a || b) ≡ true
-or-first true b e = refl
-or-first false b e = absurd (false≢true e)
-
-or-second : (a b : Bool) → b ≡ true → (a || b) ≡ true
-or-second true b e = refl
-or-second false b e = e
 
 -- ---- by a test of points
 
@@ -59,7 +52,7 @@ ear-paid labels on keep k q u g at i y true e =
     let w = in-any on (ear u) e in
     let f = in-map w.0 (Ear u.point u.operand) eight w.1 in
     let lit : on (Ear u.point u.operand f.0) ≡ true = ap on f.2 ∙ w.2 in
-    let t = early-there labels on u f.0 g (uses-among u 0 k k (points labels) q (omega arith) at i) (or-second (on (Dir u.point u.operand f.0)) (on (Ear u.point u.operand f.0)) lit) in
+    let t = early-there labels on u f.0 g (uses-among u 0 k k (points labels) q (omega arith) at i) (or_right (on (Dir u.point u.operand f.0)) (on (Ear u.point u.operand f.0)) lit) in
     let p : u.point ≡ k = point-of u k 0 q.uses (place_roles q.place) i in
     let there : slice_get (points labels) k ≡ Some t.place = subst (λ n. slice_get (points labels) n ≡ Some t.place) p t.at in
     let same : t.place ≡ q = cc in
@@ -144,7 +137,7 @@ srv-stands labels u c h =
 
 eighths : (labels : List Label) (on : Chosen) → Known labels on → Eighths labels on
 eighths labels on g u i k e =
-    let t = early-there labels on u k g i (or-first (on (Dir u.point u.operand k)) (on (Ear u.point u.operand k)) e) in
+    let t = early-there labels on u k g i (or_left (on (Dir u.point u.operand k)) (on (Ear u.point u.operand k)) e) in
     role-eight (place_words t.place.place) k u.role t.begins
 
 -- the columns of four families alone

@@ -1,7 +1,6 @@
 -- Sums over what stands at the points that `keep` says.
 use Rattle.std.proofs.Common.{◌≡◌, ℕ, ◌+◌, ◌≤◌, Bool, true, false, ◌&&◌, if◌then◌else◌, List, [], ◌∷◌, filter, refl, ap, inl, inr, arith}
 use Rattle.std.specs.List.{flat_map}
-use Rattle.place_ir.proofs.Sound.{Each}
 use Rattle.zo_model.specs.Program.{cost_where}
 use Rattle.bank_prog.specs.declared.column.Column.{Column}
 use Rattle.bank_prog.specs.Columns.{Priced}
@@ -14,14 +13,6 @@ use Rattle.reg_assign.proofs.CostSums.{sum_of, cost-append}
 pub filter-all : {X : Type 0} (xs : List X) → filter (λ x. true) xs ≡ xs
 filter-all [] = refl
 filter-all (x ∷ xs) = ap (λ ys. x ∷ ys) (filter-all xs)
-
-pub each-kept : {X : Type 0} (P : X → Type 0) (keep : X → Bool) (xs : List X) → Each P xs → Each P (filter keep xs)
-each-kept P keep [] h = tt
-each-kept P keep (x ∷ xs) h = by (keep x) (each-kept P keep xs h.1)
-  where
-    by : (b : Bool) → Each P (filter keep xs) → Each P (if b then x ∷ filter keep xs else filter keep xs)
-    by true k = (h.0, k)
-    by false k = k
 
 -- ---- sums
 

@@ -12,9 +12,6 @@ use Rattle.bank_prog.specs.Columns.{Priced, each_point, point_uses}
 use Rattle.bank_prog.specs.Meaning.{Chosen, named_cost}
 use Rattle.reg_assign.proofs.Counts.{In}
 
-pub exact : {m n : ℕ} → m ≡ n → m ≤ n
-exact {m} {n} e = omega (arith, e)
-
 -- the sum of g over a list
 abbrev pub sum_of : {X : Type 0} → (X → ℕ) → List X → ℕ
 sum_of g [] = 0

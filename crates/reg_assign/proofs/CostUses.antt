@@ -1,5 +1,5 @@
 -- What the uses of the plan that is read off cost: no more than the columns by which they are served.
-use Rattle.std.proofs.Common.{◌≡◌, ℕ, ◌+◌, ◌≤◌, nat_eq, Bool, true, false, if◌then◌else◌, Option, Some, None, List, [], ◌∷◌, ◌++◌, map, filter, refl, ap, subst, inl, inr, ◌∙◌, arith}
+use Rattle.std.proofs.Common.{◌≡◌, ℕ, ◌+◌, ◌≤◌, nat_eq, Bool, true, false, if◌then◌else◌, Option, Some, None, List, [], ◌∷◌, ◌++◌, map, filter, refl, ap, subst, inl, inr, ◌∙◌, arith, le_of_eq}
 use Rattle.std.specs.List.{flat_map}
 use Rattle.std.proofs.lemmas.Bool.{false≢true}
 use Rattle.nv_base.specs.declared.term.Mem.{Mem}
@@ -24,7 +24,7 @@ use Rattle.bank_prog.specs.Meaning.{Chosen, named_cost}
 use Rattle.reg_assign.specs.inner.Facts.{count, IsIn, UseFacts}
 use Rattle.reg_assign.specs.inner.ReadOff.{Numbers, begins, service_on, role_place, word_place, sort_place, place_in, bank_place, target, serve_by, use_serve, read_off}
 use Rattle.reg_assign.proofs.Counts.{In, kept-in, map-in, each-in}
-use Rattle.reg_assign.proofs.CostSums.{exact, cost-append, cost-one}
+use Rattle.reg_assign.proofs.CostSums.{cost-append, cost-one}
 use Rattle.reg_assign.proofs.ReadParts.{IsFound}
 
 -- ---- read and write registers
@@ -120,44 +120,44 @@ Price labels on numbers u role s = (s.from ≡ T → IsReadRegister (place_in on
 prices : (labels : List Label) (on : Chosen) (numbers : Numbers) (u : Use) (role : Role) → u.role ≡ role → Each (Price labels on numbers u role) (services role)
 prices labels on numbers u Operand e =
     let q = place_in on (values labels) u.value in
-    (λ r. exact refl, (λ r. exact refl, (λ r. exact (read-same q (r refl)), (λ r. exact refl, (λ r. exact refl, (λ r. exact refl, (λ r. exact (read-a q 15 (r refl)), tt)))))))
+    (λ r. le_of_eq refl, (λ r. le_of_eq refl, (λ r. le_of_eq (read-same q (r refl)), (λ r. le_of_eq refl, (λ r. le_of_eq refl, (λ r. le_of_eq refl, (λ r. le_of_eq (read-a q 15 (r refl)), tt)))))))
 prices labels on numbers u Address e =
     let q = place_in on (values labels) u.value in
-    (λ r. exact refl, (λ r. exact refl, (λ r. exact (read-a q 15 (r refl)), (λ r. exact refl, tt))))
+    (λ r. le_of_eq refl, (λ r. le_of_eq refl, (λ r. le_of_eq (read-a q 15 (r refl)), (λ r. le_of_eq refl, tt))))
 prices labels on numbers u (Written m i) e =
     let q = place_in on (values labels) u.value in
     let w = word-written on u m i e in
     let n = begins on u.point + i in
     let x = u.value in (
-      λ r. exact (ap (served_cost (place.A (numbers A x))) w ∙ a-write (numbers A x) m n),
+      λ r. le_of_eq (ap (served_cost (place.A (numbers A x))) w ∙ a-write (numbers A x) m n),
       (
-        λ r. exact (ap (served_cost (place.B (numbers B x))) w ∙ b-write (numbers B x) m n),
+        λ r. le_of_eq (ap (served_cost (place.B (numbers B x))) w ∙ b-write (numbers B x) m n),
         (
-          λ r. exact (ap (served_cost q) w ∙ read-write q m n (r refl)),
-          (λ r. exact (ap (served_cost (place.Slot (numbers M x))) w ∙ slot-write (numbers M x) m n), tt),
+          λ r. le_of_eq (ap (served_cost q) w ∙ read-write q m n (r refl)),
+          (λ r. le_of_eq (ap (served_cost (place.Slot (numbers M x))) w ∙ slot-write (numbers M x) m n), tt),
         ),
       ),
     )
 prices labels on numbers u (Argument l i) e =
     let q = place_in on (values labels) u.value in (
-      λ r. exact refl,
+      λ r. le_of_eq refl,
       (
-        λ r. exact refl,
+        λ r. le_of_eq refl,
         (
-          λ r. exact refl,
+          λ r. le_of_eq refl,
           (
-            λ r. exact refl,
+            λ r. le_of_eq refl,
             (
-              λ r. exact refl,
+              λ r. le_of_eq refl,
               (
-                λ r. exact refl,
+                λ r. le_of_eq refl,
                 (
-                  λ r. exact (read-a q _ (r refl)),
+                  λ r. le_of_eq (read-a q _ (r refl)),
                   (
-                    λ r. exact (read-b q _ (r refl)),
+                    λ r. le_of_eq (read-b q _ (r refl)),
                     (
-                      λ r. exact (read-slot q _ (r refl)),
-                      (λ r. slot-a (numbers M u.value) _, (λ r. exact refl, (λ r. exact refl, tt))),
+                      λ r. le_of_eq (read-slot q _ (r refl)),
+                      (λ r. slot-a (numbers M u.value) _, (λ r. le_of_eq refl, (λ r. le_of_eq refl, tt))),
                     ),
                   ),
                 ),
@@ -169,7 +169,7 @@ prices labels on numbers u (Argument l i) e =
     )
 prices labels on numbers u (Ending i) e =
     let q = place_in on (values labels) u.value in
-    (λ r. exact refl, (λ r. exact refl, (λ r. exact (read-a q i (r refl)), (λ r. slot-a (numbers M u.value) i, tt))))
+    (λ r. le_of_eq refl, (λ r. le_of_eq refl, (λ r. le_of_eq (read-a q i (r refl)), (λ r. slot-a (numbers M u.value) i, tt))))
 
 -- ---- which service is taken
 

@@ -1,5 +1,5 @@
 -- What the homes of the plan that is read off cost: no more than the columns that put the values there.
-use Rattle.std.proofs.Common.{◌≡◌, ℕ, zero, suc, ◌+◌, ◌≤◌, nat_eq, Bool, true, false, ◌||◌, if◌then◌else◌, Option, Some, None, List, [], ◌∷◌, ◌++◌, map, filter, refl, sym, ap, subst, inl, inr, ⊎_elim, ◌∙◌, arith}
+use Rattle.std.proofs.Common.{◌≡◌, ℕ, zero, suc, ◌+◌, ◌≤◌, nat_eq, Bool, true, false, ◌||◌, if◌then◌else◌, Option, Some, None, List, [], ◌∷◌, ◌++◌, map, filter, refl, sym, ap, subst, inl, inr, ⊎_elim, ◌∙◌, arith, le_of_eq}
 use Rattle.std.specs.List.{flat_map, list_any}
 use Rattle.std.proofs.lemmas.List.Elements.{All-contains}
 use Rattle.std.proofs.lemmas.Bool.{false≢true, false_from_ne_true, or_cases, or_left, or_right}
@@ -27,12 +27,13 @@ use Rattle.bank_prog.specs.Rows.{homes, def, dir, ear, srv, early, is_parameter,
 use Rattle.bank_prog.specs.Meaning.{Chosen, named_cost}
 use Rattle.reg_assign.specs.inner.Facts.{count, in_bank, IsIn, ValueFacts, UseFacts}
 use Rattle.reg_assign.specs.inner.ReadOff.{Numbers, begins, goes_early, def_bank, home_place, word_place, fills_of, words_of, copies_of, first_word, put_home, sort_home, IsAtHome, AreRead, read_off}
-use Rattle.reg_assign.proofs.Counts.{In, contained-in, in-either, in-map, in-kept, in-if, map-in, each-in, some-counted, counted-some}
+use Rattle.reg_assign.proofs.Counts.{In, contained-in, in-either, in-map, in-kept, in-if, map-in, each-in, some-counted, counted-some, each-from}
 use Rattle.reg_assign.proofs.FactsValues.{same-value, used-of}
 use Rattle.reg_assign.proofs.FactsPoints.{flat-in}
 use Rattle.reg_assign.proofs.FitHomes.{def-bank-some, def-bank-none, is_home_bank}
-use Rattle.reg_assign.proofs.CostSums.{exact, sum_of, cost-append, cost-one}
+use Rattle.reg_assign.proofs.CostSums.{sum_of, cost-append, cost-one}
 use Rattle.reg_assign.proofs.CostUses.{word-written, written-role, early-written}
+use Rattle.reg_assign.proofs.FitWords.{early-written as goes-written}
 
 -- ---- a word that is copied early
 
@@ -76,9 +77,6 @@ early-eared on u n e =
     (λ (r : In w.0 (ear u)). any-in on w.0 (ear u) r w.2)
     (in-either w.0 (dir u) (ear u) b.1)
 
-goes-written : (on : Chosen) (u : Use) → goes_early on u ≡ true → is_written u.role ≡ true
-goes-written on u e = let w = in-any on (early u) e in (in-if w.0 (is_written u.role) (dir u ++ ear u) w.1).0
-
 word-price : (on : Chosen) (u : Use) → NoDirs on u → goes_early on u ≡ true → copied_cost (word_place on u) ≤ early_price on u
 word-price on u n e =
     let w = written-role u.role (goes-written on u e) in
@@ -101,14 +99,14 @@ copied-append [] b = omega arith
 copied-append (q ∷ a) b = let ih = copied-append a b in omega (arith, ih)
 
 three-fills : (a b m : Bool) (i j k : ℕ) → all_copied_cost ((if a then place.A i ∷ [] else []) ++ ((if b then place.B j ∷ [] else []) ++ (if m then place.Slot k ∷ [] else []))) ≤ cost_where a 1 + (cost_where b 1 + (cost_where m 17 + 0))
-three-fills true true true i j k = exact refl
-three-fills true true false i j k = exact refl
-three-fills true false true i j k = exact refl
-three-fills true false false i j k = exact refl
-three-fills false true true i j k = exact refl
-three-fills false true false i j k = exact refl
-three-fills false false true i j k = exact refl
-three-fills false false false i j k = exact refl
+three-fills true true true i j k = le_of_eq refl
+three-fills true true false i j k = le_of_eq refl
+three-fills true false true i j k = le_of_eq refl
+three-fills true false false i j k = le_of_eq refl
+three-fills false true true i j k = le_of_eq refl
+three-fills false true false i j k = le_of_eq refl
+three-fills false false true i j k = le_of_eq refl
+three-fills false false false i j k = le_of_eq refl
 
 no-fills : (a b m : Bool) (i j k : ℕ) → a ≡ false → b ≡ false → m ≡ false → all_copied_cost ((if a then place.A i ∷ [] else []) ++ ((if b then place.B j ∷ [] else []) ++ (if m then place.Slot k ∷ [] else []))) ≡ 0
 no-fills true b m i j k e f g = absurd (false≢true (sym e))
@@ -151,7 +149,7 @@ def-price on numbers x s L n j e = absurd (false≢true j)
 def-price on numbers x s A15 n j e = absurd (false≢true j)
 def-price on numbers x s W n j e = absurd (false≢true j)
 
-home-in : (h : Bank) → is_home_bank h ≡ true → In h homes
+pub home-in : (h : Bank) → is_home_bank h ≡ true → In h homes
 home-in A e = inl refl
 home-in B e = inr (inl refl)
 home-in M e = inr (inr (inl refl))
@@ -270,12 +268,8 @@ home_price s h = defined_cost s h.defined + all_copied_cost h.copied
 abbrev value_price : List Label → Chosen → Value → ℕ
 value_price labels on v = named_cost on (def_columns v) + (named_cost on (fill_columns labels v) + sum_of (early_price on) (uses_of labels v.var))
 
-each-made : {X : Type 0} (P : X → Type 0) (xs : List X) → ((x : X) → In x xs → P x) → Each P xs
-each-made P [] h = tt
-each-made P (x ∷ xs) h = (h x (inl refl), each-made P xs (λ y i. h y (inr i)))
-
 other-dirs : (labels : List Label) (on : Chosen) (v : Value) → ValueFacts labels on v → ((u : Use) → In u (uses labels) → UseFacts labels on u) → is_result v.sort ≡ false → Each (NoDirs on) (uses_of labels v.var)
-other-dirs labels on v f g n = each-made (NoDirs on) (uses_of labels v.var) (λ u i k e.
+other-dirs labels on v f g n = each-from (NoDirs on) (uses_of labels v.var) (λ u i k e.
     let w = used-of labels u v.var i in
     let r = (g u w.0).of_result k e in
     false≢true (sym n ∙ ap is_result (sym (ap (sort_of labels) w.1 ∙ f.sort)) ∙ r))
@@ -285,7 +279,7 @@ abbrev pub Eighths : List Label → Chosen → Type 0
 Eighths labels on = (u : Use) → In u (uses labels) → (k : ℕ) → on (Dir u.point u.operand k) ≡ true → In k eight
 
 housed-dirs : (labels : List Label) (on : Chosen) (v : Value) (h : Bank) → ValueFacts labels on v → v.sort ≡ Result → In h homes → on (Def v.var h) ≡ true → Eighths labels on → Each (NoDirs on) (uses_of labels v.var)
-housed-dirs labels on v h f e i d g = each-made (NoDirs on) (uses_of labels v.var) (λ u j k o.
+housed-dirs labels on v h f e i d g = each-from (NoDirs on) (uses_of labels v.var) (λ u j k o.
     let w = used-of labels u v.var j in
     let one = f.result (ap is_result e) in
     let a = def-counted on v.var h i d in

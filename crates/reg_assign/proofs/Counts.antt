@@ -191,16 +191,6 @@ each-points P f j zero k (p ∷ ps) q e g h =
 each-points P f j (suc i) k (p ∷ ps) q e g h =
     each-points P f (suc j) i k ps q (omega arith) g (each-right P (f j p) (each_point f (suc j) ps) h)
 
-pub in-points : {X : Type 0} (x : X) (f : ℕ → Point → List X) (j : ℕ) (ps : List Point) → In x (each_point f j ps) → (i : ℕ) × (q : Point) × (slice_get ps i ≡ Some q) × In x (f (j + i) q)
-in-points x f j [] h = absurd h
-in-points x f j (p ∷ ps) h = ⊎_elim
-    (λ (l : In x (f j p)). (zero, p, refl, subst (λ n. In x (f n p)) (let e : j ≡ j + 0 = omega arith in e) l))
-    (λ (r : In x (each_point f (suc j) ps)).
-    let w = in-points x f (suc j) ps r in
-    let e : suc j + w.0 ≡ j + suc w.0 = omega arith in
-    (suc w.0, w.1, w.2, subst (λ n. In x (f n w.1)) e w.3))
-    (in-either x (f j p) (each_point f (suc j) ps) h)
-
 -- ---- counts and columns
 
 pub some-counted : (on : Chosen) (c : Column) (cs : List Column) → In c cs → on c ≡ true → 1 ≤ count on cs

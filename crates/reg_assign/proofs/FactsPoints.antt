@@ -1,8 +1,8 @@
 -- What the lines say of a point.
-use Rattle.std.proofs.Common.{◌≡◌, ℕ, zero, suc, ◌+◌, ◌-◌, ◌%◌, ◌<◌, ◌≤◌, nat_eq, nat_lt, nat_le, Bool, true, false, ◌&&◌, if◌then◌else◌, Some, List, [], ◌∷◌, ◌++◌, length, map, filter, refl, sym, ap, subst, inl, inr, ⊎_elim, ◌∙◌, arith, rules, tests}
+use Rattle.std.proofs.Common.{◌≡◌, ℕ, zero, suc, ◌+◌, ◌-◌, ◌%◌, ◌<◌, ◌≤◌, nat_eq, nat_lt, nat_le, Bool, true, false, ◌&&◌, if◌then◌else◌, Some, List, [], ◌∷◌, ◌++◌, length, map, filter, refl, sym, ap, subst, inl, inr, ⊎_elim, ◌∙◌, arith}
 use Rattle.std.specs.Prelude.{slice_get}
 use Rattle.std.specs.List.{flat_map, list_any}
-use Rattle.std.proofs.lemmas.Bool.{false≢true, false_from_ne_true, and_from, and_parts, or_cases}
+use Rattle.std.proofs.lemmas.Bool.{false≢true, false_from_ne_true, and_from, and_parts, or_cases, leb-true, le-leb, lt-ltb}
 use Rattle.nv_base.specs.Sets.{is_in, without}
 use Rattle.nv_base.specs.declared.term.Mem.{Mem}
 use Rattle.nv_base.specs.declared.term.Mem.TheVariants.{Sram, Sdram, Scratch}
@@ -65,19 +65,10 @@ below-eight (suc (suc (suc (suc (suc (suc zero)))))) l = inr (inr (inr (inr (inr
 below-eight (suc (suc (suc (suc (suc (suc (suc zero))))))) l = inr (inr (inr (inr (inr (inr (inr (inl refl)))))))
 below-eight (suc (suc (suc (suc (suc (suc (suc (suc r)))))))) l = absurd (omega (arith, l))
 
-pub le-from : (m n : ℕ) → nat_le m n ≡ true → m ≤ n
-le-from m n e = search (tests, rules)
-
-pub le-test : (m n : ℕ) → m ≤ n → nat_le m n ≡ true
-le-test m n e = search (tests, rules)
-
-pub lt-test : (m n : ℕ) → m < n → nat_lt m n ≡ true
-lt-test m n e = search (tests, rules)
-
 run-ends : (m : Mem) (n f : ℕ) → may_begin m n f ≡ true → f + n ≤ 8
-run-ends Sram n f e = le-from (f + n) 8 e
-run-ends Sdram n f e = let p = and_parts (nat_le (f + n) 8) (nat_eq (f % 2) 0) e in le-from (f + n) 8 p.0
-run-ends Scratch n f e = le-from (f + n) 8 e
+run-ends Sram n f e = leb-true (f + n) 8 e
+run-ends Sdram n f e = let p = and_parts (nat_le (f + n) 8) (nat_eq (f % 2) 0) e in leb-true (f + n) 8 p.0
+run-ends Scratch n f e = leb-true (f + n) 8 e
 
 pub begun : (m : Mem) (n f : ℕ) → In f (beginnings m n) → In f eight × (f + n ≤ 8)
 begun m n f i = let w = in-kept (may_begin m n) f eight i in (w.0, run-ends m n f w.1)
@@ -267,7 +258,7 @@ own-side false true e = absurd (false≢true (sym e))
 own-side false false e = refl
 
 pub in-run : (r f i : ℕ) → r ≡ f + i → In f (run_at r i)
-in-run r f i e = by (nat_le i r) (le-test i r (omega (arith, e)))
+in-run r f i e = by (nat_le i r) (le-leb i r (omega (arith, e)))
   where
     by : (b : Bool) → b ≡ true → In f (if b then (r - i) ∷ [] else [])
     by true g = inl (omega (arith, e))
@@ -331,7 +322,7 @@ in-covering labels on a r g c =
     let b = begun t.access.mem t.access.words c.first t.begins in
     map-in (First a.point) c.first (filter (λ f. nat_le f r && nat_lt r (f + a.words)) eight)
     (kept-in (λ f. nat_le f r && nat_lt r (f + a.words)) c.first eight b.0
-    (and_from (nat_le c.first r) (nat_lt r (c.first + a.words)) (le-test c.first r c.low) (lt-test r (c.first + a.words) c.high)))
+    (and_from (nat_le c.first r) (nat_lt r (c.first + a.words)) (le-leb c.first r c.low) (lt-ltb r (c.first + a.words) c.high)))
 
 stay-filled : (labels : List Label) (on : Chosen) (k : ℕ) (q : Point) (a : Access) → Known labels on → Each (Holds on) (fill_owners labels k q) → In a (reads_at k q.place) → (x : ℕ) → In x (without q.after (point_values k q)) → (r : ℕ) → StaysIn labels on x (is_sdram a.mem) r → Covers on a r → ⊥
 stay-filled labels on k q a g l i x j r s c =
@@ -454,7 +445,7 @@ point-facts labels slots on k q at l g = record {
   read_pass = λ r e.
       let t = there labels on (PasL k r) g.only e in
       let same : t.0 ≡ q = let a = t.1 in cc in
-      le-from 1 (length q.uses) (subst (λ (z : Point). nat_le 1 (length z.uses) ≡ true) same t.2);
+      leb-true 1 (length q.uses) (subst (λ (z : Point). nat_le 1 (length z.uses) ≡ true) same t.2);
   write_pass = λ r e.
       let t = there labels on (PasS k r) g.only e in
       let same : t.0 ≡ q = let a = t.1 in cc in

@@ -1,5 +1,5 @@
 -- Which columns there are: what each column that is there says of the form.
-use Rattle.std.proofs.Common.{◌≡◌, ℕ, zero, suc, ◌+◌, nat_le, Bool, true, false, if◌then◌else◌, Some, List, [], ◌∷◌, length, map, filter, refl, sym, ap, subst, inl, inr, ⊎_elim, arith}
+use Rattle.std.proofs.Common.{◌≡◌, ℕ, zero, suc, ◌+◌, nat_le, Bool, true, false, Some, List, [], ◌∷◌, length, map, filter, refl, sym, ap, subst, inl, inr, ⊎_elim, arith}
 use Rattle.std.specs.Prelude.{slice_get}
 use Rattle.std.specs.List.{flat_map, list_any}
 use Rattle.ssu_ir.specs.Tree.{Label}
@@ -11,11 +11,12 @@ use Rattle.bank_prog.specs.declared.column.Bank.{Bank}
 use Rattle.bank_prog.specs.declared.column.Column.{Column}
 use Rattle.bank_prog.specs.declared.column.Column.TheVariants.{Def, Dir, Fill, Stay, Ear, First, Srv, PasL, PasS}
 use Rattle.bank_prog.specs.declared.column.Service.{Service}
-use Rattle.bank_prog.specs.Columns.{each_point, sort_of, is_fetched, point_uses, place_words, eight, beginnings, role_beginnings, sort_beginnings, Priced, sort_defs, def_columns, dir_columns, point_dirs, fill_columns, stay_columns, point_stays, ear_columns, point_ears, first_columns, services, has_bank, srv_columns, for_eight, pas_l_columns, pas_s_columns, all_dirs, all_stays, all_ears, all_pas_l, all_pas_s, priced, columns}
+use Rattle.bank_prog.specs.Columns.{sort_of, is_fetched, point_uses, place_words, eight, beginnings, role_beginnings, sort_beginnings, Priced, sort_defs, def_columns, dir_columns, point_dirs, fill_columns, stay_columns, point_stays, ear_columns, point_ears, first_columns, services, has_bank, srv_columns, for_eight, pas_l_columns, pas_s_columns, all_dirs, all_stays, all_ears, all_pas_l, all_pas_s, priced, columns}
 use Rattle.bank_prog.specs.Rows.{homes}
 use Rattle.bank_prog.specs.Meaning.{Chosen}
 use Rattle.reg_assign.specs.inner.Facts.{OnlyThere}
 use Rattle.reg_assign.proofs.Counts.{In, in-contained, in-map, in-kept, each-in, in-left, in-right}
+use Rattle.reg_assign.proofs.ChosenHolds.{if-each, points-each}
 
 -- ---- what holds of each element of a list that is made piece by piece
 
@@ -26,16 +27,6 @@ flat-made P f (x ∷ xs) h = each-append P (f x) (flat_map f xs) (h x (inl refl)
 map-made : {X Y : Type 0} (P : Y → Type 0) (f : X → Y) (xs : List X) → ((x : X) → In x xs → P (f x)) → Each P (map f xs)
 map-made P f [] h = tt
 map-made P f (x ∷ xs) h = (h x (inl refl), map-made P f xs (λ y i. h y (inr i)))
-
-if-made : {X : Type 0} (P : X → Type 0) (b : Bool) (xs : List X) → (b ≡ true → Each P xs) → Each P (if b then xs else [])
-if-made P true xs h = h refl
-if-made P false xs h = tt
-
-points-made : {X : Type 0} (P : X → Type 0) (f : ℕ → Point → List X) (j : ℕ) (ps : List Point) → ((i k : ℕ) (q : Point) → k ≡ j + i → slice_get ps i ≡ Some q → Each P (f k q)) → Each P (each_point f j ps)
-points-made P f j [] h = tt
-points-made P f j (p ∷ ps) h =
-    each-append P (f j p) (each_point f (suc j) ps) (h 0 j p (omega arith) refl)
-    (points-made P f (suc j) ps (λ i k q e g. h (suc i) k q (omega (arith, e)) g))
 
 -- ---- uses and values of a point are those of the form
 
@@ -147,27 +138,27 @@ use-at labels k q u g h =
     }
 
 dirs-there : (labels : List Label) → Each (IsThere labels) (all_dirs labels)
-dirs-there labels = points-made (IsThere labels) (point_dirs labels) 0 (points labels) (λ i k q e g.
+dirs-there labels = points-each (IsThere labels) (point_dirs labels) 0 (points labels) (λ i k q e g.
     flat-made (IsThere labels) (dir_columns labels (place_words q.place)) (point_uses k q) (λ u h.
-    if-made (IsThere labels) (is_result (sort_of labels u.value)) (map (λ f. (Dir u.point u.operand f, 0)) (role_beginnings (place_words q.place) u.role)) (λ r.
+    if-each (IsThere labels) (is_result (sort_of labels u.value)) (map (λ f. (Dir u.point u.operand f, 0)) (role_beginnings (place_words q.place) u.role)) (λ r.
     map-made (IsThere labels) (λ f. (Dir u.point u.operand f, 0)) (role_beginnings (place_words q.place) u.role) (λ f b.
     (use-at labels k q u (subst (λ n. slice_get (points labels) n ≡ Some q) (let s : i ≡ k = omega (arith, e) in s) g) h, r, b)))))
 
 ears-there : (labels : List Label) → Each (IsThere labels) (all_ears labels)
-ears-there labels = points-made (IsThere labels) point_ears 0 (points labels) (λ i k q e g.
+ears-there labels = points-each (IsThere labels) point_ears 0 (points labels) (λ i k q e g.
     flat-made (IsThere labels) (ear_columns (place_words q.place)) (point_uses k q) (λ u h.
     map-made (IsThere labels) (λ f. (Ear u.point u.operand f, 1)) (role_beginnings (place_words q.place) u.role) (λ f b.
     (use-at labels k q u (subst (λ n. slice_get (points labels) n ≡ Some q) (let s : i ≡ k = omega (arith, e) in s) g) h, b))))
 
 fills-there : (labels : List Label) → Each (IsThere labels) (flat_map (fill_columns labels) (values labels))
 fills-there labels = flat-made (IsThere labels) (fill_columns labels) (values labels) (λ v h.
-    if-made (IsThere labels) (is_used labels v.var) _ (λ e. ((e, inl refl), ((e, inr (inl refl)), ((e, inr (inr (inl refl))), tt)))))
+    if-each (IsThere labels) (is_used labels v.var) _ (λ e. ((e, inl refl), ((e, inr (inl refl)), ((e, inr (inr (inl refl))), tt)))))
 
 stays-there : (labels : List Label) → Each (IsThere labels) (all_stays labels)
-stays-there labels = points-made (IsThere labels) (point_stays labels) 0 (points labels) (λ i k q e g.
+stays-there labels = points-each (IsThere labels) (point_stays labels) 0 (points labels) (λ i k q e g.
     let g' : slice_get (points labels) k ≡ Some q = subst (λ n. slice_get (points labels) n ≡ Some q) (let s : i ≡ k = omega (arith, e) in s) g in
     flat-made (IsThere labels) (stay_columns labels (place_words q.place)) (place_values k q.place) (λ v h.
-    if-made (IsThere labels) (is_used labels v.var) (map (λ f. (Stay v.var f, 0)) (sort_beginnings (place_words q.place) v.sort)) (λ r.
+    if-each (IsThere labels) (is_used labels v.var) (map (λ f. (Stay v.var f, 0)) (sort_beginnings (place_words q.place) v.sort)) (λ r.
     map-made (IsThere labels) (λ f. (Stay v.var f, 0)) (sort_beginnings (place_words q.place) v.sort) (λ f b.
     (record { value = v; point = k; place = q; there = values-among v 0 k k (points labels) q (omega arith) g' h; var = refl; at = g'; here = h }, r, b)))))
 
@@ -187,12 +178,12 @@ eight-made labels true column h = map-made (IsThere labels) (λ r. (column r, 0)
 eight-made labels false column h = tt
 
 pas-l-there : (labels : List Label) → Each (IsThere labels) (all_pas_l labels)
-pas-l-there labels = points-made (IsThere labels) pas_l_columns 0 (points labels) (λ i k q e g.
+pas-l-there labels = points-each (IsThere labels) pas_l_columns 0 (points labels) (λ i k q e g.
     let g' : slice_get (points labels) k ≡ Some q = subst (λ n. slice_get (points labels) n ≡ Some q) (let s : i ≡ k = omega (arith, e) in s) g in
     eight-made labels (nat_le 1 (length q.uses)) (PasL k) (λ b r. (q, g', b)))
 
 pas-s-there : (labels : List Label) → Each (IsThere labels) (all_pas_s labels)
-pas-s-there labels = points-made (IsThere labels) (pas_s_columns labels) 0 (points labels) (λ i k q e g.
+pas-s-there labels = points-each (IsThere labels) (pas_s_columns labels) 0 (points labels) (λ i k q e g.
     let g' : slice_get (points labels) k ≡ Some q = subst (λ n. slice_get (points labels) n ≡ Some q) (let s : i ≡ k = omega (arith, e) in s) g in
     eight-made labels (list_any (λ v. is_used labels v.var) (place_values k q.place)) (PasS k) (λ b r. (q, g', b)))
 

@@ -129,7 +129,7 @@ same-use (z ∷ us) u w d i j e f = ⊎_elim
 
 -- ---- where a run begins
 
-in-eight : (m : Mem) (n f : ℕ) → In f (beginnings m n) → In f eight
+pub in-eight : (m : Mem) (n f : ℕ) → In f (beginnings m n) → In f eight
 in-eight m n f i = let w = in-kept (may_begin m n) f eight i in w.0
 
 pub role-eight : (n f : ℕ) (r : Role) → In f (role_beginnings n r) → In f eight

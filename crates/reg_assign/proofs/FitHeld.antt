@@ -19,13 +19,13 @@ use Rattle.bank_prog.specs.declared.column.Column.TheVariants.{Def, Fill, PasL}
 use Rattle.bank_prog.specs.Columns.{eight, is_fetched}
 use Rattle.bank_prog.specs.Rows.{is_written, is_sdram}
 use Rattle.bank_prog.specs.Meaning.{Chosen}
-use Rattle.place_ir.proofs.Sound.{Each}
+use Rattle.place_ir.proofs.Sound.{Each, each-append}
 use Rattle.std.proofs.lemmas.Bool.{or_left, or_right}
 use Rattle.reg_assign.specs.inner.Facts.{in_bank, StaysIn, PointFacts}
 use Rattle.reg_assign.specs.inner.ReadOff.{Numbers, begins, goes_early, pass_l, def_bank, home_place, role_place, word_place, first_word, fills_of, words_of, copies_of, put_home, sort_home, read_off}
 use Rattle.reg_assign.proofs.ReadParts.{first-on-each, eight-low}
 use Rattle.reg_assign.proofs.FitWords.{early-written}
-use Rattle.reg_assign.proofs.FitHomes.{is_home_bank, def-bank-some, both-each, fills-each}
+use Rattle.reg_assign.proofs.FitHomes.{is_home_bank, def-bank-some, fills-each}
 
 -- a place is that of a home
 pub record IsHomePlace (on : Chosen) (numbers : Numbers) (x : ℕ) (q : Place) : Type 0 where
@@ -67,7 +67,7 @@ words-placed on numbers x (u ∷ us) = pick (goes_early on u) refl (words-placed
 
 copies-placed : (labels : List Label) (on : Chosen) (numbers : Numbers) (x : ℕ) → Each (IsPlaced on numbers x) (copies_of labels on numbers x)
 copies-placed labels on numbers x =
-    both-each (IsPlaced on numbers x) (fills_of on numbers x) (words_of labels on x)
+    each-append (IsPlaced on numbers x) (fills_of on numbers x) (words_of labels on x)
     (fills-each (IsPlaced on numbers x) on numbers x (λ h i f g. record { bank = h; is_bank = i; inside = or_right (on (Def x h)) (on (Fill x h)) f; is = refl }))
     (words-placed on numbers x (uses_of labels x))
 

@@ -16,7 +16,7 @@ use Rattle.bank_prog.specs.declared.column.Bank.TheVariants.{A, B, M, T, L, A15,
 use Rattle.bank_prog.specs.declared.column.Column.TheVariants.{Def, Fill}
 use Rattle.bank_prog.specs.Rows.{def, dir, ear, is_written}
 use Rattle.bank_prog.specs.Meaning.{Chosen}
-use Rattle.place_ir.proofs.Sound.{Each}
+use Rattle.place_ir.proofs.Sound.{Each, each-append}
 use Rattle.place_ir.proofs.Spilled.{each-all}
 use Rattle.reg_assign.specs.inner.Facts.{count}
 use Rattle.reg_assign.specs.inner.ReadOff.{Numbers, goes_early, def_bank, home_place, word_place, fill_at, fills_of, words_of, copies_of}
@@ -127,14 +127,10 @@ fill-each P on numbers x h f = pick (on (Fill x h)) refl
     pick true e = (f e, tt)
     pick false e = tt
 
-pub both-each : (P : Place → Type 0) (a b : List Place) → Each P a → Each P b → Each P (a ++ b)
-both-each P [] b h g = g
-both-each P (x ∷ a) b h g = (h.0, both-each P a b h.1 g)
-
 pub fills-each : (P : Place → Type 0) (on : Chosen) (numbers : Numbers) (x : ℕ) → ((h : Bank) → is_home_bank h ≡ true → on (Fill x h) ≡ true → P (home_place numbers h x)) → Each P (fills_of on numbers x)
 fills-each P on numbers x f =
-    both-each P (fill_at on numbers x A) (fill_at on numbers x B ++ fill_at on numbers x M) (fill-each P on numbers x A (f A refl))
-    (both-each P (fill_at on numbers x B) (fill_at on numbers x M) (fill-each P on numbers x B (f B refl)) (fill-each P on numbers x M (f M refl)))
+    each-append P (fill_at on numbers x A) (fill_at on numbers x B ++ fill_at on numbers x M) (fill-each P on numbers x A (f A refl))
+    (each-append P (fill_at on numbers x B) (fill_at on numbers x M) (fill-each P on numbers x B (f B refl)) (fill-each P on numbers x M (f M refl)))
 
 abbrev number_if : Bool → ℕ → Option ℕ
 number_if b n = if b then Some n else None

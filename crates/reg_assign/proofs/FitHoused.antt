@@ -83,7 +83,7 @@ other-read numbers x W Sram i = refl
 other-read numbers x W Sdram i = refl
 other-read numbers x W Scratch i = refl
 
-read-no-slot : (m : Mem) (i : ℕ) → is_slot (read_place m i) ≡ false
+pub read-no-slot : (m : Mem) (i : ℕ) → is_slot (read_place m i) ≡ false
 read-no-slot Sram i = refl
 read-no-slot Sdram i = refl
 read-no-slot Scratch i = refl

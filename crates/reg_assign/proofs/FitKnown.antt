@@ -14,15 +14,17 @@ use Rattle.bank_prog.specs.declared.column.Column.TheVariants.{Def, Fill}
 use Rattle.bank_prog.specs.Columns.{is_fetched}
 use Rattle.bank_prog.specs.Rows.{homes, def, is_parameter}
 use Rattle.bank_prog.specs.Meaning.{Chosen}
+use Rattle.bank_prog.proofs.PlainLines.{each-kept}
 use Rattle.reg_assign.specs.inner.Facts.{count, in_bank, ValueFacts, UseFacts}
 use Rattle.reg_assign.specs.inner.ReadOff.{Numbers, goes_early, def_bank, first_word, put_home, room, IsBelow, AreNumbered, read_off}
 use Rattle.reg_assign.proofs.Counts.{In, contained-in}
 use Rattle.reg_assign.proofs.ReadParts.{on-none}
-use Rattle.reg_assign.proofs.FitWords.{each-filter, IsEarlySame}
+use Rattle.reg_assign.proofs.FitWords.{IsEarlySame}
 use Rattle.reg_assign.proofs.FitHomes.{is_home_bank, def-bank-none}
 use Rattle.reg_assign.proofs.FitHoused.{Known, put-early, housed-by}
 use Rattle.reg_assign.proofs.FitHeld.{IsHomePlace, word-not-general, sort-placed}
-use Rattle.reg_assign.proofs.FitRead.{home-bank, other-banks, IsValue, Reading, value-facts-of, home-is, result-used-of}
+use Rattle.reg_assign.proofs.FitRead.{other-banks, IsValue, Reading, value-facts-of, home-is, result-used-of}
+use Rattle.reg_assign.proofs.CostValues.{home-in}
 
 -- a value that is in a bank is held somewhere
 sort-held : (labels : List Label) (on : Chosen) (v : Value) → ValueFacts labels on v → (is_result v.sort ≡ true → is_used labels v.var ≡ true) → (h : Bank) → in_bank on h v.var ≡ true → (sort : Sort) → v.sort ≡ sort → (b : Bool) → is_used labels v.var ≡ b → (b || is_parameter sort) ≡ true
@@ -33,16 +35,16 @@ sort-held labels on v f used h e (Fetched m j) s false u = absurd (false≢true 
 
 number-below : (labels : List Label) (slots : ℕ) (on : Chosen) (numbers : Numbers) → AreNumbered labels slots on numbers → (v : Value) → In v (values labels) → ValueFacts labels on v → (is_result v.sort ≡ true → is_used labels v.var ≡ true) → (h : Bank) → is_home_bank h ≡ true → in_bank on h v.var ≡ true → numbers h v.var < room slots h
 number-below labels slots on numbers n v i f used h b e =
-    let all : All (IsBelow labels slots on numbers h) (values labels) = All-contains (λ g. All (IsBelow labels slots on numbers g) (values labels)) homes h n.below (contained-in h homes (home-bank h b)) in
+    let all : All (IsBelow labels slots on numbers h) (values labels) = All-contains (λ g. All (IsBelow labels slots on numbers g) (values labels)) homes h n.below (contained-in h homes (home-in h b)) in
     All-contains (IsBelow labels slots on numbers h) (values labels) v all (contained-in v (values labels) i) (sort-held labels on v f used h e v.sort refl (is_used labels v.var) refl) e
 
 pub known-of : (labels : List Label) (slots : ℕ) (on : Chosen) (numbers : Numbers) (hs : List Home) → Reading labels slots on numbers hs → (v : Value) → In v (values labels) → Known labels slots on numbers hs v
 known-of labels slots on numbers hs g v i = record {
   facts = value-facts-of labels slots on numbers hs g v i;
   below = number-below labels slots on numbers g.numbered v i (value-facts-of labels slots on numbers hs g v i) (result-used-of labels slots on numbers hs g v i);
-  uses_known = each-filter (UseFacts labels on) (λ (u : Use). nat_eq u.value v.var) (uses labels) g.use_facts;
+  uses_known = each-kept (UseFacts labels on) (λ (u : Use). nat_eq u.value v.var) (uses labels) g.use_facts;
   early_same = g.early;
-  early_here = each-filter (IsEarlySame labels slots on numbers hs) (λ (u : Use). nat_eq u.value v.var) (uses labels) g.early;
+  early_here = each-kept (IsEarlySame labels slots on numbers hs) (λ (u : Use). nat_eq u.value v.var) (uses labels) g.early;
   there = g.firsts;
 }
 

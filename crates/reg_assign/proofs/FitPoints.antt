@@ -1,8 +1,8 @@
 -- Accesses begin where they may, reads fill no register in which a value stays, and slots pass through registers that are named.
-use Rattle.std.proofs.Common.{◌≡◌, ℕ, zero, suc, ◌+◌, ◌<◌, ◌≤◌, Bool, true, false, not, nat_eq, ◌||◌, ⊎_elim, List, [], ◌∷◌, refl, sym, ap, subst, ◌∙◌, arith}
+use Rattle.std.proofs.Common.{◌≡◌, ℕ, zero, suc, ◌+◌, ◌<◌, ◌≤◌, Bool, true, false, not, nat_eq, ◌||◌, List, [], ◌∷◌, refl, sym, ap, subst, ◌∙◌, arith}
 use Rattle.std.specs.Prelude.{is_some, nat_le, ◌%◌, ◌/◌}
 use Rattle.std.specs.List.{list_any}
-use Rattle.std.proofs.lemmas.Bool.{and_parts, and_from, or_cases, or_from, not_from_false, false≢true, false_from_ne_true, leb-true}
+use Rattle.std.proofs.lemmas.Bool.{and_parts, and_from, or_from, not_from_false, false_from_ne_true, leb-true}
 use Rattle.nv_base.proofs.Sets.{same-number}
 use Rattle.nv_base.specs.declared.term.Mem.{Mem}
 use Rattle.nv_base.specs.declared.term.Mem.TheVariants.{Sram, Sdram, Scratch}
@@ -13,7 +13,7 @@ use Rattle.place_ir.specs.declared.place.Pass.{Pass}
 use Rattle.place_ir.specs.Places.{same_place}
 use Rattle.place_ir.specs.Plan.{Home, Plan, home, first, pass}
 use Rattle.place_ir.specs.Uses.{Access, place_values, place_roles, uses_at}
-use Rattle.place_ir.specs.Fits.{read_place, IsFirst, is_slot, served, stays, kept_register, read_places, has_place, none_shared, run_of, comes_to_slot, IsEighth, PassesSlots}
+use Rattle.place_ir.specs.Fits.{read_place, IsFirst, is_slot, served, stays, kept_register, read_places, none_shared, run_of, comes_to_slot, IsEighth, PassesSlots}
 use Rattle.bank_prog.specs.declared.column.Column.TheVariants.{First, PasL, PasS}
 use Rattle.bank_prog.specs.Columns.{eight, may_begin}
 use Rattle.bank_prog.specs.Rows.{is_sdram}
@@ -24,13 +24,6 @@ use Rattle.reg_assign.proofs.ReadParts.{is-eighth, first-on-any, some-first-on}
 use Rattle.reg_assign.proofs.FitHeld.{Staying, same-read, none-with-nothing}
 
 -- ---- a read fills no register in which a value stays
-
-in-run : (m n : Mem) (i f w : ℕ) → has_place (read_place m i) (run_of (read_place n) f w) ≡ true → (is_sdram m ≡ is_sdram n) × ((f ≤ i) × (i < f + w))
-in-run m n i f zero e = absurd (false≢true e)
-in-run m n i f (suc w) e = ⊎_elim
-    (λ (a : same_place (read_place m i) (read_place n f) ≡ true). let s = same-read m n i f a in let k = s.number in (s.side, (omega arith, omega arith)))
-    (λ (b : has_place (read_place m i) (run_of (read_place n) (suc f) w) ≡ true). let r = in-run m n i (suc f) w b in let l = r.1.0 in let h = r.1.1 in (r.0, (omega arith, omega arith)))
-    (or_cases (same_place (read_place m i) (read_place n f)) (has_place (read_place m i) (run_of (read_place n) (suc f) w)) e)
 
 -- a place that is none of a run's shares nothing with it
 run-clear : (n : Mem) (q : Place) (f w : ℕ) → ((g : ℕ) → f ≤ g → g < f + w → same_place (read_place n g) q ≡ false) → none_shared (run_of (read_place n) f w) (q ∷ []) ≡ true

@@ -20,7 +20,6 @@ use Rattle.place_ir.proofs.Spilled.{all-each, each-at, param_vars, params-wanted
 use Rattle.place_ir.proofs.Valued.{each-values}
 use Rattle.place_ir.proofs.Fitting.{each-uses, apart-from, uses-are, values-are, entries-in}
 use Rattle.bank_prog.specs.declared.column.Bank.{Bank}
-use Rattle.bank_prog.specs.declared.column.Bank.TheVariants.{A, B, M, T, L, A15, W}
 use Rattle.bank_prog.specs.declared.column.Column.TheVariants.{Def, First}
 use Rattle.bank_prog.specs.Columns.{eight, may_begin, is_fetched}
 use Rattle.bank_prog.specs.Rows.{homes}
@@ -53,15 +52,6 @@ firsts-there labels on only k f e =
 
 bank-home : (h : Bank) → In h homes → is_home_bank h ≡ true
 bank-home h i = each-in (λ g. is_home_bank g ≡ true) h homes (refl, (refl, (refl, tt))) i
-
-pub home-bank : (h : Bank) → is_home_bank h ≡ true → In h homes
-home-bank A e = inl refl
-home-bank B e = inr (inl refl)
-home-bank M e = inr (inr (inl refl))
-home-bank T e = absurd (false≢true e)
-home-bank L e = absurd (false≢true e)
-home-bank A15 e = absurd (false≢true e)
-home-bank W e = absurd (false≢true e)
 
 -- a value is first put into none of the other banks
 pub other-banks : (labels : List Label) (on : Chosen) → OnlyThere labels on → (x : ℕ) (h : Bank) → is_home_bank h ≡ false → on (Def x h) ≡ false

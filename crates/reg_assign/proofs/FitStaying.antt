@@ -4,13 +4,12 @@ use Rattle.std.proofs.lemmas.Bool.{false≢true}
 use Rattle.std.specs.Prelude.{All}
 use Rattle.std.proofs.lemmas.List.Elements.{All-contains}
 use Rattle.nv_base.specs.Sets.{is_in}
-use Rattle.nv_base.specs.declared.term.Mem.{Mem}
 use Rattle.nv_base.specs.declared.term.Mem.TheVariants.{Sram, Sdram, Scratch}
 use Rattle.ssu_ir.specs.Tree.{Label}
 use Rattle.place_ir.specs.declared.place.Serve.{Serve}
 use Rattle.place_ir.specs.Plan.{Home}
 use Rattle.place_ir.specs.Uses.{Sort, Parameter, Result, Fetched, Value, values, Role, Operand, Address, Written, Argument, Ending, Use, uses, uses_of, is_used}
-use Rattle.place_ir.specs.Fits.{read_place, is_slot, is_read_register, served, stays, wants_home}
+use Rattle.place_ir.specs.Fits.{is_slot, is_read_register, served, stays, wants_home}
 use Rattle.bank_prog.specs.declared.column.Bank.{Bank}
 use Rattle.bank_prog.specs.declared.column.Bank.TheVariants.{A, B, M, T, L, A15, W}
 use Rattle.bank_prog.specs.declared.column.Column.TheVariants.{Stay, Srv}
@@ -24,10 +23,11 @@ use Rattle.reg_assign.proofs.Counts.{In, contained-in, each-in}
 use Rattle.reg_assign.proofs.FactsValues.{used-of}
 use Rattle.reg_assign.proofs.ReadParts.{count-any, IsFound}
 use Rattle.reg_assign.proofs.FitWords.{service-each, service-none, early-written}
-use Rattle.reg_assign.proofs.FitHoused.{is_source, all-sources}
+use Rattle.reg_assign.proofs.FitHoused.{is_source, all-sources, read-no-slot}
 use Rattle.reg_assign.proofs.FitServed.{IsReadPlace}
 use Rattle.reg_assign.proofs.FitHeld.{NumbersApart, Staying}
-use Rattle.reg_assign.proofs.FitRead.{home-bank, any-in, IsValue, place-found, Reading, value-facts-of, use-facts-of, home-is, used-wants, begins-of}
+use Rattle.reg_assign.proofs.FitRead.{any-in, IsValue, place-found, Reading, value-facts-of, use-facts-of, home-is, used-wants, begins-of}
+use Rattle.reg_assign.proofs.CostValues.{home-in}
 
 -- ---- read values
 
@@ -64,11 +64,6 @@ no-slot-role on k (Written Scratch i) e = refl
 no-slot-role on k (Argument l i) e = absurd (false≢true e)
 no-slot-role on k (Ending i) e = absurd (false≢true e)
 
-no-slot-read : (m : Mem) (i : ℕ) → is_slot (read_place m i) ≡ false
-no-slot-read Sram i = refl
-no-slot-read Sdram i = refl
-no-slot-read Scratch i = refl
-
 read-bank : (labels : List Label) (on : Chosen) (numbers : Numbers) (u : Use) (h : Bank) → is_source h ≡ true → is_read_register (bank_place labels on numbers u h) ≡ true → h ≡ T
 read-bank labels on numbers u A s e = absurd (false≢true e)
 read-bank labels on numbers u B s e = absurd (false≢true e)
@@ -82,7 +77,7 @@ slot-bank : (labels : List Label) (on : Chosen) (numbers : Numbers) (u : Use) (h
 slot-bank labels on numbers u A s r e = absurd (false≢true e)
 slot-bank labels on numbers u B s r e = absurd (false≢true e)
 slot-bank labels on numbers u M s r e = refl
-slot-bank labels on numbers u T s r e = let w = r refl in absurd (false≢true (sym (ap is_slot w.is ∙ no-slot-read w.mem w.number) ∙ e))
+slot-bank labels on numbers u T s r e = let w = r refl in absurd (false≢true (sym (ap is_slot w.is ∙ read-no-slot w.mem w.number) ∙ e))
 slot-bank labels on numbers u L s r e = absurd (false≢true s)
 slot-bank labels on numbers u A15 s r e = absurd (false≢true s)
 slot-bank labels on numbers u W s r e = absurd (false≢true s)
@@ -174,4 +169,4 @@ from-slot labels slots on numbers hs g u i r = pick (service_on on u (services u
 -- ---- numbers
 
 pub numbers-apart : (on : Chosen) (numbers : Numbers) (row : List ℕ) → All (AreApart on numbers row) homes → (x y : ℕ) → is_in x row ≡ true → is_in y row ≡ true → x ≢ y → NumbersApart on numbers x y
-numbers-apart on numbers row a x y i j n = λ h b e f. All-contains (AreApart on numbers row) homes h a (contained-in h homes (home-bank h b)) x y i j n e f
+numbers-apart on numbers row a x y i j n = λ h b e f. All-contains (AreApart on numbers row) homes h a (contained-in h homes (home-in h b)) x y i j n e f

@@ -19,6 +19,7 @@ use Rattle.bank_prog.specs.declared.column.Column.TheVariants.{Dir, Ear, First, 
 use Rattle.bank_prog.specs.Columns.{eight}
 use Rattle.bank_prog.specs.Rows.{dir, ear, is_written, is_sdram}
 use Rattle.bank_prog.specs.Meaning.{Chosen}
+use Rattle.bank_prog.proofs.Present.{contains-other}
 use Rattle.place_ir.proofs.Scoped.{in-itself}
 use Rattle.place_ir.proofs.Sound.{Each}
 use Rattle.place_ir.proofs.Spilled.{each-all, each-at}
@@ -32,17 +33,14 @@ use Rattle.reg_assign.proofs.FitWords.{early-written, IsEarlySame, word-same}
 pub contains-here : {X : Type 0} (x : X) (xs : List X) → Contains (x ∷ xs) x
 contains-here x xs = (0, omega arith, refl)
 
-pub contains-later : {X : Type 0} (x y : X) (xs : List X) → Contains xs x → Contains (y ∷ xs) x
-contains-later x y xs h = let l = h.1 in (suc h.0, omega arith, h.2)
-
 pub contains-at : {X : Type 0} (xs : List X) (i : ℕ) (x : X) → slice_get xs i ≡ Some x → Contains xs x
 contains-at [] i x e = absurd (cc)
 contains-at (y ∷ xs) zero x e = let same : y ≡ x = cc in subst (λ z. Contains (y ∷ xs) z) same (contains-here y xs)
-contains-at (y ∷ xs) (suc i) x e = contains-later x y xs (contains-at xs i x e)
+contains-at (y ∷ xs) (suc i) x e = contains-other x y xs (contains-at xs i x e)
 
 pub each-contained : {X : Type 0} (P : X → Type 0) (xs : List X) → ((x : X) → Contains xs x → P x) → Each P xs
 each-contained P [] h = tt
-each-contained P (x ∷ xs) h = (h x (contains-here x xs), each-contained P xs (λ y c. h y (contains-later y x xs c)))
+each-contained P (x ∷ xs) h = (h x (contains-here x xs), each-contained P xs (λ y c. h y (contains-other y x xs c)))
 
 pub any-of-map : (on : Chosen) (c : ℕ → Column) (rs : List ℕ) → list_any on (map c rs) ≡ true → (r : ℕ) × (on (c r) ≡ true)
 any-of-map on c [] e = absurd (false≢true e)
@@ -104,7 +102,7 @@ same-write Scratch Sram i j e = record { side = refl; number = same-number i j e
 same-write Scratch Sdram i j e = absurd (false≢true e)
 same-write Scratch Scratch i j e = record { side = refl; number = same-number i j e }
 
-same-itself : (m : Mem) (i : ℕ) → same_place (write_place m i) (write_place m i) ≡ true
+pub same-itself : (m : Mem) (i : ℕ) → same_place (write_place m i) (write_place m i) ≡ true
 same-itself Sram i = in-itself i
 same-itself Sdram i = in-itself i
 same-itself Scratch i = in-itself i

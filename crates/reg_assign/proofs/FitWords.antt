@@ -15,6 +15,7 @@ use Rattle.bank_prog.specs.declared.column.Service.{Service}
 use Rattle.bank_prog.specs.Columns.{services}
 use Rattle.bank_prog.specs.Rows.{dir, ear, srv, early, is_written}
 use Rattle.bank_prog.specs.Meaning.{Chosen}
+use Rattle.bank_prog.proofs.PlainLines.{each-kept}
 use Rattle.place_ir.proofs.Sound.{Each}
 use Rattle.reg_assign.specs.inner.Facts.{count, UseFacts}
 use Rattle.reg_assign.specs.inner.ReadOff.{Numbers, goes_early, service_on, sort_place, place_in, role_place, word_place, words_of, bank_place, serve_by, use_serve, read_off}
@@ -25,14 +26,6 @@ use Rattle.reg_assign.proofs.ReadParts.{on-one, count-any, count-none, FirstsThe
 pub each-both : {X : Type 0} (P Q R : X → Type 0) (xs : List X) → ((x : X) → P x → Q x → R x) → Each P xs → Each Q xs → Each R xs
 each-both P Q R [] f h g = tt
 each-both P Q R (x ∷ xs) f h g = (f x h.0 g.0, each-both P Q R xs f h.1 g.1)
-
-pub each-filter : {X : Type 0} (P : X → Type 0) (f : X → Bool) (xs : List X) → Each P xs → Each P (filter f xs)
-each-filter P f [] h = tt
-each-filter {X} P f (x ∷ xs) h = pick (f x) (each-filter P f xs h.1)
-  where
-    pick : (b : Bool) → Each P (filter f xs) → Each P (if b then x ∷ filter f xs else filter f xs)
-    pick true r = (h.0, r)
-    pick false r = r
 
 pub filter-same : {X : Type 0} (f g : X → Bool) (xs : List X) → Each (λ x. f x ≡ g x) xs → filter f xs ≡ filter g xs
 filter-same f g [] h = refl
@@ -150,5 +143,5 @@ pub words-same : (labels : List Label) (slots : ℕ) (on : Chosen) (numbers : Nu
 words-same labels slots on numbers hs f h x =
     let p = read_off labels slots on numbers hs in
     let us = uses_of labels x in
-    ap (map (word_register p)) (filter-same (is_early p) (goes_early on) us (each-filter (IsEarlySame labels slots on numbers hs) (λ (u : Use). nat_eq u.value x) (uses labels) h))
+    ap (map (word_register p)) (filter-same (is_early p) (goes_early on) us (each-kept (IsEarlySame labels slots on numbers hs) (λ (u : Use). nat_eq u.value x) (uses labels) h))
     ∙ map-same (word_register p) (word_place on) (filter (goes_early on) us) (word-same labels slots on numbers hs f)

@@ -1,6 +1,7 @@
 -- A value's uses are in the label of its definition.
 use Rattle.std.proofs.Common.{◌≡◌, ℕ, suc, ◌+◌, ◌<◌, ◌≤◌, nat_eq, true, if◌then◌else◌, List, [], ◌∷◌, ◌++◌, map, length, append_assoc, sym, ap, subst, ◌∙◌, ⊎_elim, arith}
 use Rattle.std.proofs.lemmas.Bool.{lt-ltb, le-ltb, or_left, or_right}
+use Rattle.std.proofs.lemmas.List.{map-append}
 use Rattle.nv_base.specs.Sets.{is_in, all_different, Within}
 use Rattle.ssu_ir.specs.Tree.{Label, Tree, Do, If, End, step_values}
 use Rattle.ssu_ir.specs.Points.{Names, own, names_after, Point, tree_points, label_points, points_from, points, IsHeld}
@@ -15,7 +16,6 @@ use Rattle.place_ir.proofs.Scoped.{split-different, in-itself, in-left as is-lef
 use Rattle.place_ir.proofs.Sound.{Each, each-append}
 use Rattle.place_ir.proofs.Spilled.{all-each, each-left, each-right}
 use Rattle.place_ir.proofs.SpotSteps.{places-of-points}
-use Rattle.bank_prog.proofs.Loops.{map-append}
 use Rattle.reg_assign.specs.ByLabel.{label_from}
 use Rattle.reg_assign.proofs.Counts.{In, in-either}
 use Rattle.reg_assign.proofs.FactsThere.{point-of}

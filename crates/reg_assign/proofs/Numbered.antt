@@ -14,7 +14,7 @@ use Rattle.ssu_ir.specs.Single.{single}
 use Rattle.place_ir.specs.Held.{IsRow, IsRowOf, HaveNumbers}
 use Rattle.place_ir.specs.Uses.{Sort, Parameter, Fetched, Value, numbered, place_values, values_from, values, Use, uses, is_used}
 use Rattle.place_ir.specs.inner.Numbers.{values_among}
-use Rattle.place_ir.proofs.Scoped.{in-itself, in-filter, in-either, different-filter}
+use Rattle.place_ir.proofs.Scoped.{in-itself, in-filter, in-either, different-filter, same-length}
 use Rattle.place_ir.proofs.Sound.{Each, each-append, entry_params, Sound, uses_among, sound-points}
 use Rattle.place_ir.proofs.Spilled.{each-all, all-each, each-weaker}
 use Rattle.place_ir.proofs.Fitting.{uses-are}
@@ -42,15 +42,6 @@ different-more x xs false f h g = h (omega arith)
 different-by-count : (xs : List ℕ) → different xs ≡ length xs → all_different xs ≡ true
 different-by-count [] e = refl
 different-by-count (x ∷ xs) e = let rest : different xs ≡ length xs → all_different xs ≡ true = λ f. different-by-count xs f in different-more x xs (is_in x xs) refl rest e
-
--- lists of the same different elements are equally long
-same-length : (xs ys : List ℕ) → all_different xs ≡ true → all_different ys ≡ true → ((x : ℕ) → is_in x xs ≡ is_in x ys) → length xs ≡ length ys
-same-length xs ys d e h =
-    let a = different-below xs ys (λ x i. sym (h x) ∙ i) in
-    let b = different-below ys xs (λ x i. h x ∙ i) in
-    let c = different-all xs d in
-    let f = different-all ys e in
-    omega arith
 
 pub still-different : (xs ys : List ℕ) → IsPermutation xs ys → all_different xs ≡ true → all_different ys ≡ true
 still-different xs ys p d =

@@ -1,5 +1,6 @@
 -- The placement that is read off from a vector that meets the rows fits, and costs no more than the vector.
 use Rattle.std.proofs.Common.{◌≡◌, ℕ, ◌≤◌, Bool, true, List, map, sym, ap, subst, ◌∙◌, arith}
+use Rattle.std.proofs.lemmas.Result.{IfOk-weaker}
 use Rattle.std.specs.Prelude.{Result as Outcome, IfOk}
 use Rattle.ssu_ir.specs.declared.ssu.Ssu.{Ssu}
 use Rattle.ssu_ir.specs.Tree.{Label}
@@ -15,7 +16,6 @@ use Rattle.bank_prog.specs.Columns.{priced, costs}
 use Rattle.bank_prog.specs.Meaning.{on, named_cost, IsFeasible}
 use Rattle.bank_prog.proofs.LawsColumns.{on-there}
 use Rattle.bank_prog.proofs.LawsCost.{costs-by-name}
-use Rattle.bank_prog.proofs.FormLemmas.{if-ok}
 use Rattle.reg_assign.specs.declared.given.Given.{Given}
 use Rattle.reg_assign.specs.declared.numbers.BankNumbers.{BankNumbers}
 use Rattle.reg_assign.specs.declared.reading.Reading.{Reading}
@@ -65,7 +65,7 @@ placed-assigned s x n r b p es ex form few rows numbered it =
 
 pub assigned : {E : Type 0} (s : Ssu) (x : Assignment) (n : ℕ) (r : Reading) (b : BankNumbers) (g : Given) (o : Outcome Placement E) → r.form.ssu.now ≡ s → r.x.now ≡ x → g.reading ≡ r → g.numbers ≡ b → single (labels_view s) ≡ true → n ≤ 128 → IsFeasible (labels_view s) n (vector x.on.items)
     → HasNumbers r b → IfOk o (IsReadOff (labels_in g) n (says_in g) (numbers_in g)) → IfOk o (IsAssigned (labels_view s) n (vector x.on.items))
-assigned s x n r b g o es ex er eb form few rows numbered it = if-ok o (IsReadOff (labels_in g) n (says_in g) (numbers_in g)) (IsAssigned (labels_view s) n (vector x.on.items))
+assigned s x n r b g o es ex er eb form few rows numbered it = IfOk-weaker o (IsReadOff (labels_in g) n (says_in g) (numbers_in g)) (IsAssigned (labels_view s) n (vector x.on.items))
     (λ p q.
     let q' : IsReadOff (labels_of r) n (says r) (numbers_of g.numbers) p = subst (λ (t : Reading). IsReadOff (labels_of t) n (says t) (numbers_of g.numbers) p) er q in
     let q'' : IsReadOff (labels_of r) n (says r) (numbers_of b) p = subst (λ (t : BankNumbers). IsReadOff (labels_of r) n (says r) (numbers_of t) p) eb q' in

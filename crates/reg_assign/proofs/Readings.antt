@@ -1,5 +1,5 @@
 -- What the code asks of a vector: the first column of a family that is on, whether a word is put early, and how a use is served.
-use Rattle.std.proofs.Common.{◌≡◌, ℕ, if◌then◌else◌, zero, suc, ◌+◌, ◌<◌, ◌≤◌, Bool, true, false, ◌||◌, ◌⊎◌, inl, inr, ⊎_elim, Option, Some, None, List, [], ◌∷◌, ◌++◌, length, map, drop, get_or, refl, sym, ap, ◌∙◌, arith}
+use Rattle.std.proofs.Common.{◌≡◌, ℕ, if◌then◌else◌, zero, suc, ◌+◌, ◌<◌, ◌≤◌, Bool, true, false, ◌||◌, ⊎_elim, Option, Some, None, List, [], ◌∷◌, ◌++◌, length, map, drop, get_or, refl, sym, ap, ◌∙◌, arith, eq-or-lt_of_le}
 use Rattle.std.specs.Prelude.{is_some}
 use Rattle.std.specs.List.{list_any}
 use Rattle.std.proofs.lemmas.Bool.{false≢true}
@@ -20,18 +20,12 @@ abbrev from_to : ℕ → ℕ → List ℕ
 from_to i zero = []
 from_to i (suc n) = i ∷ from_to (suc i) n
 
-at-or-above : (i r : ℕ) → i ≤ r → (i ≡ r) ⊎ (i < r)
-at-or-above zero zero l = inl refl
-at-or-above zero (suc r) l = inr (omega arith)
-at-or-above (suc i) zero l = absurd (omega arith)
-at-or-above (suc i) (suc r) l = ⊎_elim (λ (e : i ≡ r). inl (ap suc e)) (λ (b : i < r). inr (omega arith)) (at-or-above i r (omega arith))
-
 first-from : (f : ℕ → Bool) (i n r : ℕ) → i ≤ r → r < i + n → ((j : ℕ) → j < r → f j ≡ false) → f r ≡ true → first_on f (from_to i n) ≡ Some r
 first-from f i zero r l h none e = absurd (omega arith)
 first-from f i (suc n) r l h none e = ⊎_elim
     (λ (a : i ≡ r). here (f i) (ap f a ∙ e) ∙ ap Some a)
     (λ (b : i < r). later (f i) (none i b) ∙ first-from f (suc i) n r (omega arith) (omega arith) none e)
-    (at-or-above i r l)
+    (eq-or-lt_of_le l)
   where
     here : (b : Bool) → b ≡ true → (if b then Some i else first_on f (from_to (suc i) n)) ≡ Some i
     here true q = refl

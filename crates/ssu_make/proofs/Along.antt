@@ -16,7 +16,7 @@ use Rattle.ssu_ir.specs.Slots.{bodies}
 use Rattle.ssu_ir.specs.View.{with_bodies}
 use Rattle.ssu_ir.specs.Tree as ssu
 use Rattle.ssu_make.specs.declared.tree.Part.{Part}
-use Rattle.ssu_make.specs.inner.Uses.{Counts, occurs, outside, all_uses}
+use Rattle.ssu_make.specs.inner.Uses.{Counts, occurs, all_uses}
 use Rattle.ssu_make.specs.inner.Made.{names, all_taken, literals, clones, IsMade}
 use Rattle.ssu_make.specs.inner.Making.{HasRoots, IsRoot, Becomes, tops, Builds, Stacked}
 
@@ -27,23 +27,11 @@ same-everywhere f g h = λ i. λ x. h x i
 
 -- ---- numbers of variables
 
-pub forget-step : (x : ℕ) (rest : List ℕ) (r s : Counts) → ((y : ℕ) → s y ≡ (if nat_eq y x then 0 else r y)) → (y : ℕ) → outside rest s y ≡ outside (x ∷ rest) r y
-forget-step x rest r s h y = at (nat_eq y x) (is_in y rest) (h y)
-  where
-    at : (b c : Bool) → s y ≡ (if b then 0 else r y) → (if c then 0 else s y) ≡ (if (b || c) then 0 else r y)
-    at true true e = refl
-    at true false e = e
-    at false true e = refl
-    at false false e = e
-
 -- numbers raised to others at the variables that are done
 pub record Raised (first other now : Counts) (done : List ℕ) : Type 0 where
   pub least : (y : ℕ) → first y ≤ now y
   pub greatest : (y : ℕ) → now y ≤ max (first y) (other y)
   pub reached : (y : ℕ) → is_in y done ≡ true → other y ≤ now y
-
-pub raised-start : (first other : Counts) → Raised first other first []
-raised-start first other = record { least = λ y. omega arith; greatest = λ y. omega arith; reached = λ y i. absurd (false≢true i) }
 
 raised-at : (b : Bool) (x y : ℕ) (first other now next : Counts) → nat_eq y x ≡ b → first y ≤ now y → now y ≤ max (first y) (other y) → next y ≡ (if b then max (other x) (now y) else now y)
     → (first y ≤ next y) × (next y ≤ max (first y) (other y)) × (now y ≤ next y) × (b ≡ true → other y ≤ next y)

@@ -1,6 +1,6 @@
 -- What values and their clones do.
 use Rattle.std.proofs.Common.{◌≡◌, ℕ, ◌+◌, ◌<◌, ◌≤◌, Bool, true, false, nat_eq, nat_lt, ◌||◌, List, [], ◌∷◌, ◌++◌, map, refl, sym, ap, subst, ◌∙◌, ◌⊎◌, inl, inr, ⊎_elim, if◌then◌else◌, arith}
-use Rattle.std.proofs.lemmas.Bool.{false≢true, or_cases, or_left, or_right, cases_eq}
+use Rattle.std.proofs.lemmas.Bool.{false≢true, or_cases, or_left, or_right, cases_eq, ne_eqb}
 use Rattle.std.proofs.lemmas.Bool.Decides.{nat_tests}
 use Rattle.std.proofs.lemmas.List.{append-nil}
 use Rattle.std.specs.List.{range_with_len}
@@ -12,7 +12,7 @@ use Rattle.ssu_ir.specs.Tree as ssu
 use Rattle.ssu_ir.specs.Meaning.{Next, does, assigned_each}
 use Rattle.ssu_make.specs.inner.Uses.{Counts, outside}
 use Rattle.ssu_make.specs.inner.Made.{value, clone_step, clones}
-use Rattle.ssu_make.proofs.Assigned.{same-test, other-test, assigned-same, assigned-other, each-outside, each-inside}
+use Rattle.ssu_make.proofs.Assigned.{same-test, assigned-same, assigned-other, each-outside, each-inside}
 use Rattle.ssu_make.proofs.Literals.{Agrees}
 
 -- where the names of used variables and of these ones lie: below m, and apart
@@ -162,7 +162,7 @@ cloned-copy base r m vs env e x xs p ix h y k o lt (inl same) =
     let here : k < r x = subst (λ z. k < r z) same lt in
     ap (λ z. clone_env (nat_lt 1 (r x)) (base x) (r x) e (base z + k)) same ∙ clone-inside (nat_lt 1 (r x)) (base x) (r x) k e (env x) refl v here ∙ ap env (sym same)
 cloned-copy base r m vs env e x xs p ix h y k o lt (inr ne) =
-    let out : (nat_eq y x || is_in y xs) ≡ false = ap (λ b. b || is_in y xs) (other-test y x ne) ∙ o in
+    let out : (nat_eq y x || is_in y xs) ≡ false = ap (λ b. b || is_in y xs) (ne_eqb y x ne) ∙ o in
     keeps-other base r m vs e x y k p ix (p.live y (omega arith)) (λ q. ne (sym q)) (omega arith) ∙ h.copies y k out lt
 
 clone-one : (base r : Counts) (m : ℕ) (vs : List ℕ) (env e : Env) (x : ℕ) (xs : List ℕ) → Place base r m vs → ((y : ℕ) → is_in y (x ∷ xs) ≡ true → is_in y vs ≡ true) → Cloned base r (x ∷ xs) env e

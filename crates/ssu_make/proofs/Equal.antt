@@ -3,6 +3,7 @@ use Rattle.std.proofs.Common.{◌≡◌, ℕ, zero, suc, ◌+◌, ◌≤◌, Boo
 use Rattle.std.specs.List.{list_all}
 use Rattle.std.specs.Int.Bits.{or_zero_r}
 use Rattle.std.proofs.lemmas.Bool.{and_parts}
+use Rattle.std.proofs.lemmas.List.{length-map}
 use Rattle.nv_base.specs.declared.term.Primitive.{Primitive}
 use Rattle.nv_base.specs.declared.term.Primitive.TheVariants.{Same, Una as UnaOf, Bin as BinOf}
 use Rattle.nv_base.specs.declared.term.Bin.TheVariants.{Or}
@@ -36,10 +37,6 @@ write-alike None bad f g h = refl
 if-alike : (b : Bool) (r s r' s' : FullOutcome) → r ≡ r' → s ≡ s' → (if b then r else s) ≡ (if b then r' else s')
 if-alike true r s r' s' h g = h
 if-alike false r s r' s' h g = g
-
-length-map : (f : ℕ → ℕ) (xs : List ℕ) → length (map f xs) ≡ length xs
-length-map f [] = refl
-length-map f (x ∷ xs) = ap suc (length-map f xs)
 
 -- ---- a primitive by names whose words are those of its operands
 
@@ -97,7 +94,7 @@ module _ (next : Next) (next' : flow.Next) (h : (l : ℕ) (ws : List ℕ) (w : W
       let T = clones base (uses t) xs (made base n t) in
       literals-do next N (a ∷ []) _ e w
       ∙ ap (λ z. read_words m z (length (map (value base (uses t)) xs)) w (λ ws. does next T (assigned_all E (map (value base (uses t)) xs) ws) w)) word-is
-      ∙ ap (λ k. read_words m (atom_word env a) k w (λ ws. does next T (assigned_all E (map (value base (uses t)) xs) ws) w)) (length-map (value base (uses t)) xs)
+      ∙ ap (λ k. read_words m (atom_word env a) k w (λ ws. does next T (assigned_all E (map (value base (uses t)) xs) ws) w)) (length-map xs (value base (uses t)))
       ∙ read-alike (fetched m (atom_word env a) (length xs) w.packet) _ _ _ (λ ws.
       clones-do next base (uses t) xs (made base n t) (assigned_all E (map (value base (uses t)) xs) ws) w
       ∙ trees-alike t (xs ++ known) n (assigned_all env xs ws) (clones_env base (uses t) xs (assigned_all E (map (value base (uses t)) xs) ws)) w ft le

@@ -1,6 +1,6 @@
 -- Which values are held in a form that was made: those of the variables that are live in the flow, and new ones.
 use Rattle.std.proofs.Common.{◌≡◌, ℕ, ◌+◌, ◌<◌, ◌≤◌, Bool, true, false, not, nat_eq, nat_lt, List, [], ◌∷◌, ◌++◌, map, filter, refl, sym, ap, subst, ◌∙◌, ◌⊎◌, inl, inr, ⊎_elim, if◌then◌else◌, length, slice_index, drop, arith}
-use Rattle.std.proofs.lemmas.Bool.{false≢true, and_from, or_cases, or_left, or_right, or_parts, not_from_false, eq-eqb}
+use Rattle.std.proofs.lemmas.Bool.{false≢true, and_from, or_cases, or_left, or_right, not_from_false}
 use Rattle.nv_base.specs.declared.term.Atom.{Atom}
 use Rattle.nv_base.specs.declared.term.Atom.TheVariants.{Var, Lit}
 use Rattle.nv_base.specs.declared.term.Primitive.{Primitive}
@@ -14,13 +14,15 @@ use Rattle.flow_ir.specs.Wide.{live}
 use Rattle.ssu_ir.specs.Tree as ssu
 use Rattle.ssu_ir.specs.Points.{Names, used}
 use Rattle.ssu_ir.specs.Single.{is_narrow}
+use Rattle.ssu_ir.proofs.Held.{filter_from}
+use Rattle.ssu_ir.proofs.Lists.{image_from}
 use Rattle.ssu_make.specs.inner.Uses.{Counts, here, occurs, operands, outside, uses}
 use Rattle.ssu_make.specs.inner.Made.{literal, last_taken, names_taken, taken, all_taken, name, names, atom_literal, literals, value, clones, prim_step, spent, most, made, Laid}
 use Rattle.ssu_make.proofs.Assigned.{same-test}
 use Rattle.ssu_make.proofs.Clones.{Place, clone_env, clones_env, clone-outside, Cloned, clone-all, value-is}
 use Rattle.ssu_make.proofs.Counting.{times, times-append, times-in, times-not, different-from}
 use Rattle.ssu_make.proofs.Fitting.{Fits, fits-let, fits-read, fits-write, fits-first, fits-second, place-of, uses-all}
-use Rattle.ssu_make.proofs.Once.{Fresh, fresh-more, fresh-first, fresh-second}
+use Rattle.ssu_make.proofs.Once.{Fresh, fresh-more, fresh-first, fresh-second, in-either}
 use Rattle.ssu_make.proofs.Results.{clones-names, clones-leave, used-prim}
 
 -- ---- lists that are filtered
@@ -32,17 +34,6 @@ filter-times-at false x z rest rest' h = omega arith
 pub filter-times : (p : ℕ → Bool) (xs : List ℕ) (z : ℕ) → times z (filter p xs) ≤ times z xs
 filter-times p [] z = omega arith
 filter-times p (x ∷ xs) z = filter-times-at (p x) x z (filter p xs) xs (filter-times p xs z)
-
-filter-in-at : (b : Bool) (p : ℕ → Bool) (x z : ℕ) (rest : List ℕ) (Q : Type 0) → p x ≡ b → is_in z (if b then x ∷ rest else rest) ≡ true → (is_in z rest ≡ true → Q × (p z ≡ true)) → (nat_eq z x ≡ true → Q) → Q × (p z ≡ true)
-filter-in-at true p x z rest Q e i h g =
-    ⊎_elim (λ (f : nat_eq z x ≡ true). (g f, ap p (same-number z x f) ∙ e)) (λ (f : is_in z rest ≡ true). h f) (or_cases (nat_eq z x) (is_in z rest) i)
-filter-in-at false p x z rest Q e i h g = h i
-
-pub filter-in : (p : ℕ → Bool) (xs : List ℕ) (z : ℕ) → is_in z (filter p xs) ≡ true → (is_in z xs ≡ true) × (p z ≡ true)
-filter-in p [] z i = absurd (false≢true i)
-filter-in p (x ∷ xs) z i =
-    filter-in-at (p x) p x z (filter p xs) (is_in z (x ∷ xs) ≡ true) refl i
-    (λ j. let r = filter-in p xs z j in (or_right (nat_eq z x) (is_in z xs) r.0, r.1)) (λ f. or_left (nat_eq z x) (is_in z xs) f)
 
 filter-length-at : (b c : Bool) (x : ℕ) (a d : List ℕ) → (b ≡ true → c ≡ true) → length a ≤ length d → length (if b then x ∷ a else a) ≤ length (if c then x ∷ d else d)
 filter-length-at true true x a d h le = omega arith
@@ -59,14 +50,8 @@ filter-fewer p q (x ∷ xs) h =
 pub filter-among : (p : ℕ → Bool) (xs vals : List ℕ) → ((z : ℕ) → times z xs ≤ 1) → ((z : ℕ) → is_in z xs ≡ true → p z ≡ true → is_in z vals ≡ true) → length (filter p xs) ≤ different vals
 filter-among p xs vals once h =
     let all : all_different (filter p xs) ≡ true = different-from (filter p xs) (λ z. let a = filter-times p xs z in let b = once z in omega arith) in
-    let few = different-below (filter p xs) vals (λ z i. let r = filter-in p xs z i in h z r.0 r.1) in
+    let few = different-below (filter p xs) vals (λ z i. let r = filter_from p xs z i in h z r.0 r.1) in
     omega (arith, different-all (filter p xs) all, few)
-
-in-map : (f : ℕ → ℕ) (y : ℕ) (xs : List ℕ) → is_in y xs ≡ true → is_in (f y) (map f xs) ≡ true
-in-map f y [] h = absurd (false≢true h)
-in-map f y (x ∷ xs) h =
-    ⊎_elim (λ (e : nat_eq y x ≡ true). or_left (nat_eq (f y) (f x)) (is_in (f y) (map f xs)) (eq-eqb (f y) (f x) (ap f (same-number y x e))))
-    (λ (e : is_in y xs ≡ true). or_right (nat_eq (f y) (f x)) (is_in (f y) (map f xs)) (in-map f y xs e)) (or_cases (nat_eq y x) (is_in y xs) h)
 
 different-map-at : (b c : Bool) (m n : ℕ) → (b ≡ true → c ≡ true) → m ≤ n → (if c then m else 1 + m) ≤ (if b then n else 1 + n)
 different-map-at true true m n h le = le
@@ -76,7 +61,7 @@ different-map-at false false m n h le = omega arith
 
 pub different-map : (f : ℕ → ℕ) (xs : List ℕ) → different (map f xs) ≤ different xs
 different-map f [] = omega arith
-different-map f (x ∷ xs) = different-map-at (is_in x xs) (is_in (f x) (map f xs)) (different (map f xs)) (different xs) (in-map f x xs) (different-map f xs)
+different-map f (x ∷ xs) = different-map-at (is_in x xs) (is_in (f x) (map f xs)) (different (map f xs)) (different xs) (image_from f xs x) (different-map f xs)
 
 -- ---- what each name is a copy of
 
@@ -125,10 +110,6 @@ module _ (base size : Counts) (c d : ℕ) (vs : List ℕ) (laid : Laid base size
 abbrev pub IsOf : Counts → Counts → (ℕ → ℕ) → List ℕ → ℕ → ℕ → List ℕ → ℕ → Type 0
 IsOf base size val vars n k defs v =
     ((y : ℕ) × (is_in y vars ≡ true) × (v ≡ val y)) ⊎ (((n ≤ v) × (v < n + k)) ⊎ ((y : ℕ) × (is_in y defs ≡ true) × (base y ≤ v) × (v ≤ base y + size y)))
-
-here-var : (a : Atom) (y : ℕ) → is_in y (atom_vars a) ≡ false → here a y ≡ 0
-here-var (Var x) y o = let p = or_parts (nat_eq y x) false o in ap (λ b. if b then 1 else 0) p.0
-here-var (Lit v) y o = refl
 
 -- an operand's name is of a variable's value, or new
 name-of : (base s : Counts) (n d : ℕ) (val : ℕ → ℕ) (of : Names) (a : Atom) (v : ℕ) → d ≤ n → ((y k : ℕ) → k < here a y + s y → of (base y + k) ≡ val y) → ((z : ℕ) → d ≤ z → of z ≡ z) → v ≡ of (name base s n a)
@@ -214,12 +195,9 @@ of-behind base size r val front lives xs rest n k m v le (inl p) = of-behind-at 
 of-behind base size r val front lives xs rest n k m v le (inr (inl p)) = let a = p.0 in let b = p.1 in inr (inl (omega arith, omega arith))
 of-behind base size r val front lives xs rest n k m v le (inr (inr p)) = inr (inr (p.0, within-right xs rest p.0 p.1, p.2, p.3))
 
-fresh-apart : (xs known rest : List ℕ) → Fresh (xs ++ known) rest → (y : ℕ) → is_in y rest ≡ true → is_in y xs ≡ false
+pub fresh-apart : (xs known rest : List ℕ) → Fresh (xs ++ known) rest → (y : ℕ) → is_in y rest ≡ true → is_in y xs ≡ false
 unfolding Fresh
 fresh-apart xs known rest f y i = let le = f y in let p = times-in y rest i in times-not y xs (omega (arith, times-append y xs known))
-
-in-either : (z : ℕ) (xs ys : List ℕ) → is_in z (xs ++ ys) ≡ true → (is_in z xs ≡ true) ⊎ (is_in z ys ≡ true)
-in-either z xs ys h = or_cases (is_in z xs) (is_in z ys) (sym (in-append z xs ys) ∙ h)
 
 pub sees-weaker : (base size : Counts) (d : ℕ) (val : ℕ → ℕ) (of : Names) (r s : Counts) (defs defs' : List ℕ) → ((y : ℕ) → s y ≤ r y) → Within defs' defs → Sees base size d val of r defs → Sees base size d val of s defs'
 sees-weaker base size d val of r s defs defs' le w h = record {

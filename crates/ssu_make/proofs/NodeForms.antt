@@ -23,9 +23,10 @@ use Rattle.ssu_ir.specs.Single.{is_narrow}
 use Rattle.ssu_ir.specs.View.{with_bodies}
 use Rattle.ssu_ir.specs.Tree as ssu
 use Rattle.ssu_ir.proofs.Arranged.{brought}
+use Rattle.ssu_ir.proofs.Turns.{bodies-append}
 use Rattle.ssu_make.specs.declared.tree.Part.{Part}
 use Rattle.ssu_make.specs.inner.Uses.{Counts, operands, outside, uses, all_uses}
-use Rattle.ssu_make.specs.inner.Made.{names, taken, names_taken, value, high, low, literal, literals, atom_literal, clone_step, clones, prim_step, made, made_let, made_read, made_write, made_if, made_jump, made_halt, Laid, variables, IsMade, AllMade}
+use Rattle.ssu_make.specs.inner.Made.{names, value, high, low, literal, literals, atom_literal, clone_step, clones, prim_step, made, made_let, made_read, made_write, made_if, made_jump, made_halt, Laid, variables, IsMade, AllMade}
 use Rattle.ssu_make.specs.inner.Making.{counted, Becomes, Joined, Adds, MadeTo, LaidOut, LabelMade, LabelsMade}
 use Rattle.ssu_make.proofs.Along.{same-everywhere, AllMadeTo, LabelsOn}
 use Rattle.ssu_make.proofs.Turns.{becomes-node, joined-node, adds-node, becomes-trans, joined-becomes, adds-becomes}
@@ -48,15 +49,6 @@ wide-becomes a b c d whole down up root i j k n v g e f g' e' f' g'' e'' f'' =
     becomes-trans a c d root j k (λ t. ssu.Do (ssu.Lit (n + 1) (low v)) (ssu.Do (ssu.Bin (n + 2) Or n (n + 1)) t)) (ssu.Do (ssu.Lit n (high v)))
     (becomes-trans a b c root i j (ssu.Do (ssu.Bin (n + 2) Or n (n + 1))) (ssu.Do (ssu.Lit (n + 1) (low v))) one two) three
 
-pub wide-is : (old new : SsuBuild) (root id n v : ℕ) → is_narrow v ≡ false → word v ≡ v → Becomes old new root id (literal false n v) → Becomes old new root id (atom_literal n (Lit v))
-wide-is old new root id n v e w b = subst (Becomes old new root id) (ap (λ b. literal b n v) (sym e) ∙ ap (λ x. literal (is_narrow x) n x) (sym w)) b
-
-pub taken-narrow : (v : ℕ) → is_narrow v ≡ true → word v ≡ v → taken (Lit v) ≡ 1
-taken-narrow v e w = ap (λ x. names_taken (is_narrow x)) w ∙ ap names_taken e
-
-pub taken-wide : (v : ℕ) → is_narrow v ≡ false → word v ≡ v → taken (Lit v) ≡ 3
-taken-wide v e w = ap (λ x. names_taken (is_narrow x)) w ∙ ap names_taken e
-
 -- ---- clones
 
 pub clone-becomes : (old new : SsuBuild) (node : SsuNode) (root id first n : ℕ) (copies : List ℕ) (own : ℕ) → nat_lt 1 n ≡ true → copies ≡ range_with_len first n → own ≡ first + n → Grown old new node id → node_of node ≡ ssu.Does (ssu.Clone copies own) → kids_of node ≡ root ∷ []
@@ -64,9 +56,6 @@ pub clone-becomes : (old new : SsuBuild) (node : SsuNode) (root id first n : ℕ
 clone-becomes old new node root id first n copies own two ec eo g a k =
     let same : ssu.Do (ssu.Clone copies own) ≡ clone_step (nat_lt 1 n) first n = ap (λ l. ssu.Do (ssu.Clone l own)) ec ∙ ap (λ z. ssu.Do (ssu.Clone (range_with_len first n) z)) eo ∙ ap (λ b. clone_step b first n) (sym two) in
     subst (Becomes old new root id) same (becomes-node old new node root id (ssu.Clone copies own) g a k)
-
-pub no-clone : (b : SsuBuild) (root first n : ℕ) → nat_lt 1 n ≡ false → Becomes b b root root (clone_step (nat_lt 1 n) first n)
-no-clone b root first n one = subst (Becomes b b root root) (ap (λ c. clone_step c first n) (sym one)) (record { by = λ t rest h. h })
 
 -- ---- nodes
 
@@ -139,12 +128,6 @@ halt-made old b new node i id base r n e bs ys words er ey ew g en ek l =
 
 -- ---- where names lie
 
-pub laid-start : (base size : Counts) (c : ℕ) → LaidOut base size c c []
-laid-start base size c = record {
-  after = omega arith;
-  laid = record { start = λ x i. absurd (false≢true i); below = λ x i. absurd (false≢true i); apart = λ x y i. absurd (false≢true i) };
-}
-
 is-among : (x y : ℕ) (xs : List ℕ) → is_in y (xs ++ x ∷ []) ≡ true → ((y ≡ x) × (nat_eq y x ≡ true)) ⊎ ((is_in y xs ≡ true) × (nat_eq y x ≡ false))
 is-among x y xs i =
     ⊎_elim (λ (e : nat_eq y x ≡ true). inl (same-number y x e, e))
@@ -208,18 +191,11 @@ ids-append : (a b : List Rooted) → ids (a ++ b) ≡ ids a ++ ids b
 ids-append [] b = refl
 ids-append (x ∷ a) b = ap (λ l. x.0 ∷ l) (ids-append a b)
 
-bodies-append : (a b : List SsuLabel) → bodies (a ++ b) ≡ bodies a ++ bodies b
-bodies-append [] b = refl
-bodies-append (x ∷ a) b = ap (λ l. x.body.0 ∷ l) (bodies-append a b)
-
 bodies-last : (ss : List SsuLabel) (s : SsuLabel) (roots : List Rooted) (r : Rooted) → ids roots ≡ bodies ss → with_bodies (ss ++ s ∷ []) (trees_of (roots ++ r ∷ [])) ≡ with_bodies ss (trees_of roots) ++ record { params = s.params.items; body = r.1 } ∷ []
 bodies-last [] s [] r e = refl
 bodies-last [] s (x ∷ roots) r e = absurd (cc)
 bodies-last (t ∷ ss) s [] r e = absurd (cc)
 bodies-last (t ∷ ss) s (x ∷ roots) r e = let rest : ids roots ≡ bodies ss = cc in ap (λ l. record { params = t.params.items; body = x.1 } ∷ l) (bodies-last ss s roots r rest)
-
-pub labels-start : (b : SsuBuild) → Holds b [] → LabelsOn [] [] b 0
-labels-start b h = record { roots = []; holds = h; at_bodies = refl; made = refl }
 
 pub labels-more : (old new : SsuBuild) (ls : List Label) (ss ss' : List SsuLabel) (l : Label) (s : SsuLabel) (d e : ℕ) → LabelsOn ls ss old d → LabelMade l s d e old new → ss' ≡ ss ++ s ∷ [] → LabelsOn (ls ++ l ∷ []) ss' new e
 labels-more old new ls ss ss' l s d e h m es =

@@ -28,7 +28,7 @@ used_times z (ssu.Do s t) = times z (step_names s) + used_times z t
 used_times z (ssu.If c x y t u) = times z (x ∷ y ∷ []) + max (used_times z t) (used_times z u)
 used_times z (ssu.End l) = times z (ssu.last_uses l)
 
-in-either : (z : ℕ) (xs ys : List ℕ) → is_in z (xs ++ ys) ≡ true → (is_in z xs ≡ true) ⊎ (is_in z ys ≡ true)
+pub in-either : (z : ℕ) (xs ys : List ℕ) → is_in z (xs ++ ys) ≡ true → (is_in z xs ≡ true) ⊎ (is_in z ys ≡ true)
 in-either z xs ys h = or_cases (is_in z xs) (is_in z ys) (sym (in-append z xs ys) ∙ h)
 
 names-counted : (t : ssu.Tree) (z : ℕ) → is_in z (single.names t) ≡ true → 0 < used_times z t

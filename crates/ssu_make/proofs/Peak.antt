@@ -2,7 +2,7 @@
 use Rattle.std.proofs.Common.{◌≡◌, ℕ, suc, ◌+◌, ◌<◌, ◌≤◌, max, Bool, true, false, nat_eq, nat_lt, ◌||◌, List, [], ◌∷◌, ◌++◌, map, filter, refl, sym, ap, subst, ◌∙◌, ◌⊎◌, inl, inr, ⊎_elim, if◌then◌else◌, length, slice_index, drop, arith}
 use Rattle.std.specs.List.{list_all}
 use Rattle.std.proofs.lemmas.Bool.{false≢true, and_parts, or_cases, or_left, or_right, cases_lt, cases_Bool}
-use Rattle.std.proofs.lemmas.List.{append-nil}
+use Rattle.std.proofs.lemmas.List.{append-nil, length-map}
 use Rattle.nv_base.specs.declared.term.Atom.{Atom}
 use Rattle.nv_base.specs.declared.term.Atom.TheVariants.{Var, Lit}
 use Rattle.nv_base.specs.declared.term.Primitive.{Primitive}
@@ -10,7 +10,7 @@ use Rattle.nv_base.specs.declared.term.Primitive.TheVariants.{Same, Una as UnaOf
 use Rattle.nv_base.specs.Words.{word, atom_vars}
 use Rattle.nv_base.specs.Sets.{is_in, Within, without, all_vars, different, all_different}
 use Rattle.nv_base.specs.Measures.{operands_wide}
-use Rattle.nv_base.proofs.Sets.{in-append, same-number, within-left, within-right, within-both, within-behind, different-below, different-append, different-length}
+use Rattle.nv_base.proofs.Sets.{same-number, within-left, within-right, within-both, within-behind, different-below, different-append, different-length}
 use Rattle.flow_ir.specs.Tree.{Tree, Let, Read, Write, If, Jump, Halt, Label}
 use Rattle.flow_ir.specs.Formed.{defined, is_formed, is_label}
 use Rattle.flow_ir.specs.Wide.{live, tree_wide, label_wide, wide}
@@ -18,18 +18,18 @@ use Rattle.ssu_ir.specs.Tree as ssu
 use Rattle.ssu_ir.specs.Points.{Names, Point, own, used, held, tree_points, points_from}
 use Rattle.ssu_ir.specs.Measures.{most_held, peak}
 use Rattle.ssu_ir.specs.Single.{is_narrow}
+use Rattle.ssu_ir.proofs.Lists.{image_from}
 use Rattle.ssu_make.specs.inner.Uses.{Counts, here, occurs, operands, outside, uses, all_uses}
 use Rattle.ssu_make.specs.inner.Made.{literal, last_taken, names_taken, taken, all_taken, name, names, atom_literal, literals, value, clone_step, clones, prim_step, spent, most, made, Laid, variables, IsMade, AllMade}
 use Rattle.ssu_make.proofs.Assigned.{same-test}
 use Rattle.ssu_make.proofs.Clones.{clone_env, clones_env, value-is}
 use Rattle.ssu_make.proofs.Counting.{lies, lies-out, times, times-append, times-in, in-times, times-not, different-from, different-times, lies_all, lies_all-none, lies_all-once, lies_all-least}
 use Rattle.ssu_make.proofs.Fitting.{Fits, fits-let, fits-read, fits-write, fits-first, fits-second, place-of, uses-all}
-use Rattle.ssu_make.proofs.Once.{Fresh, fresh-first, fresh-second, values-defined}
+use Rattle.ssu_make.proofs.Once.{Fresh, fresh-first, fresh-second, values-defined, in-either}
 use Rattle.ssu_make.proofs.Scoped.{param-at}
 use Rattle.ssu_make.proofs.Equal.{label-fits}
 use Rattle.ssu_make.proofs.Results.{clones-names, used-prim, live-used, vars-occur}
-use Rattle.ssu_make.proofs.Shape.{same-length, in-map}
-use Rattle.ssu_make.proofs.Held.{Sees, sees-weaker, sees-behind, valued, behind, used-of, IsOf, filter-fewer, filter-among, different-map, names-of, literals-of}
+use Rattle.ssu_make.proofs.Held.{Sees, sees-weaker, sees-behind, valued, behind, used-of, IsOf, filter-fewer, filter-among, different-map, names-of, literals-of, fresh-apart}
 
 -- ---- one more value above
 
@@ -88,9 +88,6 @@ lits (a ∷ as') = lit_count a + lits as'
 some : List Atom → ℕ
 some [] = 0
 some (a ∷ as') = 1
-
-in-either : (z : ℕ) (xs ys : List ℕ) → is_in z (xs ++ ys) ≡ true → (is_in z xs ≡ true) ⊎ (is_in z ys ≡ true)
-in-either z xs ys h = or_cases (is_in z xs) (is_in z ys) (sym (in-append z xs ys) ∙ h)
 
 half-range : (b : Bool) (n v : ℕ) → is_in v (half_names b n) ≡ true → (n ≤ v) × (v < n + 2) × (b ≡ false)
 unfolding half_names
@@ -271,7 +268,7 @@ pub record Sits (base size : Counts) (above : List ℕ) (n k : ℕ) (defs : List
   pub clear : (v : ℕ) → is_in v above ≡ true → ((v < n) ⊎ (n + k ≤ v)) × ((y : ℕ) → is_in y defs ≡ true → (v < base y) ⊎ (base y + size y < v))
 
 among-lives : (base size : Counts) (val : ℕ → ℕ) (lives : List ℕ) (n k : ℕ) (defs : List ℕ) (v : ℕ) → ((v < n) ⊎ (n + k ≤ v)) → ((y : ℕ) → is_in y defs ≡ true → (v < base y) ⊎ (base y + size y < v)) → IsOf base size val lives n k defs v → is_in v (map val lives) ≡ true
-among-lives base size val lives n k defs v c e (inl p) = subst (λ w. is_in w (map val lives) ≡ true) (sym p.2) (in-map val p.0 lives p.1)
+among-lives base size val lives n k defs v c e (inl p) = subst (λ w. is_in w (map val lives) ≡ true) (sym p.2) (image_from val lives p.0 p.1)
 among-lives base size val lives n k defs v c e (inr (inl p)) = let a = p.0 in let b = p.1 in absurd (⊎_elim (λ (q : v < n). omega arith) (λ (q : n + k ≤ v). omega arith) c)
 among-lives base size val lives n k defs v c e (inr (inr p)) =
     let a = p.2 in let b = p.3 in absurd (⊎_elim (λ (q : v < base p.0). omega arith) (λ (q : base p.0 + size p.0 < v). omega arith) (e p.0 p.1))
@@ -410,7 +407,6 @@ fresh-once : (known xs rest : List ℕ) → Fresh known (xs ++ rest) → all_dif
 unfolding Fresh
 fresh-once known xs rest f = different-from xs (λ z. let le = f z in omega (arith, times-append z xs rest))
 
-fresh-apart : (xs known rest : List ℕ) → Fresh (xs ++ known) rest → (y : ℕ) → is_in y rest ≡ true → is_in y xs ≡ false
 unfolding Fresh
 fresh-apart xs known rest f y i = let le = f y in let p = times-in y rest i in times-not y xs (omega (arith, times-append y xs known))
 
@@ -620,7 +616,7 @@ label-peak labels k c d l s f is =
     let sits = sits-behind base size c n vs is.laid r xs rest [] [] n (spent l.body) 0 empty (λ z. omega arith) (omega arith) sized fits.within fits.defs (different-front xs rest parts.1) apart in
     let body = peak-made labels base size c n vs is.laid l.body xs n (valued base r xs own) (clones_env base r xs own) (map (value base r) xs) fits fresh (omega arith) sees small sits in
     let whole = clones-peak base r xs T own (map (value base r) xs) (tree_wide l.body) body in
-    let p : length s.params ≡ length xs = ap (λ (z : ssu.Label). length z.params) is.is ∙ same-length (value base r) xs in
+    let p : length s.params ≡ length xs = ap (λ (z : ssu.Label). length z.params) is.is ∙ length-map xs (value base r) in
     let q : most_held (tree_points own s.params s.body) ≡ most_held (tree_points own (map (value base r) xs) (clones base r xs T)) = ap (λ (z : ssu.Label). most_held (tree_points own z.params z.body)) is.is in
     omega (arith, whole, p, q)
   where

@@ -1,6 +1,6 @@
 -- In a form that was made some copy is used of every value of a literal or a primitive.
 use Rattle.std.proofs.Common.{◌≡◌, ℕ, ◌+◌, ◌<◌, ◌≤◌, Bool, true, false, not, nat_eq, nat_lt, ◌&&◌, List, [], ◌∷◌, ◌++◌, map, refl, sym, ap, subst, ◌∙◌, ◌⊎◌, inl, inr, ⊎_elim, if◌then◌else◌, slice_index, drop, arith}
-use Rattle.std.proofs.lemmas.Bool.{false≢true, and_parts, and_from, or_cases, or_left, or_right, cases_eq, cases_lt, not-true, or_parts, or_from, eq-eqb}
+use Rattle.std.proofs.lemmas.Bool.{false≢true, and_parts, and_from, or_cases, or_left, or_right, cases_eq, cases_lt, not-true, or_parts, or_from, eq-eqb, ne_eqb}
 use Rattle.nv_base.specs.declared.term.Atom.{Atom}
 use Rattle.nv_base.specs.declared.term.Atom.TheVariants.{Var, Lit}
 use Rattle.nv_base.specs.declared.term.Primitive.{Primitive}
@@ -14,14 +14,15 @@ use Rattle.flow_ir.specs.Wide.{live}
 use Rattle.ssu_ir.specs.Tree as ssu
 use Rattle.ssu_ir.specs.Points.{Names, own, used}
 use Rattle.ssu_ir.specs.Single.{is_narrow, results_used}
+use Rattle.ssu_ir.proofs.Lists.{image_from}
 use Rattle.ssu_make.specs.Used.{lets_used}
 use Rattle.ssu_make.specs.inner.Uses.{Counts, here, occurs, operands, outside, uses, all_uses}
 use Rattle.ssu_make.specs.inner.Made.{literal, last_taken, all_taken, name, names, atom_literal, literals, value, clone_step, clones, prim_step, spent, most, made, Laid}
-use Rattle.ssu_make.proofs.Assigned.{same-test, other-test}
+use Rattle.ssu_make.proofs.Assigned.{same-test}
 use Rattle.ssu_make.proofs.Clones.{clone_env, clones_env, clone-outside, clone-inside}
-use Rattle.ssu_make.proofs.Shape.{in-map}
 use Rattle.ssu_make.proofs.Fitting.{uses-all}
 use Rattle.ssu_make.proofs.Counting.{times-append, different-from, different-times}
+use Rattle.ssu_make.proofs.Once.{in-either}
 
 -- ---- what is live has uses
 
@@ -29,9 +30,6 @@ atom-occurs : (a : Atom) (y : ℕ) → is_in y (atom_vars a) ≡ true → 0 < he
 atom-occurs (Var x) y h =
     ⊎_elim (λ (e : nat_eq y x ≡ true). let one : here (Var x) y ≡ 1 = ap (λ b. if b then 1 else 0) e in omega (arith, one)) (λ (e : false ≡ true). absurd (false≢true e)) (or_cases (nat_eq y x) false h)
 atom-occurs (Lit v) y h = absurd (false≢true h)
-
-in-either : (z : ℕ) (xs ys : List ℕ) → is_in z (xs ++ ys) ≡ true → (is_in z xs ≡ true) ⊎ (is_in z ys ≡ true)
-in-either z xs ys h = or_cases (is_in z xs) (is_in z ys) (sym (in-append z xs ys) ∙ h)
 
 pub vars-occur : (as' : List Atom) (y : ℕ) → is_in y (all_vars as') ≡ true → 0 < occurs as' y
 vars-occur [] y h = absurd (false≢true h)
@@ -111,7 +109,7 @@ operand-at base r x y k as' ns (inl e) le lt h =
     let same : base y + k ≡ base x + (occurs as' x + r x) = ap (λ j. base y + j) last ∙ ap (λ w. base w + (occurs as' w + r w)) e in
     or_left (nat_eq (base y + k) (base x + (occurs as' x + r x))) _ (eq-eqb (base y + k) (base x + (occurs as' x + r x)) same)) (cases_lt k (occurs as' y + r y))
 operand-at base r x y k as' ns (inr ne) le lt h =
-    let none : here (Var x) y ≡ 0 = ap (λ b. if b then 1 else 0) (other-test y x ne) in
+    let none : here (Var x) y ≡ 0 = ap (λ b. if b then 1 else 0) (ne_eqb y x ne) in
     or_right (nat_eq (base y + k) (base x + (occurs as' x + r x))) _ (h (omega (arith, none)))
 
 pub operand-named : (base r : Counts) (y k : ℕ) (as' : List Atom) (n : ℕ) → r y ≤ k → k < occurs as' y + r y → is_in (base y + k) (names base r n as') ≡ true
@@ -134,14 +132,8 @@ prim-after x (BinOf op a b) ys t of = refl
 pub used-prim : (base r : Counts) (n x : ℕ) (p : Primitive) (t : ssu.Tree) (of : Names) → used of (ssu.Do (prim_step x p (names base r n (operands p))) t) ≡ map of (names base r n (operands p)) ++ used of t
 used-prim base r n x p t of = prim-after x p (names base r n (operands p)) t of ∙ ap (λ l. map of l ++ used of t) (prim-uses base r n x p)
 
-in-left : (z : ℕ) (xs ys : List ℕ) → is_in z xs ≡ true → is_in z (xs ++ ys) ≡ true
-in-left z xs ys h = within-left xs ys z h
-
-in-right : (z : ℕ) (xs ys : List ℕ) → is_in z ys ≡ true → is_in z (xs ++ ys) ≡ true
-in-right z xs ys h = within-right xs ys z h
-
 named-in : (of : Names) (v z : ℕ) (ns : List ℕ) → of z ≡ v → is_in z ns ≡ true → is_in v (map of ns) ≡ true
-named-in of v z ns e i = subst (λ w. is_in w (map of ns) ≡ true) e (in-map of z ns i)
+named-in of v z ns e i = subst (λ w. is_in w (map of ns) ≡ true) e (image_from of ns z i)
 
 module _ (base size : Counts) (c d : ℕ) (vs : List ℕ) (laid : Laid base size c d vs) where
   -- clones of other variables leave a variable's copies as they are
@@ -171,10 +163,10 @@ module _ (base size : Counts) (c d : ℕ) (vs : List ℕ) (laid : Laid base size
       let yes : is_in v (map of ns ++ used of C) ≡ true =
       ⊎_elim (λ (q : k < r' y).
       let lk : k ≤ size y = let a = sized y in omega (arith, same) in
-      in-right v (map of ns) (used of C) (ap (is_in v) (clones-names base r (x ∷ []) (made base n t) of)
+      within-right (map of ns) (used of C) v (ap (is_in v) (clones-names base r (x ∷ []) (made base n t) of)
       ∙ copy-used t n (clones_env base r (x ∷ []) of) y k v (λ z j. w z (or_right (nat_eq z x) (is_in z (defined t)) j)) (λ z. let b = s z in omega arith) i parts.1 (omega (arith, same))
       (clones-leave r (x ∷ []) y k of sized (λ z j. w z (within-left (x ∷ []) (defined t) z j)) i not-x lk ∙ e)))
-      (λ (q : r' y ≤ k). in-left v (map of ns) (used of C) (named-in of v (base y + k) ns e (operand-named base r' y k (operands p) N q lt))) (cases_lt k (r' y)) in
+      (λ (q : r' y ≤ k). within-left (map of ns) (used of C) v (named-in of v (base y + k) ns e (operand-named base r' y k (operands p) N q lt))) (cases_lt k (r' y)) in
       more-literals N (operands p) v _ of (ap (is_in v) (used-prim base r' N (value base r x) p C of) ∙ yes)
   copy-used (Read m xs a t) n of y k v w s i o lt e =
       let N = n + spent t in
@@ -188,18 +180,18 @@ module _ (base size : Counts) (c d : ℕ) (vs : List ℕ) (laid : Laid base size
       let yes : is_in v (map of ns ++ used of C) ≡ true =
       ⊎_elim (λ (q : k < r' y).
       let lk : k ≤ size y = let a = sized y in omega (arith, same) in
-      in-right v (map of ns) (used of C) (ap (is_in v) (clones-names base r xs (made base n t) of)
+      within-right (map of ns) (used of C) v (ap (is_in v) (clones-names base r xs (made base n t) of)
       ∙ copy-used t n (clones_env base r xs of) y k v (λ z j. w z (within-right xs (defined t) z j)) (λ z. let b = s z in omega arith) i parts.1 (omega (arith, same))
       (clones-leave r xs y k of sized (λ z j. w z (within-left xs (defined t) z j)) i parts.0 lk ∙ e)))
-      (λ (q : r' y ≤ k). in-left v (map of ns) (used of C) (named-in of v (base y + k) ns e (operand-named base r' y k (a ∷ []) N q lt))) (cases_lt k (r' y)) in
+      (λ (q : r' y ≤ k). within-left (map of ns) (used of C) v (named-in of v (base y + k) ns e (operand-named base r' y k (a ∷ []) N q lt))) (cases_lt k (r' y)) in
       more-literals N (a ∷ []) v _ of yes
   copy-used (Write m a bs t) n of y k v w s i o lt e =
       let N = n + spent t in
       let r = uses t in
       let ns = names base r N (a ∷ bs) in
       let yes : is_in v (map of ns ++ used of (made base n t)) ≡ true =
-      ⊎_elim (λ (q : k < r y). in-right v (map of ns) (used of (made base n t)) (copy-used t n of y k v w (λ z. let b = s z in omega arith) i o q e))
-      (λ (q : r y ≤ k). in-left v (map of ns) (used of (made base n t)) (named-in of v (base y + k) ns e (operand-named base r y k (a ∷ bs) N q lt))) (cases_lt k (r y)) in
+      ⊎_elim (λ (q : k < r y). within-right (map of ns) (used of (made base n t)) v (copy-used t n of y k v w (λ z. let b = s z in omega arith) i o q e))
+      (λ (q : r y ≤ k). within-left (map of ns) (used of (made base n t)) v (named-in of v (base y + k) ns e (operand-named base r y k (a ∷ bs) N q lt))) (cases_lt k (r y)) in
       more-literals N (a ∷ bs) v _ of yes
   copy-used (If q a b t u) n of y k v w s i o lt e =
       let N = n + (spent u + spent t) in
@@ -208,11 +200,11 @@ module _ (base size : Counts) (c d : ℕ) (vs : List ℕ) (laid : Laid base size
       let T = made base (n + spent u) t in
       let U = made base n u in
       let parts = or_parts (is_in y (defined t)) (is_in y (defined u)) (sym (in-append y (defined t) (defined u)) ∙ o) in
-      let first : k < uses t y → is_in v (used of T ++ used of U) ≡ true = λ g. in-left v (used of T) (used of U) (copy-used t (n + spent u) of y k v (λ z j. w z (within-left (defined t) (defined u) z j)) (λ z. let b = s z in omega arith) i parts.0 g e) in
-      let second : k < uses u y → is_in v (used of T ++ used of U) ≡ true = λ g. in-right v (used of T) (used of U) (copy-used u n of y k v (λ z j. w z (within-right (defined t) (defined u) z j)) (λ z. let b = s z in omega arith) i parts.1 g e) in
+      let first : k < uses t y → is_in v (used of T ++ used of U) ≡ true = λ g. within-left (used of T) (used of U) v (copy-used t (n + spent u) of y k v (λ z j. w z (within-left (defined t) (defined u) z j)) (λ z. let b = s z in omega arith) i parts.0 g e) in
+      let second : k < uses u y → is_in v (used of T ++ used of U) ≡ true = λ g. within-right (used of T) (used of U) v (copy-used u n of y k v (λ z j. w z (within-right (defined t) (defined u) z j)) (λ z. let b = s z in omega arith) i parts.1 g e) in
       let yes : is_in v (map of ns ++ (used of T ++ used of U)) ≡ true =
-      ⊎_elim (λ (g : k < r y). in-right v (map of ns) (used of T ++ used of U) (⊎_elim first (λ (h : uses t y ≤ k). second (omega arith)) (cases_lt k (uses t y))))
-      (λ (g : r y ≤ k). in-left v (map of ns) (used of T ++ used of U) (named-in of v (base y + k) ns e (operand-named base r y k (a ∷ b ∷ []) N g lt))) (cases_lt k (r y)) in
+      ⊎_elim (λ (g : k < r y). within-right (map of ns) (used of T ++ used of U) v (⊎_elim first (λ (h : uses t y ≤ k). second (omega arith)) (cases_lt k (uses t y))))
+      (λ (g : r y ≤ k). within-left (map of ns) (used of T ++ used of U) v (named-in of v (base y + k) ns e (operand-named base r y k (a ∷ b ∷ []) N g lt))) (cases_lt k (r y)) in
       more-literals N (a ∷ b ∷ []) v _ of yes
   copy-used (Jump l bs) n of y k v w s i o lt e = more-literals n bs v _ of (named-in of v (base y + k) (names base (λ y. 0) n bs) e (operand-named base (λ y. 0) y k bs n (omega arith) (omega arith)))
   copy-used (Halt l bs) n of y k v w s i o lt e = more-literals n bs v _ of (named-in of v (base y + k) (names base (λ y. 0) n bs) e (operand-named base (λ y. 0) y k bs n (omega arith) (omega arith)))

@@ -2,6 +2,7 @@
 use Rattle.std.proofs.Common.{◌≡◌, ℕ, zero, suc, true, nat_le, ◌==◌, List, [], ◌∷◌, map, refl, sym, ap, ◌∙◌, length, slice_get, arith}
 use Rattle.std.specs.List.{list_all}
 use Rattle.std.proofs.lemmas.Bool.{and_parts, and_from}
+use Rattle.std.proofs.lemmas.List.{length-map}
 use Rattle.nv_base.specs.Sets.{all_different}
 use Rattle.nv_base.proofs.Sets.{within-right}
 use Rattle.flow_ir.specs.Tree.{Label}
@@ -10,11 +11,12 @@ use Rattle.flow_ir.specs.Meaning.{flow_params}
 use Rattle.ssu_ir.specs.Tree as ssu
 use Rattle.ssu_ir.specs.Meaning.{ssu_params}
 use Rattle.ssu_ir.specs.Single.{are_nodes, uses_once, is_scoped, clones_early, results_used, are_addressed, unknown, is_single, single, all_defined}
+use Rattle.ssu_ir.proofs.Lists.{image_from}
 use Rattle.ssu_ir.specs.Single as rules
 use Rattle.ssu_make.specs.Used.{lets_used, all_lets_used}
 use Rattle.ssu_make.specs.inner.Uses.{uses, all_uses}
 use Rattle.ssu_make.specs.inner.Made.{value, clones, made, variables, IsMade, AllMade}
-use Rattle.ssu_make.proofs.Shape.{AsMany, same-length, in-map, made-nodes, clones-nodes, made-early, clones-are-early, AddressedAnyway, made-addressed, clones-addressed}
+use Rattle.ssu_make.proofs.Shape.{AsMany, made-nodes, clones-nodes, made-early, clones-are-early, AddressedAnyway, made-addressed, clones-addressed}
 use Rattle.ssu_make.proofs.Once.{body-once, all-different}
 use Rattle.ssu_make.proofs.Scoped.{body-scoped}
 use Rattle.ssu_make.proofs.Results.{made-results, clones-results, different-behind}
@@ -27,7 +29,7 @@ many-at c [] (s ∷ ss) m n l h = absurd m
 many-at c (k ∷ ls) [] m n l h = absurd m
 many-at c (k ∷ ls) (s ∷ ss) m n zero h =
     let is = m.1 in
-    let e : length s.params ≡ length k.params = ap (λ (z : ssu.Label). length z.params) is.is ∙ same-length (value is.base (uses k.body)) k.params in
+    let e : length s.params ≡ length k.params = ap (λ (z : ssu.Label). length z.params) is.is ∙ length-map k.params (value is.base (uses k.body)) in
     ap (λ p. p == n) e ∙ h
 many-at c (k ∷ ls) (s ∷ ss) m n (suc l) h = many-at m.0 ls ss m.2 n l h
 
@@ -39,13 +41,13 @@ pub same-params : (c : ℕ) (ls : List Label) (ss : List ssu.Label) → AllMade 
 same-params c [] [] m = refl
 same-params c [] (s ∷ ss) m = absurd m
 same-params c (k ∷ ls) [] m = absurd m
-same-params c (k ∷ ls) (s ∷ ss) m = sym (ap (λ (z : ssu.Label). length z.params) m.1.is ∙ same-length (value m.1.base (uses k.body)) k.params)
+same-params c (k ∷ ls) (s ∷ ss) m = sym (ap (λ (z : ssu.Label). length z.params) m.1.is ∙ length-map k.params (value m.1.base (uses k.body)))
 
 same-entry : (c : ℕ) (ls : List Label) (ss : List ssu.Label) → AllMade c ls ss → is_entry (slice_get ls 0) ≡ true → rules.is_entry (slice_get ss 0) ≡ true
 same-entry c [] [] m h = h
 same-entry c [] (s ∷ ss) m h = absurd m
 same-entry c (k ∷ ls) [] m h = absurd m
-same-entry c (k ∷ ls) (s ∷ ss) m h = ap (λ n. nat_le n 8) (ap (λ (z : ssu.Label). length z.params) m.1.is ∙ same-length (value m.1.base (uses k.body)) k.params) ∙ h
+same-entry c (k ∷ ls) (s ∷ ss) m h = ap (λ n. nat_le n 8) (ap (λ (z : ssu.Label). length z.params) m.1.is ∙ length-map k.params (value m.1.base (uses k.body))) ∙ h
 
 -- ---- labels
 
@@ -63,7 +65,7 @@ label-single labels ss c d l s many f lean is =
     let once : uses_once s.body ≡ true = body-once labels c d l s f is in
     let once' : uses_once B ≡ true = sym (ap (λ (z : ssu.Label). uses_once z.body) is.is) ∙ once in
     let scoped : is_scoped vs B ≡ true = body-scoped labels base n l parts.0 in
-    let early : clones_early vs B ≡ true = clones-are-early base r vs l.params T (λ y i. in-map (value base r) y l.params i) (made-early base l.body n) in
+    let early : clones_early vs B ≡ true = clones-are-early base r vs l.params T (λ y i. image_from (value base r) l.params y i) (made-early base l.body n) in
     let results : results_used B ≡ true =
     clones-results base r l.params T (made-results base (all_uses l.body) c n (variables l) is.laid l.body n (within-right l.params (defined l.body)) (λ y. omega arith) (different-behind l.params (defined l.body) parts.1) lean) in
     let addressed : are_addressed unknown B ≡ true = clones-addressed base r l.params T (made-addressed labels base l.body l.params n parts.0) unknown in

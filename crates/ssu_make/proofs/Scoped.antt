@@ -1,8 +1,9 @@
 -- In a form that was made every name that is used is a parameter of its label or defined above.
 use Rattle.std.proofs.Common.{◌≡◌, ℕ, ◌+◌, ◌<◌, ◌≤◌, Bool, true, false, nat_eq, nat_lt, List, [], ◌∷◌, ◌++◌, map, refl, sym, ap, subst, ◌∙◌, ⊎_elim, if◌then◌else◌, slice_index, drop, arith}
 use Rattle.std.specs.List.{range_with_len}
-use Rattle.std.proofs.lemmas.Bool.{false≢true, and_parts, and_from, or_cases, or_left, or_right}
+use Rattle.std.proofs.lemmas.Bool.{false≢true, and_from, or_cases, or_left, or_right}
 use Rattle.std.proofs.lemmas.Bool.Decides.{nat_tests}
+use Rattle.std.proofs.lemmas.List.{append-nil}
 use Rattle.nv_base.specs.declared.term.Atom.{Atom}
 use Rattle.nv_base.specs.declared.term.Atom.TheVariants.{Var, Lit}
 use Rattle.nv_base.specs.declared.term.Primitive.{Primitive}
@@ -14,11 +15,11 @@ use Rattle.flow_ir.specs.Tree.{Tree, Let, Read, Write, If, Jump, Halt, Label}
 use Rattle.flow_ir.specs.Formed.{is_formed}
 use Rattle.ssu_ir.specs.Tree as ssu
 use Rattle.ssu_ir.specs.Single.{is_narrow, all_known, is_scoped}
+use Rattle.ssu_ir.proofs.Lists.{image_from}
 use Rattle.ssu_make.specs.inner.Uses.{Counts, here, occurs, operands, outside, uses}
 use Rattle.ssu_make.specs.inner.Made.{literal, last_taken, all_taken, name, names, atom_literal, literals, value, clone_step, clones, prim_step, spent, most, made}
 use Rattle.ssu_make.proofs.Assigned.{same-test, in-stretch}
 use Rattle.ssu_make.proofs.Fitting.{live-known}
-use Rattle.ssu_make.proofs.Shape.{in-map}
 
 -- each copy that is still to be used is known
 pub record Scope (base r : Counts) (known : List ℕ) : Type 0 where
@@ -35,10 +36,6 @@ within-trans a b c f g = λ x i. g x (f x i)
 
 last-in : (known : List ℕ) (x : ℕ) → is_in x (known ++ x ∷ []) ≡ true
 last-in known x = within-right known (x ∷ []) x (or_left (nat_eq x x) false (same-test x))
-
-known-more : (known known' xs : List ℕ) → Within known known' → all_known known xs ≡ true → all_known known' xs ≡ true
-known-more known known' [] w h = refl
-known-more known known' (x ∷ xs) w h = let parts = and_parts (is_in x known) (all_known known xs) h in and_from (is_in x known') (all_known known' xs) (w x parts.0) (known-more known known' xs w parts.1)
 
 -- ---- literals
 
@@ -105,11 +102,7 @@ prim-scoped base r n x (UnaOf op a) t known k h = and_from _ _ k h
 prim-scoped base r n x (BinOf op a b) t known k h = and_from _ _ k h
 
 values-in : (base r : Counts) (xs known : List ℕ) (y : ℕ) → is_in y xs ≡ true → is_in (value base r y) (known ++ map (value base r) xs) ≡ true
-values-in base r xs known y i = within-right known (map (value base r) xs) (value base r y) (in-map (value base r) y xs i)
-
-no-more : (xs : List ℕ) → xs ++ [] ≡ xs
-no-more [] = refl
-no-more (x ∷ xs) = ap (λ l. x ∷ l) (no-more xs)
+values-in base r xs known y i = within-right known (map (value base r) xs) (value base r y) (image_from (value base r) xs y i)
 
 pub made-scoped : (base : Counts) (t : Tree) (n : ℕ) (known : List ℕ) → Scope base (uses t) known → is_scoped known (made base n t) ≡ true
 made-scoped base (Let x p t) n known g =
@@ -131,7 +124,7 @@ made-scoped base (Read m xs a t) n known g =
     let vs = map (value base r) xs in
     literals-scoped base s N (a ∷ []) (ssu.Do (ssu.Read m vs (slice_index (names base s N (a ∷ [])) 0)) C) known g
     (λ known' w ks. and_from (all_known known' (names base s N (a ∷ []))) _ ks
-    (ap (λ l. is_scoped (known' ++ l) C) (no-more vs) ∙ clones-scoped base r xs (made base n t) (known' ++ vs) (values-in base r xs known')
+    (ap (λ l. is_scoped (known' ++ l) C) (append-nil vs) ∙ clones-scoped base r xs (made base n t) (known' ++ vs) (values-in base r xs known')
     (λ known'' w' js. made-scoped base t n known''
     (scope-behind base r xs known known'' (scope-more base (uses (Read m xs a t)) s known known (λ y. omega arith) (within-same known) g)
     (within-trans known known' known'' w (within-trans known' (known' ++ vs) known'' (within-left known' vs) w')) js))))
@@ -141,7 +134,7 @@ made-scoped base (Write m a bs t) n known g =
     let ys = names base r N (a ∷ bs) in
     literals-scoped base r N (a ∷ bs) (ssu.Do (ssu.Write m (slice_index ys 0) (drop 1 ys)) (made base n t)) known g
     (λ known' w ks. and_from (all_known known' ys) _ ks
-    (ap (λ l. is_scoped l (made base n t)) (no-more known') ∙ made-scoped base t n known' (scope-more base (uses (Write m a bs t)) r known known' (λ y. omega arith) w g)))
+    (ap (λ l. is_scoped l (made base n t)) (append-nil known') ∙ made-scoped base t n known' (scope-more base (uses (Write m a bs t)) r known known' (λ y. omega arith) w g)))
 made-scoped base (If c a b t u) n known g =
     let N = n + (spent u + spent t) in
     let r = most (uses t) (uses u) in
@@ -164,5 +157,5 @@ body-scoped labels base n l f =
     let r = uses l.body in
     let vs = map (value base r) l.params in
     let start : Scope base (outside l.params r) vs = record { there = λ y k lt. absurd (param-at (is_in y l.params) labels l.params l.body y k refl f lt) } in
-    clones-scoped base r l.params (made base n l.body) vs (λ y i. in-map (value base r) y l.params i)
+    clones-scoped base r l.params (made base n l.body) vs (λ y i. image_from (value base r) l.params y i)
     (λ known' w js. made-scoped base l.body n known' (scope-behind base r l.params vs known' start w js))

@@ -1,6 +1,7 @@
 -- The nodes of a form that was made: literals are narrow, counts and accesses right, clones directly behind their values, scratch addressed by literals.
-use Rattle.std.proofs.Common.{◌≡◌, ℕ, suc, ◌+◌, ◌/◌, ◌%◌, ◌^◌, ◌<◌, ◌≤◌, Bool, true, false, nat_eq, nat_lt, nat_le, ◌||◌, List, [], ◌∷◌, ◌++◌, map, Option, Some, None, refl, ap, ◌∙◌, ◌⊎◌, inl, inr, ⊎_elim, if◌then◌else◌, length, slice_get, slice_index, arith}
-use Rattle.std.proofs.lemmas.Bool.{false≢true, and_parts, and_from, or_cases, or_left, or_right, eq-eqb, lt-ltb, leb-true}
+use Rattle.std.proofs.Common.{◌≡◌, ℕ, suc, ◌+◌, ◌/◌, ◌%◌, ◌^◌, ◌<◌, ◌≤◌, Bool, true, false, nat_eq, nat_lt, nat_le, ◌||◌, List, [], ◌∷◌, ◌++◌, map, Option, Some, None, refl, ap, ◌∙◌, ◌⊎◌, inl, inr, if◌then◌else◌, length, slice_get, slice_index, arith}
+use Rattle.std.proofs.lemmas.Bool.{false≢true, and_parts, and_from, or_left, or_right, eq-eqb, lt-ltb, leb-true, ne_eqb}
+use Rattle.std.proofs.lemmas.List.{length-map}
 use Rattle.nv_base.specs.declared.term.Atom.{Atom}
 use Rattle.nv_base.specs.declared.term.Atom.TheVariants.{Var, Lit}
 use Rattle.nv_base.specs.declared.term.Mem.{Mem}
@@ -11,22 +12,18 @@ use Rattle.nv_base.specs.Access.{is_known, is_primitive, has_count, can_move, is
 use Rattle.nv_base.specs.Words.{IsWord, word}
 use Rattle.nv_base.specs.Sets.{is_in}
 use Rattle.nv_base.proofs.WordLemmas.{word-fits}
-use Rattle.nv_base.proofs.Sets.{same-number}
 use Rattle.flow_ir.specs.Tree.{Tree, Let, Read, Write, If, Jump, Halt, Label}
 use Rattle.flow_ir.specs.Formed.{is_formed, takes_as_many}
 use Rattle.ssu_ir.specs.Tree as ssu
 use Rattle.ssu_ir.specs.Single.{is_narrow, are_nodes, clones_early, are_addressed, Numbers, numbered, fits_scratch}
+use Rattle.ssu_ir.proofs.Lists.{image_from}
 use Rattle.ssu_ir.specs.Single as single
 use Rattle.ssu_make.specs.inner.Uses.{Counts, operands, outside, uses}
 use Rattle.ssu_make.specs.inner.Made.{high, low, literal, names_taken, last_taken, taken, all_taken, names, atom_literal, literals, value, clone_step, clones, prim_step, spent, made}
-use Rattle.ssu_make.proofs.Assigned.{same-test, other-test}
+use Rattle.ssu_make.proofs.Assigned.{same-test}
 use Rattle.ssu_make.proofs.Fitting.{let-parts, read-parts, write-parts, if-parts, jump-parts, halt-parts}
 
 -- ---- what each step of a list of literals keeps, and what a clone keeps, a form keeps
-
-pub same-length : (f : ℕ → ℕ) (xs : List ℕ) → length (map f xs) ≡ length xs
-same-length f [] = refl
-same-length f (x ∷ xs) = ap suc (same-length f xs)
 
 pub names-length : (base r : Counts) (n : ℕ) (as' : List Atom) → length (names base r n as') ≡ length as'
 names-length base r n [] = refl
@@ -86,7 +83,7 @@ module _ (labels : List Label) (ss : List ssu.Label) (many : AsMany labels ss) (
       literals-nodes ss (n + spent t) (operands p) _ (and_from _ _ (prim-node known (value base (uses t) x) p _ parts.prim) (clones-nodes ss base (uses t) (x ∷ []) (made base n t) (made-nodes t (x ∷ known) n parts.rest)))
   made-nodes (Read m xs a t) known n f =
       let parts = read-parts labels known m xs a t f in
-      literals-nodes ss (n + spent t) (a ∷ []) _ (and_from _ _ (ap (can_move m) (same-length (value base (uses t)) xs) ∙ parts.count) (clones-nodes ss base (uses t) xs (made base n t) (made-nodes t (xs ++ known) n parts.rest)))
+      literals-nodes ss (n + spent t) (a ∷ []) _ (and_from _ _ (ap (can_move m) (length-map xs (value base (uses t))) ∙ parts.count) (clones-nodes ss base (uses t) xs (made base n t) (made-nodes t (xs ++ known) n parts.rest)))
   made-nodes (Write m a bs t) known n f =
       let parts = write-parts labels known m a bs t f in
       literals-nodes ss (n + spent t) (a ∷ bs) _ (and_from _ _ (ap (can_move m) (names-length base (uses t) (n + spent t) bs) ∙ parts.count) (made-nodes t known n parts.rest))
@@ -130,12 +127,6 @@ clones-are-early base r fresh (x ∷ xs) t i h =
     clone-early (nat_lt 1 (r x)) fresh (base x) (r x) (clones base r xs t) (i x (or_left (nat_eq x x) (is_in x xs) (same-test x)))
     (clones-are-early base r fresh xs t (λ y e. i y (or_right (nat_eq y x) (is_in y xs) e)) h)
 
-pub in-map : (f : ℕ → ℕ) (y : ℕ) (xs : List ℕ) → is_in y xs ≡ true → is_in (f y) (map f xs) ≡ true
-in-map f y [] h = absurd (false≢true h)
-in-map f y (x ∷ xs) h =
-    ⊎_elim (λ (e : nat_eq y x ≡ true). or_left (nat_eq (f y) (f x)) (is_in (f y) (map f xs)) (eq-eqb (f y) (f x) (ap f (same-number y x e))))
-    (λ (e : is_in y xs ≡ true). or_right (nat_eq (f y) (f x)) (is_in (f y) (map f xs)) (in-map f y xs e)) (or_cases (nat_eq y x) (is_in y xs) h)
-
 prim-early : (base r : Counts) (x : ℕ) (p : Primitive) (ys : List ℕ) (t : ssu.Tree) → clones_early (value base r x ∷ []) t ≡ true → EarlyAnyway (ssu.Do (prim_step (value base r x) p ys) t)
 unfolding EarlyAnyway
 prim-early base r x (Same a) ys t h = λ fresh. h
@@ -146,9 +137,9 @@ pub made-early : (base : Counts) (t : Tree) (n : ℕ) → EarlyAnyway (made base
 unfolding EarlyAnyway
 made-early base (Let x p t) n =
     literals-early (n + spent t) (operands p) _ (prim-early base (uses t) x p _ (clones base (uses t) (x ∷ []) (made base n t))
-    (clones-are-early base (uses t) (value base (uses t) x ∷ []) (x ∷ []) (made base n t) (λ y i. in-map (value base (uses t)) y (x ∷ []) i) (made-early base t n)))
+    (clones-are-early base (uses t) (value base (uses t) x ∷ []) (x ∷ []) (made base n t) (λ y i. image_from (value base (uses t)) (x ∷ []) y i) (made-early base t n)))
 made-early base (Read m xs a t) n =
-    literals-early (n + spent t) (a ∷ []) _ (λ fresh. clones-are-early base (uses t) (map (value base (uses t)) xs) xs (made base n t) (λ y i. in-map (value base (uses t)) y xs i) (made-early base t n))
+    literals-early (n + spent t) (a ∷ []) _ (λ fresh. clones-are-early base (uses t) (map (value base (uses t)) xs) xs (made base n t) (λ y i. image_from (value base (uses t)) xs y i) (made-early base t n))
 made-early base (Write m a bs t) n = literals-early (n + spent t) (a ∷ bs) _ (λ fresh. made-early base t n [])
 made-early base (If c a b t u) n = literals-early (n + (spent u + spent t)) (a ∷ b ∷ []) _ (λ fresh. and_from _ _ (made-early base t (n + spent u) []) (made-early base u n []))
 made-early base (Jump l bs) n = literals-early n bs _ (λ fresh. refl)
@@ -164,7 +155,7 @@ pub AddressedWith : ℕ → Option ℕ → ssu.Tree → Type 0
 AddressedWith z o t = (number : Numbers) → number z ≡ o → are_addressed number t ≡ true
 
 other-number : (number : Numbers) (x z : ℕ) (o q : Option ℕ) → (z ≡ x → ⊥) → number z ≡ q → numbered number (x ∷ []) o z ≡ q
-other-number number x z o q ne e = ap (λ b. if (b || false) then o else number z) (other-test z x ne) ∙ e
+other-number number x z o q ne e = ap (λ b. if (b || false) then o else number z) (ne_eqb z x ne) ∙ e
 
 same-numbered : (number : Numbers) (x : ℕ) (o : Option ℕ) → numbered number (x ∷ []) o x ≡ o
 same-numbered number x o = ap (λ b. if (b || false) then o else number x) (same-test x)
@@ -243,7 +234,7 @@ made-addressed labels base (Let x p t) known n f =
 made-addressed labels base (Read m xs a t) known n f =
     let parts = read-parts labels known m xs a t f in
     any-address m a (n + spent t) (length xs) base (outside xs (uses t)) [] _ parts.scratch
-    (λ number i. and_from _ _ (ap (single.is_address m (number _)) (same-length (value base (uses t)) xs) ∙ i) (clones-addressed base (uses t) xs (made base n t) (made-addressed labels base t (xs ++ known) n parts.rest) _))
+    (λ number i. and_from _ _ (ap (single.is_address m (number _)) (length-map xs (value base (uses t))) ∙ i) (clones-addressed base (uses t) xs (made base n t) (made-addressed labels base t (xs ++ known) n parts.rest) _))
 made-addressed labels base (Write m a bs t) known n f =
     let parts = write-parts labels known m a bs t f in
     any-address m a (n + spent t) (length bs) base (uses t) bs _ parts.scratch

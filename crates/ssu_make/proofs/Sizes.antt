@@ -1,6 +1,7 @@
 -- How large a form that was made is, and how long its code.
-use Rattle.std.proofs.Common.{◌≡◌, ℕ, ◌+◌, ◌*◌, ◌≤◌, max, Bool, true, false, nat_lt, List, [], ◌∷◌, map, refl, ap, ◌∙◌, length, slice_get, slice_index, drop, arith}
+use Rattle.std.proofs.Common.{◌≡◌, ℕ, ◌+◌, ◌*◌, ◌≤◌, max, Bool, true, false, nat_lt, List, [], ◌∷◌, map, refl, ap, ◌∙◌, length, slice_get, slice_index, drop, arith, add-mul}
 use Rattle.std.proofs.lemmas.Bool.{leb-true}
+use Rattle.std.proofs.lemmas.List.{length-map}
 use Rattle.nv_base.specs.declared.term.Atom.{Atom}
 use Rattle.nv_base.specs.declared.term.Atom.TheVariants.{Var, Lit}
 use Rattle.nv_base.specs.declared.term.Primitive.{Primitive}
@@ -17,10 +18,7 @@ use Rattle.ssu_ir.specs.Measures.{node_size, step_code, tree_size, tree_code, si
 use Rattle.ssu_make.specs.Bounds.{size_bound, length_bound}
 use Rattle.ssu_make.specs.inner.Uses.{Counts, operands, outside, uses}
 use Rattle.ssu_make.specs.inner.Made.{literal, all_taken, names, atom_literal, literals, value, clone_step, clones, prim_step, spent, most, made, made_label, AllMade}
-use Rattle.ssu_make.proofs.Shape.{same-length, names-length}
-
-two-sums : (a b k : ℕ) → (a + b) * k ≡ a * k + b * k
-two-sums a b k = omega arith
+use Rattle.ssu_make.proofs.Shape.{names-length}
 
 -- ---- nodes before a tree
 
@@ -88,7 +86,7 @@ args-wide [] = omega arith
 args-wide (b ∷ bs) = omega arith
 
 both-weigh : (a b j m n x y : ℕ) → x ≤ a * j + m → y ≤ b * j + n → x + y ≤ (a + b) * j + (m + n)
-both-weigh a b j m n x y p q = let e = two-sums a b j in omega (arith, e)
+both-weigh a b j m n x y p q = let e = add-mul a b j in omega (arith, e)
 
 abbrev others_size : Bulk → ℕ
 others_size b = b.nodes + 2 * b.defined + 9 * b.used
@@ -114,7 +112,7 @@ made-size base v (Read m xs a t) n le =
     let y = slice_index (names base (outside xs r) N (a ∷ [])) 0 in
     let l = literals-size N (a ∷ []) (ssu.Do (ssu.Read m (map (value base r) xs) y) (clones base r xs (made base n t))) in
     let c = clones-size base r xs (made base n t) in
-    let e = same-length (value base r) xs in
+    let e = length-map xs (value base r) in
     omega (arith, e)
 made-size base v (Write m a bs t) n le =
     let rest = made-size base v t n (omega arith) in
@@ -160,7 +158,7 @@ made-code base v (Read m xs a t) n le =
     let y = slice_index (names base (outside xs r) N (a ∷ [])) 0 in
     let l = literals-code N (a ∷ []) (ssu.Do (ssu.Read m (map (value base r) xs) y) (clones base r xs (made base n t))) in
     let c = clones-code base r xs (made base n t) in
-    let e = same-length (value base r) xs in
+    let e = length-map xs (value base r) in
     omega (arith, c, e)
 made-code base v (Write m a bs t) n le =
     let rest = made-code base v t n (omega arith) in
@@ -207,7 +205,7 @@ label-size w v l s base n is le more =
     let wide = params-wide l w le in
     let few : length l.params ≤ w = wide.0 in
     let r = uses l.body in
-    let e : length s.params ≡ length l.params = ap (λ (z : ssu.Label). length z.params) is ∙ same-length (value base r) l.params in
+    let e : length s.params ≡ length l.params = ap (λ (z : ssu.Label). length z.params) is ∙ length-map l.params (value base r) in
     let b : tree_size s.body ≡ tree_size (clones base r l.params (made base n l.body)) = ap (λ (z : ssu.Label). tree_size z.body) is in
     let c = clones-size base r l.params (made base n l.body) in
     let body = wide.1 in
@@ -220,7 +218,7 @@ label-code w v l s base n is le more =
     let wide = params-wide l w le in
     let few : length l.params ≤ w = wide.0 in
     let r = uses l.body in
-    let e : length s.params ≡ length l.params = ap (λ (z : ssu.Label). length z.params) is ∙ same-length (value base r) l.params in
+    let e : length s.params ≡ length l.params = ap (λ (z : ssu.Label). length z.params) is ∙ length-map l.params (value base r) in
     let b : tree_code s.body ≡ tree_code (clones base r l.params (made base n l.body)) = ap (λ (z : ssu.Label). tree_code z.body) is in
     let c = clones-code base r l.params (made base n l.body) in
     let body = wide.1 in
@@ -231,7 +229,7 @@ label-code w v l s base n is le more =
 one-more : (k j a x y : ℕ) (l b : Bulk) (ol ob : ℕ) → l.labels ≡ 0 → x ≤ a + (l.jumps * j + ol) → a ≤ k → y ≤ b.labels * k + (b.jumps * j + ob)
     → x + y ≤ (1 + l.labels + b.labels) * k + ((0 + l.jumps + b.jumps) * j + (ol + ob))
 one-more k j a x y l b ol ob none p q s =
-    let labels : (1 + l.labels + b.labels) * k ≡ k + b.labels * k = ap (λ n. (1 + n + b.labels) * k) none ∙ two-sums 1 b.labels k ∙ (let one : 1 * k + b.labels * k ≡ k + b.labels * k = omega arith in one) in
+    let labels : (1 + l.labels + b.labels) * k ≡ k + b.labels * k = ap (λ n. (1 + n + b.labels) * k) none ∙ add-mul 1 b.labels k ∙ (let one : 1 * k + b.labels * k ≡ k + b.labels * k = omega arith in one) in
     let jumps : (0 + l.jumps + b.jumps) * j ≡ l.jumps * j + b.jumps * j = omega arith in
     omega (arith, labels, jumps)
 
@@ -264,7 +262,7 @@ entry-made c [] (s ∷ ss) m f = absurd m
 entry-made c (l ∷ ls) [] m f = absurd m
 entry-made c (l ∷ ls) (s ∷ ss) m f =
     let few : length l.params ≤ 8 = leb-true (length l.params) 8 f in
-    let e : length s.params ≡ length l.params = ap (λ (z : ssu.Label). length z.params) m.1.is ∙ same-length (value m.1.base (uses l.body)) l.params in
+    let e : length s.params ≡ length l.params = ap (λ (z : ssu.Label). length z.params) m.1.is ∙ length-map l.params (value m.1.base (uses l.body)) in
     omega (arith, e)
 
 pub code-made : (c : ℕ) (ls : List Label) (ss : List ssu.Label) → AllMade c ls ss → is_entry (slice_get ls 0) ≡ true → code_bound ss ≤ length_bound (wide ls) (bulk ls)

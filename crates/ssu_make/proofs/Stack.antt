@@ -8,15 +8,15 @@ use Rattle.nv_base.specs.declared.term.Mem.{Mem}
 use Rattle.nv_base.specs.declared.term.Cmp.{Cmp}
 use Rattle.nv_base.specs.declared.error.NoMemory.{NoMemory}
 use Rattle.flow_ir.specs.declared.flow.Tree.{Tree as Boxed}
-use Rattle.flow_ir.specs.Tree.{Tree, Let, Read, Write, If, Jump, Halt}
+use Rattle.flow_ir.specs.Tree.{Tree, Let, Read, Write, If}
 use Rattle.flow_ir.specs.View.{tree_view}
 use Rattle.ssu_ir.specs.declared.build.SsuBuild.{SsuBuild}
 use Rattle.ssu_ir.specs.Build.{Holds}
 use Rattle.ssu_ir.specs.Tree as ssu
 use Rattle.ssu_make.specs.declared.tree.Part.{Part}
 use Rattle.ssu_make.specs.inner.Uses.{Counts, occurs, operands, outside, uses}
-use Rattle.ssu_make.specs.inner.Made.{all_taken, most, spent, made, made_let, made_read, made_write, made_if, made_jump, made_halt}
-use Rattle.ssu_make.specs.inner.Making.{counted, HasRoots, IsRoot, AreRoots, Becomes, Joined, Adds, MadeTo, kids, tops, Builds, next_after, roots_of, AreCounted, Stacked, CanMake, IsOver}
+use Rattle.ssu_make.specs.inner.Made.{all_taken, most, spent, made, made_let, made_read, made_write, made_if}
+use Rattle.ssu_make.specs.inner.Making.{counted, HasRoots, IsRoot, AreRoots, Becomes, Joined, MadeTo, kids, tops, Builds, next_after, roots_of, AreCounted, Stacked, CanMake, IsOver}
 use Rattle.ssu_make.proofs.Along.{same-everywhere, OnWay}
 use Rattle.ssu_make.proofs.Turns.{tops-last}
 
@@ -34,11 +34,6 @@ some-reversed parts lt = let e = length-reverse parts in omega (arith, lt, e)
 
 pub has-one : (base : Counts) (n : ℕ) (t : Tree) (ts : List Tree) (old new : SsuBuild) (d : ℕ) (parts : List Part) → Stacked base n (t ∷ ts) old new d (reverse parts) → 0 < length parts
 has-one base n t ts old new d parts s = some-reversed parts (counted-some t ts (reverse parts) s.counts)
-
-pub has-second : (base : Counts) (n : ℕ) (t u : Tree) (ts : List Tree) (old new : SsuBuild) (d : ℕ) (parts left : List Part) (part : Part) → Stacked base n (t ∷ u ∷ ts) old new d (reverse parts) → parts ≡ left ++ part ∷ [] → 0 < length left
-has-second base n t u ts old new d parts left part s e =
-    let c : AreCounted (t ∷ u ∷ ts) (part ∷ reverse left) = subst (AreCounted (t ∷ u ∷ ts)) (part-last parts left part e) s.counts in
-    some-reversed left (counted-some u ts (reverse left) c.1)
 
 -- ---- roots
 
@@ -81,14 +76,6 @@ as-write v w a bs l k is e = is ∙ ap (λ q. Write w a q k) (sym e)
 pub with-three : (r : Result Part NoMemory) (P Q R S : Part → Type 0) → ((x : Part) → P x → Q x → R x → S x) → IfOk r P → IfOk r Q → IfOk r R → IfOk r S
 with-three (Ok x) P Q R S f p q z = f x p q z
 with-three (Err e) P Q R S f p q z = tt
-
-over-none : (base : Counts) (n : ℕ) (t : Tree) (ts : List Tree) (old mid new : SsuBuild) (d d' : ℕ) (parts : List Part) (part : Part) (m : ssu.Tree) → Stacked base n ts old mid d parts → Adds mid new part.root.0 m → m ≡ made base (next_after n ts) t
-    → ((y : ℕ) → counted part.counts y ≡ uses t y) → d' ≡ next_after n ts + spent t → Stacked base n (t ∷ ts) old new d' (part ∷ parts)
-over-none base n t ts old mid new d d' parts part m s a e c f = record {
-  adds = λ rest h. subst (λ z. Holds new ((part.root.0, z) ∷ (roots_of base n ts parts ++ rest))) e (a.by (roots_of base n ts parts ++ rest) (s.adds rest h));
-  counts = (c, s.counts);
-  fresh = f;
-}
 
 over-one : (base : Counts) (n : ℕ) (t k : Tree) (ts : List Tree) (old mid new : SsuBuild) (d d' : ℕ) (parts : List Part) (top part : Part) (f : ssu.Tree → ssu.Tree) → Stacked base n (k ∷ ts) old mid d (top ∷ parts) → Becomes mid new top.root.0 part.root.0 f
     → f (made base (next_after n ts) k) ≡ made base (next_after n ts) t → ((y : ℕ) → counted part.counts y ≡ uses t y) → d' ≡ next_after n ts + spent t → Stacked base n (t ∷ ts) old new d' (part ∷ parts)
@@ -157,18 +144,6 @@ over-if base d d' v k l mid new parts between left top next part c a b is e f j 
       over-two base n (If c a b k l) k l ts old mid new d d' (reverse left) top next part (made_if base d c a b (most (counted top.counts) (counted next.counts))) s j
       (ap (λ q. made_if base q c a b (most (counted top.counts) (counted next.counts)) (made base (m + spent l) k) (made base m l)) at ∙ ap (λ q. made_if base (m + (spent l + spent k)) c a b q (made base (m + spent l) k) (made base m l)) both)
       (λ y. ec y ∙ ap (λ q. occurs (a ∷ b ∷ []) y + q y) both) (omega (arith, ed, at));
-})
-
-pub over-jump : (base : Counts) (d d' : ℕ) (v : Tree) (mid new : SsuBuild) (parts : List Part) (part : Part) (l : ℕ) (bs : List Atom) → v ≡ Jump l bs → Adds mid new part.root.0 (made_jump base d l bs) → ((y : ℕ) → counted part.counts y ≡ occurs bs y) → d' ≡ d + all_taken bs
-    → IsOver base v mid new d d' parts parts part
-over-jump base d d' v mid new parts part l bs is b ec ed = subst (λ z. IsOver base z mid new d d' parts parts part) (sym is) (record {
-  by = λ old n ts s. over-none base n (Jump l bs) ts old mid new d d' (reverse parts) part (made_jump base d l bs) s b (ap (λ q. made_jump base q l bs) s.fresh) ec (ed ∙ ap (λ q. q + all_taken bs) s.fresh);
-})
-
-pub over-halt : (base : Counts) (d d' : ℕ) (v : Tree) (mid new : SsuBuild) (parts : List Part) (part : Part) (x : ℕ) (bs : List Atom) → v ≡ Halt x bs → Adds mid new part.root.0 (made_halt base d x bs) → ((y : ℕ) → counted part.counts y ≡ occurs bs y) → d' ≡ d + all_taken bs
-    → IsOver base v mid new d d' parts parts part
-over-halt base d d' v mid new parts part x bs is b ec ed = subst (λ z. IsOver base z mid new d d' parts parts part) (sym is) (record {
-  by = λ old n ts s. over-none base n (Halt x bs) ts old mid new d d' (reverse parts) part (made_halt base d x bs) s b (ap (λ q. made_halt base q x bs) s.fresh) ec (ed ∙ ap (λ q. q + all_taken bs) s.fresh);
 })
 
 -- ---- the nodes of a tree, and back

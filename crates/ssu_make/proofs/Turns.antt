@@ -72,20 +72,6 @@ adds-becomes a b c i j t g p q = record { by = λ rest h. q.by t rest (p.by rest
 
 -- ---- names of operands
 
-pub named-start : (base r now : Counts) (n d i : ℕ) (list : List Atom) (v : List ℕ) → i ≡ length list → v ≡ [] → ((y : ℕ) → now y ≡ r y) → d ≡ n → Named base r n list i v now d
-named-start base r now n d i list v ei ev en ed =
-    let none : drop i list ≡ [] = ap (λ k. drop k list) ei ∙ drop-all list in
-    record {
-      small = omega (arith, ei);
-      named = ap reverse ev ∙ sym (ap (names base r n) none);
-      counts = λ y. en y ∙ sym (ap (λ l. occurs l y + r y) none ∙ (let z : 0 + r y ≡ r y = omega arith in z));
-      fresh = ed ∙ sym (ap (λ l. n + all_taken l) none ∙ (let z : n + 0 ≡ n = omega arith in z));
-    }
-  where
-    drop-all : {X : Type 0} (xs : List X) → drop (length xs) xs ≡ []
-    drop-all [] = refl
-    drop-all (x ∷ xs) = drop-all xs
-
 pub named-more : (base r now now' : Counts) (n d d' i j : ℕ) (list : List Atom) (dflt a : Atom) (v v' : List ℕ) (z : ℕ) → Named base r n list i v now d → i ≡ j + 1 → a ≡ get_or list j dflt → z ≡ name base now d a → v' ≡ v ++ z ∷ []
     → ((y : ℕ) → now' y ≡ here a y + now y) → d' ≡ d + taken a → Named base r n list j v' now' d'
 named-more base r now now' n d d' i j list dflt a v v' z h ei ea ez ev en ed =

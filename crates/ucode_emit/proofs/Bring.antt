@@ -14,12 +14,13 @@ use Rattle.place_ir.specs.Plan.{Plan, serve, pass}
 use Rattle.place_ir.specs.Fits.{is_slot}
 use Rattle.place_ir.proofs.Places.{same_place-true, same_place-from}
 use Rattle.par_move.specs.Moves.{Move, Words, put, one_by_one, all_at_once}
+use Rattle.par_move.proofs.Steps.{put-other}
 use Rattle.ucode_emit.specs.inner.Pieces.{named, bring, single_move, single_moves, served_moves}
 use Rattle.ucode_emit.specs.inner.Ready.{Ready, IsSequence}
 use Rattle.ucode_emit.specs.inner.Machine.{IsWritable, IsDirect, AreDirect, copied as in_one}
 use Rattle.ucode_emit.specs.inner.Layers.{Placed}
 use Rattle.ucode_emit.proofs.PointsEach.{all_both}
-use Rattle.ucode_emit.proofs.Copies.{put_here, put_there, one_append}
+use Rattle.ucode_emit.proofs.Copies.{put_here, one_append}
 use Rattle.ucode_emit.proofs.DefinitionsDirect.{OneInstr, eighth_named}
 use Rattle.ucode_emit.proofs.Entries.{IsMoved, stand_all, put_agree}
 use Rattle.ucode_emit.proofs.EntriesMoves.{ServedWell}
@@ -42,13 +43,13 @@ bring_brings l (SD k) t e = put_here e t (e (SD k))
 pub bring_spares : (l : Option ℕ) (from t q : Place) (e : Words) → (q ≡ t → ⊥) → (is_slot from ≡ true → q ≡ L (named l) → ⊥) → one_by_one (bring l from t) e q ≡ e q
 bring_spares l (Slot k) t q e h g =
     let e' = put e (L (named l)) (e (Slot k)) in
-    put_there e' t q (e' (L (named l))) h ∙ put_there e (L (named l)) q (e (Slot k)) (g refl)
-bring_spares l (A k) t q e h g = put_there e t q (e (A k)) h
-bring_spares l (B k) t q e h g = put_there e t q (e (B k)) h
-bring_spares l (L k) t q e h g = put_there e t q (e (L k)) h
-bring_spares l (LD k) t q e h g = put_there e t q (e (LD k)) h
-bring_spares l (S k) t q e h g = put_there e t q (e (S k)) h
-bring_spares l (SD k) t q e h g = put_there e t q (e (SD k)) h
+    put-other e' t q (e' (L (named l))) h ∙ put-other e (L (named l)) q (e (Slot k)) (g refl)
+bring_spares l (A k) t q e h g = put-other e t q (e (A k)) h
+bring_spares l (B k) t q e h g = put-other e t q (e (B k)) h
+bring_spares l (L k) t q e h g = put-other e t q (e (L k)) h
+bring_spares l (LD k) t q e h g = put-other e t q (e (LD k)) h
+bring_spares l (S k) t q e h g = put-other e t q (e (S k)) h
+bring_spares l (SD k) t q e h g = put-other e t q (e (SD k)) h
 
 -- a place that a word can be moved from, but the register for slots that are read
 abbrev pub IsSource : Option ℕ → Place → Type 0
@@ -114,7 +115,7 @@ bring_alike l from t e e' c a q m n =
     ap (one_by_one (bring l from t) e) z ∙ (bring_brings l from t e ∙ (source_alike l from e e' c a ∙ sym (ap (put e' t (e' from)) z ∙ put_here e' t (e' from)))))
     (λ (b : same_place q t ≡ false).
     let z : q ≡ t → ⊥ = λ y. false≢true (sym b ∙ same_place-from q t y) in
-    bring_spares l from t q e z (λ s. n (named l) (source_some l from c s)) ∙ (a q m n ∙ sym (put_there e' t q (e' from) z)))
+    bring_spares l from t q e z (λ s. n (named l) (source_some l from c s)) ∙ (a q m n ∙ sym (put-other e' t q (e' from) z)))
     (cases_Bool (same_place q t))
 
 move_alike : (l : Option ℕ) (from at : Place) (e e' : Words) → IsSource l from → IsMoved at → Alike l e e' → Alike l (one_by_one (single_move l from at) e) (put e' at (e' from))
@@ -172,7 +173,7 @@ served_once p k count i (suc n) e (suc j) w b a =
     let under : i < suc i + j = omega arith in
     let within : suc i + j < count = omega arith in
     subst (λ y. all_at_once (served_moves p k i (suc n)) e (serve p k y).at ≡ e (serve p k y).from) z
-    (put_there (all_at_once (served_moves p k (suc i) n) e) (serve p k i).at (serve p k (suc i + j)).at (e (serve p k i).from) (λ s. w.apart i (suc i + j) under within (sym s))
+    (put-other (all_at_once (served_moves p k (suc i) n) e) (serve p k i).at (serve p k (suc i + j)).at (e (serve p k i).from) (λ s. w.apart i (suc i + j) under within (sym s))
     ∙ served_once p k count (suc i) n e j w (omega arith) (omega arith))
 
 -- the word of a value is sent to a general place

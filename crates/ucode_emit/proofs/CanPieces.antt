@@ -11,17 +11,18 @@ use Rattle.ssu_ir.specs.Single.{takes_as_many, is_narrow, IsNarrow}
 use Rattle.ssu_ir.proofs.Narrow.{narrow_is}
 use Rattle.place_ir.specs.declared.place.Serve.{Serve}
 use Rattle.place_ir.specs.Plan.{Plan, serve, first, pass}
+use Rattle.place_ir.proofs.Walked.{get-index}
 use Rattle.par_move.specs.Moves.{Move}
-use Rattle.ucode_emit.specs.inner.Pieces.{operands, words, result_place, to_slot, copies, all_copies, single_moves, shift_of, entry_point, last_items, Sequences, sequence_at, served_moves, last_moves, entry_moves, label_moves, tree_moves, parallel_moves}
+use Rattle.ucode_emit.specs.inner.Pieces.{operands, words, result_place, to_slot, copies, all_copies, single_moves, shift_of, entry_point, Sequences, sequence_at, served_moves, last_moves, entry_moves, label_moves, tree_moves, parallel_moves}
 use Rattle.ucode_emit.specs.inner.Ready.{IsSequence, AreSequences}
 use Rattle.ucode_emit.specs.inner.Machine.{IsWritable, AreDirect}
 use Rattle.ucode_emit.specs.inner.Layers.{Placed, PointsAt, root_point}
 use Rattle.ucode_emit.specs.inner.Emitted.{CanMove}
-use Rattle.ucode_emit.specs.inner.Here.{ends, CanAll, CanDefine, CanNode, end_items}
+use Rattle.ucode_emit.specs.inner.Here.{ends, CanAll, CanDefine, CanNode}
 use Rattle.ucode_emit.proofs.Layer.{ready_layer}
 use Rattle.ucode_emit.proofs.LawfulPieces.{no_words, no_places, idle, node_here, takes_some, sequence_here, none_stand, given}
 use Rattle.ucode_emit.proofs.Moving.{direct_can}
-use Rattle.ucode_emit.proofs.Placing.{index_there, Part, part_head, entry_later}
+use Rattle.ucode_emit.proofs.Placing.{Part, part_head, entry_later}
 
 -- ---- moves
 
@@ -109,17 +110,13 @@ abbrev pub jump_to : List Label → Last → ℕ
 jump_to labels (Jump l xs) = entry_point labels l
 jump_to labels (Halt e xs) = 0
 
-pub last_is : (labels : List Label) (p : Plan) (k : ℕ) (l : Last) (ms : List Move) → last_items labels p k l ms ≡ end_items p k (jump_to labels l) ms l
-last_is labels p k (Jump l xs) ms = refl
-last_is labels p k (Halt e xs) ms = refl
-
 -- ---- where labels begin
 
 entry_can : (labels : List Label) (p : Plan) (mss : Sequences) (l k : ℕ) (it : Label) → Placed labels p → AreSequences (parallel_moves p labels) mss → slice_get labels l ≡ Some it → entry_point labels l ≡ k
     → Part k (label_moves p k it) (parallel_moves p labels) → CanAll (single_moves None (sequence_at mss k))
 entry_can labels p mss zero zero it h s e n m =
     let q = sequence_here (parallel_moves p labels) mss 0 (entry_moves p 0 it.params) s (m.each 0 (entry_moves p 0 it.params) refl) in
-    let d = (ready_layer labels p h).begins it (sequence_at mss 0) it.params own (given it.params) e refl (λ i x w f g. same_Some x w (sym f ∙ g)) q (λ i w g. index_there it.params i w 0 g) in
+    let d = (ready_layer labels p h).begins it (sequence_at mss 0) it.params own (given it.params) e refl (λ i x w f g. same_Some x w (sym f ∙ g)) q (λ i w g. get-index it.params i w 0 g) in
     can_moves (single_moves None (sequence_at mss 0)) d.0
 entry_can labels p mss (suc l) zero it h s e n m = let z = entry_later labels l it e in absurd (omega (arith, z, n))
 entry_can labels p mss l (suc k) it h s e n m =

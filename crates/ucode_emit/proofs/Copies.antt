@@ -9,8 +9,10 @@ use Rattle.place_ir.specs.declared.place.Place.TheVariants.{S}
 use Rattle.place_ir.specs.Places.{same_place}
 use Rattle.place_ir.specs.Plan.{Plan, home, pass}
 use Rattle.place_ir.specs.Fits.{is_slot, has_place}
-use Rattle.place_ir.proofs.Places.{same_place-true, same_place-itself, same_place-from, same_place-false}
+use Rattle.place_ir.proofs.Places.{same_place-true, same_place-itself, same_place-from}
+use Rattle.place_ir.proofs.Scoped.{in-itself}
 use Rattle.par_move.specs.Moves.{Move, Words, put, one_by_one}
+use Rattle.par_move.proofs.Steps.{put-other}
 use Rattle.ucode_emit.specs.inner.Pieces.{named, copied, all_copied, copies, all_copies}
 
 -- ---- one word
@@ -25,9 +27,6 @@ put_keeps e p q w u h g = put-if (same_place q p) w (e q) u h g
 
 pub put_here : (e : Words) (p : Place) (w : ℕ) → put e p w p ≡ w
 put_here e p w = ap (λ b. if b then w else e p) (same_place-itself p)
-
-pub put_there : (e : Words) (p q : Place) (w : ℕ) → (q ≡ p → ⊥) → put e p w q ≡ e q
-put_there e p q w h = ap (λ b. if b then w else e q) (same_place-false q p h)
 
 -- ---- lists of places
 
@@ -65,8 +64,8 @@ by_brings false s from q e w h = put_here e q (e from) ∙ h
 by_spares : (b : Bool) (s : Option ℕ) (from q r : Place) (e : Words) → (r ≡ q → ⊥) → (b ≡ true → r ≡ S (named s) → ⊥) → one_by_one (copied_by b s from q) e r ≡ e r
 by_spares true s from q r e h g =
     let e' = put e (S (named s)) (e from) in
-    put_there e' q r (e' (S (named s))) h ∙ put_there e (S (named s)) r (e from) (g refl)
-by_spares false s from q r e h g = put_there e q r (e from) h
+    put-other e' q r (e' (S (named s))) h ∙ put-other e (S (named s)) r (e from) (g refl)
+by_spares false s from q r e h g = put-other e q r (e from) h
 
 pub all_keep : (s : Option ℕ) (from : Place) (qs : List Place) (r : Place) (e : Words) (w : ℕ) → e from ≡ w → e r ≡ w → one_by_one (all_copied s from qs) e r ≡ w
 all_keep s from [] r e w h g = g
@@ -102,9 +101,6 @@ pub record Safe (p : Plan) (k : ℕ) (y : ℕ) (r : Place) : Type 0 where
   pub target : has_place r (home p y).copied ≡ false
   pub through : list_any is_slot (home p y).copied ≡ true → r ≡ S (named (pass p k).s) → ⊥
 
-same-itself : (x : ℕ) → nat_eq x x ≡ true
-same-itself x = eq-eqb x x refl
-
 keep_one : (b : Bool) (p : Plan) (k : ℕ) (x y : ℕ) (r : Place) (w : ℕ) (e : Words) → nat_eq y x ≡ b → e (home p x).defined ≡ w → e r ≡ w
     → ((y ≡ x → ⊥) → Safe p k y r × Safe p k y (home p x).defined) → (one_by_one (copies p k y) e (home p x).defined ≡ w) × (one_by_one (copies p k y) e r ≡ w)
 keep_one true p k x y r w e b h g s =
@@ -123,7 +119,7 @@ pub copies_spare : (p : Plan) (k : ℕ) (xs : List ℕ) (r : Place) (e : Words) 
 copies_spare p k [] r e h = refl
 copies_spare p k (x ∷ xs) r e h =
     let e' = one_by_one (copies p k x) e in
-    let s = h x (or_left (nat_eq x x) (is_in x xs) (same-itself x)) in
+    let s = h x (or_left (nat_eq x x) (is_in x xs) (in-itself x)) in
     ap (λ (f : Words). f r) (one_append (copies p k x) (all_copies p k xs) e)
     ∙ (copies_spare p k xs r e' (λ y g. h y (or_right (nat_eq y x) (is_in y xs) g))
     ∙ all_spare (pass p k).s (home p x).defined (home p x).copied r e s.target s.through)
@@ -134,7 +130,7 @@ pub copies_keep : (p : Plan) (k : ℕ) (x : ℕ) (r : Place) (w : ℕ) (xs : Lis
 copies_keep p k x r w [] e h g s = g
 copies_keep p k x r w (y ∷ xs) e h g s =
     let e' = one_by_one (copies p k y) e in
-    let step = keep_one (nat_eq y x) p k x y r w e refl h g (λ n. s y (or_left (nat_eq y y) (is_in y xs) (same-itself y)) n) in
+    let step = keep_one (nat_eq y x) p k x y r w e refl h g (λ n. s y (or_left (nat_eq y y) (is_in y xs) (in-itself y)) n) in
     ap (λ (f : Words). f r) (one_append (copies p k y) (all_copies p k xs) e)
     ∙ copies_keep p k x r w xs e' step.0 step.1 (λ z i n. s z (or_right (nat_eq z y) (is_in z xs) i) n)
 
@@ -152,7 +148,7 @@ bring_first true p k x y r w xs e b i h g s rest =
     (λ z l n. s z (or_right (nat_eq z y) (is_in z xs) l) n)
 bring_first false p k x y r w xs e b i h g s rest =
     let there : is_in x xs ≡ true = sym (ap (λ c. c || is_in x xs) b) ∙ i in
-    let t = s y (or_left (nat_eq y y) (is_in y xs) (same-itself y)) (λ q. false≢true (sym b ∙ eq-eqb x y (sym q))) in
+    let t = s y (or_left (nat_eq y y) (is_in y xs) (in-itself y)) (λ q. false≢true (sym b ∙ eq-eqb x y (sym q))) in
     rest there (all_spare (pass p k).s (home p y).defined (home p y).copied (home p x).defined e t.1.target t.1.through ∙ h)
 
 -- the word of a value comes to each place that it is copied to

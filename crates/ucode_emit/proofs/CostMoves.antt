@@ -191,7 +191,7 @@ abbrev pub moves_weight : List Move → ℕ
 moves_weight [] = 0
 moves_weight (m ∷ ms) = weight (move_instr m.0 m.1) + moves_weight ms
 
-sum_steps : (a b c d : ℕ) → b ≡ c + d → a + b ≡ a + c + d
+pub sum_steps : (a b c d : ℕ) → b ≡ c + d → a + b ≡ a + c + d
 sum_steps a b c d e = omega (arith, e)
 
 pub weight_both : (a b : List Move) → moves_weight (a ++ b) ≡ moves_weight a + moves_weight b
@@ -380,7 +380,7 @@ around_light l from at a b c ms h =
     let r = two_slots from at in
     omega (arith, h, x, y, z, w, v, u, t, s, r)
 
-rest_light : (n m w : ℕ) → w ≤ m → w ≤ n + m
+pub rest_light : (n m w : ℕ) → w ≤ m → w ≤ n + m
 rest_light n m w h = omega (arith, h)
 
 -- single moves weigh no more than what the moves for which they stand are counted for

@@ -19,6 +19,7 @@ use Rattle.uc_isa.specs.declared.instruction.Src.{Src}
 use Rattle.uc_isa.specs.Moves.{weight, access_weight}
 use Rattle.ssu_ir.specs.Tree.{Step, Lit, Una, Bin, Clone, Read, Write, Last, Jump, Halt, Tree, Do, If, End, Label, Does, Ends}
 use Rattle.ssu_ir.specs.Points.{Names, Place as PointPlace, Entry, At, Point, points, place_values as place_variables}
+use Rattle.ssu_ir.proofs.Lists.{in-itself}
 use Rattle.place_ir.specs.declared.place.Place.{Place}
 use Rattle.place_ir.specs.declared.place.Place.TheVariants.{A, B, L, LD, S, SD, Slot}
 use Rattle.place_ir.specs.Plan.{Plan, home, first, pass}
@@ -31,12 +32,11 @@ use Rattle.ucode_emit.specs.inner.Ready.{IsSequence}
 use Rattle.ucode_emit.specs.inner.Layers.{Placed, PointsAt, root_point}
 use Rattle.ucode_emit.specs.inner.Marks.{node_piece, place_piece, node_moves, place_moves}
 use Rattle.ucode_emit.specs.inner.Cursors.{place_operands}
-use Rattle.ucode_emit.proofs.CostMoves.{moves_weight, weight_both, operands_cost, operands_light, words_light, all_copied_light, moves_cost, stand_light, served_costs}
+use Rattle.ucode_emit.proofs.CostMoves.{moves_weight, weight_both, operands_cost, operands_light, words_light, all_copied_light, moves_cost, stand_light, served_costs, sum_steps}
 use Rattle.ucode_emit.proofs.DefinitionsHomes.{Settled, in_general, put_early, fetched_to, settled_at, unused_bare}
 use Rattle.ucode_emit.proofs.Entries.{entry_here}
 use Rattle.ucode_emit.proofs.PointsLabels.{entry_at}
 use Rattle.ucode_emit.proofs.OperandsHomes.{CanServe, IsHere, here_at, uses_here, source_of}
-use Rattle.ucode_emit.proofs.PointsTree.{in_head}
 use Rattle.ucode_emit.proofs.PointsUsed.{root_at}
 use Rattle.ucode_emit.proofs.Stood.{root_node, StoodPlace}
 
@@ -50,9 +50,6 @@ item_weight (Branch c point) = 0
 abbrev pub items_weight : List Item → ℕ
 items_weight [] = 0
 items_weight (i ∷ is) = item_weight i + items_weight is
-
-sum_steps : (a b c d : ℕ) → b ≡ c + d → a + b ≡ a + c + d
-sum_steps a b c d e = omega (arith, e)
 
 pub items_both : (a b : List Item) → items_weight (a ++ b) ≡ items_weight a + items_weight b
 items_both [] b = let z : items_weight b ≡ 0 + items_weight b = omega arith in z
@@ -121,7 +118,7 @@ read_light : (p : Plan) (k : ℕ) (sort : ℕ → Sort) (i : ℕ) (xs : List ℕ
 read_light p k sort i [] h = omega arith
 read_light p k sort i (x ∷ xs) h =
     let a = weight_both (copies p k x) (all_copies p k xs) in
-    let b = copies_light p k x (h x (in_head x xs)) in
+    let b = copies_light p k x (h x (in-itself x xs)) in
     let c = read_light p k sort (suc i) xs (all_bare p x xs h) in
     omega (arith, a, b, c)
 
@@ -138,7 +135,7 @@ entry_light : (p : Plan) (k i : ℕ) (xs : List ℕ) → ((x : ℕ) → is_in x 
 entry_light p k i [] h = omega arith
 entry_light p k i (x ∷ xs) h =
     let a = weight_both (copies p k x) (all_copies p k xs) in
-    let b = copies_light p k x (h x (in_head x xs)) in
+    let b = copies_light p k x (h x (in-itself x xs)) in
     let c = entry_light p k (suc i) xs (all_bare p x xs h) in
     let d = entry_one i (home p x).defined in
     omega (arith, a, b, c, d)
@@ -177,18 +174,18 @@ three_parts all a b c d e f g = omega (arith, e, f, g)
 pub step_light : (labels : List Label) (p : Plan) (k : ℕ) (of : Names) (above : List ℕ) (s : Step) (t : Tree) → Placed labels p → PointsAt labels k of above (Do s t) → items_weight (step_items p k s) ≤ place_cost p k (At (Does s))
 step_light labels p k of above (Lit x v) t h a =
     let e = root_at labels k of above (Do (Lit x v) t) a in
-    let d = defines_light p k x (λ d. instr.Immed d (v / 2 ^ shift_of v) (shift_of v)) refl (bare_at labels p k (root_point of above (Do (Lit x v) t)) x h e (in_head x [])) in
+    let d = defines_light p k x (λ d. instr.Immed d (v / 2 ^ shift_of v) (shift_of v)) refl (bare_at labels p k (root_point of above (Do (Lit x v) t)) x h e (in-itself x [])) in
     omega (arith, d)
 step_light labels p k of above (Una x op y) t h a =
     let e = root_at labels k of above (Do (Una x op y) t) a in
     let op' = λ (d : Dst). instr.Un d (un_op op) (source (operand_at p k 0)) in
-    let d = defines_light p k x op' (un_weight (target (result_place p k x)) op (source (operand_at p k 0))) (bare_at labels p k (root_point of above (Do (Una x op y) t)) x h e (in_head x [])) in
+    let d = defines_light p k x op' (un_weight (target (result_place p k x)) op (source (operand_at p k 0))) (bare_at labels p k (root_point of above (Do (Una x op y) t)) x h e (in-itself x [])) in
     three_parts (items_weight (moved (operands p k 1) ++ defines p k x op')) (moves_weight (operands p k 1)) (items_weight (defines p k x op')) (operands_cost p k 0 1) (result_cost (home p x).defined + all_copied_cost (home p x).copied)
     (before (operands p k 1) (defines p k x op')) (operands_light p k 1) d
 step_light labels p k of above (Bin x op y z) t h a =
     let e = root_at labels k of above (Do (Bin x op y z) t) a in
     let op' = λ (d : Dst). instr.Alu d op (source (operand_at p k 0)) (source (operand_at p k 1)) in
-    let d = defines_light p k x op' refl (bare_at labels p k (root_point of above (Do (Bin x op y z) t)) x h e (in_head x [])) in
+    let d = defines_light p k x op' refl (bare_at labels p k (root_point of above (Do (Bin x op y z) t)) x h e (in-itself x [])) in
     three_parts (items_weight (moved (operands p k 2) ++ defines p k x op')) (moves_weight (operands p k 2)) (items_weight (defines p k x op')) (operands_cost p k 0 2) (result_cost (home p x).defined + all_copied_cost (home p x).copied)
     (before (operands p k 2) (defines p k x op')) (operands_light p k 2) d
 step_light labels p k of above (Clone xs y) t h a = omega arith
@@ -196,7 +193,7 @@ step_light labels p k of above (Read m xs y) t h a =
     let q = root_point of above (Do (Read m xs y) t) in
     let e = root_at labels k of above (Do (Read m xs y) t) a in
     let u = uses_here labels p k q h e in
-    let w = use_free labels p k of above (Do (Read m xs y) t) (of y) m h a u.0 (in_head (of y) []) in
+    let w = use_free labels p k of above (Do (Read m xs y) t) (of y) m h a u.0 (in-itself (of y) []) in
     let is = Plain (instr.Read m (first p k) (length xs) (address_of (operand_at p k 0)) 0) ∷ moved (all_copies p k xs) in
     let b = before (operands p k 1) is in
     let c = moved_weight (all_copies p k xs) in
@@ -208,7 +205,7 @@ step_light labels p k of above (Write m y xs) t h a =
     let e = root_at labels k of above (Do (Write m y xs) t) a in
     let u = uses_here labels p k q h e in
     let n = length xs in
-    let w = use_free labels p k of above (Do (Write m y xs) t) (of y) m h a u.0 (in_head (of y) (map of xs)) in
+    let w = use_free labels p k of above (Do (Write m y xs) t) (of y) m h a u.0 (in-itself (of y) (map of xs)) in
     let b = before (operands p k 1 ++ words p k 1 n) (Plain (instr.Write m (first p k) n (address_of (operand_at p k 0)) 0) ∷ []) in
     let c = weight_both (operands p k 1) (words p k 1 n) in
     let d = words_light p k 1 n in

@@ -1,5 +1,7 @@
 -- What the code of a form weighs: no more than what its placement costs.
 use Rattle.std.proofs.Common.{◌≡◌, ℕ, zero, suc, ◌+◌, ◌*◌, ◌≤◌, List, [], ◌∷◌, ◌++◌, map, refl, sym, ap, ◌∙◌, subst, arith}
+use Rattle.std.proofs.lemmas.List.{map-append}
+use Rattle.std.proofs.lemmas.Option.{slice_get_within}
 use Rattle.uc_isa.specs.Moves.{weight, moves_from, moves}
 use Rattle.ssu_ir.specs.Tree.{Tree, Do, If, End, Label, Does, Forks, step_values}
 use Rattle.ssu_ir.specs.Points.{Names, own, names_after, Place, Entry, At, Point, points, points_from, tree_points}
@@ -7,20 +9,21 @@ use Rattle.place_ir.specs.Plan.{Plan, serve}
 use Rattle.place_ir.specs.Uses.{Value, values_from, values, place_values, Use, uses}
 use Rattle.place_ir.specs.Fits.{use_operand}
 use Rattle.place_ir.specs.Costs.{served_cost, value_cost, values_cost, uses_cost, cost}
+use Rattle.place_ir.proofs.Walked.{get-index}
 use Rattle.ucode_emit.specs.inner.Pieces.{Item, Moved, Plain, Branch, instr_of, items, starts, Sequences, sequence_at, parallel_moves}
 use Rattle.ucode_emit.specs.inner.Ready.{AreSequences}
 use Rattle.ucode_emit.specs.inner.Layers.{Placed}
 use Rattle.ucode_emit.specs.inner.Marks.{Mark, mark, tree_marks, marks_from, marks, point_piece, pieces, joined}
 use Rattle.ucode_emit.specs.inner.Cursors.{place_operands, operands_from, marks_operands}
 use Rattle.ucode_emit.specs.inner.Walk.{mark_at}
-use Rattle.ucode_emit.proofs.CostMoves.{operands_cost}
+use Rattle.ucode_emit.proofs.CostMoves.{operands_cost, sum_steps}
 use Rattle.ucode_emit.proofs.CostPieces.{item_weight, items_weight, items_both, place_cost, place_light}
 use Rattle.ucode_emit.proofs.Cursored.{uses_by_marks}
 use Rattle.ucode_emit.proofs.Marked.{all_joined}
-use Rattle.ucode_emit.proofs.Placing.{map_both, index_there, code_of}
+use Rattle.ucode_emit.proofs.Placing.{code_of}
 use Rattle.ucode_emit.proofs.PointsEach.{EachFrom, each_of}
 use Rattle.ucode_emit.proofs.Stood.{stood_at}
-use Rattle.ucode_emit.proofs.Walked.{sequence_there, there_below}
+use Rattle.ucode_emit.proofs.Walked.{sequence_there}
 
 -- ---- the weight of the code is that of its items
 
@@ -57,8 +60,8 @@ pieces_light labels p mss k (q ∷ qs) h =
 each_light : (labels : List Label) (p : Plan) (mss : Sequences) → Placed labels p → AreSequences (parallel_moves p labels) mss → EachFrom (IsLight labels p mss) 0 (marks labels)
 each_light labels p mss h r =
     each_of (IsLight labels p mss) (marks labels) (λ k q e.
-    let l = there_below (marks labels) k q e in
-    let here = index_there (marks labels) k q (mark (Entry 0 []) 0) e in
+    let l = slice_get_within (marks labels) k q e in
+    let here = get-index (marks labels) k q (mark (Entry 0 []) 0) e in
     subst (IsLight labels p mss k) here
     (place_light labels p k (mark_at labels k).first_arm (mark_at labels k).place (sequence_at mss k) h (stood_at labels p k l) (sequence_there labels p mss k r l)))
 
@@ -81,9 +84,6 @@ counted p k (q ∷ qs) =
     two_sums (values_cost p (place_values k q.place)) (operands_cost p k 0 (place_operands q.place)) (values_counted p (suc k) (map (λ q. q.place) qs)) (operands_counted p (suc k) qs) (marks_cost p (suc k) qs) (counted p (suc k) qs)
 
 -- the values
-sum_steps : (a b c d : ℕ) → b ≡ c + d → a + b ≡ a + c + d
-sum_steps a b c d e = omega (arith, e)
-
 values_both : (p : Plan) (a b : List Value) → values_cost p (a ++ b) ≡ values_cost p a + values_cost p b
 values_both p [] b = let z : values_cost p b ≡ 0 + values_cost p b = omega arith in z
 values_both p (v ∷ a) b = sum_steps (value_cost p v) (values_cost p (a ++ b)) (values_cost p a) (values_cost p b) (values_both p a b)
@@ -103,18 +103,18 @@ tree_places : (of : Names) (above : List ℕ) (t : Tree) → point_places (tree_
 tree_places of above (Do s t) = ap (λ l. At (Does s) ∷ l) (tree_places (names_after of s) (above ++ step_values s) t)
 tree_places of above (If c x y t u) =
     ap (λ l. At (Forks c x y) ∷ l)
-    (map_both (λ (q : Point). q.place) (tree_points of above t) (tree_points of above u)
+    (map-append (λ (q : Point). q.place) (tree_points of above t) (tree_points of above u)
     ∙ (ap (λ l. l ++ point_places (tree_points of above u)) (tree_places of above t)
-    ∙ (ap (λ l. mark_places (tree_marks t) ++ l) (tree_places of above u) ∙ sym (map_both (λ (q : Mark). q.place) (tree_marks t) (tree_marks u)))))
+    ∙ (ap (λ l. mark_places (tree_marks t) ++ l) (tree_places of above u) ∙ sym (map-append (λ (q : Mark). q.place) (tree_marks t) (tree_marks u)))))
 tree_places of above (End l) = refl
 
 all_places : (l : ℕ) (ls : List Label) → point_places (points_from l ls) ≡ mark_places (marks_from l ls)
 all_places l [] = refl
 all_places l (x ∷ ls) =
     ap (λ r. Entry l x.params ∷ r)
-    (map_both (λ (q : Point). q.place) (tree_points own x.params x.body) (points_from (suc l) ls)
+    (map-append (λ (q : Point). q.place) (tree_points own x.params x.body) (points_from (suc l) ls)
     ∙ (ap (λ r. r ++ point_places (points_from (suc l) ls)) (tree_places own x.params x.body)
-    ∙ (ap (λ r. mark_places (tree_marks x.body) ++ r) (all_places (suc l) ls) ∙ sym (map_both (λ (q : Mark). q.place) (tree_marks x.body) (marks_from (suc l) ls)))))
+    ∙ (ap (λ r. mark_places (tree_marks x.body) ++ r) (all_places (suc l) ls) ∙ sym (map-append (λ (q : Mark). q.place) (tree_marks x.body) (marks_from (suc l) ls)))))
 
 values_are : (labels : List Label) (p : Plan) → values_cost p (values labels) ≡ values_counted p 0 (mark_places (marks labels))
 values_are labels p = by_places p 0 (points labels) ∙ ap (values_counted p 0) (all_places 0 labels)

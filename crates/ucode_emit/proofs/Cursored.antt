@@ -1,9 +1,10 @@
 -- What stands at the cursors is what the placement says of the point, and where they stand at the next point.
-use Rattle.std.proofs.Common.{◌≡◌, ℕ, zero, suc, ◌+◌, ◌<◌, ◌≤◌, nat_eq, Bool, true, false, ◌&&◌, if◌then◌else◌, List, [], ◌∷◌, ◌++◌, length, map, take, drop, Option, Some, None, refl, sym, ap, ◌∙◌, subst, ⊎_elim, inl, inr, eq-eqb, append_assoc, slice_get, arith}
+use Rattle.std.proofs.Common.{◌≡◌, ℕ, zero, suc, ◌+◌, ◌<◌, ◌≤◌, nat_eq, Bool, true, false, ◌&&◌, if◌then◌else◌, List, [], ◌∷◌, ◌++◌, length, map, take, drop, Option, Some, None, refl, sym, ap, ◌∙◌, subst, ⊎_elim, inl, inr, append_assoc, slice_get, arith}
 use Rattle.std.specs.Prelude.{◌⊎◌}
 use Rattle.std.specs.List.{AllByRecursion}
-use Rattle.std.proofs.lemmas.Bool.{false≢true, eqb-true}
+use Rattle.std.proofs.lemmas.Bool.{false≢true, eqb-true, ne_eqb}
 use Rattle.std.proofs.lemmas.Option.{none-some, same_Some}
+use Rattle.std.proofs.lemmas.List.{drop_at, take_at, map-append, length-map, length-append}
 use Rattle.ssu_ir.specs.Tree.{Step, Lit, Una, Bin, Clone, Read, Write, Last, Jump, Halt, Tree, Do, If, End, Label, Does, Forks, Ends, step_values, step_uses, last_uses}
 use Rattle.ssu_ir.specs.Points.{Names, own, names_after, Place, Entry, At, Point, points_from, tree_points, nodes}
 use Rattle.ssu_ir.proofs.PointLemmas.{length-tree_points}
@@ -13,29 +14,19 @@ use Rattle.place_ir.specs.declared.place.Pass.{Pass}
 use Rattle.place_ir.specs.Plan.{first_in, serve_in, pass_in}
 use Rattle.place_ir.specs.Uses.{Access, accesses_from, accesses, place_accesses, Role, roles, step_roles, last_roles, Operand, Written, Argument, Ending, Use, uses_at, uses_from, uses, place_roles}
 use Rattle.place_ir.specs.Fits.{Rises, at_operand, use_operand}
+use Rattle.place_ir.proofs.Scoped.{in-itself}
 use Rattle.ucode_emit.specs.inner.Marks.{Mark, tree_marks, marks_from, marks}
 use Rattle.ucode_emit.specs.inner.Cursors.{place_operands, operands_from, marks_operands, step_access, place_access, marks_accesses, IsCut, AreServed, of_point, further}
 use Rattle.ucode_emit.proofs.PointsEach.{all_both, get_append}
-use Rattle.ucode_emit.proofs.Placing.{map_both, as_many, long_both}
 use Rattle.ucode_emit.proofs.Marked.{marks_many}
 
 -- ---- numbers
 
-pub equal_nats : (n : ℕ) → nat_eq n n ≡ true
-equal_nats n = eq-eqb n n refl
-
-unequal_nats : (b : Bool) (m n : ℕ) → nat_eq m n ≡ b → (m ≡ n → ⊥) → b ≡ false
-unequal_nats true m n e h = absurd (h (eqb-true m n e))
-unequal_nats false m n e h = refl
-
-differ : (m n : ℕ) → (m ≡ n → ⊥) → nat_eq m n ≡ false
-differ m n h = unequal_nats (nat_eq m n) m n refl h
-
 below_differ : (m n : ℕ) → m < n → nat_eq m n ≡ false
-below_differ m n l = differ m n (λ e. absurd (omega (arith, e, l)))
+below_differ m n l = ne_eqb m n (λ e. absurd (omega (arith, e, l)))
 
 above_differ : (m n : ℕ) → n < m → nat_eq m n ≡ false
-above_differ m n l = differ m n (λ e. absurd (omega (arith, e, l)))
+above_differ m n l = ne_eqb m n (λ e. absurd (omega (arith, e, l)))
 
 -- ---- lists that rise by point
 
@@ -61,7 +52,7 @@ pub cut_start : {X : Type 0} (point : X → ℕ) (all : List X) → Rises (map p
 cut_start point all r = record { front = []; back = all; whole = refl; long = refl; before = tt; behind = all_any point all; rise = r }
 
 one_longer : {X : Type 0} (front : List X) (x : X) (at : ℕ) → length front ≡ at → length (front ++ x ∷ []) ≡ suc at
-one_longer front x at l = let m = long_both front (x ∷ []) in omega (arith, m, l)
+one_longer front x at l = let m = length-append front (x ∷ []) in omega (arith, m, l)
 
 cut_taken : {X : Type 0} (point : X → ℕ) (all front : List X) (x : X) (xs : List X) (at k : ℕ) → all ≡ front ++ (x ∷ xs) → length front ≡ at → AllByRecursion (λ y. point y < k) front
     → AllByRecursion (λ y. k ≤ point y) (x ∷ xs) → Rises (map point (x ∷ xs)) → point x ≡ k → IsCut point all (suc at) (suc k)
@@ -98,7 +89,7 @@ cut_case : {X : Type 0} (point : X → ℕ) (all front : List X) (x : X) (xs : L
 cut_case point all front x xs at k true e w l f h r = cut_taken point all front x xs at k w l f h r (eqb-true (point x) k e)
 cut_case point all front x xs at k false e w l f h r =
     cut_passed point all front (x ∷ xs) at k w l f
-    (later_all point x xs k h r (λ s. false≢true (sym e ∙ ap (λ n. nat_eq n k) s ∙ equal_nats k))) r
+    (later_all point x xs k h r (λ s. false≢true (sym e ∙ ap (λ n. nat_eq n k) s ∙ in-itself k))) r
 
 cut_step : {X : Type 0} (point : X → ℕ) (all front back : List X) (at k : ℕ) → all ≡ front ++ back → length front ≡ at → AllByRecursion (λ y. point y < k) front
     → AllByRecursion (λ y. k ≤ point y) back → Rises (map point back) → IsCut point all (further at (of_point point k (slice_get back 0))) (suc k)
@@ -193,13 +184,13 @@ pub record Mine (k i n : ℕ) (back : List Serve) (rest : List (ℕ × ℕ)) : T
 
 serve_found : (s : Serve) (xs : List Serve) (k i : ℕ) → s.point ≡ k → s.operand ≡ i → serve_in (s ∷ xs) k i ≡ s
 serve_found s xs k i e f =
-    let a : nat_eq s.point k ≡ true = ap (λ n. nat_eq n k) e ∙ equal_nats k in
-    let b : nat_eq s.operand i ≡ true = ap (λ n. nat_eq n i) f ∙ equal_nats i in
+    let a : nat_eq s.point k ≡ true = ap (λ n. nat_eq n k) e ∙ in-itself k in
+    let b : nat_eq s.operand i ≡ true = ap (λ n. nat_eq n i) f ∙ in-itself i in
     ap (λ t. if (t && nat_eq s.operand i) then s else serve_in xs k i) a ∙ ap (λ t. if t then s else serve_in xs k i) b
 
 serve_other : (s : Serve) (xs : List Serve) (k i : ℕ) → s.point ≡ k → nat_eq s.operand i ≡ false → serve_in (s ∷ xs) k i ≡ serve_in xs k i
 serve_other s xs k i e f =
-    let a : nat_eq s.point k ≡ true = ap (λ n. nat_eq n k) e ∙ equal_nats k in
+    let a : nat_eq s.point k ≡ true = ap (λ n. nat_eq n k) e ∙ in-itself k in
     ap (λ t. if (t && nat_eq s.operand i) then s else serve_in xs k i) a ∙ ap (λ t. if t then s else serve_in xs k i) f
 
 mine_each : (s : Serve) (xs mine : List Serve) (k i j : ℕ) (t : Serve) → s.point ≡ k → s.operand ≡ i
@@ -245,29 +236,19 @@ pub record Next (all : List Serve) (at k n : ℕ) (qs : List Mark) : Type 0 wher
   pub each : (j : ℕ) (s : Serve) → slice_get mine j ≡ Some s → serve_in all k j ≡ s
   pub further_ : AreServed all (at + n) (suc k) qs
 
-drop_front : {X : Type 0} (a b : List X) (n : ℕ) → length a ≡ n → drop n (a ++ b) ≡ b
-drop_front [] b n l = ap (λ m. drop m b) (sym l)
-drop_front (x ∷ a) b zero l = absurd (omega (arith, l))
-drop_front (x ∷ a) b (suc n) l = let z : length a ≡ n = omega (arith, l) in drop_front a b n z
-
-take_front : {X : Type 0} (a b : List X) (n : ℕ) → length a ≡ n → take n (a ++ b) ≡ a
-take_front [] b n l = ap (λ m. take m b) (sym l)
-take_front (x ∷ a) b zero l = absurd (omega (arith, l))
-take_front (x ∷ a) b (suc n) l = let z : length a ≡ n = omega (arith, l) in ap (λ r. x ∷ r) (take_front a b n z)
-
 pub served_next : (all : List Serve) (at k : ℕ) (q : Mark) (qs : List Mark) → AreServed all at k (q ∷ qs) → Next all at k (place_operands q.place) qs
 served_next all at k q qs c =
     let n = place_operands q.place in
     let m = mine_of k 0 n c.back (marks_operands (suc k) qs) c.operands in
     let w : all ≡ c.front ++ (m.mine ++ m.others) = c.whole ∙ ap (λ l. c.front ++ l) m.whole in
-    let a = ap length w ∙ long_both c.front (m.mine ++ m.others) in
-    let b = long_both m.mine m.others in
-    let f = long_both c.front m.mine in
+    let a = ap length w ∙ length-append c.front (m.mine ++ m.others) in
+    let b = length-append m.mine m.others in
+    let f = length-append c.front m.mine in
     let l = c.long in
     let o = m.long in record {
       mine = m.mine;
       within = omega (arith, a, b, l, o);
-      slice = ap (λ r. take n (drop at r)) w ∙ ap (take n) (drop_front c.front (m.mine ++ m.others) at c.long) ∙ take_front m.mine m.others n m.long;
+      slice = ap (λ r. take n (drop at r)) w ∙ ap (take n) (drop_at c.front (m.mine ++ m.others) at c.long) ∙ take_at m.mine m.others n m.long;
       long = m.long;
       each = λ j s g. let z : j ≡ 0 + j = omega arith in ap (λ r. serve_in r k j) c.whole ∙ serve_skip c.front c.back k j c.before ∙ ap (serve_in c.back k) z ∙ m.each j s g;
       further_ = record {
@@ -308,7 +289,7 @@ last_many (Jump l xs) = roles_many (Argument l) 0 xs
 last_many (Halt e xs) = roles_many Ending 0 xs
 
 at_node : (k : ℕ) (of : Names) (xs : List ℕ) (rs : List Role) → length rs ≡ length xs → map use_operand (uses_at k 0 (map of xs) rs) ≡ operands_from k 0 (length xs)
-at_node k of xs rs e = uses_numbered k 0 (map of xs) rs (e ∙ sym (as_many of xs)) ∙ ap (operands_from k 0) (as_many of xs)
+at_node k of xs rs e = uses_numbered k 0 (map of xs) rs (e ∙ sym (length-map xs of)) ∙ ap (operands_from k 0) (length-map xs of)
 
 uses_both : (k n : ℕ) (a b : List Point) → n ≡ k + length a → uses_from k (a ++ b) ≡ uses_from k a ++ uses_from n b
 uses_both k n [] b e = let z : k ≡ n = omega (arith, e) in ap (λ j. uses_from j b) z
@@ -325,7 +306,7 @@ operands_both k n (q ∷ a) b e =
     ap (λ l. here ++ l) (operands_both (suc k) n a b z) ∙ sym (append_assoc here (marks_operands (suc k) a) (marks_operands n b))
 
 both_uses : (k : ℕ) (here : List Use) (rest : List Use) (a b : List (ℕ × ℕ)) → map use_operand here ≡ a → map use_operand rest ≡ b → map use_operand (here ++ rest) ≡ a ++ b
-both_uses k here rest a b e f = map_both use_operand here rest ∙ ap (λ l. l ++ map use_operand rest) e ∙ ap (λ l. a ++ l) f
+both_uses k here rest a b e f = map-append use_operand here rest ∙ ap (λ l. l ++ map use_operand rest) e ∙ ap (λ l. a ++ l) f
 
 uses_tree : (k : ℕ) (of : Names) (above : List ℕ) (t : Tree) → map use_operand (uses_from k (tree_points of above t)) ≡ marks_operands k (tree_marks t)
 uses_tree k of above (Do s t) =
@@ -387,7 +368,7 @@ accessed_both k n (q ∷ a) b e =
     ap (λ l. here ++ l) (accessed_both (suc k) n a b z) ∙ sym (append_assoc here (marks_accesses (suc k) a) (marks_accesses n b))
 
 both_accesses : (here rest : List Access) (a b : List ℕ) → map access_point here ≡ a → map access_point rest ≡ b → map access_point (here ++ rest) ≡ a ++ b
-both_accesses here rest a b e f = map_both access_point here rest ∙ ap (λ l. l ++ map access_point rest) e ∙ ap (λ l. a ++ l) f
+both_accesses here rest a b e f = map-append access_point here rest ∙ ap (λ l. l ++ map access_point rest) e ∙ ap (λ l. a ++ l) f
 
 accesses_tree : (k : ℕ) (of : Names) (above : List ℕ) (t : Tree) → map access_point (accesses_from k (tree_points of above t)) ≡ marks_accesses k (tree_marks t)
 accesses_tree k of above (Do s t) =

@@ -19,11 +19,12 @@ use Rattle.place_ir.specs.Plan.{Home, Plan, home, home_in, first}
 use Rattle.place_ir.specs.Uses.{Value, Sort, Parameter, Result, Fetched, values, place_values as values_at, Role, Operand, Address, Written, Argument, Ending, Use, uses, uses_of, is_used}
 use Rattle.place_ir.specs.Fits.{read_place, write_place, IsGeneral, is_general, is_write_register, is_read_register, served, role_register, word_register, is_early, early_uses, AreCopies, IsPutEarly, IsHome, IsHoused, is_sort_homed, wants_home, is_home, IsServedAt, IsServed, stays, general_places, kept_register, read_places, has_place, none_shared}
 use Rattle.place_ir.proofs.Places.{same_place-true, same_place-from}
+use Rattle.place_ir.proofs.Fitting.{vars-of-place}
 use Rattle.ucode_emit.specs.inner.Ready.{lasting}
 use Rattle.ucode_emit.specs.inner.Layers.{Placed}
 use Rattle.ucode_emit.proofs.PointsEach.{EachFrom, each_map, each_here, all_get, all_of}
 use Rattle.ucode_emit.proofs.PointsLabels.{labels_above}
-use Rattle.ucode_emit.proofs.PointsUses.{values_each, vars_at, used_by}
+use Rattle.ucode_emit.proofs.PointsUses.{values_each, used_by}
 
 -- ---- kinds of places
 
@@ -227,7 +228,7 @@ SettledIfUsed labels p x = is_used labels x ≡ true → Settled labels p x
 
 settled_here : (labels : List Label) (p : Plan) (k : ℕ) (q : Point) → AllByRecursion (IsHoused labels p) (values_at k q.place) → (x : ℕ) → is_in x (place_values q.place) ≡ true → SettledIfUsed labels p x
 settled_here labels p k q a x i =
-    let v = value_of (IsHoused labels p) (values_at k q.place) x a (ap (is_in x) (vars_at k q.place) ∙ i) in
+    let v = value_of (IsHoused labels p) (values_at k q.place) x a (ap (is_in x) (vars-of-place k q.place) ∙ i) in
     subst (SettledIfUsed labels p) v.2 (settled_sort labels p v.0 v.0.sort v.1)
 
 pub settled_values : (labels : List Label) (p : Plan) → Placed labels p → EachFrom (λ k q. (x : ℕ) → is_in x (place_values q.place) ≡ true → SettledIfUsed labels p x) 0 (points labels)

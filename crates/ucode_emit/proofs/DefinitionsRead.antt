@@ -1,13 +1,13 @@
 -- A read: its words come into read registers and are copied, and behind it all stands ready.
-use Rattle.std.proofs.Common.{◌≡◌, ℕ, zero, suc, ◌+◌, ◌<◌, ◌≤◌, nat_eq, true, false, not, List, [], ◌∷◌, ◌++◌, length, Some, if◌then◌else◌, refl, sym, ap, ◌∙◌, subst, inr, ⊎_elim, slice_get, arith}
+use Rattle.std.proofs.Common.{◌≡◌, ℕ, zero, suc, ◌+◌, ◌<◌, ◌≤◌, true, false, List, [], ◌∷◌, ◌++◌, length, Some, refl, sym, ap, ◌∙◌, subst, inr, ⊎_elim, slice_get, arith}
 use Rattle.std.specs.List.{AllByRecursion}
-use Rattle.std.proofs.lemmas.Bool.{and_parts, or_cases, or_parts, not-true, false≢true, eqb-true, false_from_ne_true}
+use Rattle.std.proofs.lemmas.Bool.{or_cases, or_parts, false≢true, eqb-true, false_from_ne_true}
 use Rattle.std.proofs.lemmas.List.Elements.{All-head}
 use Rattle.std.proofs.lemmas.Option.{none-some, same_Some, slice_get_within}
 use Rattle.nv_base.specs.declared.term.Mem.{Mem}
 use Rattle.nv_base.specs.declared.term.Mem.TheVariants.{Sram, Sdram, Scratch}
-use Rattle.nv_base.specs.Sets.{is_in, all_different}
-use Rattle.nv_base.specs.Words.{Env, assigned, assigned_all}
+use Rattle.nv_base.specs.Sets.{is_in}
+use Rattle.nv_base.specs.Words.{Env, assigned_all}
 use Rattle.ssu_ir.specs.Tree.{Read, Tree, Do, Label}
 use Rattle.ssu_ir.specs.Points.{Names, Point, points}
 use Rattle.place_ir.specs.declared.place.Place.{Place}
@@ -18,6 +18,7 @@ use Rattle.place_ir.specs.Uses.{Fetched, numbered, place_values as values_at, is
 use Rattle.place_ir.specs.Fits.{read_place, is_read_register, word_register, IsHoused, KeepsRead, run_of, read_places, has_place, none_shared}
 use Rattle.place_ir.proofs.Places.{same_place-from, same_place-true}
 use Rattle.par_move.specs.Moves.{Words, put}
+use Rattle.par_move.proofs.Steps.{put-other}
 use Rattle.ucode_emit.specs.inner.Pieces.{all_copies}
 use Rattle.ucode_emit.specs.inner.Ready.{Ready}
 use Rattle.ucode_emit.specs.inner.Machine.{IsReadable, filled}
@@ -26,11 +27,12 @@ use Rattle.ucode_emit.proofs.PointsEach.{each_here}
 use Rattle.ucode_emit.proofs.PointsLabels.{formed_at}
 use Rattle.ucode_emit.proofs.PointsUses.{in_at, numbered_at}
 use Rattle.ucode_emit.proofs.PointsUsed.{Spot, spot_step}
-use Rattle.ucode_emit.proofs.Copies.{put_here, put_there}
+use Rattle.ucode_emit.proofs.Copies.{put_here}
 use Rattle.ucode_emit.proofs.DefinitionsHomes.{general_not_read, read_not_written, read_place_is, none_both, housed_each, settled_above, Lasts, in_place, in_read, lasts_from}
 use Rattle.ucode_emit.proofs.DefinitionsReady.{spot_vars, waits_on, waits_register, Brought, ready_behind}
 use Rattle.ucode_emit.proofs.DefinitionsDirect.{access_at, first_bound, copies_are_direct}
-use Rattle.ucode_emit.proofs.DefinitionsResult.{assigned_same, waits_before}
+use Rattle.ucode_emit.proofs.DefinitionsResult.{waits_before}
+use Rattle.ucode_emit.proofs.RunsWords.{outside, each_its_word}
 
 -- ---- registers that are filled
 
@@ -51,14 +53,14 @@ filled_at e m f (v ∷ ws) zero w g =
     ap (λ j. put (filled e m (suc f) ws) (read_place m f) v (read_place m j)) z ∙ (put_here (filled e m (suc f) ws) (read_place m f) v ∙ same_Some v w g)
 filled_at e m f (v ∷ ws) (suc i) w g =
     let z : f + suc i ≡ suc f + i = omega arith in
-    put_there (filled e m (suc f) ws) (read_place m f) (read_place m (f + suc i)) v (λ s. let n : f + suc i ≡ f = read_place_same m (f + suc i) f s in omega arith)
+    put-other (filled e m (suc f) ws) (read_place m f) (read_place m (f + suc i)) v (λ s. let n : f + suc i ≡ f = read_place_same m (f + suc i) f s in omega arith)
     ∙ (ap (λ j. filled e m (suc f) ws (read_place m j)) z ∙ filled_at e m (suc f) ws i w g)
 
 filled_other : (e : Words) (m : Mem) (f : ℕ) (ws : List ℕ) (t : Place) → has_place t (run_of (read_place m) f (length ws)) ≡ false → filled e m f ws t ≡ e t
 filled_other e m f [] t h = refl
 filled_other e m f (w ∷ ws) t h =
     let p = or_parts (same_place t (read_place m f)) (has_place t (run_of (read_place m) (suc f) (length ws))) h in
-    put_there (filled e m (suc f) ws) (read_place m f) t w (λ s. false≢true (sym p.0 ∙ same_place-from t (read_place m f) s)) ∙ filled_other e m (suc f) ws t p.1
+    put-other (filled e m (suc f) ws) (read_place m f) t w (λ s. false≢true (sym p.0 ∙ same_place-from t (read_place m f) s)) ∙ filled_other e m (suc f) ws t p.1
 
 run_read : (m : Mem) (f n : ℕ) (t : Place) → has_place t (run_of (read_place m) f n) ≡ true → is_read_register t ≡ true
 run_read m f zero t h = absurd (false≢true h)
@@ -67,26 +69,6 @@ run_read m f (suc n) t h =
     (λ (e : has_place t (run_of (read_place m) (suc f) n) ≡ true). run_read m (suc f) n t e) (or_cases (same_place t (read_place m f)) (has_place t (run_of (read_place m) (suc f) n)) h)
 
 -- ---- words of variables
-
-pub all_other : (env : Env) (xs ws : List ℕ) (y : ℕ) → is_in y xs ≡ false → assigned_all env xs ws y ≡ env y
-all_other env [] ws y h = refl
-all_other env (x ∷ xs) [] y h =
-    let p = or_parts (nat_eq y x) (is_in y xs) h in
-    all_other (assigned env x 0) xs [] y p.1 ∙ ap (λ b. if b then 0 else env y) p.0
-all_other env (x ∷ xs) (w ∷ ws) y h =
-    let p = or_parts (nat_eq y x) (is_in y xs) h in
-    all_other (assigned env x w) xs ws y p.1 ∙ ap (λ b. if b then w else env y) p.0
-
-pub all_at : (env : Env) (xs ws : List ℕ) (i x w : ℕ) → all_different xs ≡ true → slice_get xs i ≡ Some x → slice_get ws i ≡ Some w → assigned_all env xs ws x ≡ w
-all_at env [] ws i x w d e f = absurd (none-some x e)
-all_at env (y ∷ xs) [] i x w d e f = absurd (none-some w f)
-all_at env (y ∷ xs) (v ∷ ws) zero x w d e f =
-    let p = and_parts (not (is_in y xs)) (all_different xs) d in
-    let same : y ≡ x = same_Some y x e in
-    ap (λ z. assigned_all (assigned env y v) xs ws z) (sym same) ∙ (all_other (assigned env y v) xs ws y (not-true (is_in y xs) p.0) ∙ (assigned_same env y v ∙ same_Some v w f))
-all_at env (y ∷ xs) (v ∷ ws) (suc i) x w d e f =
-    let p = and_parts (not (is_in y xs)) (all_different xs) d in
-    all_at (assigned env y v) xs ws i x w p.1 e f
 
 pub word_there : (xs ws : List ℕ) (i x : ℕ) → length ws ≡ length xs → slice_get xs i ≡ Some x → (w : ℕ) × (slice_get ws i ≡ Some w)
 word_there [] ws i x n e = absurd (none-some x e)
@@ -133,16 +115,16 @@ read_brought labels p k of above m xs ws y t env e h s n d =
       defined = λ x i u.
           let g = read_home labels p k q m xs y x h s.here refl i u in
           let w = word_there xs ws g.number x n g.there in
-          ap (filled e m (first p k) ws) g.at ∙ (filled_at e m (first p k) ws g.number w.0 w.1 ∙ sym (all_at env xs ws g.number x w.0 different g.there w.1));
+          ap (filled e m (first p k) ws) g.at ∙ (filled_at e m (first p k) ws g.number w.0 w.1 ∙ sym (each_its_word env xs ws g.number x w.0 different g.there w.1));
       held = λ x i f c l.
           let a = (lasts_from labels p x c (settled_above labels p (suc k) r x h s.next (s.known x i)) l).0 in
           let apart = keeps x (ap (is_in x) s.same ∙ i) (ap (is_in x) (spot_vars labels k q r xs s) ∙ f) in
           filled_other e m (first p k) ws c (run_length m (first p k) xs ws c n (last_run labels p x c m (first p k) (length xs) apart a))
-          ∙ (d.held x (s.before_it x i f) c l ∙ sym (all_other env xs ws x f));
+          ∙ (d.held x (s.before_it x i f) c l ∙ sym (outside env xs ws x f));
       early = λ u v f.
           let w = waits_register labels p k q u h (waits_on labels p k q r xs u s v) in
           filled_other e m (first p k) ws (word_register p u) (no_run m (first p k) (length ws) (word_register p u) (λ c. read_not_written (word_register p u) c w))
-          ∙ (d.early u (waits_before labels p k q r xs u s v f) ∙ sym (all_other env xs ws u.value f));
+          ∙ (d.early u (waits_before labels p k q r xs u s v f) ∙ sym (outside env xs ws u.value f));
     }
 
 pub read : (labels : List Label) (p : Plan) → Placed labels p → (k : ℕ) (of : Names) (above : List ℕ) (m : Mem) (xs ws : List ℕ) (y : ℕ) (t : Tree) (env : Env) (e : Words) → PointsAt labels k of above (Do (Read m xs y) t) → length ws ≡ length xs

@@ -16,12 +16,13 @@ use Rattle.place_ir.specs.Plan.{Plan, home, pass}
 use Rattle.place_ir.specs.Uses.{Value, place_values as values_at, Use, uses, uses_of, is_used}
 use Rattle.place_ir.specs.Fits.{Waits, same_use, point_values, comes_to_slot, is_result, maybe, is_general, is_slot, is_write_register, is_read_register, word_register, is_early, IsPutEarly, general_places, has_place, none_shared}
 use Rattle.place_ir.proofs.Places.{same_place-from}
+use Rattle.place_ir.proofs.Fitting.{vars-of-place}
 use Rattle.par_move.specs.Moves.{Words, one_by_one}
 use Rattle.ucode_emit.specs.inner.Pieces.{named, all_copies}
 use Rattle.ucode_emit.specs.inner.Ready.{Ready, WaitsAt, lasting}
 use Rattle.ucode_emit.specs.inner.Layers.{Placed}
 use Rattle.ucode_emit.proofs.PointsLabels.{formed_at, below_at}
-use Rattle.ucode_emit.proofs.PointsUses.{use_at, one_value, at_in, use_of, used_by, vars_at}
+use Rattle.ucode_emit.proofs.PointsUses.{use_at, one_value, at_in, use_of, used_by}
 use Rattle.ucode_emit.proofs.PointsUsed.{Spot}
 use Rattle.ucode_emit.proofs.Copies.{place_head, Safe, copies_spare, copies_keep, copies_bring}
 use Rattle.ucode_emit.proofs.DefinitionsHomes.{general_is, general_not_written, general_not_read, read_not_written, read_place_is, place_filter, none_both, Early, early_register, ThereIn, uses_of_each, filter_get, Settled, in_general, put_early, fetched_to, settled_at, settled_above, Target, fill, word, targets, early_copied, unused_bare, Lasts, in_place, in_read, IsOwn, lasts_from}
@@ -30,7 +31,7 @@ use Rattle.ucode_emit.proofs.DefinitionsHomes.{general_is, general_not_written, 
 
 -- the values that a point defines
 pub spot_vars : (labels : List Label) (k : ℕ) (q r : Point) (xs : List ℕ) → Spot labels k q r xs → point_values k q ≡ xs
-spot_vars labels k q r xs s = vars_at k q.place ∙ s.values
+spot_vars labels k q r xs s = vars-of-place k q.place ∙ s.values
 
 pub waits_from : (labels : List Label) (p : Plan) (k : ℕ) (q : Point) (u : Use) → (i : ℕ) × (slice_get (uses labels) i ≡ Some u) → is_early p u ≡ true
     → is_in u.value (q.above ++ point_values k q) ≡ true → k < u.point → u.point ≤ k + q.below → Waits labels p k q u

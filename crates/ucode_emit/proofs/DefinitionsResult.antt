@@ -9,21 +9,24 @@ use Rattle.nv_base.specs.Sets.{is_in}
 use Rattle.nv_base.specs.Words.{Env, assigned}
 use Rattle.ssu_ir.specs.Tree.{Lit, Una, Bin, Tree, Do, Label}
 use Rattle.ssu_ir.specs.Points.{Names, Point, points}
+use Rattle.ssu_ir.proofs.Lists.{in-itself}
 use Rattle.place_ir.specs.declared.place.Place.{Place}
 use Rattle.place_ir.specs.declared.place.Place.TheVariants.{S}
 use Rattle.place_ir.specs.Plan.{Plan, home, pass}
 use Rattle.place_ir.specs.Uses.{result, place_values as values_at, Use, is_used}
 use Rattle.place_ir.specs.Fits.{IsGeneral, is_general, is_slot, is_write_register, is_read_register, word_register, AreCopies, IsPutEarly, IsHoused, general_places, has_place, comes_to_slot, Waits}
+use Rattle.place_ir.proofs.Scoped.{in-either}
 use Rattle.par_move.specs.Moves.{Move, Words, put, one_by_one}
+use Rattle.par_move.proofs.Steps.{put-other}
 use Rattle.ucode_emit.specs.inner.Pieces.{named, result_place, to_slot, copies}
 use Rattle.ucode_emit.specs.inner.Ready.{Ready, WaitsAt}
 use Rattle.ucode_emit.specs.inner.Machine.{IsWritable, AreDirect}
 use Rattle.ucode_emit.specs.inner.Layers.{Placed, PointsAt, root_point, Behind}
 use Rattle.ucode_emit.proofs.PointsEach.{each_here, all_both}
-use Rattle.ucode_emit.proofs.PointsTree.{in_either, in_one, in_head}
+use Rattle.ucode_emit.proofs.PointsTree.{in_one}
 use Rattle.ucode_emit.proofs.PointsLabels.{formed_at, place_results}
 use Rattle.ucode_emit.proofs.PointsUsed.{Spot, spot_step}
-use Rattle.ucode_emit.proofs.Copies.{put_here, put_there, one_append, place_head}
+use Rattle.ucode_emit.proofs.Copies.{put_here, one_append, place_head}
 use Rattle.ucode_emit.proofs.DefinitionsHomes.{general_is, general_not_written, general_not_read, read_not_written, place_filter, none_both, early_register, housed_each, settled_above, Lasts, in_place, in_read, lasts_from}
 use Rattle.ucode_emit.proofs.DefinitionsReady.{waits_on, waits_register, waits_apart, waits_through, early_use, early_waits, Brought, ready_behind}
 use Rattle.ucode_emit.proofs.DefinitionsDirect.{CanTake, general_take, take_writable, take_slot, general_readable, eighth_named, register_take, OneInstr, CanGive, copies_are_direct}
@@ -55,8 +58,8 @@ put_brings false s d e w = put_here e d w
 put_spares : (b : Bool) (s : Option ℕ) (d t : Place) (e : Words) (w : ℕ) → (t ≡ d → ⊥) → (b ≡ true → t ≡ S (named s) → ⊥) → one_by_one (moves_by b s d) (put e (place_by b s d) w) t ≡ e t
 put_spares true s d t e w h g =
     let e' = put e (S (named s)) w in
-    put_there e' d t (e' (S (named s))) h ∙ put_there e (S (named s)) t w (g refl)
-put_spares false s d t e w h g = put_there e d t w h
+    put-other e' d t (e' (S (named s))) h ∙ put-other e (S (named s)) t w (g refl)
+put_spares false s d t e w h g = put-other e d t w h
 
 -- ---- the home of a result
 
@@ -107,7 +110,7 @@ word_apart labels p k q r x u h s w n o e =
     (λ (c : IsGeneral p (home p x).defined × AreCopies labels p x (home p x)). general_not_written (home p x).defined (general_is p (home p x).defined c.0) (sym (ap is_write_register e) ∙ waits_register labels p k q u h w))
     (λ (c : IsPutEarly labels p x (home p x)).
     let v = early_use labels p x c in
-    waits_apart labels p k q u c.use_ h s.spot.here w (early_waits labels p k q r (x ∷ []) x c.use_ h s.spot (in_head x []) v) (λ f. n (f ∙ v.value)) (e ∙ c.at))
+    waits_apart labels p k q u c.use_ h s.spot.here w (early_waits labels p k q r (x ∷ []) x c.use_ h s.spot (in-itself x []) v) (λ f. n (f ∙ v.value)) (e ∙ c.at))
     o
 
 lasts_no_s : (labels : List Label) (p : Plan) (y : ℕ) (t : Place) (n : ℕ) → Lasts labels p y t → t ≡ S n → ⊥
@@ -123,7 +126,7 @@ waits_before labels p k q r xs u s w n =
       there = w.there;
       early = w.early;
       defined =
-          ⊎_elim (λ (d : is_in u.value q.above ≡ true). d) (λ (d : is_in u.value xs ≡ true). absurd (false≢true (sym n ∙ d))) (in_either u.value q.above xs (sym (ap (is_in u.value) s.above_it) ∙ w.defined));
+          ⊎_elim (λ (d : is_in u.value q.above ≡ true). d) (λ (d : is_in u.value xs ≡ true). absurd (false≢true (sym n ∙ d))) (in-either u.value q.above xs (sym (ap (is_in u.value) s.above_it) ∙ w.defined));
       here = le-leb k u.point (omega arith);
       below = le-leb u.point (k + q.below) (omega arith);
     }
@@ -213,7 +216,7 @@ pub literal : (labels : List Label) (p : Plan) → Placed labels p → (k : ℕ)
 literal labels p h k of above x v w t env e a d =
     let q = root_point of above (Do (Lit x v) t) in
     let r = root_point of (above ++ x ∷ []) t in
-    result_ready labels p k q r x w env e h (step_result labels p k q r x h (spot_step labels k of above (Lit x v) t a) refl (in_head x [])) d
+    result_ready labels p k q r x w env e h (step_result labels p k q r x h (spot_step labels k of above (Lit x v) t a) refl (in-itself x [])) d
 
 pub unary : (labels : List Label) (p : Plan) → Placed labels p → (k : ℕ) (of : Names) (above : List ℕ) (x y w : ℕ) (op : Unary) (t : Tree) (env : Env) (e : Words) → PointsAt labels k of above (Do (Una x op y) t)
     → Ready labels p k (root_point of above (Do (Una x op y) t)) env e
@@ -221,7 +224,7 @@ pub unary : (labels : List Label) (p : Plan) → Placed labels p → (k : ℕ) (
 unary labels p h k of above x y w op t env e a d =
     let q = root_point of above (Do (Una x op y) t) in
     let r = root_point of (above ++ x ∷ []) t in
-    result_ready labels p k q r x w env e h (step_result labels p k q r x h (spot_step labels k of above (Una x op y) t a) refl (in_head x [])) d
+    result_ready labels p k q r x w env e h (step_result labels p k q r x h (spot_step labels k of above (Una x op y) t a) refl (in-itself x [])) d
 
 pub binary : (labels : List Label) (p : Plan) → Placed labels p → (k : ℕ) (of : Names) (above : List ℕ) (x y z w : ℕ) (op : Binary) (t : Tree) (env : Env) (e : Words) → PointsAt labels k of above (Do (Bin x op y z) t)
     → Ready labels p k (root_point of above (Do (Bin x op y z) t)) env e
@@ -229,4 +232,4 @@ pub binary : (labels : List Label) (p : Plan) → Placed labels p → (k : ℕ) 
 binary labels p h k of above x y z w op t env e a d =
     let q = root_point of above (Do (Bin x op y z) t) in
     let r = root_point of (above ++ x ∷ []) t in
-    result_ready labels p k q r x w env e h (step_result labels p k q r x h (spot_step labels k of above (Bin x op y z) t a) refl (in_head x [])) d
+    result_ready labels p k q r x w env e h (step_result labels p k q r x h (spot_step labels k of above (Bin x op y z) t a) refl (in-itself x [])) d

@@ -1,6 +1,6 @@
 -- The code of all points, one point after the other.
 use Rattle.std.proofs.Common.{◌≡◌, ℕ, List, length, map, sym, ap, ◌∙◌, arith}
-use Rattle.std.proofs.lemmas.List.{take_all}
+use Rattle.std.proofs.lemmas.List.{take_all, length-map}
 use Rattle.uc_isa.specs.declared.instruction.Instr.{Instr}
 use Rattle.ssu_ir.specs.Tree.{Label}
 use Rattle.ssu_ir.specs.View.{labels_view}
@@ -14,7 +14,6 @@ use Rattle.ucode_emit.specs.inner.Marks.{marks, pieces, joined, begins}
 use Rattle.ucode_emit.specs.inner.Spots.{spot_mark}
 use Rattle.ucode_emit.specs.inner.Walk.{pieces_below, IsDrafted}
 use Rattle.ucode_emit.specs.inner.Drafted.{AreDrafted}
-use Rattle.ucode_emit.proofs.Placing.{as_many}
 use Rattle.ucode_emit.proofs.Marked.{all_joined, all_begins}
 
 -- ---- behind the last point
@@ -32,4 +31,4 @@ drafted_all labels p mss k code places s e h =
 
 -- as many as there are points
 pub spots_many : (s : Ssu) (spots : List Spot) → map (spot_mark s) spots ≡ marks (labels_view s) → length spots ≡ length (marks (labels_view s))
-spots_many s spots e = sym (as_many (spot_mark s) spots) ∙ ap length e
+spots_many s spots e = sym (length-map spots (spot_mark s)) ∙ ap length e

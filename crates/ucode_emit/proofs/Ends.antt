@@ -11,6 +11,7 @@ use Rattle.ssu_ir.specs.Points.{Names, Point, points}
 use Rattle.place_ir.specs.declared.place.Place.TheVariants.{A}
 use Rattle.place_ir.specs.Plan.{Plan, home, serve, pass}
 use Rattle.place_ir.specs.Uses.{Role, Argument, Ending, roles, place_roles, uses_at}
+use Rattle.place_ir.proofs.Walked.{some-there}
 use Rattle.par_move.specs.Moves.{Move, Words, one_by_one}
 use Rattle.ucode_emit.specs.inner.Pieces.{single_moves, served_moves}
 use Rattle.ucode_emit.specs.inner.Ready.{Ready, Entered, IsSequence}
@@ -18,7 +19,7 @@ use Rattle.ucode_emit.specs.inner.Layers.{Placed, PointsAt, root_point, Behind}
 use Rattle.ucode_emit.proofs.PointsLabels.{formed_at}
 use Rattle.ucode_emit.proofs.PointsUses.{in_at, at_in}
 use Rattle.ucode_emit.proofs.Entries.{IsMoved, general_moved, param_home}
-use Rattle.ucode_emit.proofs.EntriesMoves.{JumpTarget, param_is, jump_served, halt_served, role_at, there_is, map_get}
+use Rattle.ucode_emit.proofs.EntriesMoves.{JumpTarget, param_is, jump_served, halt_served, role_at, map_get}
 use Rattle.ucode_emit.proofs.OperandsHomes.{Here, here_at, source_of, IsHere, uses_here}
 use Rattle.ucode_emit.proofs.Bring.{Sent, all_sent}
 
@@ -61,8 +62,8 @@ jump labels p h k of above l xs to ms env new e a g v sq d =
     argument_sent labels p k q of l xs to j x y h s refl g (role_here labels p k q of (Argument l) xs j x h s.at refl refl c) c f in
     let r = all_sent labels p k q (length xs) ms env e h s well
     (λ j n.
-    let x = there_is xs j n in
-    let y = there_is to.params j (omega arith) in
+    let x = some-there xs j n in
+    let y = some-there to.params j (omega arith) in
     (of x.0, sent j x.0 y.0 x.1 y.1)) sq d in (
       r.direct,
       λ y i.
@@ -70,7 +71,7 @@ jump labels p h k of above l xs to ms env new e a g v sq d =
           let j = c.place in
           let m : j < length to.params = slice_get_within to.params j y c.there in
           let n : j < length xs = omega arith in
-          let x = there_is xs j n in
+          let x = some-there xs j n in
           let u = role_here labels p k q of (Argument l) xs j x.0 h s.at refl refl x.1 in
           let at : (serve p k j).at ≡ (home p y).defined = u.0.0.1 ∙ ap (λ z. (home p z).defined) (param_is labels l to j y g c.there) in
           ap (one_by_one (single_moves (pass p k).l ms) e) (sym at) ∙ (r.word j (of x.0) n (sent j x.0 y x.1 c.there) ∙ sym (v j x.0 y x.1 c.there)),
@@ -99,7 +100,7 @@ halt labels p h k of above c xs ms env e a sq d =
     ending_sent labels p k q of xs j x h s refl (omega arith) (role_here labels p k q of Ending xs j x h s.at refl refl g) g in
     let r = all_sent labels p k q (length xs) ms env e h s well
     (λ j n.
-    let x = there_is xs j n in
+    let x = some-there xs j n in
     (of x.0, sent j x.0 n x.1)) sq d in (
       r.direct,
       λ i x g.

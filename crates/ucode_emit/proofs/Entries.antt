@@ -17,6 +17,7 @@ use Rattle.place_ir.specs.Uses.{Parameter, numbered, place_values as values_at}
 use Rattle.place_ir.specs.Fits.{IsGeneral, is_general, AreCopies, IsHoused, general_places, has_place}
 use Rattle.place_ir.proofs.Places.{same_place-from}
 use Rattle.par_move.specs.Moves.{Move, Words, put, one_by_one, all_at_once, temporary, StandFor, none, once, around, at_rest}
+use Rattle.par_move.proofs.Steps.{put-other}
 use Rattle.ucode_emit.specs.inner.Pieces.{entry_point, all_copies, entry_moves, single_move, single_moves}
 use Rattle.ucode_emit.specs.inner.Ready.{Ready, Entered, Begun, IsSequence}
 use Rattle.ucode_emit.specs.inner.Machine.{write_slot, copied as in_one}
@@ -25,7 +26,7 @@ use Rattle.ucode_emit.proofs.PointsEach.{each_here, all_left, all_right, all_bot
 use Rattle.ucode_emit.proofs.PointsLabels.{formed_at, entry_at, entry_there}
 use Rattle.ucode_emit.proofs.PointsUses.{in_at, at_in, numbered_at}
 use Rattle.ucode_emit.proofs.PointsUsed.{spot_entry}
-use Rattle.ucode_emit.proofs.Copies.{put_here, put_there, one_append, place_head}
+use Rattle.ucode_emit.proofs.Copies.{put_here, one_append, place_head}
 use Rattle.ucode_emit.proofs.DefinitionsHomes.{general_is, place_filter, none_both, housed_each}
 use Rattle.ucode_emit.proofs.DefinitionsReady.{ready_behind}
 use Rattle.ucode_emit.proofs.DefinitionsDirect.{OneInstr, copies_are_direct}
@@ -139,7 +140,7 @@ move_alike (A k) (A j) f t e e' h q n = put_agree e e' (A j) q (e (A k)) (e' (A 
 move_alike (A k) (B j) f t e e' h q n = put_agree e e' (B j) q (e (A k)) (e' (A k)) (h (A k) (a_no_s k 0)) (h q n)
 move_alike (A k) (Slot j) f t e e' h q n =
     let m = put e (S 0) (e (A k)) in
-    put_agree m e' (Slot j) q (m (S 0)) (e' (A k)) (put_here e (S 0) (e (A k)) ∙ h (A k) (a_no_s k 0)) (put_there e (S 0) q (e (A k)) n ∙ h q n)
+    put_agree m e' (Slot j) q (m (S 0)) (e' (A k)) (put_here e (S 0) (e (A k)) ∙ h (A k) (a_no_s k 0)) (put-other e (S 0) q (e (A k)) n ∙ h q n)
 move_alike (A k) (L j) f t e e' h q n = absurd t
 move_alike (A k) (LD j) f t e e' h q n = absurd t
 move_alike (A k) (S j) f t e e' h q n = absurd t
@@ -201,7 +202,7 @@ entry_at_once p i (y ∷ xs) e (suc j) x d a g =
     let q = and_parts (not (is_in y xs)) (all_different xs) d in
     let there : is_in x xs ≡ true = at_in x xs j g in
     let other : x ≡ y → ⊥ = λ s. false≢true (sym (not-true (is_in y xs) q.0) ∙ subst (λ v. is_in v xs ≡ true) s there) in
-    put_there (all_at_once (entry_moves p (suc i) xs) e) (home p y).defined (home p x).defined (e (A i)) (λ s. a x y (later y x xs there) (at_in y (y ∷ xs) zero refl) other s)
+    put-other (all_at_once (entry_moves p (suc i) xs) e) (home p y).defined (home p x).defined (e (A i)) (λ s. a x y (later y x xs there) (at_in y (y ∷ xs) zero refl) other s)
     ∙ (entry_at_once p (suc i) xs e j x q.1 (λ v w b c. a v w (later y v xs b) (later y w xs c)) g ∙ ap (λ n. e (A n)) z)
 
 pub general_no_temporary : (p : Plan) (r : Place) → IsGeneral p r → r ≡ temporary → ⊥

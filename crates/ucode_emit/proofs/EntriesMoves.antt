@@ -17,6 +17,7 @@ use Rattle.place_ir.specs.Plan.{Plan, home, serve}
 use Rattle.place_ir.specs.Uses.{Role, Argument, Ending, roles, place_roles, Use, uses_at, uses_from, uses}
 use Rattle.place_ir.specs.Fits.{read_place, is_write_register, word_register, is_home, label_param, param_at, parameter, IsServed}
 use Rattle.place_ir.proofs.Places.{same_place-true, same_place-from}
+use Rattle.place_ir.proofs.Walked.{some-there}
 use Rattle.par_move.specs.Moves.{Move, temporary, HaveOwnTargets, SpareTemporary}
 use Rattle.ucode_emit.specs.inner.Pieces.{served_moves, entry_moves, last_moves, tree_moves, moves_from, parallel_moves}
 use Rattle.ucode_emit.specs.inner.Layers.{Placed}
@@ -135,11 +136,6 @@ use_here labels p k q of role xs j x h e u r g =
     let z : 0 + j ≡ j = omega arith in
     subst (λ n. IsServed labels p (record { point = k; operand = n; value = of x; role = role n })) z (role_at (IsServed labels p) k of role 0 0 xs j x b g)
 
-pub there_is : (xs : List ℕ) (j : ℕ) → j < length xs → (x : ℕ) × (slice_get xs j ≡ Some x)
-there_is [] j h = absurd (omega arith)
-there_is (y ∷ xs) zero h = (y, refl)
-there_is (y ∷ xs) (suc j) h = there_is xs j (omega arith)
-
 pub map_get : (of : Names) (xs : List ℕ) (j x : ℕ) → slice_get xs j ≡ Some x → slice_get (map of xs) j ≡ Some (of x)
 map_get of [] j x e = absurd (none-some x e)
 map_get of (y ∷ xs) zero x e = ap (λ z. Some (of z)) (same_Some y x e)
@@ -179,8 +175,8 @@ pub jump_served : (labels : List Label) (p : Plan) (k : ℕ) (of : Names) (above
 jump_served labels p k of above l xs q h e u r t =
     record {
       spares = λ j n.
-          let x = there_is xs j n in
-          let y = there_is t.it.params j (let m : length t.it.params ≡ length xs = t.as_many in omega arith) in
+          let x = some-there xs j n in
+          let y = some-there t.it.params j (let m : length t.it.params ≡ length xs = t.as_many in omega arith) in
           let s = use_here labels p k q of (Argument l) xs j x.0 h e u r x.1 in
           let used = ap (is_in (of x.0)) u ∙ at_in (of x.0) (map of xs) j (map_get of xs j x.0 x.1) in
           let at : (serve p k j).at ≡ (home p y.0).defined = s.1 ∙ ap (λ z. (home p z).defined) (param_is labels l t.it j y.0 t.there y.1) in (
@@ -189,10 +185,10 @@ jump_served labels p k of above l xs q h e u r t =
           );
       apart = λ i j a n same.
           let m : length t.it.params ≡ length xs = t.as_many in
-          let xi = there_is xs i (omega arith) in
-          let xj = there_is xs j n in
-          let yi = there_is t.it.params i (omega arith) in
-          let yj = there_is t.it.params j (omega arith) in
+          let xi = some-there xs i (omega arith) in
+          let xj = some-there xs j n in
+          let yi = some-there t.it.params i (omega arith) in
+          let yj = some-there t.it.params j (omega arith) in
           let si = use_here labels p k q of (Argument l) xs i xi.0 h e u r xi.1 in
           let sj = use_here labels p k q of (Argument l) xs j xj.0 h e u r xj.1 in
           let at_i : (serve p k i).at ≡ (home p yi.0).defined = si.1 ∙ ap (λ z. (home p z).defined) (param_is labels l t.it i yi.0 t.there yi.1) in
@@ -211,15 +207,15 @@ pub halt_served : (labels : List Label) (p : Plan) (k : ℕ) (of : Names) (xs : 
 halt_served labels p k of xs q h e u r few =
     record {
       spares = λ j n.
-          let x = there_is xs j n in
+          let x = some-there xs j n in
           let s = use_here labels p k q of Ending xs j x.0 h e u r x.1 in
           let used = ap (is_in (of x.0)) u ∙ at_in (of x.0) (map of xs) j (map_get of xs j x.0 x.1) in (
             home_spare labels p (of x.0) (serve p k j).from h (used_settled labels p k q (of x.0) h e used) s.0,
             λ c. let z : j ≡ 15 = a_same j 15 (sym s.1 ∙ c) in absurd (omega arith),
           );
       apart = λ i j a n same.
-          let xi = there_is xs i (omega arith) in
-          let xj = there_is xs j n in
+          let xi = some-there xs i (omega arith) in
+          let xj = some-there xs j n in
           let si = use_here labels p k q of Ending xs i xi.0 h e u r xi.1 in
           let sj = use_here labels p k q of Ending xs j xj.0 h e u r xj.1 in
           let z : i ≡ j = a_same i j (sym si.1 ∙ (same ∙ sj.1)) in

@@ -1,5 +1,5 @@
 -- Homes by rising variable: what a search among them finds.
-use Rattle.std.proofs.Common.{◌≡◌, ◌≢◌, ℕ, zero, suc, ◌<◌, ◌≤◌, List, [], ◌∷◌, ◌++◌, map, length, get_or, Option, Ok, Err, if◌then◌else◌, refl, sym, ap, ◌∙◌, append_assoc, ⊎_elim, arith}
+use Rattle.std.proofs.Common.{◌≡◌, ◌≢◌, ℕ, zero, suc, ◌<◌, ◌≤◌, List, [], ◌∷◌, ◌++◌, map, length, get_or, Option, Ok, Err, if◌then◌else◌, refl, sym, ap, ◌∙◌, append_assoc, ⊎_elim, arith, ne_of_lt}
 use Rattle.std.specs.Prelude.{nat_eq}
 use Rattle.std.specs.List.Sorted.{IsBinarySearchResult, IsNonDecreasingBy}
 use Rattle.std.specs.Ordering.{nat_cmp, ordering_index}
@@ -37,16 +37,13 @@ never_down (h ∷ l) r (suc i) (suc j) d le lt = never_down l (rises_rest h l r)
 past : (h : KeptHome) (x : ℕ) (r : Home) → h.var ≢ x → (if nat_eq h.var x then home_view h else r) ≡ r
 past h x r n = ⊎_elim (λ p. absurd (n p.1)) (λ p. ap (λ b. if b then home_view h else r) p.0) (eqb_tells h.var x)
 
-below_differs : (a b : ℕ) → a < b → a ≢ b
-below_differs a b l e = omega (arith, l, e)
-
 pub home_found : (l : List KeptHome) (x i : ℕ) (d : KeptHome) → HomesRise l → i < length l → (get_or l i d).var ≡ x → home_in (map home_view l) x ≡ home_view (get_or l i d)
 home_found [] x i d r lt e = absurd (omega (arith, lt))
 home_found (h ∷ l) x zero d r lt e = ap (λ b. if b then home_view h else home_in (map home_view l) x) (eq-eqb h.var x e)
 home_found (h ∷ l) x (suc i) d r lt e =
     let z : i < length l = omega (arith, lt) in
     let y : h.var < x = let w = rises_first h l r i d z in omega (arith, w, e) in
-    past h x (home_in (map home_view l) x) (below_differs h.var x y) ∙ home_found l x i d (rises_rest h l r) z e
+    past h x (home_in (map home_view l) x) (ne_of_lt y) ∙ home_found l x i d (rises_rest h l r) z e
 
 pub home_missed : (l : List KeptHome) (x : ℕ) → ((k : ℕ) (d : KeptHome) → k < length l → (get_or l k d).var ≢ x) → home_in (map home_view l) x ≡ homeless x
 home_missed [] x h = refl

@@ -3,7 +3,7 @@ use Rattle.std.proofs.Common.{◌≡◌, ℕ, zero, suc, ◌+◌, ◌<◌, ◌�
 use Rattle.std.specs.Prelude.{slice_index_or}
 use Rattle.std.specs.List.{AllByRecursion, list_all}
 use Rattle.std.proofs.lemmas.Bool.{and_parts, false≢true}
-use Rattle.std.proofs.lemmas.List.{append-nil}
+use Rattle.std.proofs.lemmas.List.{append-nil, length-map, length-append}
 use Rattle.std.proofs.lemmas.Option.{none-some, same_Some}
 use Rattle.nv_base.specs.Sets.{all_different}
 use Rattle.uc_isa.specs.declared.instruction.Instr.{Instr}
@@ -20,7 +20,7 @@ use Rattle.ucode_emit.specs.inner.Pieces.{Item, Moved, Plain, Branch, instr_of, 
 use Rattle.ucode_emit.specs.inner.Ready.{AreSequences}
 use Rattle.ucode_emit.specs.inner.Layers.{Placed, ReadyLayer}
 use Rattle.ucode_emit.proofs.PointsEach.{all_both, all_get}
-use Rattle.ucode_emit.proofs.Placing.{as_many, long_both, part_head, TreeAt, tree_rest, tree_first, tree_second, forks_long, items_long, label_at, code_of}
+use Rattle.ucode_emit.proofs.Placing.{part_head, TreeAt, tree_rest, tree_first, tree_second, forks_long, items_long, label_at, code_of}
 use Rattle.ucode_emit.proofs.LawfulItems.{IsGood, AreGood, IsEnd, item_lawful}
 use Rattle.ucode_emit.proofs.LawfulPieces.{step_good, fork_good, last_good, sequence_here, front_moves, front_good, entry_good}
 
@@ -137,7 +137,7 @@ tree_long labels p mss k t = ends_long (tree_items labels p mss k t) (tree_ends 
 
 tree_within : (labels : List Label) (p : Plan) (mss : Sequences) (at k m : ℕ) (t : Tree) → at + length (tree_items labels p mss k t) ≤ m → AllByRecursion (λ s. s < m) (tree_starts labels p mss at k t)
 tree_within labels p mss at k m (Do s t) h =
-    let a = long_both (step_items p k s) (tree_items labels p mss (suc k) t) in
+    let a = length-append (step_items p k s) (tree_items labels p mss (suc k) t) in
     let b = tree_long labels p mss (suc k) t in (
       omega (arith, h, a, b),
       tree_within labels p mss (at + length (step_items p k s)) (suc k) m t (omega (arith, h, a)),
@@ -146,8 +146,8 @@ tree_within labels p mss at k m (If c x y t u) h =
     let fork = fork_items p k (failing c) (suc k + nodes t) in
     let ts = tree_items labels p mss (suc k) t in
     let us = tree_items labels p mss (suc k + nodes t) u in
-    let a = long_both fork (ts ++ us) in
-    let b = long_both ts us in
+    let a = length-append fork (ts ++ us) in
+    let b = length-append ts us in
     let c' = forks_long p k (failing c) 0 (suc k + nodes t) in
     let d = tree_long labels p mss (suc k) t in
     let first = at + length (fork_items p k (failing c) 0) in
@@ -164,8 +164,8 @@ labels_within labels p mss at k m [] h = tt
 labels_within labels p mss at k m (l ∷ ls) h =
     let moves = front_moves mss k ++ all_copies p k l.params in
     let body = tree_items labels p mss (suc k) l.body in
-    let a = long_both (label_items labels p mss k l) (items_from labels p mss (suc k + nodes l.body) ls) in
-    let b = long_both (moved moves) body in
+    let a = length-append (label_items labels p mss k l) (items_from labels p mss (suc k + nodes l.body) ls) in
+    let b = length-append (moved moves) body in
     let c = items_long moves in
     let d = tree_long labels p mss (suc k) l.body in
     all_both (λ s. s < m) (at ∷ tree_starts labels p mss (at + length moves) (suc k) l.body) (starts_from labels p mss (at + length (label_items labels p mss k l)) (suc k + nodes l.body) ls)
@@ -188,7 +188,7 @@ got f (x ∷ xs) (suc i) y e = got f xs i y e
 pub code_some : (labels : List Label) (p : Plan) (mss : Sequences) → Placed labels p → 1 ≤ length (code_of labels p mss)
 code_some labels p mss h =
     let a = ends_long (items labels p mss) (items_end labels p mss h) in
-    let b = as_many (instr_of (starts labels p mss)) (items labels p mss) in
+    let b = length-map (items labels p mss) (instr_of (starts labels p mss)) in
     omega (arith, a, b)
 
 pub code_lawful : (labels : List Label) (p : Plan) (mss : Sequences) → Placed labels p → ReadyLayer labels p → AreSequences (parallel_moves p labels) mss → IsLawful (code_of labels p mss)
@@ -196,7 +196,7 @@ code_lawful labels p mss h r q place i e =
     let all = items labels p mss in
     let places = starts labels p mss in
     let code = code_of labels p mss in
-    let long : length code ≡ length all = as_many (instr_of places) all in
+    let long : length code ≡ length all = length-map all (instr_of places) in
     let g = got (instr_of places) all place i e in
     let good = all_get IsGood all place g.0 (items_good labels p mss h r q) g.1.0 in
     let some = code_some labels p mss h in

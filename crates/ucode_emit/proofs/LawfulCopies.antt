@@ -1,6 +1,7 @@
 -- How many places values are copied to: for each value its banks and its early words, and for all values together no more than a form is large.
 use Rattle.std.proofs.Common.{◌≡◌, ℕ, suc, ◌+◌, ◌*◌, ◌≤◌, nat_eq, Bool, true, false, not, List, [], ◌∷◌, ◌++◌, map, filter, length, Option, Some, None, if◌then◌else◌, refl, ap, ◌∙◌, subst, ⊎_elim, arith}
 use Rattle.std.proofs.lemmas.Bool.{and_parts, or_parts, not-true, cases_Bool}
+use Rattle.std.proofs.lemmas.List.{length-map, length-append}
 use Rattle.nv_base.specs.Sets.{is_in, all_different}
 use Rattle.nv_base.proofs.Sets.{same-number}
 use Rattle.ssu_ir.specs.Tree.{Label}
@@ -15,7 +16,6 @@ use Rattle.ucode_emit.specs.inner.Layers.{Placed}
 use Rattle.ucode_emit.proofs.PointsLabels.{formed_at}
 use Rattle.ucode_emit.proofs.PointsUses.{at_in, use_at, use_of}
 use Rattle.ucode_emit.proofs.DefinitionsHomes.{Settled, in_general, put_early, fetched_to, settled_above, unused_bare}
-use Rattle.ucode_emit.proofs.Placing.{as_many, long_both}
 
 -- ---- the copies of one value
 
@@ -36,8 +36,8 @@ few_fills p d fills h =
     let b = maybe_one B h.b in
     let c = maybe_one Slot h.slot in
     let e : length fills ≡ length (maybe A h.a ++ (maybe B h.b ++ maybe Slot h.slot)) = ap length h.in_order in
-    let f = long_both (maybe A h.a) (maybe B h.b ++ maybe Slot h.slot) in
-    let g = long_both (maybe B h.b) (maybe Slot h.slot) in
+    let f = length-append (maybe A h.a) (maybe B h.b ++ maybe Slot h.slot) in
+    let g = length-append (maybe B h.b) (maybe Slot h.slot) in
     omega (arith, a, b, c, e, f, g)
 
 filter_if : {X : Type 0} (b : Bool) (x : X) (ys : List X) (n : ℕ) → length ys ≤ n → length (if b then x ∷ ys else ys) ≤ suc n
@@ -53,8 +53,8 @@ copies_counted labels p x h =
     let early = early_uses labels p x in
     let a = few_fills p (home p x).defined h.fills h.are in
     let b : how_many p x ≡ length (h.fills ++ map (word_register p) early) = ap length h.copied in
-    let c = long_both h.fills (map (word_register p) early) in
-    let d = as_many (word_register p) early in
+    let c = length-append h.fills (map (word_register p) early) in
+    let d = length-map early (word_register p) in
     let e : length early ≤ count (uses labels) x = filter_short (is_early p) (filter (λ u. nat_eq u.value x) (uses labels)) in
     omega (arith, a, b, c, d, e)
 
@@ -150,7 +150,7 @@ uses_short k i (x ∷ xs) (r ∷ rs) = omega (arith, uses_short k (suc i) xs rs)
 pub uses_few : (n : ℕ) (qs : List Point) → length (uses_from n qs) ≤ total point_size qs
 uses_few n [] = omega arith
 uses_few n (q ∷ qs) =
-    let a = long_both (uses_at n 0 q.uses (place_roles q.place)) (uses_from (suc n) qs) in
+    let a = length-append (uses_at n 0 q.uses (place_roles q.place)) (uses_from (suc n) qs) in
     let b = uses_short n 0 q.uses (place_roles q.place) in
     omega (arith, a, b, uses_few (suc n) qs)
 

@@ -3,6 +3,7 @@ use Rattle.std.proofs.Common.{◌≡◌, ℕ, zero, suc, ◌+◌, ◌*◌, ◌�
 use Rattle.std.specs.Prelude.{◌^◌, ◌/◌}
 use Rattle.std.specs.List.{list_all}
 use Rattle.std.proofs.lemmas.Bool.{and_parts}
+use Rattle.std.proofs.lemmas.List.{length-map, length-append}
 use Rattle.nv_base.specs.Sets.{all_different}
 use Rattle.nv_base.specs.declared.term.Bin.TheVariants.{Sub}
 use Rattle.uc_isa.specs.declared.instruction.Instr.{Instr}
@@ -27,7 +28,7 @@ use Rattle.par_move.specs.Moves.{Move, temporary, StandFor, none, once, around, 
 use Rattle.ucode_emit.specs.inner.Pieces.{Item, Plain, Branch, instr_of, named, bring, brought, to_temporary, to_read_register, each_operand, operands, operand_at, words, to_slot, copied, all_copied, copies, all_copies, single_move, single_moves, un_op, source, address_of, shift_of, defines, moved, step_items, fork_items, last_items, entry_point, Sequences, sequence_at, tree_items, label_items, items_from, items, starts, served_moves, entry_moves, last_moves, tree_moves, label_moves, moves_from, parallel_moves}
 use Rattle.ucode_emit.specs.inner.Ready.{AreSequences}
 use Rattle.ucode_emit.specs.inner.Layers.{Placed}
-use Rattle.ucode_emit.proofs.Placing.{as_many, long_both, items_long, Part, part_whole, part_head, part_tail, part_left, part_right, label_moves_many, moves_many, code_of}
+use Rattle.ucode_emit.proofs.Placing.{items_long, Part, part_whole, part_head, part_tail, part_left, part_right, label_moves_many, moves_many, code_of}
 use Rattle.ucode_emit.proofs.LawfulPieces.{sequence_here, front_moves}
 use Rattle.ucode_emit.proofs.LawfulCopies.{how_many, count, sum_of, sum_both, counted_once, uses_few, all_copies_few}
 
@@ -59,16 +60,16 @@ read_short p k i = let s = serve p k i in if_short (is_slot s.from && is_read_re
 
 each_short : (fetch : ℕ → List Move) (i n : ℕ) → ((j : ℕ) → length (fetch j) ≤ 2) → length (each_operand fetch i n) ≤ 2 * n
 each_short fetch i zero h = omega arith
-each_short fetch i (suc n) h = omega (arith, h i, long_both (fetch i) (each_operand fetch (suc i) n), each_short fetch (suc i) n h)
+each_short fetch i (suc n) h = omega (arith, h i, length-append (fetch i) (each_operand fetch (suc i) n), each_short fetch (suc i) n h)
 
 operands_short : (p : Plan) (k n : ℕ) → length (operands p k n) ≤ 4 * n
 operands_short p k n =
-    omega (arith, long_both (each_operand (to_temporary p k) 0 n) (each_operand (to_read_register p k) 0 n), each_short (to_temporary p k) 0 n (temporary_short p k), each_short (to_read_register p k) 0 n (read_short p k))
+    omega (arith, length-append (each_operand (to_temporary p k) 0 n) (each_operand (to_read_register p k) 0 n), each_short (to_temporary p k) 0 n (temporary_short p k), each_short (to_read_register p k) 0 n (read_short p k))
 
 words_short : (p : Plan) (k i n : ℕ) → length (words p k i n) ≤ 2 * n
 words_short p k i n = each_short (λ j. brought (pass p k).l (serve p k j).from (serve p k j).at) i n (λ j. brought_short (pass p k).l (serve p k j).from (serve p k j).at)
 
-slot_short : (p : Plan) (k x : ℕ) → length (to_slot p k x) ≤ 1
+pub slot_short : (p : Plan) (k x : ℕ) → length (to_slot p k x) ≤ 1
 slot_short p k x = let d = (home p x).defined in if_short (is_slot d) ((S (named (pass p k).s), d) ∷ []) [] 1 (omega arith) (omega arith)
 
 copied_short : (s : Option ℕ) (from q : Place) → length (copied s from q) ≤ 2
@@ -76,31 +77,31 @@ copied_short s from q = if_short (is_slot q) ((from, S (named s)) ∷ (S (named 
 
 all_short : (s : Option ℕ) (from : Place) (qs : List Place) → length (all_copied s from qs) ≤ 2 * length qs
 all_short s from [] = omega arith
-all_short s from (q ∷ qs) = omega (arith, copied_short s from q, long_both (copied s from q) (all_copied s from qs), all_short s from qs)
+all_short s from (q ∷ qs) = omega (arith, copied_short s from q, length-append (copied s from q) (all_copied s from qs), all_short s from qs)
 
 copies_short : (p : Plan) (k x : ℕ) → length (copies p k x) ≤ 2 * how_many p x
 copies_short p k x = all_short (pass p k).s (home p x).defined (home p x).copied
 
 all_copies_short : (p : Plan) (k : ℕ) (xs : List ℕ) → length (all_copies p k xs) ≤ 2 * sum_of (how_many p) xs
 all_copies_short p k [] = omega arith
-all_copies_short p k (x ∷ xs) = omega (arith, copies_short p k x, long_both (copies p k x) (all_copies p k xs), all_copies_short p k xs)
+all_copies_short p k (x ∷ xs) = omega (arith, copies_short p k x, length-append (copies p k x) (all_copies p k xs), all_copies_short p k xs)
 
 single_short : (l : Option ℕ) (from at : Place) → length (single_move l from at) ≤ 3
 single_short l from at =
     let a = bring_short l from (S 0) in
     let b = bring_short l from at in
-    let c = long_both (bring l from (S 0)) ((S 0, at) ∷ []) in
+    let c = length-append (bring l from (S 0)) ((S 0, at) ∷ []) in
     if_short (is_slot at) (bring l from (S 0) ++ (S 0, at) ∷ []) (bring l from at) 3 (omega (arith, a, c)) (omega (arith, b))
 
 singles_short : (l : Option ℕ) (ms : List Move) → length (single_moves l ms) ≤ 3 * length ms
 singles_short l [] = omega arith
-singles_short l (m ∷ ms) = omega (arith, single_short l m.0 m.1, long_both (single_move l m.0 m.1) (single_moves l ms), singles_short l ms)
+singles_short l (m ∷ ms) = omega (arith, single_short l m.0 m.1, length-append (single_move l m.0 m.1) (single_moves l ms), singles_short l ms)
 
 once_short : (n : ℕ) (m : Move) (a b : List Move) → length (a ++ b) ≤ 2 * n → length (a ++ m ∷ b) ≤ 2 * suc n
-once_short n m a b h = omega (arith, h, long_both a b, long_both a (m ∷ b))
+once_short n m a b h = omega (arith, h, length-append a b, length-append a (m ∷ b))
 
 around_short : (n : ℕ) (m m' : Move) (a b c : List Move) → length (a ++ (b ++ c)) ≤ 2 * n → length (a ++ (m ∷ (b ++ (m' ∷ c)))) ≤ 2 * suc n
-around_short n m m' a b c h = omega (arith, h, long_both a (b ++ c), long_both b c, long_both a (m ∷ (b ++ (m' ∷ c))), long_both b (m' ∷ c))
+around_short n m m' a b c h = omega (arith, h, length-append a (b ++ c), length-append b c, length-append a (m ∷ (b ++ (m' ∷ c))), length-append b (m' ∷ c))
 
 rest_short : (n m : ℕ) → m ≤ 2 * n → m ≤ 2 * suc n
 rest_short n m h = omega (arith, h)
@@ -122,10 +123,10 @@ entry_many p i (x ∷ xs) = ap suc (entry_many p (suc i) xs)
 -- ---- pieces
 
 defines_short : (p : Plan) (k x : ℕ) (op : Dst → Instr) → length (defines p k x op) ≤ 2 + 2 * how_many p x
-defines_short p k x op = omega (arith, slot_short p k x, copies_short p k x, long_both (to_slot p k x) (copies p k x), items_long (to_slot p k x ++ copies p k x))
+defines_short p k x op = omega (arith, slot_short p k x, copies_short p k x, length-append (to_slot p k x) (copies p k x), items_long (to_slot p k x ++ copies p k x))
 
 front_short : (ms : List Move) (is : List Item) (n m : ℕ) → length ms ≤ n → length is ≤ m → length (moved ms ++ is) ≤ n + m
-front_short ms is n m h g = omega (arith, h, g, long_both (moved ms) is, items_long ms)
+front_short ms is n m h g = omega (arith, h, g, length-append (moved ms) is, items_long ms)
 
 step_short : (p : Plan) (k : ℕ) (s : Step) → length (step_items p k s) ≤ 8 * node_size (Does s) + 2 * sum_of (how_many p) (step_values s)
 step_short p k (Lit x v) = omega (arith, defines_short p k x (λ d. instr.Immed d (v / 2 ^ shift_of v) (shift_of v)))
@@ -138,26 +139,26 @@ step_short p k (Bin x op y z) =
 step_short p k (Clone xs y) = omega arith
 step_short p k (Read m xs y) =
     let rest = Plain (instr.Read m (first p k) (length xs) (address_of (operand_at p k 0)) 0) ∷ moved (all_copies p k xs) in
-    omega (arith, operands_short p k 1, long_both (moved (operands p k 1)) rest, items_long (operands p k 1), items_long (all_copies p k xs), all_copies_short p k xs)
+    omega (arith, operands_short p k 1, length-append (moved (operands p k 1)) rest, items_long (operands p k 1), items_long (all_copies p k xs), all_copies_short p k xs)
 step_short p k (Write m y xs) =
     let front = operands p k 1 ++ words p k 1 (length xs) in
     let rest = Plain (instr.Write m (first p k) (length xs) (address_of (operand_at p k 0)) 0) ∷ [] in
-    omega (arith, operands_short p k 1, words_short p k 1 (length xs), long_both (operands p k 1) (words p k 1 (length xs)), long_both (moved front) rest, items_long front)
+    omega (arith, operands_short p k 1, words_short p k 1 (length xs), length-append (operands p k 1) (words p k 1 (length xs)), length-append (moved front) rest, items_long front)
 
 fork_short : (p : Plan) (k : ℕ) (c : Cond) (second : ℕ) → length (fork_items p k c second) ≤ 10
 fork_short p k c second =
     let rest = Plain (instr.Alu dst.Nowhere Sub (source (operand_at p k 0)) (source (operand_at p k 1))) ∷ Branch c second ∷ [] in
-    omega (arith, operands_short p k 2, long_both (moved (operands p k 2)) rest, items_long (operands p k 2))
+    omega (arith, operands_short p k 2, length-append (moved (operands p k 2)) rest, items_long (operands p k 2))
 
 last_short : (labels : List Label) (p : Plan) (k : ℕ) (l : Last) (ms : List Move) → StandFor (last_moves p k l) ms → length (last_items labels p k l ms) ≤ 8 * node_size (Ends l)
 last_short labels p k (Jump l xs) ms h =
     let a = stand_short (served_moves p k 0 (length xs)) ms h in
     let front = single_moves (pass p k).l ms in
-    omega (arith, a, served_many p k 0 (length xs), singles_short (pass p k).l ms, items_long front, long_both (moved front) (Branch Always (entry_point labels l) ∷ []))
+    omega (arith, a, served_many p k 0 (length xs), singles_short (pass p k).l ms, items_long front, length-append (moved front) (Branch Always (entry_point labels l) ∷ []))
 last_short labels p k (Halt c xs) ms h =
     let a = stand_short (served_moves p k 0 (length xs)) ms h in
     let front = single_moves (pass p k).l ms in
-    omega (arith, a, served_many p k 0 (length xs), singles_short (pass p k).l ms, items_long front, long_both (moved front) (Plain (instr.Halt c (length xs)) ∷ []))
+    omega (arith, a, served_many p k 0 (length xs), singles_short (pass p k).l ms, items_long front, length-append (moved front) (Plain (instr.Halt c (length xs)) ∷ []))
 
 -- ---- trees and labels
 
@@ -175,7 +176,7 @@ tree_short : (labels : List Label) (p : Plan) (mss : Sequences) (k : ℕ) (t : T
     → length (tree_items labels p mss k t) ≤ 8 * tree_size t + 2 * sum_of (how_many p) (tree_values t)
 tree_short labels p mss k (Do s t) q a =
     let b = tree_short labels p mss (suc k) t q (part_tail k [] (tree_moves p (suc k) t) (parallel_moves p labels) a) in
-    omega (arith, b, step_short p k s, long_both (step_items p k s) (tree_items labels p mss (suc k) t), sum_both (how_many p) (step_values s) (tree_values t))
+    omega (arith, b, step_short p k s, length-append (step_items p k s) (tree_items labels p mss (suc k) t), sum_both (how_many p) (step_values s) (tree_values t))
 tree_short labels p mss k (If c x y t u) q a =
     let rest = part_tail k [] (tree_moves p (suc k) t ++ tree_moves p (suc k + nodes t) u) (parallel_moves p labels) a in
     let b = tree_short labels p mss (suc k) t q (part_left (suc k) (tree_moves p (suc k) t) (tree_moves p (suc k + nodes t) u) (parallel_moves p labels) rest) in
@@ -183,7 +184,7 @@ tree_short labels p mss k (If c x y t u) q a =
     (part_right (suc k) (suc k + nodes t) (tree_moves p (suc k) t) (tree_moves p (suc k + nodes t) u) (parallel_moves p labels) (ap (λ n. suc k + n) (sym (moves_many p (suc k) t))) rest) in
     let ts = tree_items labels p mss (suc k) t in
     let us = tree_items labels p mss (suc k + nodes t) u in
-    omega (arith, b, d, fork_short p k (failing c) (suc k + nodes t), long_both (fork_items p k (failing c) (suc k + nodes t)) (ts ++ us), long_both ts us, sum_both (how_many p) (tree_values t) (tree_values u))
+    omega (arith, b, d, fork_short p k (failing c) (suc k + nodes t), length-append (fork_items p k (failing c) (suc k + nodes t)) (ts ++ us), length-append ts us, sum_both (how_many p) (tree_values t) (tree_values u))
 tree_short labels p mss k (End l) q a =
     let s = sequence_here (parallel_moves p labels) mss k (last_moves p k l) q (part_head k (last_moves p k l) [] (parallel_moves p labels) a) in
     omega (arith, last_short labels p k l (sequence_at mss k) s.kinds)
@@ -220,10 +221,10 @@ labels_short labels p mss k (l ∷ ls) q a =
       c,
       fronts_short labels p mss k l q here,
       all_copies_short p k l.params,
-      long_both (front_moves mss k) (all_copies p k l.params),
+      length-append (front_moves mss k) (all_copies p k l.params),
       items_long moves,
-      long_both (moved moves) body,
-      long_both (label_items labels p mss k l) (items_from labels p mss j ls),
+      length-append (moved moves) body,
+      length-append (label_items labels p mss k l) (items_from labels p mss j ls),
       sum_both (how_many p) l.params (tree_values l.body ++ all_values ls),
       sum_both (how_many p) (tree_values l.body) (all_values ls),
     )
@@ -231,13 +232,13 @@ labels_short labels p mss k (l ∷ ls) q a =
 -- ---- how many values there are
 
 values_few : (t : Tree) → length (tree_values t) ≤ tree_size t
-values_few (Do s t) = omega (arith, long_both (step_values s) (tree_values t), values_few t)
-values_few (If c x y t u) = omega (arith, long_both (tree_values t) (tree_values u), values_few t, values_few u)
+values_few (Do s t) = omega (arith, length-append (step_values s) (tree_values t), values_few t)
+values_few (If c x y t u) = omega (arith, length-append (tree_values t) (tree_values u), values_few t, values_few u)
 values_few (End l) = omega arith
 
 all_values_few : (ls : List Label) → length (all_values ls) ≤ size ls
 all_values_few [] = omega arith
-all_values_few (l ∷ ls) = omega (arith, long_both l.params (tree_values l.body ++ all_values ls), long_both (tree_values l.body) (all_values ls), values_few l.body, all_values_few ls)
+all_values_few (l ∷ ls) = omega (arith, length-append l.params (tree_values l.body ++ all_values ls), length-append (tree_values l.body) (all_values ls), values_few l.body, all_values_few ls)
 
 -- what is summed over values is no more than over all that is defined
 tree_among : (f : ℕ → ℕ) (t : Tree) → sum_of f (tree_values t) ≤ sum_of f (defined t)
@@ -268,7 +269,7 @@ code_short labels p mss h q =
     omega (
       arith,
       labels_short labels p mss 0 labels q (part_whole (parallel_moves p labels)),
-      as_many (instr_of (starts labels p mss)) (items labels p mss),
+      length-map (items labels p mss) (instr_of (starts labels p mss)),
       all_copies_few labels p (all_values labels) h,
       all_values_few labels,
       all_among (count (uses labels)) labels,

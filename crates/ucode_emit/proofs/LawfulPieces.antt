@@ -17,6 +17,7 @@ use Rattle.ssu_ir.specs.Points.{Names, own, Point}
 use Rattle.ssu_ir.specs.Single.{takes_as_many}
 use Rattle.place_ir.specs.declared.place.Place.TheVariants.{A}
 use Rattle.place_ir.specs.Plan.{Plan, first, pass}
+use Rattle.place_ir.proofs.Walked.{get-index}
 use Rattle.par_move.specs.Moves.{Move, Words, StandFor, none}
 use Rattle.ucode_emit.specs.inner.Pieces.{Plain, Branch, operands, operand_at, words, result_place, to_slot, copies, all_copies, single_moves, un_op, source, target, address_of, shift_of, defines, moved, step_items, fork_items, last_items, entry_point, Sequences, sequence_at, label_moves, tree_moves, parallel_moves, last_moves, entry_moves}
 use Rattle.ucode_emit.specs.inner.Ready.{Ready, IsSequence, AreSequences}
@@ -26,7 +27,7 @@ use Rattle.ucode_emit.proofs.PointsEach.{all_both}
 use Rattle.ucode_emit.proofs.PointsLabels.{Formed, formed_at}
 use Rattle.ucode_emit.proofs.PointsUsed.{root_at}
 use Rattle.ucode_emit.proofs.DefinitionsDirect.{access_at}
-use Rattle.ucode_emit.proofs.Placing.{index_there, there_by_length, Part, part_head, entry_later}
+use Rattle.ucode_emit.proofs.Placing.{there_by_length, Part, part_head, entry_later}
 use Rattle.ucode_emit.proofs.LawfulItems.{KeepsOwn, un_own, alu_own, immed_own, halt_own, read_own, write_own, run_is, paired_is, count_is, apart_sources, IsGood, AreGood, moves_good}
 
 -- ---- all words are 0: then all stands ready anywhere
@@ -148,7 +149,7 @@ nothing_moved mss k e = subst (λ ms. AreGood (moved (single_moves None ms))) (s
 
 first_good : (labels : List Label) (p : Plan) (mss : Sequences) (it : Label) → ReadyLayer labels p → slice_get labels 0 ≡ Some it → IsSequence (entry_moves p 0 it.params) (sequence_at mss 0) → AreGood (moved (front_moves mss 0))
 first_good labels p mss it r e s =
-    let d = r.begins it (sequence_at mss 0) it.params own (given it.params) e refl (λ i x w f g. same_Some x w (sym f ∙ g)) s (λ i w g. index_there it.params i w 0 g) in
+    let d = r.begins it (sequence_at mss 0) it.params own (given it.params) e refl (λ i x w f g. same_Some x w (sym f ∙ g)) s (λ i w g. get-index it.params i w 0 g) in
     moves_good (front_moves mss 0) d.0
 
 pub front_good : (labels : List Label) (p : Plan) (mss : Sequences) (l k : ℕ) (it : Label) → ReadyLayer labels p → AreSequences (parallel_moves p labels) mss → slice_get labels l ≡ Some it → entry_point labels l ≡ k

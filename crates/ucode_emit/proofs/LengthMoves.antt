@@ -4,6 +4,7 @@ use Rattle.std.proofs.Common.{◌≡◌, ℕ, zero, suc, ◌+◌, ◌*◌, ◌�
 use Rattle.std.specs.List.{AllByRecursion}
 use Rattle.std.proofs.lemmas.Bool.{false≢true, cases_Bool}
 use Rattle.std.proofs.lemmas.List.Elements.{recursion_from_All}
+use Rattle.std.proofs.lemmas.List.{length-map, length-append}
 use Rattle.ssu_ir.specs.Tree.{Label}
 use Rattle.place_ir.specs.declared.place.Place.{Place}
 use Rattle.place_ir.specs.declared.place.Place.TheVariants.{A, B, L, LD, S, SD, Slot}
@@ -16,7 +17,8 @@ use Rattle.ucode_emit.specs.inner.Pieces.{named, bring, brought, to_temporary, t
 use Rattle.ucode_emit.specs.inner.Layers.{Placed}
 use Rattle.ucode_emit.proofs.DefinitionsHomes.{ThereIn, early_register, early_each, unused_bare}
 use Rattle.ucode_emit.proofs.LawfulCopies.{one_if}
-use Rattle.ucode_emit.proofs.Placing.{as_many, long_both}
+use Rattle.ucode_emit.proofs.CostMoves.{rest_light}
+use Rattle.ucode_emit.proofs.LawfulLength.{slot_short}
 
 -- ---- operands
 
@@ -79,22 +81,22 @@ fetch_room l from (LD j) = let z = some_read (is_slot from) (from, LD j) in let 
 each_room : (p : Plan) (k i n : ℕ) → length (each_operand (to_temporary p k) i n) + length (each_operand (to_read_register p k) i n) + operands_early p k i n ≤ 2 * n
 each_room p k i zero = omega arith
 each_room p k i (suc n) =
-    let a = long_both (to_temporary p k i) (each_operand (to_temporary p k) (suc i) n) in
-    let b = long_both (to_read_register p k i) (each_operand (to_read_register p k) (suc i) n) in
+    let a = length-append (to_temporary p k i) (each_operand (to_temporary p k) (suc i) n) in
+    let b = length-append (to_read_register p k i) (each_operand (to_read_register p k) (suc i) n) in
     let c = fetch_room (pass p k).l (serve p k i).from (serve p k i).at in
     let d = each_room p k (suc i) n in
     omega (arith, a, b, c, d)
 
 pub operands_room : (p : Plan) (k n : ℕ) → length (operands p k n) + operands_early p k 0 n ≤ 2 * n
 operands_room p k n =
-    let a = long_both (each_operand (to_temporary p k) 0 n) (each_operand (to_read_register p k) 0 n) in
+    let a = length-append (each_operand (to_temporary p k) 0 n) (each_operand (to_read_register p k) 0 n) in
     let b = each_room p k 0 n in
     omega (arith, a, b)
 
 pub words_room : (p : Plan) (k i n : ℕ) → length (words p k i n) + operands_early p k i n ≤ 2 * n
 words_room p k i zero = omega arith
 words_room p k i (suc n) =
-    let a = long_both (brought (pass p k).l (serve p k i).from (serve p k i).at) (words p k (suc i) n) in
+    let a = length-append (brought (pass p k).l (serve p k i).from (serve p k i).at) (words p k (suc i) n) in
     let b = brought_room (pass p k).l (serve p k i).from (serve p k i).at in
     let c = words_room p k (suc i) n in
     omega (arith, a, b, c)
@@ -122,7 +124,7 @@ single_long l from (L j) = let z = bring_long l from (L j) in omega (arith, z)
 single_long l from (LD j) = let z = bring_long l from (LD j) in omega (arith, z)
 single_long l from (S j) = let z = bring_long l from (S j) in omega (arith, z)
 single_long l from (SD j) = let z = bring_long l from (SD j) in omega (arith, z)
-single_long l from (Slot j) = let z = bring_long l from (S 0) in let y = long_both (bring l from (S 0)) ((S 0, Slot j) ∷ []) in omega (arith, z, y)
+single_long l from (Slot j) = let z = bring_long l from (S 0) in let y = length-append (bring l from (S 0)) ((S 0, Slot j) ∷ []) in omega (arith, z, y)
 
 from_own : (l : Option ℕ) (at : Place) → length (single_move l temporary at) ≤ way_long at
 from_own l (A j) = omega arith
@@ -140,13 +142,13 @@ ways_long (m ∷ ms) = way_long m.0 + way_long m.1 + ways_long ms
 singles_both : (l : Option ℕ) (a b : List Move) → length (single_moves l (a ++ b)) ≡ length (single_moves l a) + length (single_moves l b)
 singles_both l [] b = let z : length (single_moves l b) ≡ 0 + length (single_moves l b) = omega arith in z
 singles_both l (m ∷ a) b =
-    let x = long_both (single_move l m.0 m.1) (single_moves l (a ++ b)) in
-    let y = long_both (single_move l m.0 m.1) (single_moves l a) in
+    let x = length-append (single_move l m.0 m.1) (single_moves l (a ++ b)) in
+    let y = length-append (single_move l m.0 m.1) (single_moves l a) in
     let z = singles_both l a b in
     omega (arith, x, y, z)
 
 singles_head : (l : Option ℕ) (from at : Place) (ms : List Move) → length (single_moves l ((from, at) ∷ ms)) ≡ length (single_move l from at) + length (single_moves l ms)
-singles_head l from at ms = long_both (single_move l from at) (single_moves l ms)
+singles_head l from at ms = length-append (single_move l from at) (single_moves l ms)
 
 once_long : (l : Option ℕ) (from at : Place) (a b ms : List Move) → length (single_moves l (a ++ b)) ≤ ways_long ms → length (single_moves l (a ++ ((from, at) ∷ b))) ≤ way_long from + way_long at + ways_long ms
 once_long l from at a b ms h =
@@ -169,14 +171,11 @@ around_long l from at a b c ms h =
     let s = from_own l at in
     omega (arith, h, x, y, z, w, v, u, t, s)
 
-rest_long : (n m w : ℕ) → w ≤ m → w ≤ n + m
-rest_long n m w h = omega (arith, h)
-
 pub stand_long : (l : Option ℕ) (moves ms : List Move) → StandFor moves ms → length (single_moves l ms) ≤ ways_long moves
 stand_long l moves ms none = omega arith
 stand_long l moves ms (once {s} {t} {ms = ns} a b h) = once_long l s t a b ns (stand_long l ns (a ++ b) h)
 stand_long l moves ms (around {s} {t} {ms = ns} a b c h) = around_long l s t a b c ns (stand_long l ns (a ++ (b ++ c)) h)
-stand_long l moves ms (at_rest {p = q} {ms = ns} {r} h) = rest_long (way_long q + way_long q) (ways_long ns) (length (single_moves l r)) (stand_long l ns r h)
+stand_long l moves ms (at_rest {p = q} {ms = ns} {r} h) = rest_light (way_long q + way_long q) (ways_long ns) (length (single_moves l r)) (stand_long l ns r h)
 
 way_room : (from : Place) → way_long from + early_one from ≤ 2
 way_room (A k) = omega arith
@@ -228,8 +227,8 @@ early_of labels p x = length (early_uses labels p x)
 copied_both : (s : Option ℕ) (from : Place) (a b : List Place) → length (all_copied s from (a ++ b)) ≡ length (all_copied s from a) + length (all_copied s from b)
 copied_both s from [] b = let z : length (all_copied s from b) ≡ 0 + length (all_copied s from b) = omega arith in z
 copied_both s from (q ∷ a) b =
-    let x = long_both (copied s from q) (all_copied s from (a ++ b)) in
-    let y = long_both (copied s from q) (all_copied s from a) in
+    let x = length-append (copied s from q) (all_copied s from (a ++ b)) in
+    let y = length-append (copied s from q) (all_copied s from a) in
     let z = copied_both s from a b in
     omega (arith, x, y, z)
 
@@ -239,7 +238,7 @@ one_copy s from q e = ap (λ (b : Bool). length {A = Move} (if b then (from, S (
 registers_copied : (s : Option ℕ) (from : Place) (qs : List Place) → AllByRecursion (λ q. is_slot q ≡ false) qs → length (all_copied s from qs) ≡ length qs
 registers_copied s from [] h = refl
 registers_copied s from (q ∷ qs) h =
-    let a = long_both (copied s from q) (all_copied s from qs) in
+    let a = length-append (copied s from q) (all_copied s from qs) in
     let b = one_copy s from q h.0 in
     let c = registers_copied s from qs h.1 in
     omega (arith, a, b, c)
@@ -311,18 +310,11 @@ copies_counted labels p s x n h c f =
     let a : length (all_copied s d (home p x).copied) ≡ length (all_copied s d (c.fills ++ ws)) = ap (λ l. length (all_copied s d l)) c.copied in
     let b = copied_both s d c.fills ws in
     let e = registers_copied s d ws (early_registers labels p x h) in
-    let g = as_many (word_register p) (early_uses labels p x) in
+    let g = length-map (early_uses labels p x) (word_register p) in
     omega (arith, a, b, e, f, g)
 
 none_copied : (s : Option ℕ) (d : Place) (qs : List Place) → qs ≡ [] → length (all_copied s d qs) ≡ 0
 none_copied s d qs e = ap (λ l. length (all_copied s d l)) e
-
-slot_small : (b : Bool) (m : Move) → length (if b then m ∷ [] else []) ≤ 1
-slot_small true m = omega arith
-slot_small false m = omega arith
-
-to_slot_small : (p : Plan) (k x : ℕ) → length (to_slot p k x) ≤ 1
-to_slot_small p k x = slot_small (is_slot (home p x).defined) (S (named (pass p k).s), (home p x).defined)
 
 no_slot : (p : Plan) (k x : ℕ) → is_slot (home p x).defined ≡ false → length (to_slot p k x) ≡ 0
 no_slot p k x e = ap (λ (b : Bool). length {A = Move} (if b then (S (named (pass p k).s), (home p x).defined) ∷ [] else [])) e
@@ -332,7 +324,7 @@ general_room labels p k x h g c =
     ⊎_elim
     (λ (e : is_slot (home p x).defined ≡ true).
     let a = none_copied (pass p k).s (home p x).defined (home p x).copied (c.from_slot e) in
-    let b = to_slot_small p k x in
+    let b = slot_short p k x in
     let z : length (to_slot p k x) + length (copies p k x) ≤ 3 + early_of labels p x = omega (arith, a, b) in z)
     (λ (e : is_slot (home p x).defined ≡ false).
     let a = copies_counted labels p (pass p k).s x 3 h c (general_fills p (pass p k).s (home p x).defined c.fills g e c.are) in
@@ -343,7 +335,7 @@ general_room labels p k x h g c =
 pub early_room : (labels : List Label) (p : Plan) (k x : ℕ) → IsPutEarly labels p x (home p x) → length (to_slot p k x) + length (copies p k x) ≤ 3 + early_of labels p x
 early_room labels p k x c =
     let a = none_copied (pass p k).s (home p x).defined (home p x).copied c.copied in
-    let b = to_slot_small p k x in
+    let b = slot_short p k x in
     omega (arith, a, b)
 
 pub read_room : (labels : List Label) (p : Plan) (k x : ℕ) → Placed labels p → (is_used labels x ≡ true → AreCopies labels p x (home p x)) → length (copies p k x) ≤ 4 + early_of labels p x

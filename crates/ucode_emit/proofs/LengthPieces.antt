@@ -1,5 +1,6 @@
 -- How many instructions the piece of each point has. Words that are put early are counted at their uses, and not where their values are defined.
 use Rattle.std.proofs.Common.{◌≡◌, ℕ, zero, suc, ◌+◌, ◌*◌, ◌≤◌, ◌⊎◌, false, List, [], ◌∷◌, ◌++◌, map, length, None, sym, ap, ◌∙◌, subst, ⊎_elim, slice_get, Some, arith}
+use Rattle.std.proofs.lemmas.List.{length-append}
 use Rattle.std.specs.List.{AllByRecursion}
 use Rattle.nv_base.specs.declared.term.Mem.{Mem}
 use Rattle.nv_base.specs.declared.term.Bin.TheVariants.{Sub}
@@ -26,7 +27,7 @@ use Rattle.ucode_emit.proofs.Entries.{entry_here}
 use Rattle.ucode_emit.proofs.LawfulCopies.{sum_of}
 use Rattle.ucode_emit.proofs.LengthMoves.{operands_early, operands_room, words_room, stand_long, jump_room, end_room, entry_room, early_of, general_room, early_room, read_room}
 use Rattle.ucode_emit.proofs.OperandsHomes.{IsHere, uses_here}
-use Rattle.ucode_emit.proofs.Placing.{long_both, items_long}
+use Rattle.ucode_emit.proofs.Placing.{items_long}
 use Rattle.ucode_emit.proofs.PointsEach.{each_here}
 use Rattle.ucode_emit.proofs.PointsLabels.{entry_at}
 use Rattle.ucode_emit.proofs.PointsUsed.{root_at}
@@ -46,7 +47,7 @@ Fit labels p k q is = length is + operands_early p k 0 (place_operands q) ≤ pl
 
 -- moves before other items
 before : (ms : List Move) (is : List Item) → length (moved ms ++ is) ≡ length ms + length is
-before ms is = long_both (moved ms) is ∙ ap (λ n. n + length is) (items_long ms)
+before ms is = length-append (moved ms) is ∙ ap (λ n. n + length is) (items_long ms)
 
 housed_at : (labels : List Label) (p : Plan) (k : ℕ) (q : Point) → Placed labels p → slice_get (points labels) k ≡ Some q → AllByRecursion (IsHoused labels p) (place_values k q.place)
 housed_at labels p k q h e = each_here (λ j r. AllByRecursion (IsHoused labels p) (place_values j r.place)) (points labels) k q (housed_each labels p h) e
@@ -60,7 +61,7 @@ defines_room : (labels : List Label) (p : Plan) (k x : ℕ) (op : Dst → Instr)
     → length (defines p k x op) ≤ 4 + early_of labels p x
 defines_room labels p k x op h c =
     let a = result_room labels p k x h c in
-    let b = long_both (to_slot p k x) (copies p k x) in
+    let b = length-append (to_slot p k x) (copies p k x) in
     let d = items_long (to_slot p k x ++ copies p k x) in
     omega (arith, a, b, d)
 
@@ -69,7 +70,7 @@ fetched_room labels p k m i [] h c = omega arith
 fetched_room labels p k m i (x ∷ xs) h c =
     let a = read_room labels p k x h (λ u. (c.0 u).1) in
     let b = fetched_room labels p k m (suc i) xs h c.1 in
-    let d = long_both (copies p k x) (all_copies p k xs) in
+    let d = length-append (copies p k x) (all_copies p k xs) in
     omega (arith, a, b, d)
 
 params_room : (labels : List Label) (p : Plan) (k l i : ℕ) (xs : List ℕ) → Placed labels p → AllByRecursion (IsHoused labels p) (numbered k (Parameter l) i xs) → length (all_copies p k xs) ≤ 3 * length xs + sum_of (early_of labels p) xs
@@ -77,7 +78,7 @@ params_room labels p k l i [] h c = omega arith
 params_room labels p k l i (x ∷ xs) h c =
     let a = general_room labels p k x h c.0.0 c.0.1 in
     let b = params_room labels p k l (suc i) xs h c.1 in
-    let d = long_both (copies p k x) (all_copies p k xs) in
+    let d = length-append (copies p k x) (all_copies p k xs) in
     omega (arith, a, b, d)
 
 -- ---- steps
@@ -112,7 +113,7 @@ step_room labels p k of above (Read m xs y) t h a =
 step_room labels p k of above (Write m y xs) t h a =
     let n = length xs in
     let b = before (operands p k 1 ++ words p k 1 n) (Plain (instr.Write m (first p k) n (address_of (operand_at p k 0)) 0) ∷ []) in
-    let c = long_both (operands p k 1) (words p k 1 n) in
+    let c = length-append (operands p k 1) (words p k 1 n) in
     let d = words_room p k 1 n in
     let o = operands_room p k 1 in
     omega (arith, b, c, d, o)
@@ -148,7 +149,7 @@ tree_room labels p k n of above (End l) ms h a q = last_room labels p k n of abo
 -- ---- where labels begin
 
 front_long : (labels : List Label) (p : Plan) (k l n : ℕ) (params : List ℕ) (ms : List Move) → length (place_piece labels p k (Entry l params) n ms) ≡ length (single_moves None ms) + length (all_copies p k params)
-front_long labels p k l n params ms = items_long (single_moves None ms ++ all_copies p k params) ∙ long_both (single_moves None ms) (all_copies p k params)
+front_long labels p k l n params ms = items_long (single_moves None ms ++ all_copies p k params) ∙ length-append (single_moves None ms) (all_copies p k params)
 
 front_room : (labels : List Label) (p : Plan) (k l n : ℕ) (params : List ℕ) (ms : List Move) → Placed labels p → AllByRecursion (IsHoused labels p) (numbered k (Parameter l) 0 params) → IsSequence (place_moves p k (Entry l params)) ms
     → Fit labels p k (Entry l params) (place_piece labels p k (Entry l params) n ms)

@@ -2,6 +2,8 @@
 use Rattle.std.proofs.Common.{◌≡◌, ℕ, zero, suc, ◌+◌, ◌≤◌, nat_eq, Bool, true, false, ◌&&◌, if◌then◌else◌, List, [], ◌∷◌, ◌++◌, map, filter, length, refl, sym, ap, ◌∙◌, subst, append_assoc, slice_get, arith}
 use Rattle.std.specs.List.{list_all}
 use Rattle.std.proofs.lemmas.Bool.{and_parts}
+use Rattle.std.proofs.lemmas.List.{length-map, length-append}
+use Rattle.std.proofs.lemmas.Option.{slice_get_within}
 use Rattle.nv_base.specs.Sets.{all_different}
 use Rattle.ssu_ir.specs.Tree.{Tree, Do, If, End, Label, Does}
 use Rattle.ssu_ir.specs.Points.{Entry, At, place_values as place_variables}
@@ -10,6 +12,7 @@ use Rattle.ssu_ir.specs.Single.{all_defined, is_entry, is_single}
 use Rattle.place_ir.specs.Plan.{Plan, serve}
 use Rattle.place_ir.specs.Uses.{Use, uses}
 use Rattle.place_ir.specs.Fits.{use_operand, is_early}
+use Rattle.place_ir.proofs.Walked.{get-index}
 use Rattle.ucode_emit.specs.inner.Pieces.{instr_of, items, starts, Sequences, sequence_at, parallel_moves}
 use Rattle.ucode_emit.specs.inner.Ready.{AreSequences}
 use Rattle.ucode_emit.specs.inner.Layers.{Placed}
@@ -22,10 +25,10 @@ use Rattle.ucode_emit.proofs.LawfulLength.{tree_values, all_values, all_among}
 use Rattle.ucode_emit.proofs.LengthMoves.{early_one, operands_early, early_of}
 use Rattle.ucode_emit.proofs.LengthPieces.{place_code, Fit, place_room}
 use Rattle.ucode_emit.proofs.Marked.{all_joined}
-use Rattle.ucode_emit.proofs.Placing.{as_many, long_both, index_there, code_of}
+use Rattle.ucode_emit.proofs.Placing.{code_of}
 use Rattle.ucode_emit.proofs.PointsEach.{EachFrom, each_of}
 use Rattle.ucode_emit.proofs.Stood.{stood_at}
-use Rattle.ucode_emit.proofs.Walked.{sequence_there, there_below}
+use Rattle.ucode_emit.proofs.Walked.{sequence_there}
 
 -- ---- point by point
 
@@ -47,7 +50,7 @@ Fits labels p mss k q = Fit labels p k q.place (point_piece labels p k q (sequen
 pieces_room : (labels : List Label) (p : Plan) (mss : Sequences) (k : ℕ) (qs : List Mark) → EachFrom (Fits labels p mss) k qs → length (joined (pieces labels p mss k qs)) + earlies p k qs ≤ codes qs + sum_of (early_of labels p) (variables qs)
 pieces_room labels p mss k [] h = omega arith
 pieces_room labels p mss k (q ∷ qs) h =
-    let a = long_both (point_piece labels p k q (sequence_at mss k)) (joined (pieces labels p mss (suc k) qs)) in
+    let a = length-append (point_piece labels p k q (sequence_at mss k)) (joined (pieces labels p mss (suc k) qs)) in
     let b = sum_both (early_of labels p) (place_variables q.place) (variables qs) in
     let c = pieces_room labels p mss (suc k) qs h.1 in
     let d = h.0 in
@@ -56,8 +59,8 @@ pieces_room labels p mss k (q ∷ qs) h =
 each_room : (labels : List Label) (p : Plan) (mss : Sequences) → Placed labels p → AreSequences (parallel_moves p labels) mss → EachFrom (Fits labels p mss) 0 (marks labels)
 each_room labels p mss h r =
     each_of (Fits labels p mss) (marks labels) (λ k q e.
-    let l = there_below (marks labels) k q e in
-    let here = index_there (marks labels) k q (mark (Entry 0 []) 0) e in
+    let l = slice_get_within (marks labels) k q e in
+    let here = get-index (marks labels) k q (mark (Entry 0 []) 0) e in
     subst (Fits labels p mss k) here
     (place_room labels p k (mark_at labels k).first_arm (mark_at labels k).place (sequence_at mss k) h (stood_at labels p k l) (sequence_there labels p mss k r l)))
 
@@ -174,7 +177,7 @@ pub code_bounded : (labels : List Label) (p : Plan) (mss : Sequences) → Placed
 code_bounded labels p mss h r =
     let different = (and_parts (all_different (all_defined labels)) (list_all (is_single labels) labels)
     (and_parts (is_entry (slice_get labels 0)) (all_different (all_defined labels) && list_all (is_single labels) labels) h.single).1).0 in
-    let a = as_many (instr_of (starts labels p mss)) (items labels p mss) in
+    let a = length-map (items labels p mss) (instr_of (starts labels p mss)) in
     let b = ap length (all_joined labels p mss) in
     let c = pieces_room labels p mss 0 (marks labels) (each_room labels p mss h r) in
     let d = all_codes labels in

@@ -1,21 +1,21 @@
 -- The code of a form is that of its points in order.
 use Rattle.std.proofs.Common.{◌≡◌, ℕ, zero, suc, ◌+◌, ◌<◌, List, [], ◌∷◌, ◌++◌, length, refl, sym, ap, ◌∙◌, arith, append_assoc}
 use Rattle.std.specs.Prelude.{slice_index_or}
-use Rattle.std.proofs.lemmas.List.{append-nil}
+use Rattle.std.proofs.lemmas.List.{append-nil, length-append}
 use Rattle.uc_isa.specs.Registers.{failing}
 use Rattle.ssu_ir.specs.Tree.{Tree, Do, If, End, Label, Ends}
 use Rattle.ssu_ir.specs.Points.{At, nodes}
 use Rattle.place_ir.specs.Plan.{Plan}
 use Rattle.ucode_emit.specs.inner.Pieces.{Item, moved, all_copies, entry_point, entry_moves, step_items, fork_items, Sequences, sequence_at, tree_items, items_from, items, tree_starts, starts_from, starts, tree_moves, moves_from, parallel_moves}
 use Rattle.ucode_emit.specs.inner.Marks.{Mark, mark, tree_marks, marks_from, marks, pieces, point_piece, joined, begins, place_moves, marks_moves, entries_from}
-use Rattle.ucode_emit.proofs.Placing.{long_both, items_long, forks_long}
+use Rattle.ucode_emit.proofs.Placing.{items_long, forks_long}
 use Rattle.ucode_emit.proofs.LawfulPieces.{front_moves}
 
 -- ---- lists of pieces
 
 pub marks_many : (t : Tree) → length (tree_marks t) ≡ nodes t
 marks_many (Do s t) = let m = marks_many t in omega (arith, m)
-marks_many (If c x y t u) = let b = long_both (tree_marks t) (tree_marks u) in let m = marks_many t in let n = marks_many u in omega (arith, b, m, n)
+marks_many (If c x y t u) = let b = length-append (tree_marks t) (tree_marks u) in let m = marks_many t in let n = marks_many u in omega (arith, b, m, n)
 marks_many (End l) = refl
 
 pub pieces_both : (labels : List Label) (p : Plan) (mss : Sequences) (k n : ℕ) (a b : List Mark) → n ≡ k + length a → pieces labels p mss k (a ++ b) ≡ pieces labels p mss k a ++ pieces labels p mss n b
@@ -31,7 +31,7 @@ joined_both (x ∷ a) b = ap (λ l. x ++ l) (joined_both a b) ∙ sym (append_as
 pub begins_both : (at : ℕ) (a b : List (List Item)) → begins at (a ++ b) ≡ begins at a ++ begins (at + length (joined a)) b
 begins_both at [] b = let z : at ≡ at + 0 = omega arith in ap (λ j. begins j b) z
 begins_both at (x ∷ a) b =
-    let m = long_both x (joined a) in
+    let m = length-append x (joined a) in
     let z : at + length x + length (joined a) ≡ at + length (x ++ joined a) = omega (arith, m) in
     ap (λ l. at ∷ l) (begins_both (at + length x) a b ∙ ap (λ j. begins (at + length x) a ++ begins j b) z)
 
@@ -96,7 +96,7 @@ from_begins labels p mss at k l (x ∷ ls) =
     let body = pieces labels p mss (suc k) (tree_marks x.body) in
     let rest = pieces labels p mss (suc k + nodes x.body) (marks_from (suc l) ls) in
     let tree = tree_items labels p mss (suc k) x.body in
-    let long = long_both (moved moves) tree in
+    let long = length-append (moved moves) tree in
     let same = items_long moves in
     let z : at + length moves + length tree ≡ at + length (moved moves ++ tree) = omega (arith, long, same) in
     ap (λ l. at ∷ begins (at + length (moved moves)) l) (body_split labels p mss k (suc l) x ls)

@@ -2,7 +2,7 @@
 use Rattle.std.proofs.Common.{◌≡◌, ℕ, ◌<◌, ◌⊎◌, Bool, true, false, not, ◌&&◌, ◌||◌, List, [], ◌∷◌, ◌++◌, Option, Some, None, if◌then◌else◌, refl, sym, ap, ◌∙◌, subst, inl, inr, ⊎_elim, arith}
 use Rattle.std.specs.Prelude.{is_some}
 use Rattle.std.specs.List.{AllByRecursion, list_any}
-use Rattle.std.proofs.lemmas.Bool.{and_parts, and_from, or_left, or_right, not_from_false, false≢true, false_from_ne_true}
+use Rattle.std.proofs.lemmas.Bool.{and_parts, and_from, or_left, or_right, not_from_false, false≢true, false_from_ne_true, and_right}
 use Rattle.std.proofs.lemmas.List.Elements.{All-from_recursion}
 use Rattle.nv_base.specs.Sets.{is_in}
 use Rattle.nv_base.specs.Words.{Env}
@@ -16,12 +16,13 @@ use Rattle.place_ir.specs.Uses.{Operand, Address}
 use Rattle.place_ir.specs.Fits.{is_general, is_slot, is_write_register, is_read_register, word_register, is_home, IsOperandAt, IsAddressAt, read_places, has_place, maybe, different_groups}
 use Rattle.place_ir.proofs.Places.{same_place-from, same_place-false}
 use Rattle.par_move.specs.Moves.{Move, Words, put, one_by_one, temporary}
+use Rattle.par_move.proofs.Steps.{put-other}
 use Rattle.ucode_emit.specs.inner.Pieces.{named, brought, operands, operand_at}
 use Rattle.ucode_emit.specs.inner.Ready.{Ready, lasting}
 use Rattle.ucode_emit.specs.inner.Machine.{IsReadable, IsDirect, copied as in_one}
 use Rattle.ucode_emit.specs.inner.Layers.{Placed, IsAddress, OperandsReady, Behind}
 use Rattle.ucode_emit.proofs.PointsEach.{all_both}
-use Rattle.ucode_emit.proofs.Copies.{put_here, put_there, one_append, place_head}
+use Rattle.ucode_emit.proofs.Copies.{put_here, one_append, place_head}
 use Rattle.ucode_emit.proofs.DefinitionsHomes.{general_not_written, none_both, early_register, Settled, Lasts, in_place, in_read, IsOwn, lasts_from}
 use Rattle.ucode_emit.proofs.DefinitionsDirect.{OneInstr, eighth_named}
 use Rattle.ucode_emit.proofs.EntriesMoves.{home_spare}
@@ -70,8 +71,8 @@ written_apart l t r w a e =
 
 ready_put : (labels : List Label) (p : Plan) (k : ℕ) (q : Point) (env : Env) (e : Words) (r : Place) (w : ℕ) → Placed labels p → Here labels k q → Passing (pass p k).l r → Ready labels p k q env e → Ready labels p k q env (put e r w)
 ready_put labels p k q env e r w h s a d = record {
-  held = λ x i t m. put_there e r t w (held_apart labels p k q x t r h s i m a) ∙ d.held x i t m;
-  early = λ u v. put_there e r (word_register p u) w (written_apart (pass p k).l (word_register p u) r (early_register labels p v.there.0 u h v.there.1 v.early) a) ∙ d.early u v;
+  held = λ x i t m. put-other e r t w (held_apart labels p k q x t r h s i m a) ∙ d.held x i t m;
+  early = λ u v. put-other e r (word_register p u) w (written_apart (pass p k).l (word_register p u) r (early_register labels p v.there.0 u h v.there.1 v.early) a) ∙ d.early u v;
 }
 
 -- moves of single instructions that go where words pass
@@ -176,15 +177,11 @@ read_brings from at e s r =
     let b : (is_slot from && is_read_register at) ≡ true = and_from (is_slot from) (is_read_register at) s r in
     ap (λ c. one_by_one (if c then (from, at) ∷ [] else []) e at) b ∙ put_here e at (e from)
 
-and_none : (a b : Bool) → b ≡ false → (a && b) ≡ false
-and_none true b h = h
-and_none false b h = refl
-
 read_none : (from at : Place) (e : Words) → is_read_register at ≡ false → one_by_one (read_moves from at) e ≡ e
-read_none from at e r = ap (λ c. one_by_one (if c then (from, at) ∷ [] else []) e) (and_none (is_slot from) (is_read_register at) r)
+read_none from at e r = ap (λ c. one_by_one (if c then (from, at) ∷ [] else []) e) (and_right (is_slot from) (is_read_register at) r)
 
 spares_own_if : (b : Bool) (from at : Place) (e : Words) → (b ≡ true → is_read_register at ≡ true) → one_by_one (if b then (from, at) ∷ [] else []) e temporary ≡ e temporary
-spares_own_if true from at e r = put_there e at temporary (e from) (λ z. false≢true (ap is_read_register z ∙ r refl))
+spares_own_if true from at e r = put-other e at temporary (e from) (λ z. false≢true (ap is_read_register z ∙ r refl))
 spares_own_if false from at e r = refl
 
 read_spares_own : (from at : Place) (e : Words) → one_by_one (read_moves from at) e temporary ≡ e temporary

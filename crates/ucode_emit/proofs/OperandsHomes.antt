@@ -1,10 +1,10 @@
 -- Where the words of a point's operands are, before they are fetched.
-use Rattle.std.proofs.Common.{◌≡◌, ℕ, zero, suc, ◌+◌, ◌<◌, ◌≤◌, nat_eq, Bool, true, false, not, ◌||◌, List, [], ◌∷◌, ◌++◌, map, length, Some, refl, sym, ap, ◌∙◌, subst, ⊎_elim, slice_get, arith}
+use Rattle.std.proofs.Common.{◌≡◌, ℕ, suc, ◌+◌, ◌<◌, ◌≤◌, nat_eq, true, false, not, ◌||◌, List, [], ◌∷◌, ◌++◌, map, length, Some, refl, sym, ap, ◌∙◌, subst, ⊎_elim, slice_get, arith}
 use Rattle.std.specs.Prelude.{⊤, is_some}
 use Rattle.std.specs.List.{AllByRecursion, list_any}
-use Rattle.std.proofs.lemmas.Bool.{and_parts, or_cases, or_left, or_right, not-true, false≢true, eq-eqb}
+use Rattle.std.proofs.lemmas.Bool.{and_parts, or_cases, or_left, not-true, false≢true, eq-eqb}
 use Rattle.std.proofs.lemmas.List.Folds.{list_any-append}
-use Rattle.std.proofs.lemmas.Option.{none-some, same_Some}
+use Rattle.std.proofs.lemmas.Map.Keys.{any_passes_from_place}
 use Rattle.nv_base.specs.declared.term.Mem.{Mem}
 use Rattle.nv_base.specs.declared.term.Mem.TheVariants.{Sram, Sdram, Scratch}
 use Rattle.nv_base.specs.Sets.{is_in, Within}
@@ -12,6 +12,7 @@ use Rattle.nv_base.specs.Words.{Env}
 use Rattle.nv_base.proofs.Sets.{within-left}
 use Rattle.ssu_ir.specs.Tree.{Lit, Una, Bin, Clone, Read, Write, Tree, Do, If, End, Label, Does, Forks, Ends, step_uses}
 use Rattle.ssu_ir.specs.Points.{Names, names_after, used, Place as PointPlace, Entry, At, Point, points, place_values}
+use Rattle.ssu_ir.proofs.Held.{filter_from, filter_in}
 use Rattle.place_ir.specs.declared.place.Place.{Place}
 use Rattle.place_ir.specs.declared.place.Place.TheVariants.{A, B, L, LD, S, SD, Slot}
 use Rattle.place_ir.specs.Places.{same_place}
@@ -19,13 +20,13 @@ use Rattle.place_ir.specs.Plan.{Plan, home, first, pass}
 use Rattle.place_ir.specs.Uses.{place_accesses, Value, Sort, Parameter, Result, Fetched, numbered, place_values as values_at, place_roles, Use, uses_at, uses, uses_of, is_used}
 use Rattle.place_ir.specs.Fits.{read_place, IsGeneral, is_general, is_slot, is_write_register, is_read_register, served, AreCopies, IsPutEarly, IsHome, IsHoused, is_home, IsServed, stays, general_places, kept_register, read_places, has_place}
 use Rattle.place_ir.proofs.Places.{same_place-true, same_place-from}
+use Rattle.place_ir.proofs.Fitting.{vars-of-place}
 use Rattle.par_move.specs.Moves.{Words, temporary}
 use Rattle.ucode_emit.specs.inner.Ready.{Ready, lasting}
 use Rattle.ucode_emit.specs.inner.Layers.{Placed, PointsAt, root_point}
 use Rattle.ucode_emit.proofs.PointsEach.{EachFrom, each_map, each_both, each_here, all_of}
-use Rattle.ucode_emit.proofs.PointsTree.{in_filter, filter_in}
 use Rattle.ucode_emit.proofs.PointsLabels.{formed_at, labels_above}
-use Rattle.ucode_emit.proofs.PointsUses.{each_there, vars_at}
+use Rattle.ucode_emit.proofs.PointsUses.{each_there}
 use Rattle.ucode_emit.proofs.PointsUsed.{used_there, root_at, root_above, root_before}
 use Rattle.ucode_emit.proofs.DefinitionsHomes.{general_not_read, read_not_written, read_place_is, place_right, place_filter, ThereIn, filter_get, Settled, in_general, put_early, fetched_to, settled_above, Target, fill, word, targets, served_at, early_register, value_of, housed_each, general_is}
 use Rattle.ucode_emit.proofs.DefinitionsReady.{early_use}
@@ -113,7 +114,7 @@ bounded_here : (labels : List Label) (p : Plan) (k : ℕ) (q : Point) → Placed
 bounded_here labels p k q h a e x i =
     let fits = values_fit p k q.place (access_at labels p k q h e) in
     let both = all_and (IsHoused labels p) (ValueFits p) (values_at k q.place) a fits in
-    let v = value_of (λ w. IsHoused labels p w × ValueFits p w) (values_at k q.place) x both (ap (is_in x) (vars_at k q.place) ∙ i) in
+    let v = value_of (λ w. IsHoused labels p w × ValueFits p w) (values_at k q.place) x both (ap (is_in x) (vars-of-place k q.place) ∙ i) in
     subst (BoundedIfUsed labels p) v.2 (bounded_sort labels p v.0 v.0.sort h v.1.0 v.1.1)
 
 abbrev AreBounded : List Label → Plan → ℕ → Point → Type 0
@@ -146,11 +147,11 @@ pub here_at : (labels : List Label) (p : Plan) (k : ℕ) (of : Names) (above : L
 here_at labels p k of above t h a =
     let q = root_point of above t in
     let e = root_at labels k of above t a in
-    let split = λ (x : ℕ) (i : is_in x q.before ≡ true). filter_in (λ z. is_in z (used of t)) x above (sym (ap (is_in x) (root_before of above t)) ∙ i) in record {
+    let split = λ (x : ℕ) (i : is_in x q.before ≡ true). filter_from (λ z. is_in z (used of t)) above x (sym (ap (is_in x) (root_before of above t)) ∙ i) in record {
       at = e;
       uses = λ x i.
           let known : is_in x above ≡ true = sym (ap (is_in x) (root_above of above t)) ∙ (formed_at labels k q h.single e).uses x i in
-          ap (is_in x) (root_before of above t) ∙ in_filter (λ z. is_in z (used of t)) x above known (root_uses of above t x i);
+          ap (is_in x) (root_before of above t) ∙ filter_in (λ z. is_in z (used of t)) above x known (root_uses of above t x i);
       known = λ x i. ap (is_in x) (root_above of above t) ∙ (split x i).0;
       used_it = λ x i. used_there labels k of above t a x (split x i).1;
     }
@@ -235,16 +236,11 @@ kind_lasts labels p x r i f (fetched g e) =
     let one : has_place r (kept_register labels p x true) ≡ true = or_left (same_place r (home p x).defined) false (same_place-from r (home p x).defined e) in
     place_right r (general_places p x) (read_places labels p x) (ap (λ b. has_place r (kept_register labels p x b)) (f g) ∙ one)
 
-any_at : (f : Use → Bool) (us : List Use) (i : ℕ) (u : Use) → slice_get us i ≡ Some u → f u ≡ true → list_any f us ≡ true
-any_at f [] i u e h = absurd (none-some u e)
-any_at f (v ∷ us) zero u e h = or_left (f v) (list_any f us) (ap f (same_Some v u e) ∙ h)
-any_at f (v ∷ us) (suc i) u e h = or_right (f v) (list_any f us) (any_at f us i u e h)
-
 -- where a use of a value is served from a read register, it stays there
 use_stays : (labels : List Label) (p : Plan) (u : Use) → ThereIn (uses labels) u → is_read_register (served p u).from ≡ true → stays labels p u.value ≡ true
 use_stays labels p u t h =
     let a = filter_get (λ v. nat_eq v.value u.value) (uses labels) t.0 u t.1 (eq-eqb u.value u.value refl) in
-    any_at (λ v. is_read_register (served p v).from) (uses_of labels u.value) a.0 u a.1 h
+    any_passes_from_place (λ v. is_read_register (served p v).from) (uses_of labels u.value) a.0 u a.1 h
 
 -- ---- a word that is served from a home
 
@@ -282,4 +278,4 @@ uses_here labels p k q h e =
     all_and P (λ u. is_slot (served p u).from ≡ true → is_some (pass p k).l ≡ true) us
     (each_here (λ j r. AllByRecursion P (uses_at j 0 r.uses (place_roles r.place))) (points labels) k q (uses_each P 0 (points labels) all) e)
     (all_of (λ u. is_slot (served p u).from ≡ true → is_some (pass p k).l ≡ true) us
-    (λ i u g c. (h.fits.points k q e).passes.reads (any_at (λ v. is_slot (served p v).from) us i u g c)))
+    (λ i u g c. (h.fits.points k q e).passes.reads (any_passes_from_place (λ v. is_slot (served p v).from) us i u g c)))

@@ -1,7 +1,7 @@
 -- Where the piece of each point stands in the code, and in the lists that go by points.
 use Rattle.std.proofs.Common.{◌≡◌, ℕ, zero, suc, ◌+◌, ◌<◌, List, [], ◌∷◌, ◌++◌, map, length, Some, None, refl, sym, ap, ◌∙◌, subst, arith, slice_get, slice_index_or}
 use Rattle.std.proofs.lemmas.Option.{none-some, same_Some}
-use Rattle.std.proofs.lemmas.List.{append-nil}
+use Rattle.std.proofs.lemmas.List.{append-nil, map-append, length-map, length-append}
 use Rattle.nv_base.specs.declared.term.Bin.TheVariants.{Sub}
 use Rattle.nv_base.specs.declared.term.Cmp.{Cmp}
 use Rattle.uc_isa.specs.declared.instruction.Instr.{Instr}
@@ -15,6 +15,7 @@ use Rattle.ssu_ir.specs.Tree.{Step, Tree, Do, If, End, Label, step_values}
 use Rattle.ssu_ir.specs.Points.{Names, own, names_after, points, points_from, tree_points, nodes}
 use Rattle.ssu_ir.proofs.PointLemmas.{length-tree_points}
 use Rattle.place_ir.specs.Plan.{Plan}
+use Rattle.place_ir.proofs.Walked.{get-left}
 use Rattle.par_move.specs.Moves.{Move}
 use Rattle.ucode_emit.specs.inner.Pieces.{Item, Plain, Branch, operands, operand_at, source, moved, move_instr, instr_of, Sequences, sequence_at, step_items, fork_items, single_moves, all_copies, entry_point, tree_items, label_items, items_from, items, tree_starts, starts_from, starts, tree_moves, label_moves, moves_from, parallel_moves}
 use Rattle.ucode_emit.specs.inner.Machine.{move_instrs}
@@ -22,23 +23,6 @@ use Rattle.ucode_emit.specs.inner.Layers.{PointsAt}
 use Rattle.ucode_emit.proofs.PointsEach.{get_append}
 
 -- ---- lists
-
-pub map_both : {X Y : Type 0} (f : X → Y) (a b : List X) → map f (a ++ b) ≡ map f a ++ map f b
-map_both f [] b = refl
-map_both f (x ∷ a) b = ap (λ l. f x ∷ l) (map_both f a b)
-
-pub as_many : {X Y : Type 0} (f : X → Y) (a : List X) → length (map f a) ≡ length a
-as_many f [] = refl
-as_many f (x ∷ a) = ap suc (as_many f a)
-
-pub long_both : {X : Type 0} (a b : List X) → length (a ++ b) ≡ length a + length b
-long_both [] b = let z : length b ≡ 0 + length b = omega arith in z
-long_both (x ∷ a) b = let z : suc (length a + length b) ≡ suc (length a) + length b = omega arith in ap suc (long_both a b) ∙ z
-
-pub index_there : {X : Type 0} (xs : List X) (k : ℕ) (x d : X) → slice_get xs k ≡ Some x → slice_index_or xs k d ≡ x
-index_there [] k x d e = absurd (none-some x e)
-index_there (y ∷ xs) zero x d e = same_Some y x e
-index_there (y ∷ xs) (suc k) x d e = index_there xs k x d e
 
 pub there_by_length : {X Y : Type 0} (xs : List X) (ys : List Y) (k : ℕ) (x : X) (d : Y) → length ys ≡ length xs → slice_get xs k ≡ Some x → slice_get ys k ≡ Some (slice_index_or ys k d)
 there_by_length [] ys k x d n e = absurd (none-some x e)
@@ -59,13 +43,8 @@ part_head k x xs all h = let z : k ≡ k + 0 = omega arith in ap (slice_get all)
 pub part_tail : {X : Type 0} (k : ℕ) (x : X) (xs all : List X) → Part k (x ∷ xs) all → Part (suc k) xs all
 part_tail k x xs all h = record { each = λ i y e. let z : suc k + i ≡ k + suc i = omega arith in ap (slice_get all) z ∙ h.each (suc i) y e }
 
-left_there : {X : Type 0} (a b : List X) (i : ℕ) (x : X) → slice_get a i ≡ Some x → slice_get (a ++ b) i ≡ Some x
-left_there [] b i x e = absurd (none-some x e)
-left_there (y ∷ a) b zero x e = e
-left_there (y ∷ a) b (suc i) x e = left_there a b i x e
-
 pub part_left : {X : Type 0} (k : ℕ) (a b all : List X) → Part k (a ++ b) all → Part k a all
-part_left k a b all h = record { each = λ i x e. h.each i x (left_there a b i x e) }
+part_left k a b all h = record { each = λ i x e. h.each i x (get-left a b i x e) }
 
 pub part_right : {X : Type 0} (k n : ℕ) (a b all : List X) → n ≡ k + length a → Part k (a ++ b) all → Part n b all
 part_right k n a b all m h = record {
@@ -89,7 +68,7 @@ starts_many labels p mss at k (If c x y t u) =
     let second = first + length (tree_items labels p mss (suc k) t) in
     let ts = tree_starts labels p mss first (suc k) t in
     let us = tree_starts labels p mss second (suc k + nodes t) u in
-    arms_many (length (ts ++ us)) (length ts) (length us) (nodes t) (nodes u) (long_both ts us) (starts_many labels p mss first (suc k) t) (starts_many labels p mss second (suc k + nodes t) u)
+    arms_many (length (ts ++ us)) (length ts) (length us) (nodes t) (nodes u) (length-append ts us) (starts_many labels p mss first (suc k) t) (starts_many labels p mss second (suc k + nodes t) u)
 starts_many labels p mss at k (End l) = refl
 
 pub moves_many : (p : Plan) (k : ℕ) (t : Tree) → length (tree_moves p k t) ≡ nodes t
@@ -97,7 +76,7 @@ moves_many p k (Do s t) = one_more (length (tree_moves p (suc k) t)) (nodes t) (
 moves_many p k (If c x y t u) =
     let ts = tree_moves p (suc k) t in
     let us = tree_moves p (suc k + nodes t) u in
-    arms_many (length (ts ++ us)) (length ts) (length us) (nodes t) (nodes u) (long_both ts us) (moves_many p (suc k) t) (moves_many p (suc k + nodes t) u)
+    arms_many (length (ts ++ us)) (length ts) (length us) (nodes t) (nodes u) (length-append ts us) (moves_many p (suc k) t) (moves_many p (suc k + nodes t) u)
 moves_many p k (End l) = refl
 
 pub label_moves_many : (p : Plan) (k : ℕ) (l : Label) → length (label_moves p k l) ≡ suc (nodes l.body)
@@ -110,21 +89,9 @@ pub moves_as_items : (places : List ℕ) (ms : List Move) → map (instr_of plac
 moves_as_items places [] = refl
 moves_as_items places (m ∷ ms) = ap (λ l. move_instr m.0 m.1 ∷ l) (moves_as_items places ms)
 
-pub moves_long : (ms : List Move) → length (move_instrs ms) ≡ length ms
-moves_long [] = refl
-moves_long (m ∷ ms) = ap suc (moves_long ms)
-
 pub items_long : (ms : List Move) → length (moved ms) ≡ length ms
 items_long [] = refl
 items_long (m ∷ ms) = ap suc (items_long ms)
-
-pub moves_both : (a b : List Move) → move_instrs (a ++ b) ≡ move_instrs a ++ move_instrs b
-moves_both [] b = refl
-moves_both (m ∷ a) b = ap (λ l. move_instr m.0 m.1 ∷ l) (moves_both a b)
-
--- moves in front of some items
-pub moves_before : (places : List ℕ) (ms : List Move) (is : List Item) → map (instr_of places) (moved ms ++ is) ≡ move_instrs ms ++ map (instr_of places) is
-moves_before places ms is = map_both (instr_of places) (moved ms) is ∙ ap (λ l. l ++ map (instr_of places) is) (moves_as_items places ms)
 
 -- items stand in the code from a place on
 abbrev pub ItemsIn : List Instr → List ℕ → ℕ → List Item → Type 0
@@ -132,12 +99,12 @@ ItemsIn code places at is = InCode code at (map (instr_of places) is)
 
 pub items_left : (code : List Instr) (places : List ℕ) (at : ℕ) (a b : List Item) → ItemsIn code places at (a ++ b) → ItemsIn code places at a
 items_left code places at a b h =
-    stands-left code at (map (instr_of places) a) (map (instr_of places) b) (subst (λ l. InCode code at l) (map_both (instr_of places) a b) h)
+    stands-left code at (map (instr_of places) a) (map (instr_of places) b) (subst (λ l. InCode code at l) (map-append (instr_of places) a b) h)
 
 pub items_right : (code : List Instr) (places : List ℕ) (at to : ℕ) (a b : List Item) → to ≡ at + length a → ItemsIn code places at (a ++ b) → ItemsIn code places to b
 items_right code places at to a b e h =
-    let r = stands-right code at (map (instr_of places) a) (map (instr_of places) b) (subst (λ l. InCode code at l) (map_both (instr_of places) a b) h) in
-    subst (λ n. InCode code n (map (instr_of places) b)) (ap (λ n. at + n) (as_many (instr_of places) a) ∙ sym e) r
+    let r = stands-right code at (map (instr_of places) a) (map (instr_of places) b) (subst (λ l. InCode code at l) (map-append (instr_of places) a b) h) in
+    subst (λ n. InCode code n (map (instr_of places) b)) (ap (λ n. at + n) (length-map a (instr_of places)) ∙ sym e) r
 
 -- ---- where a tree stands: its code, the places of its points, its points, and their parallel moves
 
@@ -146,9 +113,6 @@ pub record TreeAt (labels : List Label) (p : Plan) (mss : Sequences) (code : Lis
   pub begins : Part k (tree_starts labels p mss at k t) places
   pub moves : Part k (tree_moves p k t) (parallel_moves p labels)
   pub points_ : PointsAt labels k of above t
-
-points_part : (labels : List Label) (k : ℕ) (of : Names) (above : List ℕ) (t : Tree) → PointsAt labels k of above t → Part k (tree_points of above t) (points labels)
-points_part labels k of above t h = record { each = h.each }
 
 part_points : (labels : List Label) (k : ℕ) (of : Names) (above : List ℕ) (t : Tree) → Part k (tree_points of above t) (points labels) → PointsAt labels k of above t
 part_points labels k of above t h = record { each = h.each }
@@ -174,7 +138,7 @@ tree_rest labels p mss code places k at of above s t h = record {
 pub forks_long : (p : Plan) (k : ℕ) (c : Cond) (a b : ℕ) → length (fork_items p k c a) ≡ length (fork_items p k c b)
 forks_long p k c a b =
     let test = Plain (instr.Alu dst.Nowhere Sub (source (operand_at p k 0)) (source (operand_at p k 1))) in
-    long_both (moved (operands p k 2)) (test ∷ Branch c a ∷ []) ∙ sym (long_both (moved (operands p k 2)) (test ∷ Branch c b ∷ []))
+    length-append (moved (operands p k 2)) (test ∷ Branch c a ∷ []) ∙ sym (length-append (moved (operands p k 2)) (test ∷ Branch c b ∷ []))
 
 arms_split : (labels : List Label) (k : ℕ) (of : Names) (above : List ℕ) (c : Cmp) (x y : ℕ) (t u : Tree) → PointsAt labels k of above (If c x y t u) → Part (suc k) (tree_points of above t ++ tree_points of above u) (points labels)
 arms_split labels k of above c x y t u h = record { each = λ i q e. let z : suc k + i ≡ k + suc i = omega arith in ap (slice_get (points labels)) z ∙ h.each (suc i) q e }

@@ -2,7 +2,7 @@
 use Rattle.std.proofs.Common.{◌≡◌, ℕ, zero, suc, ◌+◌, nat_eq, Bool, true, false, ◌&&◌, List, [], ◌∷◌, ◌++◌, map, if◌then◌else◌, refl, sym, ap, ◌∙◌, subst, ⊎_elim, arith, Some, slice_get}
 use Rattle.std.specs.Prelude.{⊤}
 use Rattle.std.specs.List.{list_all}
-use Rattle.std.proofs.lemmas.Bool.{and_parts, or_cases, or_left, or_right, or_parts, false≢true, false_from_ne_true, eq-eqb}
+use Rattle.std.proofs.lemmas.Bool.{and_parts, or_cases, or_right, or_parts, false≢true, false_from_ne_true}
 use Rattle.std.proofs.lemmas.List.{map-append}
 use Rattle.std.proofs.lemmas.Option.{none-some, same_Some}
 use Rattle.nv_base.specs.Sets.{is_in, all_different, Within}
@@ -11,9 +11,12 @@ use Rattle.ssu_ir.specs.Tree.{Step, Lit, Una, Bin, Clone, Read, Write, Tree, Do,
 use Rattle.ssu_ir.specs.Points.{Names, own, names_after, used, held, Place, Entry, At, Point, place_values, nodes, tree_points, points_from, points}
 use Rattle.ssu_ir.specs.Single.{defined, all_defined, step_names, all_known, is_scoped, is_step, is_last, are_nodes, step_results, uses_once, clones_early, results_used, are_addressed, unknown, is_entry, is_single, single}
 use Rattle.ssu_ir.proofs.PointLemmas.{length-tree_points}
+use Rattle.ssu_ir.proofs.Lists.{image_from, all_at, in-itself}
+use Rattle.ssu_ir.proofs.Held.{filter_in}
 use Rattle.ucode_emit.specs.inner.Pieces.{entry_point}
 use Rattle.ucode_emit.proofs.PointsEach.{EachFrom, each_map, each_append, each_left, each_right, each_here, get_append}
-use Rattle.ucode_emit.proofs.PointsTree.{Disjoint, in_either, not_in_none, in_head, different_apart, different_left, different_right, in_filter, InTree, in_tree, arms_at, above_each, IsBelow, Above, PairsOf, pairs_cons, pairs_append, no_pairs, tree_pairs}
+use Rattle.ucode_emit.proofs.PointsTree.{Disjoint, not_in_none, different_apart, different_left, different_right, InTree, in_tree, arms_at, above_each, IsBelow, Above, PairsOf, pairs_cons, pairs_append, no_pairs, tree_pairs, left_rest, rest_different}
+use Rattle.place_ir.proofs.Scoped.{all-in, in-either}
 
 -- ---- lists of names
 
@@ -21,21 +24,9 @@ pub map_within : (of : ℕ → ℕ) (xs above : List ℕ) → ((z : ℕ) → is_
 map_within of [] above h x e = absurd (false≢true e)
 map_within of (y ∷ ys) above h x e =
     ⊎_elim
-    (λ (k : nat_eq x (of y) ≡ true). subst (λ w. is_in w above ≡ true) (sym (same-number x (of y) k)) (h y (in_head y ys)))
+    (λ (k : nat_eq x (of y) ≡ true). subst (λ w. is_in w above ≡ true) (sym (same-number x (of y) k)) (h y (in-itself y ys)))
     (λ (k : is_in x (map of ys) ≡ true). map_within of ys above (λ z g. h z (or_right (nat_eq z y) (is_in z ys) g)) x k)
     (or_cases (nat_eq x (of y)) (is_in x (map of ys)) e)
-
-pub known_at : (known xs : List ℕ) (x : ℕ) → all_known known xs ≡ true → is_in x xs ≡ true → is_in x known ≡ true
-known_at known [] x a e = absurd (false≢true e)
-known_at known (y ∷ ys) x a e =
-    let p = and_parts (is_in y known) (all_known known ys) a in
-    ⊎_elim
-    (λ (k : nat_eq x y ≡ true). subst (λ w. is_in w known ≡ true) (sym (same-number x y k)) p.0)
-    (λ (k : is_in x ys ≡ true). known_at known ys x p.1 k)
-    (or_cases (nat_eq x y) (is_in x ys) e)
-
-pub not_in_left : (x : ℕ) (a b : List ℕ) → is_in x (a ++ b) ≡ false → is_in x a ≡ false
-not_in_left x a b e = (or_parts (is_in x a) (is_in x b) (sym (in-append x a b) ∙ e)).0
 
 pub not_in_right : (x : ℕ) (a b : List ℕ) → is_in x (a ++ b) ≡ false → is_in x b ≡ false
 not_in_right x a b e = (or_parts (is_in x a) (is_in x b) (sym (in-append x a b) ∙ e)).1
@@ -58,7 +49,7 @@ names_within (Read m xs y) z e = e
 names_within (Write m y xs) z e = e
 
 uses_above : (of : Names) (known above xs : List ℕ) → all_known known xs ≡ true → ((z : ℕ) → is_in z known ≡ true → is_in (of z) above ≡ true) → Within (map of xs) above
-uses_above of known above xs a h = map_within of xs above (λ z e. h z (known_at known xs z a e))
+uses_above of known above xs a h = map_within of xs above (λ z e. h z (all-in known xs z a e))
 
 rest_known : (known : List ℕ) (s : Step) (t : Tree) → Disjoint known (defined (Do s t)) → all_different (defined (Do s t)) ≡ true → Disjoint (known ++ (step_values s ++ step_clones s)) (defined t)
 rest_known known s t d a x h g =
@@ -69,11 +60,8 @@ rest_known known s t d a x h g =
     ⊎_elim
     (λ (l : is_in x (step_values s) ≡ true). different_apart (step_values s) (step_clones s ++ defined t) a x l later)
     (λ (l : is_in x (step_clones s) ≡ true). different_apart (step_clones s) (defined t) (different_right (step_values s) (step_clones s ++ defined t) a) x l g)
-    (in_either x (step_values s) (step_clones s) k))
-    (in_either x known (step_values s ++ step_clones s) h)
-
-rest_differs : (s : Step) (t : Tree) → all_different (defined (Do s t)) ≡ true → all_different (defined t) ≡ true
-rest_differs s t a = different_right (step_clones s) (defined t) (different_right (step_values s) (step_clones s ++ defined t) a)
+    (in-either x (step_values s) (step_clones s) k))
+    (in-either x known (step_values s ++ step_clones s) h)
 
 -- behind a step that makes no clones
 plain_named : (of : Names) (known above vs rest : List ℕ) → Disjoint known (vs ++ rest) → ((z : ℕ) → is_in z known ≡ true → is_in (of z) above ≡ true) → ((z : ℕ) → is_in z known ≡ false → of z ≡ z)
@@ -87,18 +75,18 @@ plain_named of known above vs rest d h o z e =
     let itself : of z ≡ z = o z (false_from_ne_true (is_in z known) (λ i. d z i (within-left vs rest z l))) in
     subst (λ w. is_in w (above ++ vs) ≡ true) (sym itself) (within-right above vs z l))
     (λ (l : is_in z [] ≡ true). absurd (not_in_none z l))
-    (in_either z vs [] k))
-    (in_either z known (vs ++ []) e)
+    (in-either z vs [] k))
+    (in-either z known (vs ++ []) e)
 
 plain_own : (of : Names) (known vs : List ℕ) → ((z : ℕ) → is_in z known ≡ false → of z ≡ z) → (z : ℕ) → is_in z (known ++ vs) ≡ false → of z ≡ z
-plain_own of known vs o z e = o z (not_in_left z known vs e)
+plain_own of known vs o z e = o z (left_rest z known vs e)
 
 -- behind clones
 clone_named : (b : Bool) (of : Names) (known above xs : List ℕ) (y z : ℕ) → is_in z xs ≡ b → is_in (of y) above ≡ true → ((z : ℕ) → is_in z known ≡ true → is_in (of z) above ≡ true)
     → is_in z (known ++ xs) ≡ true → is_in (if b then of y else of z) (above ++ []) ≡ true
 clone_named true of known above xs y z b hy h e = within-left above [] (of y) hy
 clone_named false of known above xs y z b hy h e =
-    ⊎_elim (λ (k : is_in z known ≡ true). within-left above [] (of z) (h z k)) (λ (k : is_in z xs ≡ true). absurd (false≢true (sym b ∙ k))) (in_either z known xs e)
+    ⊎_elim (λ (k : is_in z known ≡ true). within-left above [] (of z) (h z k)) (λ (k : is_in z xs ≡ true). absurd (false≢true (sym b ∙ k))) (in-either z known xs e)
 
 clone_own : (b : Bool) (of : Names) (xs : List ℕ) (y z : ℕ) → is_in z xs ≡ b → is_in z xs ≡ false → of z ≡ z → (if b then of y else of z) ≡ z
 clone_own true of xs y z e f h = absurd (false≢true (sym f ∙ e))
@@ -109,7 +97,7 @@ rest_named : (of : Names) (known above : List ℕ) (s : Step) (t : Tree) → Sco
 rest_named of known above (Lit x v) t h a z e = plain_named of known above (x ∷ []) (defined t) h.apart h.named h.own_name z e
 rest_named of known above (Una x op y) t h a z e = plain_named of known above (x ∷ []) (defined t) h.apart h.named h.own_name z e
 rest_named of known above (Bin x op y w) t h a z e = plain_named of known above (x ∷ []) (defined t) h.apart h.named h.own_name z e
-rest_named of known above (Clone xs y) t h a z e = clone_named (is_in z xs) of known above xs y z refl (h.named y (known_at known (y ∷ []) y a (in_head y []))) h.named e
+rest_named of known above (Clone xs y) t h a z e = clone_named (is_in z xs) of known above xs y z refl (h.named y (all-in known (y ∷ []) y a (in-itself y []))) h.named e
 rest_named of known above (Read m xs y) t h a z e = plain_named of known above xs (defined t) h.apart h.named h.own_name z e
 rest_named of known above (Write m y xs) t h a z e = plain_named of known above [] (defined t) h.apart h.named h.own_name z e
 
@@ -118,7 +106,7 @@ rest_own : (of : Names) (known : List ℕ) (s : Step) → ((z : ℕ) → is_in z
 rest_own of known (Lit x v) o z e = plain_own of known (x ∷ []) o z e
 rest_own of known (Una x op y) o z e = plain_own of known (x ∷ []) o z e
 rest_own of known (Bin x op y w) o z e = plain_own of known (x ∷ []) o z e
-rest_own of known (Clone xs y) o z e = clone_own (is_in z xs) of xs y z refl (not_in_right z known xs e) (o z (not_in_left z known xs e))
+rest_own of known (Clone xs y) o z e = clone_own (is_in z xs) of xs y z refl (not_in_right z known xs e) (o z (left_rest z known xs e))
 rest_own of known (Read m xs y) o z e = plain_own of known (xs ++ []) o z e
 rest_own of known (Write m y xs) o z e = plain_own of known [] o z e
 
@@ -129,7 +117,7 @@ rest_scope of known above s t h =
       named = rest_named of known above s t h p.0;
       own_name = rest_own of known s h.own_name;
       apart = rest_known known s t h.apart h.different;
-      different = rest_differs s t h.different;
+      different = rest_different s t h.different;
     }
 
 -- ---- what holds at each point
@@ -190,23 +178,10 @@ used_map f of of' (If c x y t u) h =
     ∙ sym (map-append f (used of t) (used of u))))
 used_map f of of' (End l) h = map_same f of of' (last_uses l) h
 
-in_map : (f : ℕ → ℕ) (x : ℕ) (xs : List ℕ) → is_in x xs ≡ true → is_in (f x) (map f xs) ≡ true
-in_map f x [] e = absurd (false≢true e)
-in_map f x (y ∷ ys) e =
-    ⊎_elim (λ (h : nat_eq x y ≡ true). or_left (nat_eq (f x) (f y)) (is_in (f x) (map f ys)) (eq-eqb (f x) (f y) (ap f (same-number x y h))))
-    (λ (h : is_in x ys ≡ true). or_right (nat_eq (f x) (f y)) (is_in (f x) (map f ys)) (in_map f x ys h))
-    (or_cases (nat_eq x y) (is_in x ys) e)
-
 -- a value that has its own name
 used_own : (of : Names) (t : Tree) (x : ℕ) → of x ≡ x → is_in x (used own t) ≡ true → is_in x (used of t) ≡ true
 used_own of t x o e =
-    ap (is_in x) (used_map of own of t (λ z. refl)) ∙ subst (λ y. is_in y (map of (used own t)) ≡ true) o (in_map of x (used own t) e)
-
-all_in : (f : ℕ → Bool) (xs : List ℕ) (x : ℕ) → list_all f xs ≡ true → is_in x xs ≡ true → f x ≡ true
-all_in f [] x a e = absurd (false≢true e)
-all_in f (y ∷ ys) x a e =
-    let p = and_parts (f y) (list_all f ys) a in
-    ⊎_elim (λ (k : nat_eq x y ≡ true). ap f (same-number x y k) ∙ p.0) (λ (k : is_in x ys ≡ true). all_in f ys x p.1 k) (or_cases (nat_eq x y) (is_in x ys) e)
+    ap (is_in x) (used_map of own of t (λ z. refl)) ∙ subst (λ y. is_in y (map of (used own t)) ≡ true) o (image_from of (used own t) x e)
 
 result_value : (s : Step) → Within (step_results s) (step_values s)
 result_value (Lit x v) z e = e
@@ -229,8 +204,8 @@ results_after : (of : Names) (known above : List ℕ) (s : Step) (t : Tree) → 
 results_after of known above s t h a x e =
     let v = result_value s x e in
     let new : is_in x known ≡ false = false_from_ne_true (is_in x known) (λ k. h.apart x k (within-left (step_values s) (step_clones s ++ defined t) x v)) in
-    let used_there = all_in (λ z. is_in z (used own t)) (step_results s) x a e in
-    in_filter (λ z. is_in z (used (names_after of s) t)) x (above ++ step_values s) (within-right above (step_values s) x v)
+    let used_there = all_at (λ z. is_in z (used own t)) (step_results s) x a e in
+    filter_in (λ z. is_in z (used (names_after of s) t)) (above ++ step_values s) x (within-right above (step_values s) x v)
     (used_own (names_after of s) t x (result_own of s x e ∙ h.own_name x new) used_there)
 
 pub formed_tree : (labels : List Label) (of : Names) (known above : List ℕ) (t : Tree) (n : ℕ) → Scope of known above t → are_nodes labels t ≡ true → results_used t ≡ true → EachFrom (Formed labels) n (tree_points of above t)
@@ -239,7 +214,7 @@ formed_tree labels of known above (Do s t) n h a r =
     let b = and_parts (is_step s) (are_nodes labels t) a in
     let g = and_parts (list_all (λ x. is_in x (used own t)) (step_results s)) (results_used t) r in (
       record {
-        uses = map_within of (step_uses s) above (λ z e. h.named z (known_at known (step_names s) z p.0 (names_within s z e)));
+        uses = map_within of (step_uses s) above (λ z e. h.named z (all-in known (step_names s) z p.0 (names_within s z e)));
         different = different_left (step_values s) (step_clones s ++ defined t) h.different;
         fits = b.0;
         results = results_after of known above s t h g.0;
@@ -349,7 +324,7 @@ entry_below : (k n : ℕ) (l : Label) (j : ℕ) (r : Point) → InTree own l.par
 entry_below k n l j r h x e f = record {
   under = omega (arith, h.from);
   within = omega (arith, h.to);
-  after = λ u. in_filter (λ z. is_in z (used own l.body)) x l.params e (h.uses x u);
+  after = λ u. filter_in (λ z. is_in z (used own l.body)) l.params x e (h.uses x u);
 }
 
 pub labels_pairs : (n k : ℕ) (ls : List Label) → all_different (all_defined ls) ≡ true → PairsOf n (points_from k ls)
@@ -379,7 +354,7 @@ labels_pairs n k (l ∷ ls) d =
     (each_map (InTree own l.params l.body (suc n)) (λ i q. Within (place_values q.place) (defined l.body)) (suc n) ts (λ i q h. h.values) tree)
     (each_map (InLabels ls) (λ i q. Within q.above (all_defined ls)) m us (λ i q h. h.above_it) later))
     (no_pairs m (suc n) us ts (all_defined ls) (l.params ++ defined l.body)
-    (λ x h g. ⊎_elim (λ (i : is_in x l.params ≡ true). pu x i h) (λ (i : is_in x (defined l.body) ≡ true). behind x i h) (in_either x l.params (defined l.body) g))
+    (λ x h g. ⊎_elim (λ (i : is_in x l.params ≡ true). pu x i h) (λ (i : is_in x (defined l.body) ≡ true). behind x i h) (in-either x l.params (defined l.body) g))
     (each_map (InLabels ls) (λ i q. Within (place_values q.place) (all_defined ls)) m us (λ i q h. h.values) later)
     (each_map (InTree own l.params l.body (suc n)) (λ i q. Within q.above (l.params ++ defined l.body)) (suc n) ts
     (λ i q h x e. ⊎_elim (λ (i : is_in x l.params ≡ true). within-left l.params (defined l.body) x i) (λ (i : is_in x (defined l.body) ≡ true). within-right l.params (defined l.body) x i) (h.above_it x e))

@@ -1,14 +1,16 @@
 -- What a tree's points define and use, and which of them lie below which.
-use Rattle.std.proofs.Common.{◌≡◌, ℕ, suc, ◌+◌, ◌<◌, ◌≤◌, ◌⊎◌, nat_eq, Bool, true, false, not, ◌||◌, List, [], ◌∷◌, ◌++◌, map, filter, length, if◌then◌else◌, refl, sym, ap, ◌∙◌, subst, inl, inr, ⊎_elim, arith}
-use Rattle.std.proofs.lemmas.Bool.{and_parts, and_from, or_cases, or_left, or_right, not-true, not_from_false, false≢true, false_from_ne_true, eq-eqb}
+use Rattle.std.proofs.Common.{◌≡◌, ℕ, suc, ◌+◌, ◌<◌, ◌≤◌, ◌⊎◌, nat_eq, true, false, not, List, [], ◌∷◌, ◌++◌, map, length, refl, sym, ap, ◌∙◌, subst, inl, inr, ⊎_elim, arith}
+use Rattle.std.proofs.lemmas.Bool.{and_parts, and_from, or_cases, not-true, not_from_false, false≢true, false_from_ne_true}
 use Rattle.nv_base.specs.declared.term.Cmp.{Cmp}
 use Rattle.nv_base.specs.Sets.{is_in, all_different, Within}
-use Rattle.nv_base.proofs.Sets.{same-number, in-append, within-left, within-right}
+use Rattle.nv_base.proofs.Sets.{same-number, within-left, within-right}
 use Rattle.ssu_ir.specs.Tree.{Step, Tree, Do, If, End, Does, Forks, step_values, step_clones, step_uses}
 use Rattle.ssu_ir.specs.Points.{Names, names_after, used, held, union, Point, place_values, nodes, point, tree_points}
 use Rattle.ssu_ir.specs.Single.{defined}
 use Rattle.ssu_ir.proofs.PointLemmas.{length-tree_points}
+use Rattle.ssu_ir.proofs.Held.{filter_in}
 use Rattle.ucode_emit.proofs.PointsEach.{EachFrom, each_map, each_both, each_append, each_left, each_right}
+use Rattle.place_ir.proofs.Scoped.{in-either}
 
 -- ---- sets
 
@@ -16,17 +18,11 @@ use Rattle.ucode_emit.proofs.PointsEach.{EachFrom, each_map, each_both, each_app
 abbrev pub Disjoint : List ℕ → List ℕ → Type 0
 Disjoint a b = (x : ℕ) → is_in x a ≡ true → is_in x b ≡ true → ⊥
 
-pub in_either : (x : ℕ) (a b : List ℕ) → is_in x (a ++ b) ≡ true → (is_in x a ≡ true) ⊎ (is_in x b ≡ true)
-in_either x a b e = or_cases (is_in x a) (is_in x b) (sym (in-append x a b) ∙ e)
-
 pub not_in_none : (x : ℕ) → is_in x [] ≡ true → ⊥
 not_in_none x e = false≢true e
 
 pub in_one : (x y : ℕ) → is_in x (y ∷ []) ≡ true → x ≡ y
 in_one x y e = ⊎_elim (λ (h : nat_eq x y ≡ true). same-number x y h) (λ (h : false ≡ true). absurd (false≢true h)) (or_cases (nat_eq x y) false e)
-
-pub in_head : (x : ℕ) (xs : List ℕ) → is_in x (x ∷ xs) ≡ true
-in_head x xs = or_left (nat_eq x x) (is_in x xs) (eq-eqb x x refl)
 
 pub different_apart : (a b : List ℕ) → all_different (a ++ b) ≡ true → Disjoint a b
 different_apart [] b d x h g = false≢true h
@@ -37,7 +33,7 @@ different_apart (y ∷ a) b d x h g =
     (λ (e : is_in x a ≡ true). different_apart a b p.1 x e g)
     (or_cases (nat_eq x y) (is_in x a) h)
 
-left_rest : (y : ℕ) (a b : List ℕ) → is_in y (a ++ b) ≡ false → is_in y a ≡ false
+pub left_rest : (y : ℕ) (a b : List ℕ) → is_in y (a ++ b) ≡ false → is_in y a ≡ false
 left_rest y a b e = false_from_ne_true (is_in y a) (λ h. false≢true (sym e ∙ within-left a b y h))
 
 pub different_left : (a b : List ℕ) → all_different (a ++ b) ≡ true → all_different a ≡ true
@@ -49,29 +45,6 @@ different_left (y ∷ a) b d =
 pub different_right : (a b : List ℕ) → all_different (a ++ b) ≡ true → all_different b ≡ true
 different_right [] b d = d
 different_right (y ∷ a) b d = different_right a b ((and_parts (not (is_in y (a ++ b))) (all_different (a ++ b)) d).1)
-
-keep-filter : (b : Bool) (f : ℕ → Bool) (x y : ℕ) (xs : List ℕ) → f y ≡ b → f x ≡ true → (nat_eq x y || is_in x xs) ≡ true → (is_in x xs ≡ true → is_in x (filter f xs) ≡ true) → is_in x (if b then y ∷ filter f xs else filter f xs) ≡ true
-keep-filter true f x y xs e k h g =
-    ⊎_elim (λ (s : nat_eq x y ≡ true). or_left (nat_eq x y) (is_in x (filter f xs)) s) (λ (s : is_in x xs ≡ true). or_right (nat_eq x y) (is_in x (filter f xs)) (g s)) (or_cases (nat_eq x y) (is_in x xs) h)
-keep-filter false f x y xs e k h g =
-    ⊎_elim (λ (s : nat_eq x y ≡ true). absurd (false≢true (sym e ∙ (ap f (sym (same-number x y s)) ∙ k)))) (λ (s : is_in x xs ≡ true). g s) (or_cases (nat_eq x y) (is_in x xs) h)
-
--- what is there and passes is kept
-pub in_filter : (f : ℕ → Bool) (x : ℕ) (xs : List ℕ) → is_in x xs ≡ true → f x ≡ true → is_in x (filter f xs) ≡ true
-in_filter f x [] h k = absurd (false≢true h)
-in_filter f x (y ∷ xs) h k = keep-filter (f y) f x y xs refl k h (λ g. in_filter f x xs g k)
-
-split-filter : (b : Bool) (f : ℕ → Bool) (x y : ℕ) (xs : List ℕ) → f y ≡ b → is_in x (if b then y ∷ filter f xs else filter f xs) ≡ true → (is_in x (filter f xs) ≡ true → (is_in x xs ≡ true) × (f x ≡ true)) → ((nat_eq x y || is_in x xs) ≡ true) × (f x ≡ true)
-split-filter true f x y xs e h g =
-    ⊎_elim
-    (λ (s : nat_eq x y ≡ true). (or_left (nat_eq x y) (is_in x xs) s, ap f (same-number x y s) ∙ e))
-    (λ (s : is_in x (filter f xs) ≡ true). (or_right (nat_eq x y) (is_in x xs) ((g s).0), (g s).1))
-    (or_cases (nat_eq x y) (is_in x (filter f xs)) h)
-split-filter false f x y xs e h g = (or_right (nat_eq x y) (is_in x xs) ((g h).0), (g h).1)
-
-pub filter_in : (f : ℕ → Bool) (x : ℕ) (xs : List ℕ) → is_in x (filter f xs) ≡ true → (is_in x xs ≡ true) × (f x ≡ true)
-filter_in f x [] h = absurd (false≢true h)
-filter_in f x (y ∷ xs) h = split-filter (f y) f x y xs refl h (λ g. filter_in f x xs g)
 
 -- ---- what stands in a tree
 
@@ -86,7 +59,7 @@ rest-above : (s : Step) (above : List ℕ) (t : Tree) (x : ℕ) → (is_in x (ab
 rest-above s above t x h =
     ⊎_elim
     (λ (e : is_in x (above ++ step_values s) ≡ true).
-    ⊎_elim (λ (k : is_in x above ≡ true). inl k) (λ (k : is_in x (step_values s) ≡ true). inr (within-left (step_values s) (step_clones s ++ defined t) x k)) (in_either x above (step_values s) e))
+    ⊎_elim (λ (k : is_in x above ≡ true). inl k) (λ (k : is_in x (step_values s) ≡ true). inr (within-left (step_values s) (step_clones s ++ defined t) x k)) (in-either x above (step_values s) e))
     (λ (e : is_in x (defined t) ≡ true). inr (within-right (step_values s) (step_clones s ++ defined t) x (within-right (step_clones s) (defined t) x e)))
     h
 
@@ -158,7 +131,7 @@ in_tree of above (End l) n = (
 -- ---- what holds of each value above a point
 
 above_first : (P : ℕ → Type 0) (above vs : List ℕ) → ((x : ℕ) → is_in x above ≡ true → P x) → ((x : ℕ) → is_in x vs ≡ true → P x) → (x : ℕ) → is_in x (above ++ vs) ≡ true → P x
-above_first P above vs h g x e = ⊎_elim (λ (k : is_in x above ≡ true). h x k) (λ (k : is_in x vs ≡ true). g x k) (in_either x above vs e)
+above_first P above vs h g x e = ⊎_elim (λ (k : is_in x above ≡ true). h x k) (λ (k : is_in x vs ≡ true). g x k) (in-either x above vs e)
 
 pub above_each : (P : ℕ → Type 0) (of : Names) (above : List ℕ) (t : Tree) (n : ℕ) → ((x : ℕ) → is_in x above ≡ true → P x)
     → EachFrom (λ j r. (x : ℕ) → is_in x (place_values r.place) ≡ true → P x) n (tree_points of above t)
@@ -232,9 +205,9 @@ rest_apart above s t d a x h g =
     ⊎_elim
     (λ (k : is_in x above ≡ true). d x k (within-right (step_values s) (step_clones s ++ defined t) x (within-right (step_clones s) (defined t) x g)))
     (λ (k : is_in x (step_values s) ≡ true). different_apart (step_values s) (step_clones s ++ defined t) a x k (within-right (step_clones s) (defined t) x g))
-    (in_either x above (step_values s) h)
+    (in-either x above (step_values s) h)
 
-rest_different : (s : Step) (t : Tree) → all_different (defined (Do s t)) ≡ true → all_different (defined t) ≡ true
+pub rest_different : (s : Step) (t : Tree) → all_different (defined (Do s t)) ≡ true → all_different (defined t) ≡ true
 rest_different s t a = different_right (step_clones s) (defined t) (different_right (step_values s) (step_clones s ++ defined t) a)
 
 -- values of a step, above points of its rest
@@ -243,7 +216,7 @@ step_pairs : (of : Names) (above : List ℕ) (s : Step) (t : Tree) (n j : ℕ) (
 step_pairs of above s t n j r h x e f = record {
   under = omega (arith, h.from);
   within = omega (arith, h.to);
-  after = λ u. in_filter (λ z. is_in z (used (names_after of s) t)) x (above ++ step_values s) (within-right above (step_values s) x e) (h.uses x u);
+  after = λ u. filter_in (λ z. is_in z (used (names_after of s) t)) (above ++ step_values s) x (within-right above (step_values s) x e) (h.uses x u);
 }
 
 pub tree_pairs : (of : Names) (above : List ℕ) (t : Tree) (n : ℕ) → Disjoint above (defined t) → all_different (defined t) ≡ true → PairsOf n (tree_points of above t)
@@ -276,10 +249,10 @@ tree_pairs of above (If c y z t u) n d a =
     (pairs_append (suc n) (suc n + nodes t) ts us (arms_at of above t (suc n))
     (tree_pairs of above t (suc n) dt (different_left (defined t) (defined u) a))
     (no_pairs (suc n) (suc n + nodes t) ts us (defined t) (above ++ defined u)
-    (λ x h g. ⊎_elim (λ (k : is_in x above ≡ true). dt x k h) (λ (k : is_in x (defined u) ≡ true). tu x h k) (in_either x above (defined u) g))
+    (λ x h g. ⊎_elim (λ (k : is_in x above ≡ true). dt x k h) (λ (k : is_in x (defined u) ≡ true). tu x h k) (in-either x above (defined u) g))
     (values_within of above t (suc n)) (above_within of above u (suc n + nodes t)))
     (no_pairs (suc n + nodes t) (suc n) us ts (defined u) (above ++ defined t)
-    (λ x h g. ⊎_elim (λ (k : is_in x above ≡ true). du x k h) (λ (k : is_in x (defined t) ≡ true). tu x k h) (in_either x above (defined t) g))
+    (λ x h g. ⊎_elim (λ (k : is_in x above ≡ true). du x k h) (λ (k : is_in x (defined t) ≡ true). tu x k h) (in-either x above (defined t) g))
     (values_within of above u (suc n + nodes t)) (above_within of above t (suc n)))
     (tree_pairs of above u (suc n + nodes t) du (different_right (defined t) (defined u) a)))
 tree_pairs of above (End l) n d a =

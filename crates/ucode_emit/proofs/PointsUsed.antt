@@ -6,11 +6,13 @@ use Rattle.nv_base.specs.Sets.{is_in, Within}
 use Rattle.nv_base.proofs.Sets.{within-left, within-right}
 use Rattle.ssu_ir.specs.Tree.{Step, Lit, Una, Bin, Clone, Read, Write, Jump, Halt, Tree, Do, If, End, Label, Node, Does, Forks, Ends, step_values, step_uses, node_uses}
 use Rattle.ssu_ir.specs.Points.{Names, own, names_after, used, held, Point, place_values, nodes, tree_points, points_from, points}
+use Rattle.ssu_ir.proofs.Held.{filter_from, filter_in}
 use Rattle.place_ir.specs.Uses.{Role, Written, Argument, Ending, roles, node_roles, place_roles, Use, uses_at, uses_from, uses, is_used}
+use Rattle.place_ir.proofs.Scoped.{in-either}
 use Rattle.ucode_emit.specs.inner.Pieces.{entry_point}
 use Rattle.ucode_emit.specs.inner.Layers.{PointsAt, root_point}
 use Rattle.ucode_emit.proofs.PointsEach.{EachFrom, each_map, each_append, each_left, each_right, each_here, each_from}
-use Rattle.ucode_emit.proofs.PointsTree.{in_either, in_filter, filter_in, arms_at}
+use Rattle.ucode_emit.proofs.PointsTree.{arms_at}
 use Rattle.ucode_emit.proofs.PointsLabels.{entry_at, entry_there}
 
 -- ---- each value that a point uses is one of its uses
@@ -73,7 +75,7 @@ used_at_point labels k r e = each_here (λ j r. Within r.uses (values_of (uses l
 pub used_tree : (us : List ℕ) (of : Names) (above : List ℕ) (t : Tree) (n : ℕ) → EachFrom (λ j r. Within r.uses us) n (tree_points of above t) → Within (used of t) us
 used_tree us of above (Do s t) n h x e =
     ⊎_elim (λ (k : is_in x (map of (step_uses s)) ≡ true). h.0 x k) (λ (k : is_in x (used (names_after of s) t) ≡ true). used_tree us (names_after of s) (above ++ step_values s) t (suc n) h.1 x k)
-    (in_either x (map of (step_uses s)) (used (names_after of s) t) e)
+    (in-either x (map of (step_uses s)) (used (names_after of s) t) e)
 used_tree us of above (If c y z t u) n h x e =
     let P = λ (j : ℕ) (r : Point). Within r.uses us in
     ⊎_elim (λ (k : is_in x (of y ∷ of z ∷ []) ≡ true). h.0 x k)
@@ -81,8 +83,8 @@ used_tree us of above (If c y z t u) n h x e =
     ⊎_elim
     (λ (l : is_in x (used of t) ≡ true). used_tree us of above t (suc n) (each_left P (suc n) (tree_points of above t) (tree_points of above u) h.1) x l)
     (λ (l : is_in x (used of u) ≡ true). used_tree us of above u (suc n + nodes t) (each_right P (suc n) (suc n + nodes t) (tree_points of above t) (tree_points of above u) (arms_at of above t (suc n)) h.1) x l)
-    (in_either x (used of t) (used of u) k))
-    (in_either x (of y ∷ of z ∷ []) (used of t ++ used of u) e)
+    (in-either x (used of t) (used of u) k))
+    (in-either x (of y ∷ of z ∷ []) (used of t ++ used of u) e)
 used_tree us of above (End l) n h x e = h.0 x e
 
 pub used_there : (labels : List Label) (k : ℕ) (of : Names) (above : List ℕ) (t : Tree) → PointsAt labels k of above t → Within (used of t) (values_of (uses labels))
@@ -136,7 +138,7 @@ abbrev holds_in : Names → Tree → ℕ → Bool
 holds_in of t x = is_in x (used of t)
 
 root_held : (of : Names) (above : List ℕ) (t : Tree) (x : ℕ) → is_in x (root_point of above t).before ≡ true → (is_in x above ≡ true) × (is_in x (used of t) ≡ true)
-root_held of above t x e = filter_in (holds_in of t) x above (sym (ap (is_in x) (root_before of above t)) ∙ e)
+root_held of above t x e = filter_from (holds_in of t) above x (sym (ap (is_in x) (root_before of above t)) ∙ e)
 
 root_known : (of : Names) (above : List ℕ) (t : Tree) (x : ℕ) → is_in x (root_point of above t).before ≡ true → is_in x (root_point of above t).above ≡ true
 root_known of above t x e = ap (is_in x) (root_above of above t) ∙ (root_held of above t x e).0
@@ -145,9 +147,9 @@ step_before : (of : Names) (above : List ℕ) (s : Step) (t : Tree) (x : ℕ) �
 step_before of above s t x e f =
     let d = root_held (names_after of s) (above ++ step_values s) t x e in
     ⊎_elim
-    (λ (k : is_in x above ≡ true). in_filter (holds_in of (Do s t)) x above k (within-right (map of (step_uses s)) (used (names_after of s) t) x d.1))
+    (λ (k : is_in x above ≡ true). filter_in (holds_in of (Do s t)) above x k (within-right (map of (step_uses s)) (used (names_after of s) t) x d.1))
     (λ (k : is_in x (step_values s) ≡ true). absurd (false≢true (sym f ∙ k)))
-    (in_either x above (step_values s) d.0)
+    (in-either x above (step_values s) d.0)
 
 pub spot_step : (labels : List Label) (k : ℕ) (of : Names) (above : List ℕ) (s : Step) (t : Tree) → PointsAt labels k of above (Do s t)
     → Spot labels k (root_point of above (Do s t)) (root_point (names_after of s) (above ++ step_values s) t) (step_values s)

@@ -5,9 +5,9 @@ use Rattle.std.proofs.lemmas.Bool.{or_cases, or_left, or_right, false≢true, eq
 use Rattle.std.proofs.lemmas.Option.{none-some, same_Some}
 use Rattle.nv_base.specs.Sets.{is_in}
 use Rattle.nv_base.proofs.Sets.{same-number}
-use Rattle.ssu_ir.specs.Tree.{Lit, Una, Bin, Clone, Read, Write, Label, Does, Forks, Ends}
-use Rattle.ssu_ir.specs.Points.{Place, Entry, At, Point, points, place_values}
-use Rattle.place_ir.specs.Uses.{Value, Sort, Parameter, Fetched, numbered, place_values as values_at, values_from, Role, Use, uses_at, uses_from, uses, is_used, place_roles}
+use Rattle.ssu_ir.specs.Tree.{Label}
+use Rattle.ssu_ir.specs.Points.{Point, points}
+use Rattle.place_ir.specs.Uses.{Value, Sort, numbered, place_values as values_at, values_from, Role, Use, uses_at, uses_from, uses, is_used, place_roles}
 use Rattle.ucode_emit.proofs.PointsEach.{EachFrom, each_of, all_left, all_right, all_both, all_get}
 
 -- ---- places in lists of names
@@ -123,19 +123,3 @@ pub values_each : (P : Value → Type 0) (n : ℕ) (qs : List Point) → AllByRe
 values_each P n [] h = tt
 values_each P n (q ∷ qs) h =
     (all_left P (values_at n q.place) (values_from (suc n) qs) h, values_each P (suc n) qs (all_right P (values_at n q.place) (values_from (suc n) qs) h))
-
-vars_numbered : (k : ℕ) (sort : ℕ → Sort) (i : ℕ) (xs : List ℕ) → map (λ v. v.var) (numbered k sort i xs) ≡ xs
-vars_numbered k sort i [] = refl
-vars_numbered k sort i (x ∷ xs) = ap (λ l. x ∷ l) (vars_numbered k sort (suc i) xs)
-
--- the variables of a point's values
-pub vars_at : (k : ℕ) (p : Place) → map (λ v. v.var) (values_at k p) ≡ place_values p
-vars_at k (Entry l ps) = vars_numbered k (Parameter l) 0 ps
-vars_at k (At (Does (Lit x v))) = refl
-vars_at k (At (Does (Una x op y))) = refl
-vars_at k (At (Does (Bin x op y z))) = refl
-vars_at k (At (Does (Clone xs y))) = refl
-vars_at k (At (Does (Read m xs y))) = vars_numbered k (Fetched m) 0 xs
-vars_at k (At (Does (Write m y xs))) = refl
-vars_at k (At (Forks c x y)) = refl
-vars_at k (At (Ends l)) = refl

@@ -1,5 +1,6 @@
 -- What the code of a part comes to, and the pieces of which it is made.
 use Rattle.std.proofs.Common.{◌≡◌, ℕ, suc, ◌+◌, ◌≤◌, List, [], ◌∷◌, ◌++◌, map, length, refl, sym, ap, subst, ◌⊎◌, inl, inr, arith}
+use Rattle.std.proofs.lemmas.List.{length-append}
 use Rattle.nv_base.specs.Meanings.{FullOutcome, seen}
 use Rattle.nv_base.specs.World.{World}
 use Rattle.uc_isa.specs.declared.instruction.Instr.{Instr}
@@ -15,7 +16,7 @@ use Rattle.ucode_emit.specs.inner.Pieces.{Item, moved, instr_of, Sequences, star
 use Rattle.ucode_emit.specs.inner.Ready.{AreSequences}
 use Rattle.ucode_emit.specs.inner.Machine.{AreDirect, Stands, Led, Over}
 use Rattle.ucode_emit.specs.inner.Layers.{MachineLayer, ReadyLayer, Placed}
-use Rattle.ucode_emit.proofs.Placing.{long_both, items_long, moves_as_items, ItemsIn, items_left, items_right, TreeAt, code_of}
+use Rattle.ucode_emit.proofs.Placing.{items_long, moves_as_items, ItemsIn, items_left, items_right, TreeAt, code_of}
 
 -- a form under a placement that fits it, with its parallel moves in sequence, over what is known of machine and placement
 pub record Setting : Type 0 where
@@ -109,7 +110,7 @@ piece_sum : (at l j whole r : ℕ) → whole ≡ j + suc r → j ≡ l → at + 
 piece_sum at l j whole r e f = omega (arith, e, f)
 
 piece_end : (at : ℕ) (ms : List Move) (i : Item) (rest : List Item) → at + length ms + 1 + length rest ≡ at + length (moved ms ++ i ∷ rest)
-piece_end at ms i rest = piece_sum at (length ms) (length (moved ms)) (length (moved ms ++ i ∷ rest)) (length rest) (long_both (moved ms) (i ∷ rest)) (items_long ms)
+piece_end at ms i rest = piece_sum at (length ms) (length (moved ms)) (length (moved ms ++ i ∷ rest)) (length rest) (length-append (moved ms) (i ∷ rest)) (items_long ms)
 
 -- moves, one instruction, and moves
 pub run_piece : (g : Setting) (base at n : ℕ) (ms back : List Move) (i : Item) (e e1 : Words) (w w1 : World) (m : Moment) (f : FullOutcome)

@@ -2,6 +2,7 @@
 use Rattle.std.proofs.Common.{◌≡◌, ℕ, suc, ◌+◌, ◌/◌, ◌^◌, ◌≤◌, nat_eq, true, false, List, [], ◌∷◌, ◌++◌, map, length, Option, Some, None, refl, sym, ◌∙◌, subst, ⊎_elim, arith, slice_get}
 use Rattle.std.proofs.lemmas.Bool.{and_parts, or_right, false_from_ne_true}
 use Rattle.std.proofs.lemmas.List.Elements.{All-nil}
+use Rattle.std.proofs.lemmas.List.{length-map}
 use Rattle.nv_base.specs.declared.term.Mem.{Mem}
 use Rattle.nv_base.specs.declared.term.Una.{Una as Unary}
 use Rattle.nv_base.specs.declared.term.Bin.{Bin as Binary}
@@ -23,18 +24,19 @@ use Rattle.ssu_ir.specs.Tree.{Step, Lit, Una, Bin, Clone, Read, Write, Tree, Do,
 use Rattle.ssu_ir.specs.Points.{Names, names_after, Point}
 use Rattle.ssu_ir.specs.Meaning.{step_does, assigned_each}
 use Rattle.ssu_ir.specs.Single.{Numbers, numbers_after, step_names, all_known, is_scoped, is_step, are_nodes, is_addressed, is_address, are_addressed, is_narrow, defined}
+use Rattle.ssu_ir.proofs.Lists.{in-itself}
 use Rattle.place_ir.specs.Plan.{Plan, first}
 use Rattle.place_ir.specs.Fits.{write_place}
+use Rattle.place_ir.proofs.Scoped.{all-in, in-either}
 use Rattle.par_move.specs.Moves.{Move, Words, put, one_by_one}
 use Rattle.ucode_emit.specs.inner.Pieces.{Plain, moved, operands, operand_at, words, result_place, to_slot, copies, all_copies, un_op, source, target, address_of, shift_of, step_items, tree_items}
 use Rattle.ucode_emit.specs.inner.Ready.{Ready}
 use Rattle.ucode_emit.specs.inner.Machine.{IsDirect, AreDirect, Stands, Led, Over, filled}
 use Rattle.ucode_emit.specs.inner.Layers.{IsAddress, root_point}
-use Rattle.ucode_emit.proofs.PointsTree.{in_either, in_head}
 use Rattle.ucode_emit.proofs.PointsLabels.{Scope, rest_scope}
 use Rattle.ucode_emit.proofs.PointsUses.{at_in}
-use Rattle.ucode_emit.proofs.Placing.{items_left, as_many}
-use Rattle.ucode_emit.proofs.RunsWords.{HaveWords, AreNumbered, words_defined, words_cloned, words_kept, numbered_values, numbered_literal, numbered_clones, stretch, literal_word, each_mapped, words_mapped, each_words, all_known_at}
+use Rattle.ucode_emit.proofs.Placing.{items_left}
+use Rattle.ucode_emit.proofs.RunsWords.{HaveWords, AreNumbered, words_defined, words_cloned, words_kept, numbered_values, numbered_literal, numbered_clones, stretch, literal_word, each_mapped, words_mapped, each_words}
 use Rattle.ucode_emit.proofs.RunsResults.{Setting, code_in, places_in, AtTree, Result, run_piece, run_end}
 
 -- what a tree keeps by its form
@@ -61,7 +63,7 @@ GoesOn g base n k at of known above number s t go =
 
 values_within : (known above vs cs : List ℕ) → Within above known → Within (above ++ vs) (known ++ (vs ++ cs))
 values_within known above vs cs h z i =
-    ⊎_elim (λ (a : is_in z above ≡ true). within-left known (vs ++ cs) z (h z a)) (λ (a : is_in z vs ≡ true). within-right known (vs ++ cs) z (within-left vs cs z a)) (in_either z above vs i)
+    ⊎_elim (λ (a : is_in z above ≡ true). within-left known (vs ++ cs) z (h z a)) (λ (a : is_in z vs ≡ true). within-right known (vs ++ cs) z (within-left vs cs z a)) (in-either z above vs i)
 
 pub rules_rest : (labels : List Label) (of : Names) (known above : List ℕ) (number : Numbers) (s : Step) (t : Tree) → Rules labels of known above number (Do s t)
     → Rules labels (names_after of s) (known ++ (step_values s ++ step_clones s)) (above ++ step_values s) (numbers_after number s) t
@@ -77,7 +79,7 @@ new_values of known above s t h z k = false_from_ne_true (is_in z (step_values s
 
 names_known : (of : Names) (known above : List ℕ) (s : Step) (t : Tree) → Scope of known above (Do s t) → (y : ℕ) → is_in y (step_names s) ≡ true → is_in y known ≡ true
 names_known of known above s t h y i =
-    all_known_at known (step_names s) y (and_parts (all_known known (step_names s)) (is_scoped (known ++ (step_values s ++ step_clones s)) t) h.scoped).0 i
+    all-in known (step_names s) y (and_parts (all_known known (step_names s)) (is_scoped (known ++ (step_values s ++ step_clones s)) t) h.scoped).0 i
 
 lit_runs : (g : Setting) (base n k at : ℕ) (of : Names) (known above : List ℕ) (number : Numbers) (x v : ℕ) (t : Tree) (go : Env → World → FullOutcome) (env vals : Env) (e : Words) (w : World) (m : Moment)
     → AtTree g k at of above (Do (Lit x v) t) → Rules g.labels of known above number (Do (Lit x v) t) → State g.labels g.plan k of known above number (Do (Lit x v) t) env vals e w → Stands base at e w m
@@ -114,7 +116,7 @@ una_runs g base n k at of known above number x y op t go env vals e w m tree rul
     let a = g.layer.one_operand k of above x y op t vals e tree.points_ st.ready in
     let e1 = one_by_one (operands g.plan k 1) e in
     let u = una_word op (env y) in
-    let same : e1 from ≡ env y = a.0.1.values.0 ∙ sym (st.copied.each y (names_known of known above (Una x op y) t rules.scope y (in_head y []))) in
+    let same : e1 from ≡ env y = a.0.1.values.0 ∙ sym (st.copied.each y (names_known of known above (Una x op y) t rules.scope y (in-itself y []))) in
     let r = g.layer.unary k of above x y u op t vals e1 tree.points_ a.0.1.ready in
     run_piece g base at n (operands g.plan k 1) back (Plain (instr.Un (target d) (un_op op) (source from))) e (put e1 d u) w w m (go (assigned env x u) w)
     (items_left (code_in g) (places_in g) at (step_items g.plan k (Una x op y)) (tree_items g.labels g.plan g.mss (suc k) t) tree.in_code)
@@ -142,8 +144,8 @@ bin_runs g base n k at of known above number x y z op t go env vals e w m tree r
     let a = g.layer.two_operands k of above x y z op t vals e tree.points_ st.ready in
     let e1 = one_by_one (operands g.plan k 2) e in
     let u = bin_word op (env y) (env z) in
-    let same : e1 left ≡ env y = a.0.1.values.0 ∙ sym (st.copied.each y (names_known of known above (Bin x op y z) t rules.scope y (in_head y (z ∷ [])))) in
-    let other : e1 right ≡ env z = a.0.1.values.1.0 ∙ sym (st.copied.each z (names_known of known above (Bin x op y z) t rules.scope z (or_right (nat_eq z y) (is_in z (z ∷ [])) (in_head z [])))) in
+    let same : e1 left ≡ env y = a.0.1.values.0 ∙ sym (st.copied.each y (names_known of known above (Bin x op y z) t rules.scope y (in-itself y (z ∷ [])))) in
+    let other : e1 right ≡ env z = a.0.1.values.1.0 ∙ sym (st.copied.each z (names_known of known above (Bin x op y z) t rules.scope z (or_right (nat_eq z y) (is_in z (z ∷ [])) (in-itself z [])))) in
     let r = g.layer.binary k of above x y z u op t vals e1 tree.points_ a.0.1.ready in
     run_piece g base at n (operands g.plan k 2) back (Plain (instr.Alu (target d) op (source left) (source right))) e (put e1 d u) w w m (go (assigned env x u) w)
     (items_left (code_in g) (places_in g) at (step_items g.plan k (Bin x op y z)) (tree_items g.labels g.plan g.mss (suc k) t) tree.in_code)
@@ -170,7 +172,7 @@ clone_runs g base n k at of known above number xs y t go env vals e w m tree rul
     next (assigned_each env xs (env y)) vals e w m
     (record {
       fits = each_words env xs (env y) st.fits (st.fits y);
-      copied = words_cloned of known xs y env vals (names_known of known above (Clone xs y) t rules.scope y (in_head y [])) st.copied;
+      copied = words_cloned of known xs y env vals (names_known of known above (Clone xs y) t rules.scope y (in-itself y [])) st.copied;
       numbers = numbered_clones number env xs y st.numbers;
       sizes = st.sizes;
       ready = g.layer.clone k of above xs y t vals e tree.points_ st.ready;
@@ -197,7 +199,7 @@ read_ready : (g : Setting) (k at : ℕ) (of : Names) (known above : List ℕ) (n
     → AccessReady g k (length xs) c (operands g.plan k 1) (env y) (root_point of above (Do (Read c xs y) t)) vals e
 read_ready g k at of known above number c xs y t env vals e w tree rules st =
     let a = g.layer.read_address k of above c xs y t vals e tree.points_ st.ready in
-    let from : one_by_one (operands g.plan k 1) e (operand_at g.plan k 0) ≡ env y = a.0.1.values.0 ∙ sym (st.copied.each y (names_known of known above (Read c xs y) t rules.scope y (in_head y []))) in
+    let from : one_by_one (operands g.plan k 1) e (operand_at g.plan k 0) ≡ env y = a.0.1.values.0 ∙ sym (st.copied.each y (names_known of known above (Read c xs y) t rules.scope y (in-itself y []))) in
     record {
       direct = a.0.0;
       same = from;
@@ -263,8 +265,8 @@ write_ready g k at of known above number c xs y t env vals e w tree rules st =
     let f = first g.plan k in
     let e1 = one_by_one (written_front g.plan k (length xs)) e in
     let a = g.layer.written k of above c xs y t vals e tree.points_ st.ready in
-    let from : e1 (operand_at g.plan k 0) ≡ env y = a.0.1.0.values.0 ∙ sym (st.copied.each y (names_known of known above (Write c y xs) t rules.scope y (in_head y xs))) in
-    let long : length xs ≡ length (map env xs) = sym (as_many env xs) in
+    let from : e1 (operand_at g.plan k 0) ≡ env y = a.0.1.0.values.0 ∙ sym (st.copied.each y (names_known of known above (Write c y xs) t rules.scope y (in-itself y xs))) in
+    let long : length xs ≡ length (map env xs) = sym (length-map xs env) in
     record {
       access = record {
         direct = a.0.0;
@@ -297,7 +299,7 @@ write_runs g base n k at of known above number c xs y t go env vals e w m (Some 
     (λ to b one there.
     subst (λ z. Led (code_in g) base 1 b (to + 1) e1 (wrote c z ws q w)) a.same
     (g.machine.write (code_in g) base to c f from ws q e1 w b a.address a.room a.lies
-    (subst (λ j. InCode (code_in g) to (instr.Write c f j (address_of from) 0 ∷ [])) (sym (as_many env xs)) one) there r.held st.sizes
+    (subst (λ j. InCode (code_in g) to (instr.Write c f j (address_of from) 0 ∷ [])) (sym (length-map xs env)) one) there r.held st.sizes
     (subst (λ z. stored c z ws w.packet ≡ Some q) (sym a.same) left)))
     (λ b there. next env vals e1 (wrote c (env y) ws q w) b
     (record {
@@ -322,7 +324,7 @@ write_runs g base n k at of known above number c xs y t go env vals e w m None l
     (λ to b one there.
     subst (λ z. Over (code_in g) base 1 b (over (outcome.Fault c z) w)) a.same
     (g.machine.write_fault (code_in g) base to c f from ws e1 w b a.address a.room a.lies
-    (subst (λ j. InCode (code_in g) to (instr.Write c f j (address_of from) 0 ∷ [])) (sym (as_many env xs)) one) there r.held st.sizes
+    (subst (λ j. InCode (code_in g) to (instr.Write c f j (address_of from) 0 ∷ [])) (sym (length-map xs env)) one) there r.held st.sizes
     (subst (λ z. stored c z ws w.packet ≡ None) (sym a.same) left)))
 
 -- any step

@@ -1,6 +1,7 @@
 -- The run of a tree: down its steps, through its forks, to a jump or an end.
 use Rattle.std.proofs.Common.{◌≡◌, ℕ, zero, suc, ◌+◌, ◌≤◌, nat_eq, nat_le, Bool, true, false, ◌&&◌, List, [], ◌∷◌, ◌++◌, map, length, Option, Some, None, All, if◌then◌else◌, refl, sym, ap, ◌∙◌, subst, arith, slice_get, slice_index_or}
 use Rattle.std.proofs.lemmas.Bool.{and_parts, or_right, false≢true, leb-true}
+use Rattle.std.proofs.lemmas.List.{length-map, length-append}
 use Rattle.nv_base.specs.declared.term.Cmp.{Cmp}
 use Rattle.nv_base.specs.declared.term.Bin.TheVariants.{Sub}
 use Rattle.nv_base.specs.Meanings.{FullOutcome}
@@ -19,18 +20,21 @@ use Rattle.ssu_ir.specs.Tree.{Last, Jump, Halt, Tree, Do, If, End, Label, step_v
 use Rattle.ssu_ir.specs.Points.{Names, names_after, nodes}
 use Rattle.ssu_ir.specs.Meaning.{Next, does, last_does, blank}
 use Rattle.ssu_ir.specs.Single.{Numbers, numbers_after, all_known, is_scoped, are_nodes, takes_as_many, are_addressed, defined}
+use Rattle.ssu_ir.proofs.Lists.{in-itself}
 use Rattle.place_ir.specs.declared.place.Place.TheVariants.{A}
 use Rattle.place_ir.specs.Plan.{Plan, pass}
+use Rattle.place_ir.proofs.Walked.{get-index}
+use Rattle.place_ir.proofs.Scoped.{all-in}
 use Rattle.par_move.specs.Moves.{Words, one_by_one}
 use Rattle.ucode_emit.specs.inner.Pieces.{Plain, Branch, moved, operands, operand_at, source, single_moves, last_moves, step_items, fork_items, tree_items, entry_point, sequence_at, parallel_moves}
 use Rattle.ucode_emit.specs.inner.Ready.{Ready, Entered, IsSequence}
 use Rattle.ucode_emit.specs.inner.Machine.{IsReadable, Stands}
 use Rattle.ucode_emit.specs.inner.Layers.{root_point}
-use Rattle.ucode_emit.proofs.PointsTree.{in_head, different_left, different_right}
+use Rattle.ucode_emit.proofs.PointsTree.{different_left, different_right}
 use Rattle.ucode_emit.proofs.PointsUses.{at_in}
 use Rattle.ucode_emit.proofs.Entries.{params_differ}
-use Rattle.ucode_emit.proofs.Placing.{as_many, long_both, items_long, items_left, index_there, there_by_length, part_head, root_begins, tree_rest, tree_first, tree_second}
-use Rattle.ucode_emit.proofs.RunsWords.{all_known_at, each_its_word, mapped_there, each_mapped, words_mapped}
+use Rattle.ucode_emit.proofs.Placing.{items_long, items_left, there_by_length, part_head, root_begins, tree_rest, tree_first, tree_second}
+use Rattle.ucode_emit.proofs.RunsWords.{each_its_word, mapped_there, each_mapped, words_mapped}
 use Rattle.ucode_emit.proofs.RunsResults.{Setting, code_in, places_in, AtTree, Result, after_steps, run_front, run_end}
 use Rattle.ucode_emit.proofs.RunsSteps.{Rules, State, rules_rest, step_runs}
 
@@ -50,7 +54,7 @@ fork_end : (p : Plan) (k at : ℕ) (c : Cmp) → at + length (operands p k 2) + 
 fork_end p k at c =
     let test = Plain (instr.Alu dst.Nowhere Sub (source (operand_at p k 0)) (source (operand_at p k 1))) in
     let two = test ∷ Branch (failing c) 0 ∷ [] in
-    fork_sum at (length (operands p k 2)) (length (moved (operands p k 2))) (length (moved (operands p k 2) ++ two)) (length two) (long_both (moved (operands p k 2)) two) refl (items_long (operands p k 2))
+    fork_sum at (length (operands p k 2)) (length (moved (operands p k 2))) (length (moved (operands p k 2) ++ two)) (length two) (length-append (moved (operands p k 2)) two) refl (items_long (operands p k 2))
 
 abbrev GoesInto : Setting → (base n k to : ℕ) → Names → (known above : List ℕ) → Numbers → Tree → Env → Env → World → FullOutcome → Type 0
 GoesInto g base n k to of known above number t env vals w f =
@@ -72,8 +76,8 @@ fork_front g base n k at of known above number c x y t u env vals e w m f tree r
     let a = g.layer.compared k of above c x y t u vals e tree.points_ st.ready in
     let e1 = one_by_one (operands g.plan k 2) e in
     let names = (and_parts (all_known known (x ∷ y ∷ [])) (is_scoped known t && is_scoped known u) rules.scope.scoped).0 in
-    let same : e1 left ≡ env x = a.0.1.values.0 ∙ sym (st.copied.each x (all_known_at known (x ∷ y ∷ []) x names (in_head x (y ∷ [])))) in
-    let other : e1 right ≡ env y = a.0.1.values.1.0 ∙ sym (st.copied.each y (all_known_at known (x ∷ y ∷ []) y names (or_right (nat_eq y x) (is_in y (y ∷ [])) (in_head y [])))) in
+    let same : e1 left ≡ env x = a.0.1.values.0 ∙ sym (st.copied.each x (all-in known (x ∷ y ∷ []) x names (in-itself x (y ∷ [])))) in
+    let other : e1 right ≡ env y = a.0.1.values.1.0 ∙ sym (st.copied.each y (all-in known (x ∷ y ∷ []) y names (or_right (nat_eq y x) (is_in y (y ∷ [])) (in-itself y [])))) in
     let two = Plain (instr.Alu dst.Nowhere Sub (source left) (source right)) ∷ Branch (failing c) (suc k + nodes t) ∷ [] in
     run_front g base at n (operands g.plan k 2) two e w m f
     (items_left (code_in g) (places_in g) at (fork_items g.plan k (failing c) (suc k + nodes t)) (tree_items g.labels g.plan g.mss (suc k) t ++ tree_items g.labels g.plan g.mss (suc k + nodes t) u) tree.in_code)
@@ -168,7 +172,7 @@ last_runs g base n next jumps (Jump (suc l) xs) k at of known above number env v
     let new = assigned_all blank to.params ws in
     let have : (i x y : ℕ) → slice_get xs i ≡ Some x → slice_get to.params i ≡ Some y → new y ≡ vals (of x) =
     λ i x y a b. each_its_word blank to.params ws i y (env x) (params_differ g.labels g.plan (suc l) to g.placed target.there) b (mapped_there env xs i x a)
-    ∙ st.copied.each x (all_known_at known xs x rules.scope.scoped (at_in x xs i a)) in
+    ∙ st.copied.each x (all-in known xs x rules.scope.scoped (at_in x xs i a)) in
     let r = g.layer.jump k of above (suc l) xs to ms vals new e tree.points_ target.there have (last_sequence g k at of above (Jump (suc l) xs) tree) st.ready in
     let e1 = one_by_one front e in
     run_front g base at n front (Branch Always (entry_point g.labels (suc l)) ∷ []) e w m (next (suc l) ws w) tree.in_code r.0 s
@@ -180,10 +184,10 @@ last_runs g base n next jumps (Halt c xs) k at of known above number env vals e 
     let front = single_moves (pass g.plan k).l ms in
     let ws = map env xs in
     let e1 = one_by_one front e in
-    let long : length xs ≡ length ws = sym (as_many env xs) in
+    let long : length xs ≡ length ws = sym (length-map xs env) in
     let few : length xs ≤ 8 = leb-true (length xs) 8 rules.fit in
     let r = g.layer.halt k of above c xs ms vals e tree.points_ (last_sequence g k at of above (Halt c xs) tree) st.ready in
-    let have : (i v : ℕ) → slice_get ws i ≡ Some v → e1 (A i) ≡ v = each_mapped (λ i. e1 (A i)) env xs (λ i x h. r.1 i x h ∙ sym (st.copied.each x (all_known_at known xs x rules.scope.scoped (at_in x xs i h)))) in
+    let have : (i v : ℕ) → slice_get ws i ≡ Some v → e1 (A i) ≡ v = each_mapped (λ i. e1 (A i)) env xs (λ i x h. r.1 i x h ∙ sym (st.copied.each x (all-in known xs x rules.scope.scoped (at_in x xs i h)))) in
     run_end g base at n front (Plain (instr.Halt c (length xs))) [] e w m (over (ended c ws) w) tree.in_code r.0 s
     (λ to b one there.
     g.machine.halt (code_in g) base to c ws e1 w b (subst (λ j. j ≤ 8) long few) (subst (λ j. InCode (code_in g) to (instr.Halt c j ∷ [])) long one) there have)
@@ -209,6 +213,6 @@ tree_runs g base n next jumps (If c x y t u) k at of known above number env vals
     (λ e1 b st1 there1.
     tree_runs g base n next jumps u (suc k + nodes t) second of known above number env vals e1 w b arm (rules_second g.labels of known above number c x y t u rules) st1
     (subst (λ j. Stands base j e1 w b)
-    (index_there (places_in g) (suc k + nodes t) second 0 (root_begins g.labels g.plan g.mss (places_in g) second (suc k + nodes t) (suc k + nodes t) u arm.begins))
+    (get-index (places_in g) (suc k + nodes t) second 0 (root_begins g.labels g.plan g.mss (places_in g) second (suc k + nodes t) (suc k + nodes t) u arm.begins))
     there1))
 tree_runs g base n next jumps (End l) k at of known above number env vals e w m tree rules st there = last_runs g base n next jumps l k at of known above number env vals e w m tree rules st there

@@ -31,6 +31,7 @@ use Rattle.ssu_ir.specs.Single.{unknown, defined, all_defined, is_entry, is_sing
 use Rattle.ssu_ir.proofs.Growth.{meaning-follows}
 use Rattle.ssu_ir.proofs.Rules.{single_label_parts}
 use Rattle.place_ir.specs.Plan.{Plan}
+use Rattle.place_ir.proofs.Walked.{get-index}
 use Rattle.par_move.specs.Moves.{Move, Words, one_by_one, StandFor, none, once, around, at_rest}
 use Rattle.ucode_emit.specs.inner.Pieces.{Sequences, moved, instr_of, items, starts, starts_from, single_moves, all_copies, entry_point, entry_moves, sequence_at, tree_moves, label_moves, moves_from, parallel_moves}
 use Rattle.ucode_emit.specs.inner.Ready.{Ready, Entered, IsSequence, AreSequences}
@@ -39,7 +40,7 @@ use Rattle.ucode_emit.specs.inner.Layers.{MachineLayer, ReadyLayer, Placed, root
 use Rattle.ucode_emit.proofs.Copies.{one_append}
 use Rattle.ucode_emit.proofs.PointsTree.{different_left, different_right, different_apart}
 use Rattle.ucode_emit.proofs.Entries.{params_differ, few_params}
-use Rattle.ucode_emit.proofs.Placing.{index_there, there_by_length, Part, part_head, LabelAt, label_at, entry_later}
+use Rattle.ucode_emit.proofs.Placing.{there_by_length, Part, part_head, LabelAt, label_at, entry_later}
 use Rattle.ucode_emit.proofs.RunsWords.{each_its_word}
 use Rattle.ucode_emit.proofs.RunsResults.{Setting, code_in, places_in, Result, after_one, run_back}
 use Rattle.ucode_emit.proofs.RunsSteps.{Rules}
@@ -134,7 +135,7 @@ label_runs g base n next jumps l to ws e w m found fit sizes entered s =
     body_runs g base n next jumps (suc l) to ws e w m found fit sizes here
     (subst (λ z. AreDirect (front_of g k to z)) still r.0)
     (subst (λ z. Ready g.labels g.plan (suc k) (root_point own to.params to.body) env (one_by_one (front_of g k to z) e)) still r.1)
-    (subst (λ j. Stands base j e w m) (index_there (places_in g) k here.at 0 here.begins) s)
+    (subst (λ j. Stands base j e w m) (get-index (places_in g) k here.at 0 here.begins) s)
 
 -- ---- jumps
 
@@ -153,10 +154,6 @@ jump_runs g base (suc n) l to ws e w a b found fit sizes entered s leads =
     (after_one (code_in g) base n a b f leads (label_runs g base n (run g.labels n) (jump_runs g base n) l to ws e w b found fit sizes entered s))
 
 -- ---- the start
-
-entry_first : (ls : List Label) → entry_point ls 0 ≡ 0
-entry_first [] = refl
-entry_first (x ∷ ls) = refl
 
 starts_first : (labels : List Label) (p : Plan) (mss : Sequences) (ls : List Label) (it : Label) → slice_get ls 0 ≡ Some it → slice_get (starts_from labels p mss 0 0 ls) (entry_point ls 0) ≡ Some 0
 starts_first labels p mss [] it e = absurd (none-some it e)

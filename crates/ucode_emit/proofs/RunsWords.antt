@@ -15,11 +15,11 @@ use Rattle.nv_base.proofs.Frames.{source-stretch}
 use Rattle.ssu_ir.specs.Tree.{Clone}
 use Rattle.ssu_ir.specs.Points.{Names, names_after}
 use Rattle.ssu_ir.specs.Meaning.{assigned_each}
-use Rattle.ssu_ir.specs.Single.{Numbers, numbered, is_address, fits_scratch, is_narrow, all_known}
-use Rattle.ssu_ir.proofs.Lists.{all_at}
+use Rattle.ssu_ir.specs.Single.{Numbers, numbered, is_address, fits_scratch, is_narrow}
 use Rattle.ssu_ir.proofs.Narrow.{narrow_is}
 use Rattle.ucode_emit.specs.inner.Pieces.{shift_of}
-use Rattle.ucode_emit.proofs.PointsTree.{in_either, different_right}
+use Rattle.ucode_emit.proofs.PointsTree.{different_right}
+use Rattle.place_ir.proofs.Scoped.{in-either}
 
 -- ---- assignments
 
@@ -82,9 +82,6 @@ each_words env xs w h g = λ y. either_word (is_in y xs) w (env y) g (h y)
 pub record HaveWords (of : Names) (known : List ℕ) (env v : Env) : Type 0 where
   pub each : (y : ℕ) → is_in y known ≡ true → env y ≡ v (of y)
 
-pub all_known_at : (known xs : List ℕ) (y : ℕ) → all_known known xs ≡ true → is_in y xs ≡ true → is_in y known ≡ true
-all_known_at known xs y h i = all_at (λ z. is_in z known) xs y h i
-
 -- values are defined
 pub words_defined : (of : Names) (known above xs ws : List ℕ) (env v : Env) → Within above known → ((z : ℕ) → is_in z known ≡ true → is_in (of z) above ≡ true) → ((z : ℕ) → is_in z known ≡ false → of z ≡ z)
     → ((z : ℕ) → is_in z known ≡ true → is_in z xs ≡ false) → HaveWords of known env v → HaveWords of (known ++ (xs ++ [])) (assigned_all env xs ws) (assigned_all v xs ws)
@@ -96,7 +93,7 @@ words_defined of known above xs ws env v within named own new h = record {
       let there : is_in y xs ≡ true = subst (λ l. is_in y l ≡ true) (append-nil xs) k in
       let unknown_ : is_in y known ≡ false = false_from_ne_true (is_in y known) (λ z. false≢true (sym (new y z) ∙ there)) in
       inside env v xs ws y there ∙ ap (assigned_all v xs ws) (sym (own y unknown_)))
-      (in_either y known (xs ++ []) i);
+      (in-either y known (xs ++ []) i);
 }
 
 clone_word : (b : Bool) (env v : Env) (of : Names) (y z : ℕ) → (b ≡ true → env y ≡ v (of y)) → (b ≡ false → env z ≡ v (of z)) → (if b then env y else env z) ≡ v (if b then of y else of z)
@@ -107,7 +104,7 @@ pub words_cloned : (of : Names) (known xs : List ℕ) (y : ℕ) (env v : Env) �
 words_cloned of known xs y env v k h = record {
   each = λ z i.
       clone_word (is_in z xs) env v of y z (λ e. h.each y k)
-      (λ e. h.each z (⊎_elim (λ (a : is_in z known ≡ true). a) (λ (a : is_in z xs ≡ true). absurd (false≢true (sym e ∙ a))) (in_either z known xs i)));
+      (λ e. h.each z (⊎_elim (λ (a : is_in z known ≡ true). a) (λ (a : is_in z xs ≡ true). absurd (false≢true (sym e ∙ a))) (in-either z known xs i)));
 }
 
 pub words_kept : (of : Names) (known : List ℕ) (env v : Env) → HaveWords of known env v → HaveWords of (known ++ []) env v

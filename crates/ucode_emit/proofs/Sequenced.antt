@@ -2,8 +2,8 @@
 use Rattle.std.proofs.Common.{◌≡◌, ℕ, zero, suc, ◌+◌, ◌<◌, ◌≤◌, List, [], ◌∷◌, ◌++◌, length, map, take, drop, get_or, Some, refl, sym, ap, ◌∙◌, subst, slice_get, arith}
 use Rattle.std.specs.declared.vec.Vec.{Vec}
 use Rattle.std.specs.declared.alloc.Global.{Global}
-use Rattle.std.proofs.lemmas.List.{drop_more, map-append}
-use Rattle.std.proofs.lemmas.Option.{none-some, same_Some}
+use Rattle.std.proofs.lemmas.List.{drop_more, map-append, length-map, length-append}
+use Rattle.std.proofs.lemmas.Option.{none-some, same_Some, slice_get-get_or}
 use Rattle.ssu_ir.specs.declared.ssu.Ssu.{Ssu}
 use Rattle.ssu_ir.specs.Tree.{Last, Jump, Halt, Label, Does, Forks, Ends, last_uses}
 use Rattle.ssu_ir.specs.Points.{Place, Entry, At}
@@ -23,11 +23,10 @@ use Rattle.ucode_emit.specs.inner.Cursors.{place_operands, AreServed}
 use Rattle.ucode_emit.specs.inner.Walk.{place_ends, HasFew, moves_of, mark_at}
 use Rattle.ucode_emit.proofs.Entries.{few_params}
 use Rattle.ucode_emit.proofs.EntriesMoves.{sequenced}
-use Rattle.ucode_emit.proofs.Placing.{as_many, long_both}
 use Rattle.ucode_emit.proofs.CanPieces.{ends_served}
 use Rattle.ucode_emit.proofs.Marked.{all_moves}
 use Rattle.ucode_emit.proofs.Cursored.{Next, served_next}
-use Rattle.ucode_emit.proofs.Stood.{StoodPlace, stood_at, at_there}
+use Rattle.ucode_emit.proofs.Stood.{StoodPlace, stood_at}
 
 -- ---- the parallel move of a point
 
@@ -125,10 +124,10 @@ abbrev pub spot_at : List Spot → ℕ → Spot
 spot_at spots k = get_or spots k (EntrySpot 0)
 
 pub below_marks : (s : Ssu) (spots : List Spot) (k : ℕ) → map (spot_mark s) spots ≡ marks (labels_view s) → k < length spots → k < length (marks (labels_view s))
-below_marks s spots k e l = let m = as_many (spot_mark s) spots in let n = ap length e in omega (arith, m, n, l)
+below_marks s spots k e l = let m = length-map spots (spot_mark s) in let n = ap length e in omega (arith, m, n, l)
 
 pub mark_here : (s : Ssu) (spots : List Spot) (k : ℕ) → map (spot_mark s) spots ≡ marks (labels_view s) → k < length spots → spot_mark s (spot_at spots k) ≡ mark_at (labels_view s) k
-mark_here s spots k e l = mark_of s spots k (spot_at spots k) e (at_there spots k (EntrySpot 0) l)
+mark_here s spots k e l = mark_of s spots k (spot_at spots k) e (slice_get-get_or spots k (EntrySpot 0) l)
 
 pub spot_within : (s : Ssu) (p : Plan) (spots : List Spot) (k at m : ℕ) (all : List Serve) → map (spot_mark s) spots ≡ marks (labels_view s) → k < length spots → AreServed p.serves at k (drop k (marks (labels_view s)))
     → m ≡ place_operands (spot_mark s (spot_at spots k)).place → all ≡ p.serves → at + m ≤ length all
@@ -178,10 +177,10 @@ pub so_far_more : (labels : List Label) (p : Plan) (k : ℕ) (mss mss' : Sequenc
     → SoFar labels p (k + 1) mss'
 so_far_more labels p k mss mss' new l h e n =
     let m = h.as_many_ in
-    let long = long_both mss (new ∷ []) in
+    let long = length-append mss (new ∷ []) in
     let many = as_many_moves labels p in
     let here : slice_get (parallel_moves p labels) k ≡ Some (place_moves p k (mark_at labels k).place) =
-    at_there (parallel_moves p labels) k [] (omega (arith, many, l)) ∙ ap (λ ws. Some ws) (moves_at labels p k l) in
+    slice_get-get_or (parallel_moves p labels) k [] (omega (arith, many, l)) ∙ ap (λ ws. Some ws) (moves_at labels p k l) in
     record {
       as_many_ = ap length e ∙ omega (arith, long, m);
       each = λ i moves ms f g. last_case labels p k mss new h

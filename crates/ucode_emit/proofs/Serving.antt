@@ -51,9 +51,6 @@ at_served p k i (s ∷ ss) (suc j) h lt =
 two : {A B D : Type 0} (f : A → B → D) (a c : A) (b d : B) → a ≡ c → b ≡ d → f a b ≡ f c d
 two f a c b d e g = ap (λ x. f x b) e ∙ ap (f c) g
 
-subst_two : {A B : Type 0} (F : A → B → Type 0) (a c : A) (b d : B) → a ≡ c → b ≡ d → F a b → F c d
-subst_two F a c b d e g h = subst (F c) g (subst (λ x. F x b) e h)
-
 -- ---- what is given
 
 served : (p : Plan) (n : ℕ) (here : Here) → IsHere p n here → AreServes p here.point 0 here.serves.now

@@ -1,8 +1,9 @@
 -- The points of a form, one by one, as the code puts them together.
-use Rattle.std.proofs.Common.{◌≡◌, ℕ, zero, suc, ◌+◌, ◌<◌, ◌≤◌, List, [], ◌∷◌, ◌++◌, length, map, get_or, take, drop, All, refl, sym, ap, ◌∙◌, subst, append_assoc, arith}
-use Rattle.std.specs.Prelude.{reverse, slice_get, Some}
+use Rattle.std.proofs.Common.{◌≡◌, ℕ, suc, ◌+◌, ◌<◌, ◌≤◌, List, [], ◌∷◌, ◌++◌, length, map, get_or, take, drop, All, refl, sym, ap, ◌∙◌, subst, append_assoc, arith}
+use Rattle.std.specs.Prelude.{reverse, Some}
 use Rattle.std.proofs.lemmas.List.{drop_more, drop_all, take_more, length-take-le, append-nil, map-append, reverse-append}
 use Rattle.std.proofs.lemmas.List.Elements.{All-nil, All-push, All-head, All-tail}
+use Rattle.std.proofs.lemmas.Option.{slice_get-get_or}
 use Rattle.ssu_ir.specs.declared.node.NodeId.{NodeId}
 use Rattle.ssu_ir.specs.declared.node.SsuLabel.{SsuLabel}
 use Rattle.ssu_ir.specs.declared.node.SsuNode.{SsuNode}
@@ -20,24 +21,12 @@ use Rattle.place_ir.proofs.Kept.{length-view}
 use Rattle.ucode_emit.specs.declared.spots.Spot.{Spot}
 use Rattle.ucode_emit.specs.declared.spots.Spot.TheVariants.{Entry as EntrySpot, Node as NodeSpot}
 use Rattle.ucode_emit.specs.inner.Marks.{Mark, mark, tree_marks, marks_from}
-use Rattle.ucode_emit.specs.inner.Spots.{spot_mark, on_stack, Pops, Counts, spot_entries}
+use Rattle.ucode_emit.specs.inner.Spots.{spot_mark, on_stack, Counts, spot_entries}
 
 -- ---- stacks
 
 pub top_of : {X : Type 0} (xs : List X) (x : X) → reverse (xs ++ x ∷ []) ≡ x ∷ reverse xs
 top_of xs x = reverse-append xs (x ∷ [])
-
-pub pops_one : (old new : List ℕ) (c : ℕ) → old ≡ new ++ c ∷ [] → Pops old new c
-pops_one old new c e = record {
-  taken = λ d ds f.
-      let g : c ∷ reverse new ≡ d ∷ ds = sym (top_of new c) ∙ ap reverse (sym e) ∙ f in
-      let a : c ≡ d = cc in
-      let b : reverse new ≡ ds = cc in
-      (a, b);
-}
-
-pub pops_none : (old new : List ℕ) (c : ℕ) → old ≡ [] → Pops old new c
-pops_none old new c e = record { taken = λ d ds f. let g : [] ≡ d ∷ ds = ap reverse (sym e) ∙ f in absurd (cc) }
 
 -- ---- trees that are made
 
@@ -114,11 +103,6 @@ spotted s top rest made id it old new n spots spots' u b f w h c e =
 
 -- ---- labels
 
-get_there : (ls : List SsuLabel) (k : ℕ) (d : SsuLabel) → k < length ls → slice_get ls k ≡ Some (get_or ls k d)
-get_there [] k d l = absurd (omega (arith, l))
-get_there (m ∷ ls) zero d l = refl
-get_there (m ∷ ls) (suc k) d l = get_there ls k d (omega (arith, l))
-
 pub some_label : (ls : List SsuLabel) (k : ℕ) → k < length ls → SsuLabel
 some_label [] k l = absurd (omega (arith, l))
 some_label (m ∷ ls) k l = m
@@ -137,7 +121,7 @@ label_more s k d spots pushed new stack goal l p o n h =
     let rest = marks_from (k + 1) (drop (k + 1) view) in
     let entry : map (spot_mark s) pushed ≡ map (spot_mark s) spots ++ mark (Entry k it.params) 0 ∷ [] =
     ap (map (spot_mark s)) p ∙ map-append (spot_mark s) spots (EntrySpot k ∷ [])
-    ∙ ap (λ w. map (spot_mark s) spots ++ mark (Entry k (params_of w)) 0 ∷ []) (get_there s.labels.items k d l) in
+    ∙ ap (λ w. map (spot_mark s) spots ++ mark (Entry k (params_of w)) 0 ∷ []) (slice_get-get_or s.labels.items k d l) in
     let mine : marks_from k (drop k view) ≡ mark (Entry k it.params) 0 ∷ (tree_marks it.body ++ rest) =
     ap (marks_from k) first ∙ ap (λ j. mark (Entry k it.params) 0 ∷ (tree_marks it.body ++ marks_from j (drop (k + 1) view))) next in
     ap (λ m. m ++ rest) (ap (map (spot_mark s)) n ∙ map-append (spot_mark s) pushed (reverse stack) ∙ ap (λ m. map (spot_mark s) pushed ++ m) o ∙ ap (λ m. m ++ tree_marks it.body) entry)

@@ -8,11 +8,11 @@ use Rattle.nv_base.specs.Words.{Env}
 use Rattle.nv_base.proofs.Sets.{within-left, within-right}
 use Rattle.ssu_ir.specs.Tree.{Clone, Write, Tree, Do, If, Label}
 use Rattle.ssu_ir.specs.Points.{Names, names_after, used, Point, nodes}
+use Rattle.ssu_ir.proofs.Held.{filter_from, filter_in}
 use Rattle.place_ir.specs.Plan.{Plan}
 use Rattle.par_move.specs.Moves.{Words}
 use Rattle.ucode_emit.specs.inner.Ready.{Ready}
 use Rattle.ucode_emit.specs.inner.Layers.{Placed, PointsAt, root_point}
-use Rattle.ucode_emit.proofs.PointsTree.{in_filter, filter_in}
 use Rattle.ucode_emit.proofs.PointsUsed.{Spot, spot_step, root_above, root_before, root_below}
 use Rattle.ucode_emit.proofs.DefinitionsResult.{waits_before}
 
@@ -44,8 +44,8 @@ record Arm (of : Names) (above : List ℕ) (whole t : Tree) (k j : ℕ) : Type 0
 
 arm_held : (of : Names) (above : List ℕ) (whole t : Tree) (k j x : ℕ) → Arm of above whole t k j → is_in x (root_point of above t).before ≡ true → is_in x (root_point of above whole).before ≡ true
 arm_held of above whole t k j x a i =
-    let d = filter_in (λ z. is_in z (used of t)) x above (sym (ap (is_in x) (root_before of above t)) ∙ i) in
-    ap (is_in x) (root_before of above whole) ∙ in_filter (λ z. is_in z (used of whole)) x above d.0 (a.uses x d.1)
+    let d = filter_from (λ z. is_in z (used of t)) above x (sym (ap (is_in x) (root_before of above t)) ∙ i) in
+    ap (is_in x) (root_before of above whole) ∙ filter_in (λ z. is_in z (used of whole)) above x d.0 (a.uses x d.1)
 
 arm_ready : (labels : List Label) (p : Plan) (of : Names) (above : List ℕ) (whole t : Tree) (k j : ℕ) (env : Env) (e : Words) → Arm of above whole t k j → Ready labels p k (root_point of above whole) env e
     → Ready labels p j (root_point of above t) env e

@@ -1,5 +1,6 @@
 -- What stands at each point: the tree whose root it is, or the label that begins there.
-use Rattle.std.proofs.Common.{◌≡◌, ℕ, zero, suc, ◌+◌, ◌<◌, List, [], ◌∷◌, ◌++◌, length, get_or, Some, refl, ap, ◌∙◌, subst, slice_get, arith}
+use Rattle.std.proofs.Common.{◌≡◌, ℕ, suc, ◌+◌, ◌<◌, List, [], ◌∷◌, ◌++◌, length, Some, refl, ap, ◌∙◌, subst, slice_get, arith}
+use Rattle.std.proofs.lemmas.Option.{slice_get-get_or}
 use Rattle.uc_isa.specs.declared.instruction.Instr.{Instr}
 use Rattle.uc_isa.specs.Registers.{failing}
 use Rattle.ssu_ir.specs.Tree.{Tree, Do, If, End, Label, Node, Does, Forks, Ends, step_values}
@@ -86,15 +87,10 @@ labels_stood labels p k l (x ∷ ls) e f =
           (λ j it g. let n : suc l + j ≡ l + suc j = omega arith in ap (slice_get labels) n ∙ f (suc j) it g)),
     )
 
-pub at_there : {X : Type 0} (xs : List X) (k : ℕ) (d : X) → k < length xs → slice_get xs k ≡ Some (get_or xs k d)
-at_there [] k d l = absurd (omega (arith, l))
-at_there (x ∷ xs) zero d l = refl
-at_there (x ∷ xs) (suc k) d l = at_there xs k d (omega (arith, l))
-
 pub stood_at : (labels : List Label) (p : Plan) (k : ℕ) → k < length (marks labels) → Stood labels p k (mark_at labels k)
 stood_at labels p k l =
     each_here (Stood labels p) (marks labels) k (mark_at labels k)
     (labels_stood labels p 0 0 labels
     (λ j. let n : 0 + j ≡ j = omega arith in let m : entry_point labels j ≡ 0 + entry_point labels j = omega arith in ap (entry_point labels) n ∙ m)
     (λ j it e. let n : 0 + j ≡ j = omega arith in ap (slice_get labels) n ∙ e))
-    (at_there (marks labels) k (mark (Entry 0 []) 0) l)
+    (slice_get-get_or (marks labels) k (mark (Entry 0 []) 0) l)

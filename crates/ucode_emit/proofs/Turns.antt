@@ -4,7 +4,7 @@ use Rattle.std.proofs.lemmas.List.{take_more, append-nil}
 use Rattle.place_ir.specs.declared.place.Place.{Place}
 use Rattle.place_ir.specs.declared.place.Serve.{Serve}
 use Rattle.par_move.specs.Moves.{Move}
-use Rattle.ucode_emit.specs.inner.Pieces.{Moved, move_instr, moved, copied, all_copied, single_move, single_moves}
+use Rattle.ucode_emit.specs.inner.Pieces.{move_instr, moved, copied, all_copied, single_move, single_moves}
 use Rattle.ucode_emit.specs.inner.Emitted.{draft, each_fetch}
 
 -- what is appended for each of some elements is appended for one more
@@ -24,10 +24,6 @@ pub singles_last : (l : Option ℕ) (a : List Move) (m : Move) → single_moves 
 singles_last l [] m = append-nil (single_move l m.0 m.1)
 singles_last l (n ∷ a) m =
     ap (λ z. single_move l n.0 n.1 ++ z) (singles_last l a m) ∙ sym (append_assoc (single_move l n.0 n.1) (single_moves l a) (single_move l m.0 m.1))
-
-pub moved_last : (a : List Move) (m : Move) → moved (a ++ m ∷ []) ≡ moved a ++ Moved m.0 m.1 ∷ []
-moved_last [] m = refl
-moved_last (n ∷ a) m = ap (λ z. Moved n.0 n.1 ∷ z) (moved_last a m)
 
 pub fetches_last : (f : Serve → List Move) (a : List Serve) (s : Serve) → each_fetch f (a ++ s ∷ []) ≡ each_fetch f a ++ f s
 fetches_last f [] s = append-nil (f s)

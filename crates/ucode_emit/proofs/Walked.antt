@@ -1,11 +1,11 @@
 -- The code of the points, one point after the other.
-use Rattle.std.proofs.Common.{◌≡◌, ℕ, zero, suc, ◌+◌, ◌<◌, ◌≤◌, List, [], ◌∷◌, ◌++◌, length, map, take, drop, get_or, Some, None, Result, Ok, Err, OnOk, Bor, refl, sym, ap, ◌∙◌, subst, append_assoc, slice_get, arith}
+use Rattle.std.proofs.Common.{◌≡◌, ℕ, suc, ◌+◌, ◌<◌, ◌≤◌, List, [], ◌∷◌, ◌++◌, length, map, take, drop, get_or, Some, None, Result, Ok, Err, OnOk, Bor, refl, sym, ap, ◌∙◌, subst, append_assoc, slice_get, arith}
 use Rattle.std.specs.Prelude.{slice_index_or, nat_le}
 use Rattle.std.specs.declared.vec.Vec.{Vec}
 use Rattle.std.specs.declared.alloc.Global.{Global}
 use Rattle.std.proofs.lemmas.Bool.{and_parts}
-use Rattle.std.proofs.lemmas.List.{take_more, length-take-le, append-nil, get_or_default}
-use Rattle.std.proofs.lemmas.Option.{none-some}
+use Rattle.std.proofs.lemmas.List.{take_more, length-take-le, append-nil, get_or_default, map-append, length-map}
+use Rattle.std.proofs.lemmas.Option.{slice_get-get_or, slice_get_within}
 use Rattle.uc_isa.specs.declared.instruction.Instr.{Instr}
 use Rattle.ssu_ir.specs.declared.ssu.Ssu.{Ssu}
 use Rattle.ssu_ir.specs.Tree.{Jump, Halt, Tree, Do, If, End, Label, Node, Does, Forks, Ends}
@@ -31,10 +31,9 @@ use Rattle.ucode_emit.specs.inner.Spots.{spot_mark, spot_entries}
 use Rattle.ucode_emit.specs.inner.Walk.{AreKnown, mark_at, moves_of, place_branch, place_items, CanPlace, pieces_below, IsDrafted}
 use Rattle.ucode_emit.proofs.CanPieces.{can_step, can_fork, can_last, can_front}
 use Rattle.ucode_emit.proofs.LawfulPieces.{node_here, takes_some, sequence_here}
-use Rattle.ucode_emit.proofs.Placing.{map_both, as_many}
 use Rattle.ucode_emit.proofs.Marked.{pieces_both, joined_both, begins_both, entry_there}
 use Rattle.ucode_emit.proofs.Sequenced.{moves_at, as_many_moves, got_map, Come, spot_at, below_marks, mark_here, spot_within, spot_comes}
-use Rattle.ucode_emit.proofs.Stood.{root_node, StoodPlace, stood_at, at_there}
+use Rattle.ucode_emit.proofs.Stood.{root_node, StoodPlace, stood_at}
 
 -- ---- where labels begin
 
@@ -81,16 +80,11 @@ can_place labels p mss k n (At it) h r s i =
     subst (λ m. CanNode p k (sequence_at mss k) m) s.root
     (can_tree labels p k s.of s.above s.tree (sequence_at mss k) h s.points_ (subst (λ m. IsSequence (node_moves p k m) (sequence_at mss k)) (sym s.root) i))
 
-pub there_below : {X : Type 0} (xs : List X) (k : ℕ) (x : X) → slice_get xs k ≡ Some x → k < length xs
-there_below [] k x e = absurd (none-some x e)
-there_below (y ∷ xs) zero x e = omega arith
-there_below (y ∷ xs) (suc k) x e = let l = there_below xs k x e in omega (arith, l)
-
 jump_below : (labels : List Label) (p : Plan) (k : ℕ) (of : Names) (above : List ℕ) (l : ℕ) (xs : List ℕ) → Placed labels p → PointsAt labels k of above (End (Jump l xs)) → l < length labels
 jump_below labels p k of above l xs h a =
     let f = node_here labels p k of above (End (Jump l xs)) h a in
     let to = takes_some (length xs) (slice_get labels l) (and_parts (nat_le 1 l) (takes_as_many (length xs) (slice_get labels l)) f.fits).1 in
-    there_below labels l to.0 to.1
+    slice_get_within labels l to.0 to.1
 
 jumps_within : (labels : List Label) (p : Plan) (k : ℕ) (of : Names) (above : List ℕ) (t : Tree) (l : ℕ) (xs : List ℕ) → Placed labels p → PointsAt labels k of above t → root_node t ≡ Ends (Jump l xs) → l < length labels
 jumps_within labels p k of above (Do s t) l xs h a e = absurd (cc)
@@ -119,13 +113,13 @@ place_same labels p k n (At it) entries ms h s e = node_same labels p k n it ent
 pub sequence_there : (labels : List Label) (p : Plan) (mss : Sequences) (k : ℕ) → AreSequences (parallel_moves p labels) mss → k < length (marks labels) → IsSequence (place_moves p k (mark_at labels k).place) (sequence_at mss k)
 sequence_there labels p mss k r l =
     let many = as_many_moves labels p in
-    sequence_here (parallel_moves p labels) mss k (place_moves p k (mark_at labels k).place) r (at_there (parallel_moves p labels) k [] (omega (arith, many, l)) ∙ ap (λ ms. Some ms) (moves_at labels p k l))
+    sequence_here (parallel_moves p labels) mss k (place_moves p k (mark_at labels k).place) r (slice_get-get_or (parallel_moves p labels) k [] (omega (arith, many, l)) ∙ ap (λ ms. Some ms) (moves_at labels p k l))
 
 pub sequences_long : (labels : List Label) (p : Plan) (vs : List (Vec Move Global)) → AreSequences (parallel_moves p labels) (moves_of vs) → length vs ≡ length (marks labels)
-sequences_long labels p vs r = sym (as_many (λ (v : Vec Move Global). v.items) vs) ∙ r.as_many ∙ as_many_moves labels p
+sequences_long labels p vs r = sym (length-map vs (λ (v : Vec Move Global). v.items)) ∙ r.as_many ∙ as_many_moves labels p
 
 pub sequence_kept : (vs : List (Vec Move Global)) (k : ℕ) (v : Vec Move Global) → k < length vs → get_or vs k v ≡ v → v.items ≡ sequence_at (moves_of vs) k
-sequence_kept vs k v l e = got_map (λ (w : Vec Move Global). w.items) vs k v [] (at_there vs k v l ∙ ap (λ w. Some w) e)
+sequence_kept vs k v l e = got_map (λ (w : Vec Move Global). w.items) vs k v [] (slice_get-get_or vs k v l ∙ ap (λ w. Some w) e)
 
 -- ---- one point more
 
@@ -143,9 +137,9 @@ drafted_more labels p mss k code code' places places' at l h e a f =
     let split : pieces_below labels p mss (k + 1) ≡ was ++ x ∷ [] =
     ap (pieces labels p mss 0) (take_more (marks labels) k (mark (Entry 0 []) 0) l) ∙ pieces_both labels p mss 0 k (take k (marks labels)) (q ∷ []) z in
     let items : joined (pieces_below labels p mss (k + 1)) ≡ joined was ++ x = ap joined split ∙ joined_both was (x ∷ []) ∙ ap (λ m. joined was ++ m) (append-nil x) in
-    let here : 0 + length (joined was) ≡ at = let m = as_many draft (joined was) in let n = ap length h.code_ in omega (arith, m, n, a) in
+    let here : 0 + length (joined was) ≡ at = let m = length-map (joined was) draft in let n = ap length h.code_ in omega (arith, m, n, a) in
     record {
-      code_ = e ∙ ap (λ m. m ++ map draft x) h.code_ ∙ sym (map_both draft (joined was) x) ∙ ap (map draft) (sym items);
+      code_ = e ∙ ap (λ m. m ++ map draft x) h.code_ ∙ sym (map-append draft (joined was) x) ∙ ap (map draft) (sym items);
       places_ = f ∙ ap (λ m. m ++ at ∷ []) h.places_ ∙ ap (λ n. begins 0 was ++ n ∷ []) (sym here) ∙ sym (begins_both 0 was (x ∷ [])) ∙ ap (begins 0) (sym split);
     }
 
@@ -210,7 +204,3 @@ cut_on point all all' at k n c e f =
 pub always : {E : Type 0} (r : Result (Unit {0}) E) (P : Type 0) → P → OnOk r P
 always (Ok u) P h = h
 always (Err e) P h = tt
-
-pub on_ok : {E : Type 0} (r : Result (Unit {0}) E) (P Q : Type 0) → (P → Q) → OnOk r P → OnOk r Q
-on_ok (Ok u) P Q h p = h p
-on_ok (Err e) P Q h p = tt

@@ -12,6 +12,7 @@ use Rattle.nv_base.specs.Words.{Env}
 use Rattle.nv_base.proofs.Sets.{same-number, within-left}
 use Rattle.ssu_ir.specs.Tree.{Write, Tree, Do, Label}
 use Rattle.ssu_ir.specs.Points.{Names, Point, points}
+use Rattle.ssu_ir.proofs.Lists.{in-itself}
 use Rattle.place_ir.specs.declared.place.Place.{Place}
 use Rattle.place_ir.specs.declared.place.Place.TheVariants.{A, B, L, LD, S, SD, Slot}
 use Rattle.place_ir.specs.Places.{same_place}
@@ -19,19 +20,19 @@ use Rattle.place_ir.specs.Plan.{Plan, first, serve, pass}
 use Rattle.place_ir.specs.Uses.{Access, Role, Address, Written, roles, place_roles, Use, uses_at}
 use Rattle.place_ir.specs.Fits.{write_place, is_slot, is_write_register, role_register, word_register, run_of, has_place, is_home, point_values}
 use Rattle.place_ir.proofs.Places.{same_place-true, same_place-from}
+use Rattle.place_ir.proofs.Walked.{some-there}
 use Rattle.par_move.specs.Moves.{Move, Words, one_by_one}
 use Rattle.ucode_emit.specs.inner.Pieces.{named, bring, brought, operands, operand_at, words}
 use Rattle.ucode_emit.specs.inner.Ready.{Ready, WaitsAt, lasting}
 use Rattle.ucode_emit.specs.inner.Machine.{IsWritable}
 use Rattle.ucode_emit.specs.inner.Layers.{Placed, PointsAt, root_point, IsAddress, OperandsReady, Behind}
 use Rattle.ucode_emit.proofs.PointsEach.{all_both}
-use Rattle.ucode_emit.proofs.PointsTree.{in_head}
 use Rattle.ucode_emit.proofs.PointsUses.{at_in, use_at}
 use Rattle.ucode_emit.proofs.Copies.{one_append}
 use Rattle.ucode_emit.proofs.DefinitionsHomes.{general_not_written, read_not_written, write_place_is, early_register, Lasts, in_place, in_read, lasts_from}
 use Rattle.ucode_emit.proofs.DefinitionsReady.{waits_from}
 use Rattle.ucode_emit.proofs.DefinitionsDirect.{OneInstr, eighth_named, access_at, first_bound}
-use Rattle.ucode_emit.proofs.EntriesMoves.{role_at, there_is, map_get}
+use Rattle.ucode_emit.proofs.EntriesMoves.{role_at, map_get}
 use Rattle.ucode_emit.proofs.OperandsHomes.{Here, here_at, settled_held, Source, source_of, IsHere, uses_here}
 use Rattle.ucode_emit.proofs.OperandsFetch.{named_some, held_apart, fetch_address, one_fetched}
 use Rattle.ucode_emit.proofs.Bring.{bring_brings, bring_spares, bring_direct, source_is}
@@ -176,7 +177,7 @@ part_all : (labels : List Label) (p : Plan) (k : ℕ) (q : Point) (of : Names) (
 part_all labels p k q of m xs env j zero e h s w z d = let y : j ≡ length xs = omega arith in subst (λ i. Part labels p k q of m xs env i e) y d
 part_all labels p k q of m xs env j (suc n) e h s w z d =
     let less : j < length xs = omega arith in
-    let x = there_is xs j less in
+    let x = some-there xs j less in
     let e' = one_by_one (fetched p k (suc j)) e in
     subst (Part labels p k q of m xs env (length xs)) (sym (one_append (fetched p k (suc j)) (words p k (suc (suc j)) n) e))
     (part_all labels p k q of m xs env (suc j) n e' h s w (omega arith) (part_next labels p k q of m xs env j x.0 e h s (w j x.0 x.1) x.1 d))
@@ -207,7 +208,7 @@ words_direct labels p k q of m xs j zero h s w b z = tt
 words_direct labels p k q of m xs j (suc n) h s w b z =
     let less : j < length xs = omega arith in
     let low : first p k + j < 8 = omega arith in
-    let x = there_is xs j less in
+    let x = some-there xs j less in
     all_both OneInstr (fetched p k (suc j)) (words p k (suc (suc j)) n) (word_direct labels p k q m (of x.0) j h s low (w j x.0 x.1)) (words_direct labels p k q of m xs (suc j) n h s w b (omega arith))
 
 -- ---- the uses of a write
@@ -253,7 +254,7 @@ unlisted : (labels : List Label) (p : Plan) (k : ℕ) (q : Point) (of : Names) (
 unlisted labels p k q of m xs r w f zero a b e = absurd (omega arith)
 unlisted labels p k q of m xs r w f (suc i) a b e =
     let less : i < length xs = omega arith in
-    let x = there_is xs i less in
+    let x = some-there xs i less in
     let it = w i x.0 x.1 in
     false≢true (sym f ∙ (ap (λ z. has_place z (run_of (write_place m) (first p k) (length xs))) (e ∙ it.at_it) ∙ run_has m (first p k) (length xs) i less))
 
@@ -321,7 +322,7 @@ unaddressed : (labels : List Label) (p : Plan) (k : ℕ) (q : Point) (of : Names
 unaddressed labels p k q of m xs t w d zero a b e = absurd (omega arith)
 unaddressed labels p k q of m xs t w d (suc i) a b e =
     let less : i < length xs = omega arith in
-    let x = there_is xs i less in
+    let x = some-there xs i less in
     address_unwritten t d (ap is_write_register e ∙ word_written labels p k q m (of x.0) i (w i x.0 x.1))
 
 word_here : (labels : List Label) (p : Plan) (k : ℕ) (of : Names) (m : Mem) (xs : List ℕ) (i x : ℕ) → AllByRecursion (IsHere labels p k) (uses_at k 1 (map of xs) (roles (Written m) 0 xs)) → slice_get xs i ≡ Some x
@@ -349,7 +350,7 @@ written labels p h k of above m xs y t env e a d =
     let q = root_point of above (Do (Write m y xs) t) in
     let s = here_at labels p k of above (Do (Write m y xs) t) h a in
     let u = uses_here labels p k q h s.at in
-    let f = fetch_address labels p k q (of y) h s u.0 (in_head (of y) (map of xs)) in
+    let f = fetch_address labels p k q (of y) h s u.0 (in-itself (of y) (map of xs)) in
     let o = (one_fetched labels p k q (of y) env e h s f.fetch d).0 in
     let e0 = one_by_one (operands p k 1) e in
     let ready0 : Ready labels p k q env e0 = o.1.ready in

@@ -1,4 +1,5 @@
 use Rattle.std.proofs.Common.{◌≡◌, ◌∙◌, ℕ, ap, sym, inr, map, length, arith}
+use Rattle.std.proofs.lemmas.List.{length-map}
 use Rattle.std.specs.HashMap.{get}
 use Rattle.ssu_ir.specs.View.{labels_view}
 use Rattle.zo_model.specs.Contents.{row_contents}
@@ -7,7 +8,7 @@ use Rattle.bank_prog.specs.Columns.{priced, columns, costs}
 use Rattle.bank_prog.specs.Program as program
 use Rattle.bank_prog.specs.Program.{same_column, row_of, number_in, number_of}
 use Rattle.bank_prog.specs.Rows.{lines}
-use Rattle.bank_prog.proofs.FormLemmas.{length-map, rows-alike, same-program}
+use Rattle.bank_prog.proofs.FormLemmas.{rows-alike, same-program}
 use Rattle.bank_prog.proofs.PlainLines.{program-valid}
 use Rattle.bank_prog.proofs.program.build.Goals as goal
 
@@ -16,11 +17,11 @@ returns-then-len-gt-COUNT_LIMIT-2-clause-many c = λ n h.
     let labels = labels_view c.args.s.now in
     let here : labels_view c.in_ok-f.f.ssu.now ≡ labels = ap labels_view c.in_ok-f.ensures in
     let all : c.in_ok-priced.priced.items ≡ priced labels = c.in_ok-priced.ensures ∙ ap priced here in
-    let cols : length (columns labels) ≡ length c.in_ok-priced.priced.items = length-map (λ (x : Column × ℕ). x.0) (priced labels) ∙ ap length (sym all) in
+    let cols : length (columns labels) ≡ length c.in_ok-priced.priced.items = length-map (priced labels) (λ (x : Column × ℕ). x.0) ∙ ap length (sym all) in
     let rows : length c.in_ok-rows.rows.items ≡ length (program.rows labels c.args.slots) =
-    sym (length-map row_contents c.in_ok-rows.rows.items) ∙ ap length c.in_ok-rows.ensures
-    ∙ length-map (row_of (get same_column c.in_ok-numbers.numbers)) (lines (labels_view c.in_ok-f.f.ssu.now) c.args.slots)
-    ∙ ap (λ ls. length (lines ls c.args.slots)) here ∙ sym (length-map (row_of (number_of labels)) (lines labels c.args.slots)) in
+    sym (length-map c.in_ok-rows.rows.items row_contents) ∙ ap length c.in_ok-rows.ensures
+    ∙ length-map (lines (labels_view c.in_ok-f.f.ssu.now) c.args.slots) (row_of (get same_column c.in_ok-numbers.numbers))
+    ∙ ap (λ ls. length (lines ls c.args.slots)) here ∙ sym (length-map (lines labels c.args.slots) (row_of (number_of labels))) in
     let e : c.len-then-len-gt-COUNT_LIMIT-2.result ≡ n = cc in
     inr (omega (arith, cols), (omega (arith, rows, e), omega (arith, rows, e)))
 
@@ -42,11 +43,11 @@ returns-clause-valid c =
     let all : c.in_ok-priced.priced.items ≡ priced labels = c.in_ok-priced.ensures ∙ ap priced here in
     let same : (x : Column) → get same_column c.in_ok-numbers.numbers x ≡ number_of labels x = λ x.
     c.in_ok-numbers.ensures x ∙ ap (λ ps. number_in 0 (map (λ (d : Column × ℕ). d.0) ps) x) (c.deref.ensures.value ∙ all) in
-    let cols : length (columns labels) ≡ length c.in_ok-priced.priced.items = length-map (λ (x : Column × ℕ). x.0) (priced labels) ∙ ap length (sym all) in
+    let cols : length (columns labels) ≡ length c.in_ok-priced.priced.items = length-map (priced labels) (λ (x : Column × ℕ). x.0) ∙ ap length (sym all) in
     let rows : length c.in_ok-rows.rows.items ≡ length (program.rows labels c.args.slots) =
-    sym (length-map row_contents c.in_ok-rows.rows.items) ∙ ap length c.in_ok-rows.ensures
-    ∙ length-map (row_of (get same_column c.in_ok-numbers.numbers)) (lines (labels_view c.in_ok-f.f.ssu.now) c.args.slots)
-    ∙ ap (λ ls. length (lines ls c.args.slots)) here ∙ sym (length-map (row_of (number_of labels)) (lines labels c.args.slots)) in
+    sym (length-map c.in_ok-rows.rows.items row_contents) ∙ ap length c.in_ok-rows.ensures
+    ∙ length-map (lines (labels_view c.in_ok-f.f.ssu.now) c.args.slots) (row_of (get same_column c.in_ok-numbers.numbers))
+    ∙ ap (λ ls. length (lines ls c.args.slots)) here ∙ sym (length-map (lines labels c.args.slots) (row_of (number_of labels))) in
     program-valid _ labels c.args.slots
     (same-program c.in_ok-costs.costs.items (costs labels) (map row_contents c.in_ok-rows.rows.items) (program.rows labels c.args.slots)
     (c.in_ok-costs.ensures ∙ ap (map (λ (d : Column × ℕ). d.1)) (c.deref-3.ensures.value ∙ all))
@@ -58,7 +59,7 @@ returns-clause-rows c =
     let here : labels_view c.in_ok-f.f.ssu.now ≡ labels = ap labels_view c.in_ok-f.ensures in
     let all : c.in_ok-priced.priced.items ≡ priced labels = c.in_ok-priced.ensures ∙ ap priced here in
     let rows : length c.in_ok-rows.rows.items ≡ length (program.rows labels c.args.slots) =
-    sym (length-map row_contents c.in_ok-rows.rows.items) ∙ ap length c.in_ok-rows.ensures
-    ∙ length-map (row_of (get same_column c.in_ok-numbers.numbers)) (lines (labels_view c.in_ok-f.f.ssu.now) c.args.slots)
-    ∙ ap (λ ls. length (lines ls c.args.slots)) here ∙ sym (length-map (row_of (number_of labels)) (lines labels c.args.slots)) in
+    sym (length-map c.in_ok-rows.rows.items row_contents) ∙ ap length c.in_ok-rows.ensures
+    ∙ length-map (lines (labels_view c.in_ok-f.f.ssu.now) c.args.slots) (row_of (get same_column c.in_ok-numbers.numbers))
+    ∙ ap (λ ls. length (lines ls c.args.slots)) here ∙ sym (length-map (lines labels c.args.slots) (row_of (number_of labels))) in
     omega (arith, rows)

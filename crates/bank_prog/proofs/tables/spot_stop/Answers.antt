@@ -2,12 +2,12 @@ use Rattle.std.proofs.Common.{◌≡◌, ◌∙◌, ℕ, length, nat_eq, refl, s
 use Rattle.std.specs.Prelude.{slice_get}
 use Rattle.std.specs.HashMap.{get}
 use Rattle.std.proofs.lemmas.Option.{slice_get_read}
+use Rattle.std.proofs.lemmas.Result.{IfOk-weaker}
 use Rattle.ssu_ir.specs.Points.{Names, Entry}
 use Rattle.place_ir.specs.inner.Live.{value_by}
 use Rattle.place_ir.specs.inner.Spots.{spot_place, params_of}
 use Rattle.bank_prog.specs.declared.form.Stop.{Stop}
 use Rattle.bank_prog.specs.inner.Form.{part_at, stop_view}
-use Rattle.bank_prog.proofs.FormLemmas.{if-ok}
 use Rattle.bank_prog.proofs.tables.spot_stop.Goals as goal
 
 pub returns-in_ok-short-in-Some : goal.returns-in_ok-short-in-Some
@@ -21,5 +21,5 @@ returns-in_ok-short-in-Some c =
     let here : Entry c.in_ok-short-in-Some.field-0 params ≡ spot_place s c.args.spot =
     ap (λ (k : ℕ). Entry k params) c.in_ok-short-in-Some.ensures ∙ ap (Entry l) c.deref-in-Some.ensures.value
     ∙ ap (λ o. Entry l (params_of o)) (sym there ∙ ap (λ xs. slice_get xs l) c.deref.ensures.value) ∙ ap (spot_place s) (sym c.in-Entry.is) in
-    if-ok c.entry_stop.result (λ (t : Stop). (of : Names) → stop_view t ≡ part_at of c.args.k (Entry c.in_ok-short-in-Some.field-0 params)) (λ (t : Stop). stop_view t ≡ part_at of c.args.k (spot_place s c.args.spot))
+    IfOk-weaker c.entry_stop.result (λ (t : Stop). (of : Names) → stop_view t ≡ part_at of c.args.k (Entry c.in_ok-short-in-Some.field-0 params)) (λ (t : Stop). stop_view t ≡ part_at of c.args.k (spot_place s c.args.spot))
     (λ t h. h of ∙ ap (part_at of c.args.k) here) c.entry_stop.ensures

@@ -1,11 +1,11 @@
 use Rattle.std.proofs.Common.{◌∙◌, ◌++◌, ◌∷◌, [], ℕ, map, ap, nat_eq, get_or, arith}
+use Rattle.std.proofs.lemmas.List.{map-append}
 use Rattle.place_ir.specs.declared.spots.Spot.TheVariants.{Entry}
 use Rattle.std.specs.HashMap.{get}
 use Rattle.place_ir.specs.inner.Live.{value_by}
 use Rattle.place_ir.specs.inner.Parts.{gather}
 use Rattle.place_ir.specs.inner.Spots.{spot_place}
 use Rattle.bank_prog.specs.inner.Form.{stop_view, part_at, parts_at}
-use Rattle.bank_prog.proofs.Loops.{map-append}
 use Rattle.bank_prog.proofs.Tabled.{gather-more, gather-all}
 use Rattle.bank_prog.proofs.tables.stops_of.Goals as goal
 

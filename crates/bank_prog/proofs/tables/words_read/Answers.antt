@@ -1,7 +1,7 @@
 use Rattle.std.proofs.Common.{◌∙◌, ◌++◌, ◌∷◌, [], ℕ, map, ap, get_or, arith}
+use Rattle.std.proofs.lemmas.List.{map-append}
 use Rattle.place_ir.specs.Uses as pure
 use Rattle.bank_prog.specs.inner.Form.{value_view}
-use Rattle.bank_prog.proofs.Loops.{map-append}
 use Rattle.bank_prog.proofs.Tabled.{numbered-more, numbered-all}
 use Rattle.bank_prog.proofs.tables.words_read.Goals as goal
 

@@ -1,4 +1,5 @@
 use Rattle.std.proofs.Common.{◌∙◌, ◌++◌, ◌∷◌, [], ℕ, nat_eq, ap, map, arith}
+use Rattle.std.proofs.lemmas.List.{map-append}
 use Rattle.std.specs.HashMap.{get}
 use Rattle.std.specs.List.{flat_map}
 use Rattle.std.specs.declared.vec.Vec.{Vec}
@@ -6,7 +7,6 @@ use Rattle.std.specs.declared.alloc.Global.{Global}
 use Rattle.bank_prog.specs.declared.form.Use.{Use}
 use Rattle.bank_prog.specs.inner.Form.{use_view}
 use Rattle.bank_prog.specs.inner.Waiting.{each_waiting, lists_of, kept_waiting}
-use Rattle.bank_prog.proofs.Loops.{map-append}
 use Rattle.bank_prog.proofs.Waits.{each-more, each-all}
 use Rattle.bank_prog.proofs.waiting.words_of_points.Goals as goal
 

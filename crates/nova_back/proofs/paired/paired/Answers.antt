@@ -1,4 +1,5 @@
 use Rattle.std.proofs.Common.{◌≡◌, map, length, ap, ◌∙◌}
+use Rattle.std.proofs.lemmas.List.{length-map}
 use Rattle.std.specs.HashMap.{get}
 use Rattle.ssu_ir.specs.View.{labels_view}
 use Rattle.zo_model.specs.Program.{vector}
@@ -6,14 +7,14 @@ use Rattle.bank_prog.specs.Columns.{columns}
 use Rattle.bank_prog.specs.Meaning.{on}
 use Rattle.bank_prog.specs.Program.{same_column}
 use Rattle.nova_back.specs.inner.Paired.{paired}
-use Rattle.nova_back.proofs.PairedAll.{paired-lines, vector-paired, paired-costs, same-count}
+use Rattle.nova_back.proofs.PairedAll.{paired-lines, vector-paired, paired-costs}
 use Rattle.nova_back.proofs.paired.paired.Goals as goal
 
 pub returns-clause-columns : goal.returns-clause-columns
 returns-clause-columns c =
     let f = paired (get same_column c.in_ok-numbers.numbers) in
     let names = columns (labels_view c.args.s.now) in
-    ap (λ l. length l) (c.in_ok-on.ensures ∙ ap (map f) (c.deref.ensures.value ∙ c.in_ok-names.ensures)) ∙ same-count f names
+    ap (λ l. length l) (c.in_ok-on.ensures ∙ ap (map f) (c.deref.ensures.value ∙ c.in_ok-names.ensures)) ∙ length-map names f
 
 pub returns-clause-feasible : goal.returns-clause-feasible
 returns-clause-feasible c = λ slots l.

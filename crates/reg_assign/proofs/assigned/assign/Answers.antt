@@ -1,4 +1,5 @@
 use Rattle.std.proofs.Common.{◌≡◌, ℕ, ◌≤◌}
+use Rattle.std.proofs.lemmas.Result.{IfOk-weaker}
 use Rattle.ssu_ir.specs.View.{labels_view}
 use Rattle.place_ir.specs.declared.place.Placement.{Placement}
 use Rattle.place_ir.specs.Costs.{cost}
@@ -6,7 +7,6 @@ use Rattle.place_ir.specs.Fits.{Fits}
 use Rattle.place_ir.specs.Plan.{plan_view}
 use Rattle.zo_model.specs.Program.{vector, costs_of}
 use Rattle.bank_prog.specs.Columns.{costs}
-use Rattle.bank_prog.proofs.FormLemmas.{if-ok}
 use Rattle.reg_assign.specs.ByLabel.{label_cost, label_price}
 use Rattle.reg_assign.proofs.Promised.{IsAssigned, assigned}
 use Rattle.reg_assign.proofs.assigned.assign.Goals as goal
@@ -17,7 +17,7 @@ returns-clause-fits c =
     let x = c.args.x.now in
     let r = c.in_ok-reading.reading in
     let g = c.in_ok-given.given in
-    if-ok c.placed.result (IsAssigned (labels_view s) c.args.slots (vector x.on.items)) (λ (p : Placement). Fits (labels_view s) (plan_view p)) (λ p h. h.fits)
+    IfOk-weaker c.placed.result (IsAssigned (labels_view s) c.args.slots (vector x.on.items)) (λ (p : Placement). Fits (labels_view s) (plan_view p)) (λ p h. h.fits)
     (assigned s x c.args.slots r c.in_ok-numbers.numbers g c.placed.result c.in_ok-reading.ensures.form c.in_ok-reading.ensures.vector c.in_ok-given.ensures.reading c.in_ok-given.ensures.numbers
     c.requires.single c.requires.slots c.requires.feasible c.in_ok-numbers.ensures c.placed.ensures)
 
@@ -27,7 +27,7 @@ returns-clause-slots c =
     let x = c.args.x.now in
     let r = c.in_ok-reading.reading in
     let g = c.in_ok-given.given in
-    if-ok c.placed.result (IsAssigned (labels_view s) c.args.slots (vector x.on.items)) (λ (p : Placement). p.slots ≡ c.args.slots) (λ p h. h.slots)
+    IfOk-weaker c.placed.result (IsAssigned (labels_view s) c.args.slots (vector x.on.items)) (λ (p : Placement). p.slots ≡ c.args.slots) (λ p h. h.slots)
     (assigned s x c.args.slots r c.in_ok-numbers.numbers g c.placed.result c.in_ok-reading.ensures.form c.in_ok-reading.ensures.vector c.in_ok-given.ensures.reading c.in_ok-given.ensures.numbers
     c.requires.single c.requires.slots c.requires.feasible c.in_ok-numbers.ensures c.placed.ensures)
 
@@ -37,7 +37,7 @@ returns-clause-cost c =
     let x = c.args.x.now in
     let r = c.in_ok-reading.reading in
     let g = c.in_ok-given.given in
-    if-ok c.placed.result (IsAssigned (labels_view s) c.args.slots (vector x.on.items)) (λ (p : Placement). cost (labels_view s) (plan_view p) ≤ costs_of (costs (labels_view s)) (vector x.on.items)) (λ p h. h.paid)
+    IfOk-weaker c.placed.result (IsAssigned (labels_view s) c.args.slots (vector x.on.items)) (λ (p : Placement). cost (labels_view s) (plan_view p) ≤ costs_of (costs (labels_view s)) (vector x.on.items)) (λ p h. h.paid)
     (assigned s x c.args.slots r c.in_ok-numbers.numbers g c.placed.result c.in_ok-reading.ensures.form c.in_ok-reading.ensures.vector c.in_ok-given.ensures.reading c.in_ok-given.ensures.numbers
     c.requires.single c.requires.slots c.requires.feasible c.in_ok-numbers.ensures c.placed.ensures)
 
@@ -47,6 +47,6 @@ returns-clause-label_cost c =
     let x = c.args.x.now in
     let r = c.in_ok-reading.reading in
     let g = c.in_ok-given.given in
-    if-ok c.placed.result (IsAssigned (labels_view s) c.args.slots (vector x.on.items)) (λ (p : Placement). (l : ℕ) → label_cost (labels_view s) l (plan_view p) ≤ label_price (labels_view s) l (vector x.on.items)) (λ p h. h.label_paid)
+    IfOk-weaker c.placed.result (IsAssigned (labels_view s) c.args.slots (vector x.on.items)) (λ (p : Placement). (l : ℕ) → label_cost (labels_view s) l (plan_view p) ≤ label_price (labels_view s) l (vector x.on.items)) (λ p h. h.label_paid)
     (assigned s x c.args.slots r c.in_ok-numbers.numbers g c.placed.result c.in_ok-reading.ensures.form c.in_ok-reading.ensures.vector c.in_ok-given.ensures.reading c.in_ok-given.ensures.numbers
     c.requires.single c.requires.slots c.requires.feasible c.in_ok-numbers.ensures c.placed.ensures)

@@ -1,4 +1,5 @@
 use Rattle.std.proofs.Common.{◌∙◌, ap, subst, length, arith}
+use Rattle.std.proofs.lemmas.List.{length-map}
 use Rattle.ssu_ir.specs.View.{labels_view}
 use Rattle.place_ir.specs.Plan.{plan_view}
 use Rattle.ucode_emit.specs.inner.Marks.{Mark, marks, place_moves}
@@ -6,7 +7,6 @@ use Rattle.ucode_emit.specs.inner.Ready.{IsSequence}
 use Rattle.ucode_emit.specs.inner.Spots.{spot_mark}
 use Rattle.ucode_emit.specs.inner.Walk.{moves_of}
 use Rattle.ucode_emit.proofs.Cursored.{served_start, uses_by_marks}
-use Rattle.ucode_emit.proofs.Placing.{as_many}
 use Rattle.ucode_emit.proofs.Sequenced.{spot_within, spot_comes, below_marks, mark_here, so_far_none, so_far_more, so_far_all, moves_push}
 use Rattle.ucode_emit.proofs.sequences.sequences_of.Goals as goal
 
@@ -61,6 +61,6 @@ pub returns : goal.returns
 returns c =
     let s = c.args.s.now in
     let view = labels_view s in
-    let many = as_many (spot_mark s) c.args.spots.now in
+    let many = length-map c.args.spots.now (spot_mark s) in
     let same = ap length c.requires.spots in
     so_far_all view (plan_view c.args.p.now) c.loop-k.k (moves_of c.loop-k.sequences.items) (omega (arith, many, same)) c.loop-k.invariant.so_far

@@ -3,13 +3,14 @@ use Rattle.ssu_ir.specs.View.{labels_view}
 use Rattle.place_ir.specs.declared.place.First.{First}
 use Rattle.place_ir.specs.declared.place.Pass.{Pass}
 use Rattle.place_ir.specs.Plan.{plan_view}
+use Rattle.place_ir.proofs.RowSteps.{on-ok}
 use Rattle.ucode_emit.specs.inner.Emitted.{draft}
 use Rattle.ucode_emit.specs.inner.Marks.{point_piece}
 use Rattle.ucode_emit.specs.inner.Pieces.{sequence_at}
 use Rattle.ucode_emit.specs.inner.Spots.{spot_mark}
 use Rattle.ucode_emit.specs.inner.Walk.{mark_at, moves_of, place_items}
 use Rattle.ucode_emit.proofs.Sequenced.{below_marks}
-use Rattle.ucode_emit.proofs.Walked.{mark_now, now_within, now_comes, now_here, now_can, now_same, cut_on, always, on_ok, sequences_long, sequence_kept}
+use Rattle.ucode_emit.proofs.Walked.{mark_now, now_within, now_comes, now_here, now_can, now_same, cut_on, always, sequences_long, sequence_kept}
 use Rattle.ucode_emit.proofs.walk.push_point.Goals as goal
 
 pub take_serves-requires : goal.take_serves-requires
@@ -71,6 +72,6 @@ returns-clause-code c =
     let same = now_same s p points c.args.k c.in_ok-point.point c.in_ok-to.to q c.deref.result.now c.deref-5.result.now c.requires.placed c.requires.known c.requires.within
     (mark_now s p points c.args.k c.index-spot.result.now c.requires.known c.requires.within c.index-spot.ensures) c.in_ok-point.ensures
     (c.deref-5.ensures.value ∙ sequence_kept points.sequences.items c.args.k c.index.result.now (omega (arith, within, long)) (sym c.index.ensures)) c.deref.ensures.value c.in_ok-to.ensures in
-    on_ok c.push_spot.result (c.push_spot.new.code ≡ c.args.code.now ++ map draft (place_items p c.in_ok-point.point c.in_ok-to.to c.deref-5.result.now q.place))
+    on-ok c.push_spot.result (c.push_spot.new.code ≡ c.args.code.now ++ map draft (place_items p c.in_ok-point.point c.in_ok-to.to c.deref-5.result.now q.place))
     (c.push_spot.new.code ≡ c.args.code.now ++ map draft (point_piece labels p c.args.k (mark_at labels c.args.k) (sequence_at (moves_of points.sequences.items) c.args.k)))
     (λ e. e ∙ ap (λ is. c.args.code.now ++ map draft is) same) c.push_spot.ensures
