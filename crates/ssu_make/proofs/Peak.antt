@@ -407,9 +407,6 @@ fresh-once : (known xs rest : List ℕ) → Fresh known (xs ++ rest) → all_dif
 unfolding Fresh
 fresh-once known xs rest f = different-from xs (λ z. let le = f z in omega (arith, times-append z xs rest))
 
-unfolding Fresh
-fresh-apart xs known rest f y i = let le = f y in let p = times-in y rest i in times-not y xs (omega (arith, times-append y xs known))
-
 none-in : (v : ℕ) (l : List ℕ) → (is_in v l ≡ true → ⊥) → is_in v l ≡ false
 none-in v l h = ⊎_elim (λ (e : is_in v l ≡ true). absurd (h e)) (λ (e : is_in v l ≡ false). e) (cases_Bool (is_in v l))
 
