@@ -66,20 +66,6 @@ class SumRow:
         return found
 
 
-class ChainRow:
-    """A source of nearly the largest expanded size, tail calls through 2,047 functions, has the cheapest code."""
-
-    where, name = "tests/tools.py", "tail calls through 2,047 functions"
-
-    def differences(self, novac, at):
-        with open(os.path.join(at, "s"), "w", encoding="utf-8") as it:
-            it.write("fun g0[]: () { () }\n")
-            it.writelines(f"fun g{n + 1}[]: () {{ g{n}[] }}\n" for n in range(2046))
-            it.write("fun main[]: () { g2046[] }")
-        ran = subprocess.run([novac, "compile", "s", "o", "r", "store=4096"], cwd=at, capture_output=True, timeout=60)
-        return [] if ran.stdout == b"compiled 4096 optimal 0\n" else [f"it says {ran.returncode} {ran.stdout}"]
-
-
 class MadeRow:
     """What `gen` says of a made source is what `compile` says of its text, and what `run` and `exec` come to on 1 and 2."""
 
@@ -215,7 +201,11 @@ def readable(top):
 
 
 def tracked(top):
-    """The repository's files and folders, without what was built."""
+    """The repository's files and folders as git knows them, or where it can't tell all that are there but what was built."""
+    ran = subprocess.run(["git", "ls-files"], cwd=top, capture_output=True, text=True)
+    if ran.returncode == 0 and ran.stdout:
+        parts = [it.split("/") for it in ran.stdout.split("\n") if it]
+        return {"/".join(it[:count]) for it in parts for count in range(1, len(it) + 1)}
     found = set()
     for folder, folders, files in os.walk(top):
         folders[:] = [it for it in folders if it not in ("out", ".git")]
@@ -277,4 +267,4 @@ def all_rows(top):
     rows += [("a packet's hex dump and back", there_and_back), ("forms of hex dumps", dumps)]
     sources = sorted(it for it in os.listdir(os.path.join(top, "examples")) if it.endswith(".nova"))
     made = [MadeRow(seed, size, top) for seed, size in ((0, 2), (1, 60))]
-    return [ToolRow(name, body, top) for name, body in rows] + [ReportRow(it, top) for it in sources] + made + [ChainRow(), CrowdedRow(top), SumRow(top)]
+    return [ToolRow(name, body, top) for name, body in rows] + [ReportRow(it, top) for it in sources] + made + [CrowdedRow(top), SumRow(top)]
