@@ -51,19 +51,19 @@ impl<'a> FieldLister<'a> {
         text: &'a LayoutText,
         bits: u64,
     ) -> Result<(), NoMemory> {
-        push(out, "layout ")?;
-        push_quoted(out, name.bytes())?;
-        push(out, ": ")?;
-        push_counted(out, bits, "bit")?;
-        push(out, ", ")?;
-        push_counted(out, bits.div_ceil(32), "word")?;
-        push_line(out, "")?;
+        push_heading(out, name, bits)?;
+        self.begin(text)?;
+        self.push_parts(out)?;
+        self.known.add(name, text)
+    }
+
+    // A layout is to be told next.
+    fn begin(&mut self, text: &'a LayoutText) -> Result<(), NoMemory> {
         self.fronts.clear();
         self.fronts.push(Vec::new(self.alloc))?;
         self.at = 0;
         self.work.push(Part::Layout(text, 0))?;
-        self.push_parts(out)?;
-        self.known.add(name, text)
+        Ok(())
     }
 
     fn push_parts(&mut self, out: &mut Vec<u8>) -> Result<(), NoMemory> {
@@ -180,4 +180,15 @@ impl<'a> FieldLister<'a> {
         }
         Ok(())
     }
+}
+
+// The line above the fields of a layout.
+fn push_heading(out: &mut Vec<u8>, name: &Name, bits: u64) -> Result<(), NoMemory> {
+    push(out, "layout ")?;
+    push_quoted(out, name.bytes())?;
+    push(out, ": ")?;
+    push_counted(out, bits, "bit")?;
+    push(out, ", ")?;
+    push_counted(out, bits.div_ceil(32), "word")?;
+    push_line(out, "")
 }

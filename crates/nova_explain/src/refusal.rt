@@ -8,9 +8,9 @@ use crate::sizes::push_parts;
 use crate::slips::{Around, byte_advice};
 use crate::text::{part, push, push_line, push_number, push_quoted};
 use crate::walk::Walk;
-use nv_ast::Span;
+use nv_ast::{Program, Span};
 use nv_base::NoMemory;
-use nv_text::{MOST_BYTES, TextError, parse, tokens};
+use nv_text::{MOST_BYTES, TextError, Token, parse, tokens};
 use nv_types::TypeError;
 use std::alloc::Global;
 
@@ -135,8 +135,20 @@ fn explain_syntax(
         Ok(found) => found,
         Err(_) => return Err(NoMemory),
     };
+    push_syntax(alloc, out, name, bytes, at, &found)
+}
+
+// The same, with the tokens of the text.
+fn push_syntax(
+    alloc: Global,
+    out: &mut Vec<u8>,
+    name: &str,
+    bytes: &[u8],
+    at: u32,
+    found: &[Token],
+) -> Result<(), NoMemory> {
     let place = at as usize;
-    let around = Around::at(bytes, &found, place);
+    let around = Around::at(bytes, found, place);
     let span = Span {
         first: at,
         after: at.saturating_add(around.found.len().min(64) as u32),
@@ -144,9 +156,14 @@ fn explain_syntax(
     push_place(out, name, bytes, span)?;
     push_found(out, around.found)?;
     push_excerpt(out, bytes, span)?;
-    let expected = Expected::at(alloc, bytes, &found, place)?;
+    let expected = Expected::at(alloc, bytes, found, place)?;
+    push_expected(out, &expected, around)
+}
+
+// Appends what could stand there, and what helps.
+fn push_expected(out: &mut Vec<u8>, expected: &Expected, around: Around) -> Result<(), NoMemory> {
     expected.push(out)?;
-    push_line(out, around.advice(&expected))
+    push_line(out, around.advice(expected))
 }
 
 // Appends what token is at fault.
@@ -210,14 +227,35 @@ fn push_details(
     let Ok(program) = parse(alloc, bytes) else {
         return Err(NoMemory);
     };
-    push_elsewhere(alloc, out, &program, bytes, kind, span)?;
+    push_program_details(alloc, out, &program, bytes, kind, span)
+}
+
+// The same of a program.
+fn push_program_details(
+    alloc: Global,
+    out: &mut Vec<u8>,
+    program: &Program,
+    bytes: &[u8],
+    kind: u8,
+    span: Span,
+) -> Result<&'static str, NoMemory> {
+    push_elsewhere(alloc, out, program, bytes, kind, span)?;
     if kind == 2 {
         return Ok(kind_advice(kind));
     }
     let mut walk = Walk::new(alloc, kind, span)?;
-    walk.program(&program)?;
+    push_note(out, &mut walk, program)
+}
+
+// Appends what a walk notes, and gives what helps.
+fn push_note<'a>(
+    out: &mut Vec<u8>,
+    walk: &mut Walk<'a>,
+    program: &'a Program,
+) -> Result<&'static str, NoMemory> {
+    walk.program(program)?;
     out.extend_from_slice(&walk.note)?;
-    Ok(walk.advice.unwrap_or(kind_advice(kind)))
+    Ok(walk.advice.unwrap_or(kind_advice(walk.kind)))
 }
 
 // A program that is too large, with the sizes of its functions.

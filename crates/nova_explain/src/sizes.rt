@@ -52,13 +52,26 @@ pub fn push_parts(
 ) -> Result<(), NoMemory> {
     let nowhere = Span { first: 0, after: 0 };
     let mut walk = Walk::new(alloc, 0, nowhere)?;
+    push_walked(alloc, out, &mut walk, program, expanded, room)
+}
+
+// The same, by a walk that is still to be made.
+fn push_walked<'a>(
+    alloc: Global,
+    out: &mut Vec<u8>,
+    walk: &mut Walk<'a>,
+    program: &'a Program,
+    expanded: u32,
+    room: Option<u32>,
+) -> Result<(), NoMemory> {
     walk.program(program)?;
+    let fields = FieldLister::new(alloc)?;
     let mut teller = Teller {
-        walk: &walk,
-        fields: FieldLister::new(alloc)?,
+        walk,
+        fields,
         exceptions: 0,
         groups: 0,
-        has_costs: has_costs(&walk, expanded, room),
+        has_costs: has_costs(walk, expanded, room),
     };
     teller.push_all(out, program)
 }

@@ -3,15 +3,11 @@
 ghost use Rattle.std.specs.Prelude.{◌≡◌, ◌≤◌, length, IfSome};
 ghost use Rattle.nova_forms.specs.Exit.{exit_code};
 
-use crate::continuations::print_cps;
-use crate::flat::print_flat;
-use crate::flow::print_flow;
-use crate::page::Page;
-use crate::single_use::{print_measures, print_single_use};
 use cps_close::close;
 use cps_inline::inline;
 use cps_lower::lower;
 use flat_ir::FlatProgram;
+use form_pages::{Page, print_cps, print_flat, print_flow, print_measures, print_single_use};
 use nova_front::{FrontError, front};
 use nova_middle::{middle, to_flow};
 use nv_base::NoMemory;
@@ -122,33 +118,33 @@ fn is_wanted(form: Wanted, wanted: Wanted) -> bool {
 }
 
 // A heading with the number of the function that is main.
-fn heading(page: &mut Page, form: &str, main: u32) -> Result<(), NoMemory> {
-    page.put("# ")?;
-    page.put(form)?;
-    page.put(", main is function ")?;
-    page.number(main)?;
-    page.put("\n")
+fn heading(page: &mut Page, form: &str, main: u32) {
+    page.put("# ");
+    page.put(form);
+    page.put(", main is function ");
+    page.number(main);
+    page.put("\n");
 }
 
 fn forms_of(alloc: Global, program: &FlatProgram, wanted: Wanted) -> Result<Vec<u8>, Failure> {
     let mut page = Page::new(alloc);
     if is_wanted(Wanted::Flat, wanted) {
-        heading(&mut page, "flat", program.main)?;
+        heading(&mut page, "flat", program.main);
         print_flat(alloc, &mut page, program)?;
     }
     put_continuations(alloc, &mut page, program, wanted)?;
     if is_wanted(Wanted::Simplified, wanted) {
-        page.put("# simplified\n")?;
+        page.put("# simplified\n");
         print_flow(alloc, &mut page, &to_flow(alloc, program)?)?;
     }
     if is_wanted(Wanted::Single, wanted) {
-        page.put("# single use; behind each line its point, and what is held there\n")?;
+        page.put("# single use; behind each line its point, and what is held there\n");
         print_single_use(alloc, &mut page, &middle(alloc, program)?)?;
     }
     if is_wanted(Wanted::Measures, wanted) {
         print_measures(alloc, &mut page, &middle(alloc, program)?)?;
     }
-    Ok(page.into_bytes())
+    Ok(page.into_bytes()?)
 }
 
 // The forms with labels, up to the flow, as far as they are wanted.
@@ -163,17 +159,17 @@ fn put_continuations(
     }
     let lowered = lower(alloc, program)?;
     if is_wanted(Wanted::Lowered, wanted) {
-        heading(page, "lowered", lowered.main)?;
+        heading(page, "lowered", lowered.main);
         print_cps(alloc, page, &lowered)?;
     }
     let inlined = inline(alloc, lowered)?;
     if is_wanted(Wanted::Inlined, wanted) {
-        heading(page, "inlined", inlined.main)?;
+        heading(page, "inlined", inlined.main);
         print_cps(alloc, page, &inlined)?;
     }
     let closed = close(alloc, inlined)?;
     if is_wanted(Wanted::Closed, wanted) {
-        page.put("# closed\n")?;
+        page.put("# closed\n");
         print_flow(alloc, page, &closed)?;
     }
     Ok(())

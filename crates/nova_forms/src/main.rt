@@ -6,12 +6,7 @@
 //! limited size (`novac compile` says why).
 #![tactic(auto)]
 
-mod continuations;
-mod flat;
-mod flow;
 mod forms;
-mod page;
-mod single_use;
 
 use forms::{Failure, Wanted, pages, wanted_of};
 use nv_outside::{DiskFiles, Put, Sink, StdSink};

@@ -6,7 +6,7 @@ use Rattle.nv_ast.specs.Sizes.{expanded_size}
 use Rattle.nv_ast.specs.Tree.{ProgramTree}
 use Rattle.nv_text.specs.Program.{IsTextOf, FaultOf}
 use Rattle.nv_text.specs.declared.error.TextError.{TextError}
-use Rattle.nv_text.proofs.DeclRules.{program_one}
+use Rattle.nv_text.proofs.Texts.{program_one}
 use Rattle.nv_text.proofs.ProgramRules.{fault_same, no_fault}
 use Rattle.nova_front.specs.Sources.{IsSource, IsTypedSource, IsUntyped, IsLarge, IsCause}
 use Rattle.nova_front.specs.declared.error.FrontError.{FrontError}

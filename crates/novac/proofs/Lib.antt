@@ -1,12 +1,1 @@
-pub mod Errors
-pub mod Numbers
-pub mod Formed
-pub mod OneSource
-pub mod OneReport
-pub mod OneAnswer
-pub mod Generated
-pub mod Inputs
-pub mod Saves
 pub mod Printing
-pub mod Names
-pub mod Found

@@ -1,33 +1,13 @@
 //! The compiler's program: `run` does what the words of a command line say, over any files and any sink.
 #![tactic(auto)]
 
-mod assemble;
-mod build;
-mod command;
-mod compile;
-mod execute;
-mod generate;
-mod limits;
-mod lint;
-mod list;
-mod load;
-mod object;
-mod refusal;
-mod reply;
-mod report;
-mod save;
-mod simulate;
-mod source;
-mod status;
 #[cfg(test)]
 mod tests;
 mod top;
-mod work;
 
-pub use build::{CompileError, Compiled, compile_text};
+pub use nova_commands::{CompileError, Compiled, Status, compile_text};
 use nv_base::NoMemory;
 use nv_outside::{DiskFiles, StdSink};
-pub use status::Status;
 use std::env;
 use std::io::ErrorKind;
 use std::process::ExitCode;

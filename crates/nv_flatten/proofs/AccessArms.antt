@@ -22,19 +22,19 @@ use Rattle.flat_ir.specs.Running as flat
 use Rattle.flat_ir.specs.Meaning as code
 use Rattle.flat_ir.specs.Spine.{Act, step_does}
 use Rattle.flat_ir.specs.declared.spine.Step.{Step}
-use Rattle.nv_flatten.specs.inner.Code.{Computes, variables}
-use Rattle.nv_flatten.specs.inner.Symbols.{Symbol, Word, Truth, Tuple, Record, Symbols, no_symbols, symbol_and, NamedSymbols, no_named_symbols, named_symbol_and, SymbolScope, operands, all_operands, named_operands, form, forms, named_forms, value_in, Fits, AreOlder, word_operand, word_symbols, words_symbol, numbers_from}
-use Rattle.nv_flatten.specs.inner.Runs.{flat_run, onward}
-use Rattle.nv_flatten.specs.inner.Soundness.{AreWords}
-use Rattle.nv_flatten.specs.inner.Whole.{Whole}
-use Rattle.nv_flatten.specs.inner.Simulation.{Names, Done, IsValue}
-use Rattle.nv_flatten.proofs.Keeping.{keeps-then, words-fit, are-words}
-use Rattle.nv_flatten.proofs.Fresh.{numbers-keep, numbers-older, words-read, words-read-fit}
-use Rattle.nv_flatten.proofs.NoFaults.{set, some-same, value-has-type, clean as is-clean, is-right, wanted-type, among-known}
-use Rattle.nv_flatten.proofs.Following.{stands-inside, word-of}
-use Rattle.nv_flatten.proofs.ValueArms.{unary}
-use Rattle.nv_flatten.proofs.PackedWords.{symbol-operands}
-use Rattle.nv_flatten.proofs.WellBasics.{words-ty-words}
+use Rattle.flat_code.specs.inner.Code.{Computes, variables}
+use Rattle.flat_code.specs.inner.Symbols.{Symbol, Word, Truth, Tuple, Record, Symbols, no_symbols, symbol_and, NamedSymbols, no_named_symbols, named_symbol_and, SymbolScope, operands, all_operands, named_operands, form, forms, named_forms, value_in, Fits, AreOlder, word_operand, word_symbols, words_symbol, numbers_from}
+use Rattle.flat_code.specs.inner.Runs.{flat_run, onward}
+use Rattle.flat_code.specs.inner.Soundness.{AreWords}
+use Rattle.flat_code.specs.inner.Whole.{Whole}
+use Rattle.flat_code.specs.inner.Simulation.{Names, Done, IsValue}
+use Rattle.flat_code.proofs.Keeping.{keeps-then, words-fit, are-words}
+use Rattle.flat_code.proofs.Fresh.{numbers-keep, numbers-older, words-read, words-read-fit}
+use Rattle.flat_code.proofs.NoFaults.{set, some-same, value-has-type, clean as is-clean, is-right, wanted-type, among-known}
+use Rattle.flat_code.proofs.Following.{stands-inside, word-of}
+use Rattle.flat_code.proofs.ValueArms.{unary}
+use Rattle.flat_code.proofs.PackedWords.{symbol-operands}
+use Rattle.flat_code.proofs.WellBasics.{words-ty-words}
 use Rattle.nv_ast.proofs.Faultless.{no_front}
 
 -- ---- how many operands a symbolic value has

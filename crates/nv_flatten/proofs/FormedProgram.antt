@@ -10,21 +10,21 @@ use Rattle.nv_ast.specs.Scope.{param_vars}
 use Rattle.nv_ast.specs.Typing.{type_at}
 use Rattle.nv_ast.specs.Faults.{program_faults, main_name}
 use Rattle.nv_meaning.specs.Meaning.{function_in}
-use Rattle.nv_flatten.specs.inner.Code.{variables}
-use Rattle.nv_flatten.specs.inner.Symbols.{SymbolScope, fresh, named_fresh, numbers_from, params_bound}
-use Rattle.nv_flatten.specs.inner.Whole.{Whole, whole_of, Stands}
-use Rattle.nv_flatten.specs.inner.Simulation.{Names}
-use Rattle.nv_flatten.specs.inner.Made.{params_in, entry, IsMade, IsPlaced, IsComplete}
+use Rattle.flat_code.specs.inner.Code.{variables}
+use Rattle.flat_code.specs.inner.Symbols.{SymbolScope, fresh, named_fresh, numbers_from, params_bound}
+use Rattle.flat_code.specs.inner.Whole.{Whole, whole_of, Stands}
+use Rattle.flat_code.specs.inner.Simulation.{Names}
+use Rattle.flat_code.specs.inner.Made.{params_in, entry, IsMade, IsPlaced, IsComplete}
 use Rattle.flat_ir.specs.Reached.{AreReached}
-use Rattle.nv_flatten.specs.inner.Well.{FunsMatch, ScopeKnown, GivesWords, IsWellFun}
-use Rattle.nv_flatten.proofs.Fresh.{numbers-append, numbers-length, variables-append, fresh-operands}
-use Rattle.nv_flatten.proofs.WellBasics.{knows-left, knows-right, knows-variables}
-use Rattle.nv_flatten.proofs.WellProgram.{walked-fun, fun-names, program-formed}
-use Rattle.nv_flatten.proofs.Naming.{slice-there, slice-below}
+use Rattle.flat_code.specs.inner.Well.{FunsMatch, ScopeKnown, GivesWords, IsWellFun}
+use Rattle.flat_code.proofs.Fresh.{numbers-append, numbers-length, variables-append, fresh-operands}
+use Rattle.flat_code.proofs.WellBasics.{knows-left, knows-right, knows-variables}
+use Rattle.flat_code.proofs.WellProgram.{walked-fun, fun-names, program-formed}
+use Rattle.flat_code.proofs.Naming.{slice-there, slice-below}
 use Rattle.nv_flatten.proofs.Bodies.{IsBody, bodies, narrow-raised, has-main}
 use Rattle.nv_flatten.proofs.Entering.{type-same, params-types}
 use Rattle.nv_flatten.proofs.Lockstep.{body_place, body_wanted, main-narrow}
-use Rattle.nv_flatten.proofs.NoFaults.{some-same}
+use Rattle.flat_code.proofs.NoFaults.{some-same}
 use Rattle.nv_flatten.proofs.WellTypes.{right-of}
 
 -- ---- the parameters are known in a body

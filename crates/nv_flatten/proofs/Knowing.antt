@@ -11,7 +11,7 @@ use Rattle.nv_ast.specs.Faults.{type_faults, types_faults, named_types_faults, t
 use Rattle.nv_meaning.specs.Meaning.{Declared, with_decl, with_decls, function_in}
 use Rattle.nv_meaning.specs.Running.{number_from}
 use Rattle.nv_meaning.specs.inner.Tables.{place_from}
-use Rattle.nv_flatten.proofs.NoFaults.{some-same}
+use Rattle.flat_code.proofs.NoFaults.{some-same}
 use Rattle.nv_ast.proofs.Faultless.{no_front, no_rest, no_kinds}
 
 -- ---- no faults

@@ -21,19 +21,19 @@ use Rattle.flat_ir.specs.declared.spine.Step.{Step}
 use Rattle.flat_ir.specs.Spine.{AreNodes}
 use Rattle.nv_base.specs.Sets.{all_vars}
 use Rattle.flat_ir.specs.Wide.{Widths}
-use Rattle.nv_flatten.specs.inner.Code.{is_given, is_comparison}
-use Rattle.nv_flatten.specs.inner.Symbols.{Symbol, Symbols, SymbolScope, operands, all_operands, truth_operand}
-use Rattle.nv_flatten.specs.inner.Whole.{Whole, Stands}
-use Rattle.nv_flatten.specs.inner.Simulation.{Names, HasForm, AreValues}
-use Rattle.nv_flatten.specs.inner.Narrow.{IsWithin, written, NarrowSteps, NarrowCode, IsNarrowValue, IsNarrowTest, IsNarrowEnd}
-use Rattle.nv_flatten.specs.inner.Well.{GivesLiteral}
-use Rattle.nv_flatten.proofs.Sound.{values-have-types}
-use Rattle.nv_flatten.proofs.Within.{itself, of-none, one, both, unions, together, behind-same, grows-not}
-use Rattle.nv_flatten.proofs.NarrowSteps.{last, beside, joined, recast-code, give-code, if-code}
-use Rattle.nv_flatten.proofs.NarrowFacts.{written-append, counted-given, words-of-forms, truth-operand-within, need-least}
+use Rattle.flat_code.specs.inner.Code.{is_given, is_comparison}
+use Rattle.flat_code.specs.inner.Symbols.{Symbol, Symbols, SymbolScope, operands, all_operands, truth_operand}
+use Rattle.flat_code.specs.inner.Whole.{Whole, Stands}
+use Rattle.flat_code.specs.inner.Simulation.{Names, HasForm, AreValues}
+use Rattle.flat_code.specs.inner.Narrow.{IsWithin, written, NarrowSteps, NarrowCode, IsNarrowValue, IsNarrowTest, IsNarrowEnd}
+use Rattle.flat_code.specs.inner.Well.{GivesLiteral}
+use Rattle.flat_code.proofs.Sound.{values-have-types}
+use Rattle.flat_code.proofs.Within.{itself, of-none, one, both, unions, together, behind-same, grows-not}
+use Rattle.flat_code.proofs.NarrowSteps.{last, beside, joined, recast-code, give-code, if-code}
+use Rattle.flat_code.proofs.NarrowFacts.{written-append, counted-given, words-of-forms, truth-operand-within, need-least}
 use Rattle.nv_flatten.proofs.NarrowValues.{roomier, less-behind, operands-narrow, result-words}
-use Rattle.nv_flatten.proofs.NoFaults.{some-same}
-use Rattle.nv_flatten.proofs.Following.{stands-inside}
+use Rattle.flat_code.proofs.NoFaults.{some-same}
+use Rattle.flat_code.proofs.Following.{stands-inside}
 use Rattle.nv_ast.proofs.Faultless.{no_front, no_rest}
 
 module _ (funs : List FlatFun) (widths : Widths) (own : ℕ) where

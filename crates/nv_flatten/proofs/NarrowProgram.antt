@@ -15,18 +15,18 @@ use Rattle.nv_base.specs.Measures.{operands_wide}
 use Rattle.flat_ir.specs.Wide.{Widths, code_wide, function_wide, wide, main_wide, AreWidths}
 use Rattle.nv_base.proofs.Sets.{different-length}
 use Rattle.flat_ir.proofs.Widths.{main-bounded}
-use Rattle.nv_flatten.specs.inner.Symbols.{NamedSymbols, no_named_symbols, named_symbol_and, SymbolScope, operands, named_operands, named_fresh, symbol_in, params_bound}
-use Rattle.nv_flatten.specs.inner.Whole.{Whole, whole_of, group_of, Stands}
-use Rattle.nv_flatten.specs.inner.Simulation.{Names}
-use Rattle.nv_flatten.specs.inner.Made.{params_in, entry}
-use Rattle.nv_flatten.specs.inner.Narrow.{IsWithin, written, NarrowCode, CallsNarrow, Room, IsNarrowFun, IsEmptyFun, IsNarrowOf, AreNarrowFuns}
-use Rattle.nv_flatten.proofs.Fresh.{fresh-form}
+use Rattle.flat_code.specs.inner.Symbols.{NamedSymbols, no_named_symbols, named_symbol_and, SymbolScope, operands, named_operands, named_fresh, symbol_in, params_bound}
+use Rattle.flat_code.specs.inner.Whole.{Whole, whole_of, group_of, Stands}
+use Rattle.flat_code.specs.inner.Simulation.{Names}
+use Rattle.flat_code.specs.inner.Made.{params_in, entry}
+use Rattle.flat_code.specs.inner.Narrow.{IsWithin, written, NarrowCode, CallsNarrow, Room, IsNarrowFun, IsEmptyFun, IsNarrowOf, AreNarrowFuns}
+use Rattle.flat_code.proofs.Fresh.{fresh-form}
 use Rattle.nv_flatten.proofs.Entering.{params-types}
 use Rattle.nv_flatten.proofs.Bodies.{has-main}
-use Rattle.nv_flatten.proofs.Within.{itself, of-none, one, both, unions, together, through, behind-same, at-most, all-vars-append, vars-length}
-use Rattle.nv_flatten.proofs.NarrowFacts.{words-of-named, need-least}
+use Rattle.flat_code.proofs.Within.{itself, of-none, one, both, unions, together, through, behind-same, at-most, all-vars-append, vars-length}
+use Rattle.flat_code.proofs.NarrowFacts.{words-of-named, need-least}
 use Rattle.nv_flatten.proofs.NarrowNeeds.{IsNeeded, need_of_group, needed, need-of}
-use Rattle.nv_flatten.proofs.NoFaults.{some-same}
+use Rattle.flat_code.proofs.NoFaults.{some-same}
 use Rattle.nv_flatten.proofs.Bound.{choice-of}
 
 -- ---- the variables in scope where a body begins are those of the parameters

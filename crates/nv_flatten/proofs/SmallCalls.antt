@@ -21,23 +21,23 @@ use Rattle.flat_ir.specs.Spine.{AreNodes}
 use Rattle.nv_base.specs.Measures.{Bulk, nothing, a_label, a_jump, both, IsAtMost}
 use Rattle.flat_ir.specs.Bulk.{Bulks, return_bulk, call_bulk, code_bulk}
 use Rattle.nv_base.proofs.Measures.{most-none}
-use Rattle.nv_flatten.specs.inner.Code.{form_or_unit}
-use Rattle.nv_flatten.specs.inner.Symbols.{Symbol, Symbols, SymbolScope, form, operands, all_operands, all_fresh, vars_of, all_bound}
-use Rattle.nv_flatten.specs.inner.Whole.{Whole, Stands, raised_or_none, result_of}
-use Rattle.nv_flatten.specs.inner.Simulation.{Names, HasForm}
-use Rattle.nv_flatten.specs.inner.Small.{of_parts, uses, value_rest, Sized, IsSmallValue, AreSmallValues, IsSmallEnd, AreFewLets, PacksFew}
-use Rattle.nv_flatten.proofs.Fresh.{fresh-forms, all-bound-types}
-use Rattle.nv_flatten.proofs.Sound.{value-has-type}
+use Rattle.flat_code.specs.inner.Code.{form_or_unit}
+use Rattle.flat_code.specs.inner.Symbols.{Symbol, Symbols, SymbolScope, form, operands, all_operands, all_fresh, vars_of, all_bound}
+use Rattle.flat_code.specs.inner.Whole.{Whole, Stands, raised_or_none, result_of}
+use Rattle.flat_code.specs.inner.Simulation.{Names, HasForm}
+use Rattle.flat_code.specs.inner.Small.{of_parts, uses, value_rest, Sized, IsSmallValue, AreSmallValues, IsSmallEnd, AreFewLets, PacksFew}
+use Rattle.flat_code.proofs.Fresh.{fresh-forms, all-bound-types}
+use Rattle.flat_code.proofs.Sound.{value-has-type}
 use Rattle.nv_flatten.proofs.WellTypes.{some-where, low-of, right-of}
-use Rattle.nv_flatten.proofs.NarrowFacts.{counted-given, words-of-or-unit}
+use Rattle.flat_code.proofs.NarrowFacts.{counted-given, words-of-or-unit}
 use Rattle.nv_flatten.proofs.NarrowCalls.{around, behind, handler_faults, handler-none, unknown-none}
 use Rattle.nv_flatten.proofs.SmallBulks.{alone-most, jump-most, handled-most, lets-most, steps-then, code-then}
 use Rattle.nv_flatten.proofs.SmallValues.{of_steps, size_of, behind_value}
 use Rattle.nv_flatten.proofs.SmallEnds.{words-of-either}
-use Rattle.nv_flatten.proofs.NoFaults.{among-known}
-use Rattle.nv_flatten.proofs.CallArms.{get-append}
-use Rattle.nv_flatten.proofs.Following.{stands-inside}
-use Rattle.nv_flatten.proofs.WellBasics.{words-ty-words}
+use Rattle.flat_code.proofs.NoFaults.{among-known}
+use Rattle.flat_code.proofs.CallArms.{get-append}
+use Rattle.flat_code.proofs.Following.{stands-inside}
+use Rattle.flat_code.proofs.WellBasics.{words-ty-words}
 use Rattle.nv_ast.proofs.Faultless.{no_front, not_where}
 
 -- ---- what a call counts beside its jump

@@ -9,19 +9,19 @@ use Rattle.flat_ir.specs.declared.flat.FlatFun.{FlatFun}
 use Rattle.nv_base.specs.Measures.{of_size, IsAtMost}
 use Rattle.flat_ir.specs.Bulk.{bulk}
 use Rattle.nv_base.specs.Sets.{is_in}
-use Rattle.nv_flatten.specs.inner.Whole.{whole_of}
+use Rattle.flat_code.specs.inner.Whole.{whole_of}
 use Rattle.flat_ir.specs.Reached.{calls, Reached, itself, called}
-use Rattle.nv_flatten.specs.inner.Well.{Linked}
-use Rattle.nv_flatten.specs.inner.Made.{IsComplete}
-use Rattle.nv_flatten.specs.inner.Small.{AreSmallFuns}
-use Rattle.nv_flatten.specs.inner.Bounded.{IsBounded}
-use Rattle.nv_flatten.proofs.Naming.{slice-there, slice-below}
+use Rattle.flat_code.specs.inner.Well.{Linked}
+use Rattle.flat_code.specs.inner.Made.{IsComplete}
+use Rattle.flat_code.specs.inner.Small.{AreSmallFuns}
+use Rattle.flat_code.specs.inner.Bounded.{IsBounded}
+use Rattle.flat_code.proofs.Naming.{slice-there, slice-below}
 use Rattle.nv_flatten.proofs.Bodies.{narrow-raised, has-main}
-use Rattle.nv_flatten.proofs.WellProgram.{calls-formed}
+use Rattle.flat_code.proofs.WellProgram.{calls-formed}
 use Rattle.nv_flatten.proofs.FormedProgram.{matched, all-well}
 use Rattle.nv_flatten.proofs.SmallProgram.{small-enough-size}
 use Rattle.nv_flatten.proofs.Bounding.{IsBoundedMain}
-use Rattle.nv_flatten.proofs.NoFaults.{some-same}
+use Rattle.flat_code.proofs.NoFaults.{some-same}
 
 -- ---- another function in place of that of a number
 abbrev replaced : ℕ → FlatFun → List FlatFun → List FlatFun

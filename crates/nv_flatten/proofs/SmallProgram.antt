@@ -14,16 +14,16 @@ use Rattle.nv_base.specs.Measures.{a_label, a_jump, both, IsAtMost, of_size}
 use Rattle.flat_ir.specs.Bulk.{Bulks, code_bulk, function_bulk, sum_bulk, main_bulk, bulk, AreBulks}
 use Rattle.nv_base.proofs.Measures.{most-trans}
 use Rattle.flat_ir.proofs.Bulks.{main-bounded}
-use Rattle.nv_flatten.specs.inner.Code.{form_or_unit}
-use Rattle.nv_flatten.specs.inner.Whole.{whole_of, group_of, Stands}
-use Rattle.nv_flatten.specs.inner.Simulation.{Names}
-use Rattle.nv_flatten.specs.inner.Made.{params_in, entry}
-use Rattle.nv_flatten.specs.inner.Small.{of_parts, uses, CallsSmall, Sized, IsSmallFun, AreSmallFuns}
+use Rattle.flat_code.specs.inner.Code.{form_or_unit}
+use Rattle.flat_code.specs.inner.Whole.{whole_of, group_of, Stands}
+use Rattle.flat_code.specs.inner.Simulation.{Names}
+use Rattle.flat_code.specs.inner.Made.{params_in, entry}
+use Rattle.flat_code.specs.inner.Small.{of_parts, uses, CallsSmall, Sized, IsSmallFun, AreSmallFuns}
 use Rattle.nv_flatten.proofs.Entering.{params-types}
 use Rattle.nv_flatten.proofs.GroupWalk.{IsIn}
 use Rattle.nv_flatten.proofs.SmallSizes.{picked, picked-below, part-found, size_at, size_of_group, group_parts, group-total, sized, size-there, size-of}
 use Rattle.nv_flatten.proofs.SmallSums.{of_group, group-more, group-called, group-begun, size-none, function-within, group-sum}
-use Rattle.nv_flatten.proofs.NoFaults.{some-same}
+use Rattle.flat_code.proofs.NoFaults.{some-same}
 
 abbrev bulks_of : ProgramTree → Bulks
 bulks_of t i = of_group (size_of_group t i)

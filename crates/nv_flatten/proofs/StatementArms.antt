@@ -20,14 +20,14 @@ use Rattle.flat_ir.specs.Running as flat
 use Rattle.flat_ir.specs.Meaning as code
 use Rattle.flat_ir.specs.Spine.{Act, step_does, steps_do}
 use Rattle.flat_ir.specs.declared.spine.Step.{Step}
-use Rattle.nv_flatten.specs.inner.Symbols.{Symbol, SymbolScope, operands, value_in, Fits, word_operand, ScopeFits, scope_in, vars_of, bound}
-use Rattle.nv_flatten.specs.inner.Runs.{flat_run, onward}
-use Rattle.nv_flatten.specs.inner.Whole.{Whole, Stands}
-use Rattle.nv_flatten.specs.inner.Simulation.{Names, Extends, Done, IsValue, IsStated, onward_stated}
-use Rattle.nv_flatten.proofs.Keeping.{scope-later, keeps-value, keeps-scope, keeps-scope_fits, begins-then, begins-done, done-then, words-fit, are-words, extends-itself, extends-then}
-use Rattle.nv_flatten.proofs.Fresh.{bound-values, bound-types, bound-fits, bound-older}
-use Rattle.nv_flatten.proofs.NoFaults.{set, value-has-type}
-use Rattle.nv_flatten.proofs.Following.{onward-stated, onward-further, steps-then, stands-inside, fewer, word-of}
+use Rattle.flat_code.specs.inner.Symbols.{Symbol, SymbolScope, operands, value_in, Fits, word_operand, ScopeFits, scope_in, vars_of, bound}
+use Rattle.flat_code.specs.inner.Runs.{flat_run, onward}
+use Rattle.flat_code.specs.inner.Whole.{Whole, Stands}
+use Rattle.flat_code.specs.inner.Simulation.{Names, Extends, Done, IsValue, IsStated, onward_stated}
+use Rattle.flat_code.proofs.Keeping.{scope-later, keeps-value, keeps-scope, keeps-scope_fits, begins-then, begins-done, done-then, words-fit, are-words, extends-itself, extends-then}
+use Rattle.flat_code.proofs.Fresh.{bound-values, bound-types, bound-fits, bound-older}
+use Rattle.flat_code.proofs.NoFaults.{set, value-has-type}
+use Rattle.flat_code.proofs.Following.{onward-stated, onward-further, steps-then, stands-inside, fewer, word-of}
 use Rattle.nv_flatten.proofs.AccessArms.{operands-count}
 use Rattle.nv_base.proofs.WordLemmas.{length-words}
 use Rattle.nv_ast.proofs.Faultless.{no_front, no_rest, no_kinds}

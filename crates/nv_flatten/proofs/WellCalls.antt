@@ -16,22 +16,22 @@ use Rattle.flat_ir.specs.declared.spine.Step.TheVariants.{Bind}
 use Rattle.flat_ir.specs.Spine.{AreNodes}
 use Rattle.nv_base.specs.Access.{all_known}
 use Rattle.flat_ir.specs.Formed.{may_stand, can_call, is_formed, defined, raised}
-use Rattle.nv_flatten.specs.inner.Code.{form_or_unit, variables}
-use Rattle.nv_flatten.specs.inner.Symbols.{Symbol, Symbols, SymbolScope, operands, all_operands, form, forms, fresh, numbers_from, vars_of}
-use Rattle.nv_flatten.specs.inner.Simulation.{Names, Extends}
-use Rattle.nv_flatten.specs.inner.Whole.{Whole, Stands, raised_tys}
-use Rattle.nv_flatten.specs.inner.Well.{ScopeKnown, Rises, WellSteps, Knows, GivesWords, IsLiteral, IsWellValue, AreWellValues, IsWellStated, IsWellEnd, steps_calls, AreCalled}
-use Rattle.nv_flatten.proofs.Fresh.{fresh-operands, numbers-length}
-use Rattle.nv_flatten.proofs.Sound.{arguments-typed}
-use Rattle.nv_flatten.proofs.WellBasics.{knows-variables, all-operands-words, rises-append, rises-numbers, raised-both}
+use Rattle.flat_code.specs.inner.Code.{form_or_unit, variables}
+use Rattle.flat_code.specs.inner.Symbols.{Symbol, Symbols, SymbolScope, operands, all_operands, form, forms, fresh, numbers_from, vars_of}
+use Rattle.flat_code.specs.inner.Simulation.{Names, Extends}
+use Rattle.flat_code.specs.inner.Whole.{Whole, Stands, raised_tys}
+use Rattle.flat_code.specs.inner.Well.{ScopeKnown, Rises, WellSteps, Knows, GivesWords, IsLiteral, IsWellValue, AreWellValues, IsWellStated, IsWellEnd, steps_calls, AreCalled}
+use Rattle.flat_code.proofs.Fresh.{fresh-operands, numbers-length}
+use Rattle.flat_code.proofs.Sound.{arguments-typed}
+use Rattle.flat_code.proofs.WellBasics.{knows-variables, all-operands-words, rises-append, rises-numbers, raised-both}
 use Rattle.nv_flatten.proofs.WellTypes.{some-where, low-of, middle-of}
 use Rattle.flat_ir.specs.Reached.{calls}
-use Rattle.nv_flatten.proofs.WellNames.{called-more, code-called-more, code-called-then}
-use Rattle.nv_flatten.proofs.WellSteps.{steps-names, code-behind, code-inner}
+use Rattle.flat_code.proofs.WellNames.{called-more, code-called-more, code-called-then}
+use Rattle.flat_code.proofs.WellSteps.{steps-names, code-behind, code-inner}
 use Rattle.nv_flatten.proofs.WellArms.{stands-behind}
 use Rattle.nv_flatten.proofs.WellEnds.{gives-words, raised-from-one}
-use Rattle.nv_flatten.proofs.CallArms.{get-append}
-use Rattle.nv_flatten.proofs.Following.{stands-inside}
+use Rattle.flat_code.proofs.CallArms.{get-append}
+use Rattle.flat_code.proofs.Following.{stands-inside}
 use Rattle.nv_ast.proofs.Faultless.{no_front, no_rest, not_where}
 use Rattle.nv_ast.proofs.TypeWords.{plain_words}
 

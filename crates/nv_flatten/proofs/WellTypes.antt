@@ -11,10 +11,10 @@ use Rattle.nv_ast.specs.Scope.{Place, inside}
 use Rattle.nv_ast.specs.Typing.{type_at}
 use Rattle.nv_ast.specs.Faults.{Wanted, faults, low_kinds, middle_kinds, other_type, no_value, too_large_value, wrong_scratch, can_move}
 use Rattle.nv_base.specs.Access as flat
-use Rattle.nv_flatten.specs.inner.Symbols.{Symbol, Word, word_operand}
-use Rattle.nv_flatten.specs.inner.Code.{is_given, is_comparison}
-use Rattle.nv_flatten.specs.inner.Well.{IsLiteral}
-use Rattle.nv_flatten.proofs.NoFaults.{node-of}
+use Rattle.flat_code.specs.inner.Symbols.{Symbol, Word, word_operand}
+use Rattle.flat_code.specs.inner.Code.{is_given, is_comparison}
+use Rattle.flat_code.specs.inner.Well.{IsLiteral}
+use Rattle.flat_code.proofs.NoFaults.{node-of}
 use Rattle.nv_ast.proofs.Faultless.{no_front, no_rest, no_kinds, not_where}
 
 -- ---- kinds

@@ -25,15 +25,15 @@ use Rattle.nv_meaning.specs.Meaning.{eval, binary, shifted}
 use Rattle.flat_ir.specs.Spine.{steps_do}
 use Rattle.flat_ir.specs.declared.spine.Step.{Step}
 use Rattle.flat_ir.specs.declared.spine.Step.TheVariants.{Let}
-use Rattle.nv_flatten.specs.inner.Code.{arithmetic_of, shift_of}
-use Rattle.nv_flatten.specs.inner.Symbols.{Symbol, Word, Truth, Tuple, Record, SymbolScope, operands, value_in, Fits, AreOlder, word_operand, scope_in}
-use Rattle.nv_flatten.specs.inner.Runs.{flat_run, onward}
-use Rattle.nv_flatten.specs.inner.Whole.{Whole}
-use Rattle.nv_flatten.specs.inner.Simulation.{Names, Extends, IsValue}
-use Rattle.nv_flatten.proofs.Keeping.{scope-later, keeps-value, keeps-fit, keeps-scope, begins-then, done-then}
-use Rattle.nv_flatten.proofs.NoFaults.{some-same, none-some, clean as is-clean}
-use Rattle.nv_flatten.proofs.Following.{onward-then, steps-then, stands-inside, fewer, word-of, word-fits, one-older, assigned-here, defined}
-use Rattle.nv_flatten.proofs.ValueArms.{unary}
+use Rattle.flat_code.specs.inner.Code.{arithmetic_of, shift_of}
+use Rattle.flat_code.specs.inner.Symbols.{Symbol, Word, Truth, Tuple, Record, SymbolScope, operands, value_in, Fits, AreOlder, word_operand, scope_in}
+use Rattle.flat_code.specs.inner.Runs.{flat_run, onward}
+use Rattle.flat_code.specs.inner.Whole.{Whole}
+use Rattle.flat_code.specs.inner.Simulation.{Names, Extends, IsValue}
+use Rattle.flat_code.proofs.Keeping.{scope-later, keeps-value, keeps-fit, keeps-scope, begins-then, done-then}
+use Rattle.flat_code.proofs.NoFaults.{some-same, none-some, clean as is-clean}
+use Rattle.flat_code.proofs.Following.{onward-then, steps-then, stands-inside, fewer, word-of, word-fits, one-older, assigned-here, defined}
+use Rattle.flat_code.proofs.ValueArms.{unary}
 use Rattle.nv_ast.proofs.Faultless.{no_front, no_rest, not_where}
 
 -- ---- shifts

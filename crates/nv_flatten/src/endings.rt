@@ -6,19 +6,19 @@ ghost use Rattle.nv_ast.specs.declared.tree.Op.TheVariants.{Both, Either};
 ghost use Rattle.nv_ast.specs.ExprView.{tree_of, list_trees, list_statements};
 ghost use Rattle.nv_ast.specs.PatternView.{list_patterns};
 ghost use Rattle.nv_ast.specs.Tree.{BinaryTree, CallTree, RaiseTree, IfTree, TryTree, BlockTree};
-ghost use Rattle.nv_flatten.specs.inner.Code.{comparison_of, is_given, is_comparison};
+ghost use Rattle.flat_code.specs.inner.Code.{comparison_of, is_given, is_comparison};
 ghost use Rattle.nv_flatten.specs.inner.Flat.{IsFlatTest, IsFlatEnd};
-ghost use Rattle.nv_flatten.specs.inner.Simulation.{Extends};
-ghost use Rattle.nv_flatten.specs.inner.View.{view, scope_of};
-ghost use Rattle.nv_flatten.specs.inner.WholeView.{whole_in};
+ghost use Rattle.flat_code.specs.inner.Simulation.{Extends};
+ghost use Rattle.flat_code.specs.inner.View.{view, scope_of};
+ghost use Rattle.flat_code.specs.inner.WholeView.{whole_in};
 
-use crate::arms::{EndArm, TestArm, end_arm, test_arm};
-use crate::names::Names;
-use crate::parts::{add_steps, branch, give_truth, short, short_vars, turned};
-use crate::scope::{Scope, bind_all};
-use crate::source::Source;
-use crate::symbol::{Symbol, all_operands_in, operands_in, truth_in, word_in};
 use crate::values::{each, statements, value};
+use flat_code::arms::{EndArm, TestArm, end_arm, test_arm};
+use flat_code::names::Names;
+use flat_code::parts::{Test, add_steps, branch, give_truth, short, short_vars, turned};
+use flat_code::scope::{Scope, bind_all};
+use flat_code::source::Source;
+use flat_code::symbol::{Symbol, all_operands_in, operands_in, truth_in, word_in};
 use flat_ir::{Flat, Step, join};
 use nv_ast::{Expr, Name, Op, Pat, Stmt};
 use nv_base::{Atom, Cmp, NoMemory};
@@ -29,15 +29,6 @@ use std::alloc::Global;
 pub struct Tail<'a> {
     pub code: Flat,
     pub form: Option<Symbol<'a>>,
-}
-
-/// Steps, and a comparison that behind them is a condition's truth.
-#[derive(Drop)]
-pub struct Test {
-    pub steps: Vec<Step>,
-    pub cmp: Cmp,
-    pub left: Atom,
-    pub right: Atom,
 }
 
 // ---- conditions

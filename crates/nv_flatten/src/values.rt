@@ -6,25 +6,25 @@ ghost use Rattle.nv_ast.specs.declared.token.Span.{Span};
 ghost use Rattle.nv_ast.specs.Types.{words};
 ghost use Rattle.nv_ast.specs.ExprView.{tree_of, list_trees, list_named_trees, list_statements, statement_tree};
 ghost use Rattle.nv_ast.specs.Tree.{TupleTree, FieldsTree, DotTree, InvertTree, NegateTree, BinaryTree, ShiftTree, UnpackTree, PackTree, FetchTree, BlockTree, StoreStatement};
-ghost use Rattle.nv_flatten.specs.inner.Arms.{is_named};
-ghost use Rattle.nv_flatten.specs.inner.Code.{arithmetic_of, form_or_unit};
+ghost use Rattle.flat_code.specs.inner.Arms.{is_named};
+ghost use Rattle.flat_code.specs.inner.Code.{arithmetic_of, form_or_unit};
 ghost use Rattle.nv_flatten.specs.inner.Flat.{IsFlatValue, AreFlatValues, AreFlatFields, IsFlatStatement, IsFlatStated};
-ghost use Rattle.nv_flatten.specs.inner.Simulation.{Extends};
-ghost use Rattle.nv_flatten.specs.inner.Symbols.{Word, Truth, fresh, numbers_from};
-ghost use Rattle.nv_flatten.specs.inner.View.{view, list_symbols, list_named_symbols, scope_of};
-ghost use Rattle.nv_flatten.specs.inner.WholeView.{whole_in};
+ghost use Rattle.flat_code.specs.inner.Simulation.{Extends};
+ghost use Rattle.flat_code.specs.inner.Symbols.{Word, Truth, fresh, numbers_from};
+ghost use Rattle.flat_code.specs.inner.View.{view, list_symbols, list_named_symbols, scope_of};
+ghost use Rattle.flat_code.specs.inner.WholeView.{whole_in};
 
-use crate::arms::{ValueArm, value_arm};
 use crate::endings::ending;
-use crate::names::Names;
-use crate::pack::packed;
-use crate::parts::{add_steps, define, new_variables, shifted, short};
-use crate::scope::{Scope, bind, variable};
-use crate::source::Source;
-use crate::symbol::{
+use flat_code::arms::{ValueArm, value_arm};
+use flat_code::names::Names;
+use flat_code::pack::packed;
+use flat_code::parts::{add_steps, define, new_variables, shifted, short};
+use flat_code::scope::{Scope, bind, variable};
+use flat_code::source::Source;
+use flat_code::symbol::{
     Field, Symbol, Valued, field_in, operands_in, renewed, symbol_of_words, truth_in, word_in,
 };
-use crate::unpack::unpacked;
+use flat_code::unpack::unpacked;
 use flat_ir::Step;
 use nv_ast::{Expr, Name, Op, ShiftOp, Stmt};
 use nv_base::{Atom, Bin, Mem, NoMemory, Prim, Una};

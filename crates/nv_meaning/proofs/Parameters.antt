@@ -44,19 +44,19 @@ module _ (known : Layouts) where
   fields-listed done new tys i v ty h is e g f n = ap list_named_values n ∙ fields-again done (take i tys) v ty e g f ∙ ap (λ l. named_blanks (named_types_of known (list_named_types l))) (sym (take_item tys i ty h is))
 
   -- ---- parameters, from left to right
-  pub arguments-turn : (params : List (List ℕ × TyText)) (i : ℕ) (param : List ℕ × TyText) (ws : List ℕ) (here next most : ℕ) (empty v : code.Value) (x : Named) (old new : List Named)
+  pub arguments-turn : (params : List (List ℕ × TyText)) (i : ℕ) (param : List ℕ × TyText) (ws : List ℕ) (here next most : ℕ) (v : code.Value) (x : Named) (old new : List Named)
       → i < length params → param ≡ get_or params i param → length ws ≤ most
-      → view empty ≡ blank (type_of known (type_tree param.1)) → view v ≡ filled (view empty) (drop here ws) → next ≡ min (here + length (words_of (view empty))) most
+      → view v ≡ filled (blank (type_of known (type_tree param.1))) (drop here ws) → next ≡ min (here + length (words_of (blank (type_of known (type_tree param.1))))) most
       → x.0.now ≡ param.0 → view x.1 ≡ view v → new ≡ old ++ x ∷ []
       → (whole : Scope) → named_scope (named_values_from (named_types_of known (list_named_types (drop i params))) (drop here ws)) (scope_of old []) ≡ whole
       → named_scope (named_values_from (named_types_of known (list_named_types (drop (i + 1) params))) (drop next ws)) (scope_of new []) ≡ whole
-  arguments-turn params i param ws here next most empty v x old new h is short b f n g same e whole before =
+  arguments-turn params i param ws here next most v x old new h is short f n g same e whole before =
       let t : Ty = type_of known (type_tree param.1) in
       let rest : NamedTys = named_types_of known (list_named_types (drop (i + 1) params)) in
-      let long : length (words_of (view empty)) ≡ words t = ap (λ u. length (words_of u)) b ∙ blank-words t in
-      let value : view x.1 ≡ value_from t (drop here ws) = same ∙ f ∙ ap (λ u. filled u (drop here ws)) b ∙ blank-filled t (drop here ws) in
+      let long : length (words_of (blank t)) ≡ words t = blank-words t in
+      let value : view x.1 ≡ value_from t (drop here ws) = same ∙ f ∙ blank-filled t (drop here ws) in
       let behind : drop next ws ≡ drop (words t) (drop here ws) =
-      ap (λ k. drop k ws) n ∙ drop-capped (here + length (words_of (view empty))) most ws short ∙ ap (λ k. drop (here + k) ws) long ∙ sym (drop-further here (words t) ws) in
+      ap (λ k. drop k ws) n ∙ drop-capped (here + length (words_of (blank t))) most ws short ∙ ap (λ k. drop (here + k) ws) long ∙ sym (drop-further here (words t) ws) in
       let scope : scope_of new [] ≡ (param.0, value_from t (drop here ws)) ∷ scope_of old [] =
       ap (λ l. scope_of l []) e ∙ scope-append old (x ∷ []) [] ∙ ap (λ y. (y, view x.1) ∷ scope_of old []) g ∙ ap (λ u. (param.0, u) ∷ scope_of old []) value in
       ap (λ l. named_scope (named_values_from rest l) (scope_of new [])) behind

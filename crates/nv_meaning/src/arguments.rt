@@ -30,12 +30,26 @@ pub fn add_arguments<'a>(
 {
     let mut at = 0;
     for param in params {
-        let blank = blank_of(alloc, t, &param.1)?;
-        let (v, behind) = filled(alloc, &blank, args, at)?;
+        let (v, behind) = argument(alloc, t, &param.1, args, at)?;
         scope.push((&param.0, v))?;
         at = behind;
     }
     Ok(())
+}
+
+// The value of a parameter of a type, out of the words from a place on, and the place behind them.
+fn argument<'a>(
+    alloc: Global,
+    t: &Table<'a>,
+    ty: &'a TyText,
+    args: &[u32],
+    at: usize,
+) -> Result<(Value<'a>, usize), NoMemory>
+    ensures value { IfOk result (λ r. view r.0 ≡ filling (blank (type_of (declared_in t.now).layouts (type_tree ty.now))) (drop at args.now)) }
+    ensures behind { IfOk result (λ r. r.1 ≡ min (at + length (words_of (blank (type_of (declared_in t.now).layouts (type_tree ty.now))))) usize.MAX) }
+{
+    let empty = blank_of(alloc, t, ty)?;
+    filled(alloc, &empty, args, at)
 }
 
 // ---- the value of a type whose words are 0

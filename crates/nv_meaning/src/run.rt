@@ -52,13 +52,13 @@ pub fn eval<'a>(
         Kind::If(c, a, b) => choose(alloc, t, c, a, b, scope, p, log, left),
         Kind::Try(a, x, ps, h) => try_(alloc, t, a, x, ps, h, scope, p, log, left),
         Kind::Block(sts, a) => block(alloc, t, sts, a, scope, p, log, left),
-        Kind::Dot(a, _) => of_operand(alloc, t, e, a, scope, p, log, left),
-        Kind::Invert(a) => of_operand(alloc, t, e, a, scope, p, log, left),
-        Kind::Negate(a) => of_operand(alloc, t, e, a, scope, p, log, left),
-        Kind::Shift(_, a, _) => of_operand(alloc, t, e, a, scope, p, log, left),
-        Kind::Unpack(_, a) => of_operand(alloc, t, e, a, scope, p, log, left),
-        Kind::Pack(_, a) => of_operand(alloc, t, e, a, scope, p, log, left),
-        Kind::Fetch(_, _, a) => of_operand(alloc, t, e, a, scope, p, log, left),
+        Kind::Dot(a, _)
+        | Kind::Invert(a)
+        | Kind::Negate(a)
+        | Kind::Shift(_, a, _)
+        | Kind::Unpack(_, a)
+        | Kind::Pack(_, a)
+        | Kind::Fetch(_, _, a) => of_operand(alloc, t, e, a, scope, p, log, left),
     }
 }
 

@@ -177,14 +177,14 @@ fn alias(l: &LayoutText) -> Option<&Name>
 }
 
 impl<'a> Table<'a> {
-    ghost use Rattle.std.specs.Prelude.{◌≡◌, ◌<◌, ◌≤◌, false, min, take, length, IfOk, MatchOption, None, Some};
+    ghost use Rattle.std.specs.Prelude.{◌≡◌, ◌<◌, ◌≤◌, false, min, [], map, take, length, IfOk, MatchOption, None, Some};
     ghost use Rattle.nv_ast.specs.LayoutView.{layout_tree};
     ghost use Rattle.nv_ast.specs.Outline.{outline, size as bit_size, PartsOutline, no_named_outlines};
     ghost use Rattle.nv_ast.specs.ProgramView.{program_of, fun_tree};
     ghost use Rattle.nv_ast.specs.Tree.{NamedLayout};
     ghost use Rattle.nv_meaning.specs.Meaning.{declared, function_in};
     ghost use Rattle.nv_meaning.specs.Running.{exception_number};
-    ghost use Rattle.nv_meaning.specs.inner.Tables.{is_alias};
+    ghost use Rattle.nv_meaning.specs.inner.Tables.{is_alias, laid, layout_pairs};
     ghost use Rattle.nv_meaning.specs.inner.TableView.{declared_in};
 
     /// The table of a program.
@@ -194,6 +194,19 @@ impl<'a> Table<'a> {
         let functions = functions(alloc, &program.decls)?;
         let layouts = layouts(alloc, &program.decls)?;
         let exceptions = exceptions(alloc, &program.decls)?;
+        Table::placed(alloc, functions, layouts, exceptions)
+    }
+
+    // The table of these functions, layouts and exceptions.
+    fn placed(
+        alloc: Global,
+        functions: Vec<&'a Fun>,
+        layouts: Vec<(&'a Name, &'a LayoutText)>,
+        exceptions: Vec<&'a Name>,
+    ) -> Result<Table<'a>, NoMemory>
+        requires { length exceptions.items ≤ 65535 }
+        ensures { IfOk result (λ t. declared_in t ≡ record { layouts = laid [] (layout_pairs layouts.entry.items); exceptions = map (λ x. x.now) exceptions.entry.items; functions = map (λ f. fun_tree f.now) functions.entry.items }) }
+    {
         let function_places = function_places(alloc, &functions)?;
         let layout_places = layout_places(alloc, &layouts)?;
         let exception_places = exception_places(alloc, &exceptions)?;

@@ -8,13 +8,13 @@ use Rattle.nv_ast.specs.Places.{Begins, BeginsLow, Dead, place_of, SyntaxAt, Dee
 use Rattle.nv_text.specs.declared.error.TextError.{TextError}
 use Rattle.nv_text.specs.declared.error.TextError.TheVariants.{NoMemory, Char, Number, Name, Syntax, Deep}
 use Rattle.nv_text.specs.Tokens.{IsTokens, TokenFault}
-use Rattle.nv_text.specs.declared.cursor.Failure.{Failure}
+use Rattle.nv_parser.specs.declared.cursor.Failure.{Failure}
 use Rattle.nv_text.specs.Program.{IsTextOf, SyntaxText, DeepText, FaultOf}
 use Rattle.nv_text.specs.inner.Placing.{Says}
-use Rattle.nv_text.specs.inner.Failing.{Bound, NoBound, AtMost, Many, Behind, SameFront, Completes, Starts, Fails, FailsAs, no_memory, syntax, deep}
-use Rattle.nv_text.specs.inner.Phrases.{ADecl, AtEnd}
+use Rattle.nv_parser.specs.inner.Failing.{Bound, NoBound, AtMost, Many, Behind, SameFront, Completes, Starts, Fails, FailsAs, no_memory, syntax, deep}
+use Rattle.nv_parser.specs.inner.Phrases.{ADecl, AtEnd}
 use Rattle.nv_text.proofs.Reading.{tokens_one, fault_no_tokens, fault_one}
-use Rattle.nv_text.proofs.DeclPhrases.{to_decls, of_decls}
+use Rattle.nv_parser.proofs.DeclPhrases.{to_decls, of_decls}
 
 -- ---- what the parser's failures say
 

@@ -8,11 +8,10 @@ ghost use Rattle.nv_text.specs.Limits.{source_limit};
 ghost use Rattle.nv_text.specs.Program.{IsTextOf, FaultOf};
 ghost use Rattle.nv_text.specs.inner.Placing.{Says};
 
-use crate::cursor::Failure;
-use crate::declarations::declarations;
 use crate::error::TextError;
 use crate::scan::tokens;
 use nv_ast::{Program, Token};
+use nv_parser::{Failure, declarations};
 use std::alloc::Global;
 
 /// The most bytes of a text.

@@ -1,13 +1,13 @@
-// Blocks: their statements, and the words that their lets hold.
+//! Blocks: their statements, and the words that their lets hold.
 
-ghost use Rattle.std.specs.Prelude.{◌≡◌, ◌≤◌, [], ℕ, List, IfOk, length, drop};
+ghost use Rattle.std.specs.Prelude.{◌≡◌, ◌≤◌, [], ℕ, List, IfOk, OnOk, length, drop};
 ghost use Rattle.nv_ast.specs.Tree.{BlockTree, LetStatement, StoreStatement};
 ghost use Rattle.nv_ast.specs.ExprView.{tree_of, list_statements, statement_tree};
 ghost use Rattle.nv_ast.specs.PatternView.{pattern_tree};
 ghost use Rattle.nv_ast.specs.Scope.{names_in};
 ghost use Rattle.nv_types.specs.inner.Costs.{still};
 ghost use Rattle.nv_types.specs.inner.Named.{named};
-ghost use Rattle.nv_types.specs.inner.Blocks.{held_for, IsEnds, IsEnd};
+ghost use Rattle.nv_types.specs.inner.Blocks.{held_for, IsEnds, IsEnd, block_needs};
 
 use crate::cost::Cost;
 use crate::error::{TypeError, fault_where};
@@ -40,7 +40,7 @@ struct Held {
 
 impl<'a> Checker<'a> {
     ghost use Rattle.nv_types.specs.inner.Walk.{Checks};
-    ghost use Rattle.nv_types.specs.inner.Blocks.{ChecksStatement, block_needs};
+    ghost use Rattle.nv_types.specs.inner.Blocks.{ChecksStatement};
     ghost use Rattle.nv_types.specs.inner.Standing.{written_in};
 
     #[cycle(walk)]
@@ -149,33 +149,47 @@ impl<'a> Checker<'a> {
         requires inside { first ≤ length (written_in self.now) }
         ensures { IfOk result (λ n. n ≡ block_needs (drop first (written_in self.now)) first [] steps.now last tail_need) }
     {
-        let ends = self.last_places(first)?;
-        let mut held = Vec::new(self.alloc);
-        let mut most: u64 = 0;
-        for step in steps {
-            most = most.max(pending(&held, step.before).saturating_add(step.need));
-            if let Some(p) = step.pattern {
-                let until = last_place(self.alloc, &ends, p)?;
-                held.push(Held {
-                    words: step.words,
-                    until,
-                })?;
-            }
-        }
-        Ok(most.max(pending(&held, last).saturating_add(tail_need)))
+        let mut ends = IndexMap::new(self.alloc);
+        self.add_places(first, &mut ends)?;
+        greatest_need(self.alloc, &ends, steps, last, tail_need)
     }
 
-    // For each variable that is written from a place on, the place behind the last one.
-    fn last_places(&self, first: usize) -> Result<IndexMap<&'a Name, usize>, NoMemory>
+    // For each variable that is written from a place on, adds the place behind the last one to none.
+    fn add_places(&self, first: usize, ends: &mut IndexMap<&'a Name, usize>) -> Result<(), NoMemory>
         requires inside { first ≤ length (written_in self.now) }
-        ensures { IfOk result (λ ends. IsEnds first (drop first (written_in self.now)) (named ends.entries)) }
+        requires none { ends.old.entries ≡ [] }
+        ensures { OnOk result (IsEnds first (drop first (written_in self.now)) (named ends.new.entries)) }
     {
-        let mut ends = IndexMap::new(self.alloc);
         for i in first..self.written.len() {
             ends.insert(self.written[i], i + 1)?;
         }
-        Ok(ends)
+        Ok(())
     }
+}
+
+// The greatest need of a block's parts by the last places of its variables.
+fn greatest_need<'a>(
+    alloc: Global,
+    ends: &IndexMap<&'a Name, usize>,
+    steps: &[Step<'a>],
+    last: usize,
+    tail_need: u64,
+) -> Result<u64, NoMemory>
+    ensures { (xs : List (List ℕ)) (first : ℕ) → IsEnds first xs (named ends.now.entries) → IfOk result (λ n. n ≡ block_needs xs first [] steps.now last tail_need) }
+{
+    let mut held = Vec::new(alloc);
+    let mut most: u64 = 0;
+    for step in steps {
+        most = most.max(pending(&held, step.before).saturating_add(step.need));
+        if let Some(p) = step.pattern {
+            let until = last_place(alloc, ends, p)?;
+            held.push(Held {
+                words: step.words,
+                until,
+            })?;
+        }
+    }
+    Ok(most.max(pending(&held, last).saturating_add(tail_need)))
 }
 
 // The place behind the last one where a name of a pattern is written, or 0.

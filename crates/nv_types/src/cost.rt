@@ -1,11 +1,11 @@
-// What expressions cost.
+//! What expressions cost.
 
 ghost use Rattle.std.specs.Prelude.{◌≡◌};
 ghost use Rattle.nv_types.specs.inner.Costs.{two_costs, node_cost};
 
 /// The words of a value, the expanded size of what computes it, and how many words that wants at once.
 /// Each number stands still at its type's greatest.
-#[derive(Clone, Copy, Debug)]
+#[derive(Clone, Copy)]
 pub(crate) struct Cost {
     pub words: u64,
     pub size: u64,

@@ -1,4 +1,4 @@
-// Declarations.
+//! Declarations.
 
 ghost use Rattle.std.specs.Prelude.{◌≡◌, [], OnOk, IfOk, map, bytes_eq, if◌then◌else◌};
 ghost use Rattle.nv_ast.specs.ProgramView.{fun_tree, decl_tree};
@@ -95,7 +95,18 @@ impl<'a> Checker<'a> {
     fn group_names(&self, fs: &'a [Fun]) -> Result<(), TypeError>
         ensures { Judges (name_faults (names_of self.now.functions) (map fun_tree fs.now)) result }
     {
-        let mut names = IndexSet::new(self.alloc);
+        self.add_group_names(&mut IndexSet::new(self.alloc), fs)
+    }
+
+    // The same, where the names of the group go to none.
+    fn add_group_names(
+        &self,
+        names: &mut IndexSet<&'a Name>,
+        fs: &'a [Fun],
+    ) -> Result<(), TypeError>
+        requires { names.old.keys ≡ [] }
+        ensures { Judges (name_faults (names_of self.now.functions) (map fun_tree fs.now)) result }
+    {
         for f in fs {
             let name = &f.name;
             fault_where(self.functions.get(name).is_some(), 2, f.span)?;

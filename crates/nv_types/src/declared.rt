@@ -1,4 +1,4 @@
-// What is declared.
+//! What is declared.
 
 ghost use Rattle.std.specs.Prelude.{◌≡◌, ◌++◌, ◌∷◌, [], None, OnOk};
 ghost use Rattle.nv_ast.specs.Tests.{look_up};
@@ -48,4 +48,7 @@ impl<'a, T: Copy + Drop> Declared<'a, T> {
         self.entries.insert(name, value)?;
         Ok(())
     }
+
+    /// Lets all go.
+    pub fn end(self) {}
 }

@@ -1,4 +1,4 @@
-// Why a program isn't typed.
+//! Why a program isn't typed.
 
 ghost use Rattle.std.specs.Prelude.{◌≡◌, [], ◌∷◌};
 ghost use Rattle.nv_ast.specs.Faults.{at_span};

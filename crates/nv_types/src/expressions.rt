@@ -1,4 +1,4 @@
-// Expressions.
+//! Expressions.
 
 ghost use Rattle.std.specs.Prelude.{◌≡◌, ◌*◌, ◌==◌, ◌&&◌, false, not, Option, None, Some, is_none, IfOk, OnOk, cond, option_to_list};
 ghost use Rattle.nv_ast.specs.ExprView.{tree_of, list_trees, list_named_trees};

@@ -1,6 +1,6 @@
-// Lists of named types, or of named forms, by number. A list is kept as one tree, whose form depends on how many
-// fields it has alone, so that equal lists have equal numbers, and lists that begin or end alike share their parts.
-// A tree is as high as the logarithm of the number of its fields, so what goes down a tree calls itself.
+//! Lists of named types, or of named forms, by number. A list is kept as one tree, whose form depends on how many
+//! fields it has alone, so that equal lists have equal numbers, and lists that begin alike mostly share their parts.
+//! A tree is as high as the logarithm of the number of its fields, so what goes down a tree calls itself.
 
 ghost use Rattle.std.specs.Prelude.{◌≡◌, ◌<◌, ◌≤◌, ◌==◌, ◌++◌, ◌∷◌, [], ℕ, All, IfSome, is_some, false, length, List, Some, None, IfOk, OnOk, slice_get};
 ghost use Rattle.nv_ast.specs.Tests.{has_twice};

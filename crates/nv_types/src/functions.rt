@@ -1,4 +1,4 @@
-// What is declared, and the state of a walk.
+//! What is declared, and the state of a walk.
 
 ghost use Rattle.std.specs.Prelude.{◌≡◌, ◌++◌, [], None, IfOk, Option, option_to_list};
 ghost use Rattle.nv_ast.specs.Types.{Ty, words_of_value};
@@ -67,6 +67,15 @@ impl<'a> Checker<'a> {
             scope: Scope::new(alloc),
             written: Vec::new(alloc),
         })
+    }
+
+    /// The end of a walk, which lets its parts go in turn.
+    pub fn end(self) {
+        self.table.end();
+        self.layouts.end();
+        self.exceptions.end();
+        self.functions.end();
+        self.costs.end();
     }
 
     /// How many words a value has.

@@ -1,6 +1,6 @@
-// Layouts: their faults, and what typing asks of them.
+//! Layouts: their faults, and what typing asks of them.
 
-ghost use Rattle.std.specs.Prelude.{◌≡◌, ◌+◌, ◌/◌, ◌≤◌, ◌||◌, not, nat_lt, min, IfOk, OnOk, length};
+ghost use Rattle.std.specs.Prelude.{◌≡◌, ◌+◌, ◌/◌, ◌≤◌, ◌||◌, [], not, nat_lt, min, IfOk, OnOk, length};
 ghost use Rattle.nv_ast.specs.Outline.{OutlineTrees, outline_and, NamedOutlines, BitsOutline, GapOutline, PartsOutline, OverlayOutline, JoinedOutline, OutlineTree, total_named_size, longest, highest_named_outline, part_fields, alternative_fields, sizes_of};
 ghost use Rattle.nv_ast.specs.LayoutFaults.{unfit};
 ghost use Rattle.nv_ast.specs.Types.{Forms, forms_of as forms_of_outlines, joined_forms, unpacked_all};
@@ -160,9 +160,21 @@ impl<'a> Checker<'a> {
     fn without_shared_names(&self, span: Span, shapes: &[Shape]) -> Result<(), TypeError>
         ensures { (os : OutlineTrees) → AreShapes self.now.table shapes.now os → Judges (at_span span (where_true (has_twice (form_names (joined_forms os))) 5)) result }
     {
-        let mut seen = IndexSet::new(self.alloc);
+        self.without_seen_names(span, &mut IndexSet::new(self.alloc), shapes)
+    }
+
+    // The same, where no name was seen before.
+    fn without_seen_names(
+        &self,
+        span: Span,
+        seen: &mut IndexSet<usize>,
+        shapes: &[Shape],
+    ) -> Result<(), TypeError>
+        requires { seen.old.keys ≡ [] }
+        ensures { (os : OutlineTrees) → AreShapes self.now.table shapes.now os → Judges (at_span span (where_true (has_twice (form_names (joined_forms os))) 5)) result }
+    {
         for s in shapes {
-            fault_where(self.table.meets_a_name(&mut seen, s.forms)?, 5, span)?;
+            fault_where(self.table.meets_a_name(seen, s.forms)?, 5, span)?;
         }
         Ok(())
     }

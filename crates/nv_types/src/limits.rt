@@ -1,4 +1,4 @@
-// The limits of types and layouts.
+//! The limits of types and layouts.
 
 /// The greatest height of a layout or a type.
 pub(crate) const HIGHEST: u64 = 100;

@@ -1,4 +1,4 @@
-// Which values a form packs.
+//! Which values a form packs.
 
 ghost use Rattle.std.specs.Prelude.{◌≡◌, ℕ, List, Some, IfOk, OnOk, slice_get};
 ghost use Rattle.nv_ast.specs.Types.{Ty, RecordTy, NamedTys, Form, RecordForm, ChoiceForm, Forms, can_pack, can_pack_all, can_pack_one};

@@ -1,15 +1,16 @@
-// Patterns: their names, whether they fit a type, and the variables that they bind.
+//! Patterns: their names, whether they fit a type, and the variables that they bind.
 
 ghost use Rattle.std.specs.Prelude.{◌≡◌, ◌++◌, ◌==◌, OnOk};
 ghost use Rattle.nv_ast.specs.PatternView.{pattern_tree, list_patterns};
 ghost use Rattle.nv_ast.specs.Types.{Ty, Tys};
 ghost use Rattle.nv_ast.specs.Scope.{names_in, names_in_all, fits as fits_type, fits_all as fit_types, bind as bound_at, bind_all as all_bound_at, Vars};
+ghost use Rattle.nv_ast.specs.Faults.{at_span, variable_twice};
+ghost use Rattle.nv_types.specs.inner.Faulty.{Judges};
 ghost use Rattle.nv_types.specs.inner.Named.{plain_names};
 ghost use Rattle.nv_types.specs.inner.Store.{IsType, IsParts, count_tys};
 
 use crate::error::{TypeError, fault_where};
 use crate::functions::Checker;
-use crate::names::has_repeats;
 use crate::table::Table;
 use nv_ast::{Name, Pat, Span};
 use nv_base::NoMemory;
@@ -101,9 +102,11 @@ impl<'a> Checker<'a> {
     ) -> Result<(), TypeError>
         ensures { BindsLet self.old self.new span (pattern_tree p.now) value result }
     {
-        let mut names = Vec::new(self.alloc);
-        add_names(p, &mut names)?;
-        self.without_twice(span, &names)?;
+        {
+            let mut names = Vec::new(self.alloc);
+            add_names(p, &mut names)?;
+            self.without_twice(span, &names)?;
+        }
         if let Some(t) = value {
             fault_where(!fits(&self.table, p, t), 16, span)?;
             self.bind(p, t)?;
@@ -120,9 +123,7 @@ impl<'a> Checker<'a> {
     ) -> Result<usize, TypeError>
         ensures { BindsHandler self.old self.new span exception.now (list_patterns ps.now) result }
     {
-        let mut names = Vec::new(self.alloc);
-        add_all_names(ps, &mut names)?;
-        fault_where(has_repeats(self.alloc, &names)?, 9, span)?;
+        self.without_repeated(span, ps)?;
         match self.exceptions.get(exception) {
             Some(types) => {
                 fault_where(!has_length(&self.table, types, ps.len()), 13, span)?;
@@ -132,6 +133,15 @@ impl<'a> Checker<'a> {
             }
             None => Err(TypeError::Fault(17, span)),
         }
+    }
+
+    // No name stands twice in some patterns.
+    fn without_repeated(&self, span: Span, ps: &'a [Pat]) -> Result<(), TypeError>
+        ensures { Judges (at_span span (variable_twice (names_in_all (list_patterns ps.now)))) result }
+    {
+        let mut names = Vec::new(self.alloc);
+        add_all_names(ps, &mut names)?;
+        self.without_twice(span, &names)
     }
 
     // Binds the variables of a pattern at a type.

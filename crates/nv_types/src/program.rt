@@ -1,4 +1,4 @@
-// Programs.
+//! Programs.
 
 ghost use Rattle.std.specs.Prelude.{◌≡◌, ◌<◌, ◌≤◌, ◌+◌, ◌*◌, ◌⊎◌, ℕ, IfOk, IfErr, OnOk, MatchResult};
 ghost use Rattle.nv_ast.specs.declared.token.Span.{Span as Place};
@@ -55,7 +55,9 @@ fn measure<'a>(alloc: Global, p: &'a Program, main: &'a Name) -> Result<Sizes, T
     ensures sized { IfOk result (λ s. IsSized (program_of p.now) s) }
 {
     let mut checker = Checker::new(alloc)?;
-    checker.sizes_of(p, main)
+    let sizes = checker.sizes_of(p, main);
+    checker.end();
+    sizes
 }
 
 impl<'a> Checker<'a> {

@@ -1,4 +1,4 @@
-// The variables in sight.
+//! The variables in sight.
 
 ghost use Rattle.std.specs.Prelude.{◌≡◌, ◌-◌, ◌≤◌, ◌∷◌, [], OnOk, length, drop};
 ghost use Rattle.nv_ast.specs.Tests.{look_up};

@@ -1,6 +1,6 @@
-// Types by number, each kept once.
+//! Types by number, each kept once.
 
-ghost use Rattle.std.specs.Prelude.{◌≡◌, ◌<◌, Some, IfOk, OnOk, length, slice_get};
+ghost use Rattle.std.specs.Prelude.{◌≡◌, ◌<◌, ◌∷◌, [], Some, IfOk, OnOk, length, slice_get};
 ghost use Rattle.nv_ast.specs.Types.{Ty, TupleTy, RecordTy, Tys, ty_and, NamedTys, Form, RecordForm, ChoiceForm, Forms, words_ty, word_parts, same_type, is_too_large};
 ghost use Rattle.nv_ast.specs.Faults.{can_store};
 ghost use Rattle.nv_ast.specs.Typing.{field_ty};
@@ -18,7 +18,7 @@ use std::marker::Model;
 /// A type, or a part of one: a list of types, or of named types. Its parts stand before it in the table.
 /// A choice is the form of an overlay's value, of which one field is packed. A list of named types is a tree:
 /// one field with its name, or both of two lists one after the other.
-#[derive(Clone, Copy, Debug, PartialEq, Eq, Hash)]
+#[derive(Clone, Copy, PartialEq, Eq, Hash)]
 pub(crate) enum Cell {
     Word,
     Bool,
@@ -34,7 +34,7 @@ pub(crate) enum Cell {
 
 /// What is known of a cell: how many words its values have, its height, whether a bool is inside, and
 /// whether it is a list of words alone.
-#[derive(Clone, Copy, Debug)]
+#[derive(Clone, Copy)]
 pub(crate) struct Facts {
     pub words: u64,
     pub height: u64,
@@ -102,17 +102,18 @@ impl<'a> Model for Table<'a> {
 impl<'a> Table<'a> {
     /// The table of words, bools and empty lists.
     pub fn new(alloc: Global) -> Result<Table<'a>, NoMemory> {
+        let facts = vec![in alloc; ONE_WORD, ONE_BOOL, NO_WORDS, NOTHING]?;
         let mut cells = IndexSet::new(alloc);
-        cells.insert(Cell::Word)?;
-        cells.insert(Cell::Bool)?;
-        cells.insert(Cell::NoParts)?;
-        cells.insert(Cell::NoFields)?;
+        add_first_cells(&mut cells)?;
         Ok(Table {
             names: IndexSet::new(alloc),
             cells,
-            facts: vec![in alloc; ONE_WORD, ONE_BOOL, NO_WORDS, NOTHING]?,
+            facts,
         })
     }
+
+    /// Lets all types go.
+    pub fn end(self) {}
 
     /// The number of a cell, whose parts are there.
     pub fn number(&mut self, cell: Cell) -> Result<usize, NoMemory>
@@ -326,6 +327,18 @@ impl<'a> Table<'a> {
         let fields = self.record_fields(t)?;
         self.field_in(fields, number)
     }
+}
+
+// Adds words, bools and empty lists to no cells.
+fn add_first_cells(cells: &mut IndexSet<Cell>) -> Result<(), NoMemory>
+    requires { cells.old.keys ≡ [] }
+    ensures { OnOk result (cells.new.keys ≡ Cell.Word ∷ Cell.Bool ∷ Cell.NoParts ∷ Cell.NoFields ∷ []) }
+{
+    cells.insert(Cell::Word)?;
+    cells.insert(Cell::Bool)?;
+    cells.insert(Cell::NoParts)?;
+    cells.insert(Cell::NoFields)?;
+    Ok(())
 }
 
 // What is known by a number.

@@ -1,4 +1,4 @@
-// Types in the text.
+//! Types in the text.
 
 ghost use Rattle.std.specs.Prelude.{◌≡◌, IfOk, OnOk};
 ghost use Rattle.nv_ast.specs.TypeView.{type_tree, list_types, list_named_types};

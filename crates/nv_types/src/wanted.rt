@@ -1,4 +1,4 @@
-// What is wanted of an expression.
+//! What is wanted of an expression.
 
 ghost use Rattle.std.specs.Prelude.{◌≡◌, IfOk, Option};
 ghost use Rattle.nv_ast.specs.Types.{Ty, words_ty};
@@ -11,7 +11,7 @@ use nv_base::NoMemory;
 use std::alloc::Global;
 
 /// What is wanted of an expression: nothing, or a value of a right type.
-#[derive(Clone, Copy, Debug)]
+#[derive(Clone, Copy)]
 pub(crate) enum Wanted {
     /// It may have no value, and any type is right.
     Anything,

@@ -3,7 +3,7 @@
 #![tactic(auto)]
 
 #[cfg(test)]
-mod flat_code;
+mod flat_programs;
 #[cfg(test)]
 mod flows;
 #[cfg(test)]

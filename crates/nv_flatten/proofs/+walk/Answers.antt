@@ -10,18 +10,18 @@ use Rattle.nv_meaning.specs.inner.Weight.{weight, weight_statement, weight_all, 
 use Rattle.nv_meaning.proofs.Falls.{item-weight, item-weight_named, item-weight_statement}
 use Rattle.flat_ir.specs.declared.flat.Flat
 use Rattle.flat_ir.specs.declared.spine.Step.TheVariants.{Let, Fetch, Store, Bind}
-use Rattle.nv_flatten.specs.inner.Code.{variables, shift_of, form_or_unit}
-use Rattle.nv_flatten.specs.inner.Symbols.{Word, Truth, word_operand, words_symbol, numbers_from, bound, all_operands, all_bound, symbol_in}
-use Rattle.nv_flatten.specs.inner.Simulation.{Extends}
-use Rattle.nv_flatten.specs.inner.View.{view, list_symbols, scope_of}
-use Rattle.nv_flatten.specs.inner.Whole.{raised_or_none}
-use Rattle.nv_flatten.specs.inner.WholeView.{whole_in}
-use Rattle.nv_flatten.proofs.Keeping.{extends-itself, extends-then}
-use Rattle.nv_flatten.proofs.Rows.{tuple_view, record_view}
+use Rattle.flat_code.specs.inner.Code.{variables, shift_of, form_or_unit}
+use Rattle.flat_code.specs.inner.Symbols.{Word, Truth, word_operand, words_symbol, numbers_from, bound, all_operands, all_bound, symbol_in}
+use Rattle.flat_code.specs.inner.Simulation.{Extends}
+use Rattle.flat_code.specs.inner.View.{view, list_symbols, scope_of}
+use Rattle.flat_code.specs.inner.Whole.{raised_or_none}
+use Rattle.flat_code.specs.inner.WholeView.{whole_in}
+use Rattle.flat_code.proofs.Keeping.{extends-itself, extends-then}
+use Rattle.flat_code.proofs.Rows.{tuple_view, record_view}
 use Rattle.nv_flatten.proofs.Ranks.{value_rank, value_rank-small, ending_rank, ending_rank-small, condition_rank, condition_rank-small, named-below, truth-below, given-below, decided-below}
 use Rattle.nv_flatten.proofs.WalkArms.{cut-back, extends-same}
 use Rattle.nv_flatten.proofs.EndArms.{view-or, form-view}
-use Rattle.nv_flatten.proofs.CallArms.{restored}
+use Rattle.flat_code.proofs.CallArms.{restored}
 use Rattle.nv_flatten.proofs.FlatViews.{mapped, value-tree, value-in, value-as, statement-as, test-tree, test-as, end-tree, end-in, end-code, end-as}
 use Rattle.nv_flatten.proofs.FlatValues.{number-flat, truth-flat, variable-flat, paren-flat, tuple-flat, record-flat, dot-flat, invert-flat, negate-flat, shift-flat, combine-flat, unpack-flat, pack-flat, fetch-flat, block-flat, named-flat}
 use Rattle.nv_flatten.proofs.FlatLists.{let-flat, store-flat, front-start, front-step, front-end, fields-start, fields-step, fields-last, led-start, led-step, led-end}

@@ -1,10 +1,10 @@
 use Rattle.std.proofs.Common.{ℕ, List}
 use Rattle.std.proofs.lemmas.Result.{err_from_is_err_and}
 use Rattle.nv_outside.specs.Causes.{Rose}
-use Rattle.novac.specs.inner.Words.{command_as}
-use Rattle.novac.specs.inner.Contents.{contents_of, files_of}
-use Rattle.novac.proofs.Inputs.{rose-later}
-use Rattle.novac.proofs.Saves.{saves-end, pass-unread, pass-refused}
+use Rattle.nova_commands.specs.inner.Words.{command_as}
+use Rattle.nova_commands.specs.inner.Contents.{contents_of, files_of}
+use Rattle.nova_commands.proofs.Loads.{rose-later}
+use Rattle.nova_commands.proofs.Saves.{saves-end, pass-unread, pass-refused}
 use Rattle.novac.proofs.top.perform.Goals as goal
 
 pub returns-clause-ended : goal.returns-clause-ended

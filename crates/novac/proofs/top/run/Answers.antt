@@ -1,10 +1,10 @@
 use Rattle.std.proofs.Common.{◌≡◌, ℕ, List, ap, subst}
 use Rattle.nv_outside.specs.Causes.{Rose}
 use Rattle.nv_outside.specs.Holding.{AppendsFront}
-use Rattle.novac.specs.Command.{command_of, texts_of}
-use Rattle.novac.specs.Lines.{usage_text}
+use Rattle.nova_commands.specs.Command.{command_of, texts_of}
+use Rattle.nova_commands.specs.Lines.{usage_text}
 use Rattle.novac.proofs.Printing.{compiled, reported, generated, memory-generated, printed, begun, only-refused, only-shown, only-made, read-fault, write-fault, unchanged, elsewhere, all-same, memory-printed}
-use Rattle.novac.proofs.Names.{words-apart}
+use Rattle.nova_commands.proofs.Names.{words-apart}
 use Rattle.novac.proofs.top.run.Goals as goal
 
 pub returns-in-Ok-clause-compiled : goal.returns-in-Ok-clause-compiled

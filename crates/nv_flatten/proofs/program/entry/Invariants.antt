@@ -1,9 +1,9 @@
 use Rattle.std.proofs.Common.{◌≡◌, ◌+◌, ◌≤◌, ◌++◌, [], drop}
 use Rattle.nv_ast.specs.Types.{named_types_of, total_named_words}
 use Rattle.nv_ast.specs.TypeView.{list_named_types}
-use Rattle.nv_flatten.specs.inner.Symbols.{named_fresh, numbers_from, params_bound}
-use Rattle.nv_flatten.specs.inner.View.{scope_of}
-use Rattle.nv_flatten.specs.inner.WholeView.{whole_in}
+use Rattle.flat_code.specs.inner.Symbols.{named_fresh, numbers_from, params_bound}
+use Rattle.flat_code.specs.inner.View.{scope_of}
+use Rattle.flat_code.specs.inner.WholeView.{whole_in}
 use Rattle.nv_flatten.proofs.program.entry.Given as goal
 
 abbrev pub invariant-loop-param : goal.invariant-loop-param

@@ -13,8 +13,8 @@ use Rattle.nv_meaning.proofs.arguments.add_arguments.Goals as goal
 pub loop-param-preserved : goal.loop-param-preserved
 loop-param-preserved c =
     let short : length c.args.args.now ≤ MAX = omega arith in
-    arguments-turn (declared_in c.args.t.now).layouts c.args.params.now c.loop-param.param-index c.param-item.result c.args.args.now c.loop-param.at c.in_ok-v.behind MAX c.in_ok-blank.blank c.in_ok-v.v _ c.loop-param.scope.items c.push.new.self.items
-    c.loop-param-test.true c.param-item.is short c.in_ok-blank.ensures c.in_ok-v.ensures.value c.in_ok-v.ensures.behind refl refl c.in_ok-push.ensures.items _ c.loop-param.invariant
+    arguments-turn (declared_in c.args.t.now).layouts c.args.params.now c.loop-param.param-index c.param-item.result c.args.args.now c.loop-param.at c.in_ok-v.behind MAX c.in_ok-v.v _ c.loop-param.scope.items c.push.new.self.items
+    c.loop-param-test.true c.param-item.is short c.in_ok-v.ensures.value c.in_ok-v.ensures.behind refl refl c.in_ok-push.ensures.items _ c.loop-param.invariant
 
 pub returns : goal.returns
 returns c =

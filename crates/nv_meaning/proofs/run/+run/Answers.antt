@@ -5,7 +5,7 @@ use Rattle.nv_ast.specs.ExprView.{tree_of, list_trees, list_named_trees, list_st
 use Rattle.nv_ast.specs.PatternView.{pattern_tree, list_patterns}
 use Rattle.nv_ast.specs.TypeView.{list_named_types}
 use Rattle.nv_ast.specs.ProgramView.{fun_tree}
-use Rattle.nv_ast.specs.Tree.{NumberTree, TruthTree, VarTree, ParenTree, TupleTree, FieldsTree, DotTree, InvertTree, NegateTree, BinaryTree, ShiftTree, CallTree, UnpackTree, PackTree, RaiseTree, IfTree, TryTree, FetchTree, BlockTree}
+use Rattle.nv_ast.specs.Tree.{NumberTree, TruthTree, VarTree, ParenTree, TupleTree, FieldsTree, BinaryTree, CallTree, RaiseTree, IfTree, TryTree, BlockTree}
 use Rattle.nv_meaning.specs.Values.{Word, Truth, all_matched, matched, word_of, words_of}
 use Rattle.nv_meaning.specs.Running.{Gives, exception_number, store, then_stated}
 use Rattle.nv_meaning.specs.Meaning.{eval as evaluated, run_one, entered}
@@ -20,8 +20,8 @@ use Rattle.nv_meaning.proofs.Moments.{ran-here}
 use Rattle.nv_meaning.proofs.Lists.{dropped-all}
 use Rattle.nv_meaning.proofs.Arms.{Front, FrontNamed, in-scope, in-scope_value, of-tree, of-step, of-stop, settled-again, front-none, front-more, front-all, front-stop, front-short, named-none, named-more, named-all, named-stop, named-short, led-none, led-more, led-all, led-stop, let-stop, let-short, let-done, store-stop, store-stop_value, store-done, tuple-stop, tuple-done, again-stop, again-done, raise-stop, raise-done, record-stop, record-done}
 use Rattle.nv_meaning.proofs.Choices.{looked-up, restored, binary-stop, binary-decided, binary-stop_right, binary-done, choose-stop, choose-yes, choose-no, try-done, try-short, try-fault, try-going, try-other, try-handled, short-before, in-matched, block-stop, block-tail, store-scope, operand-stop, operand-made, jump-none, jump-more, jump-end, jump-none_left, jump-no_function, jump-short, entered-as}
-use Rattle.nv_ast.proofs.TreeKinds.{number-is, truth-is, variable-is, paren-is, dot-is, invert-is, negate-is, shift-is, unpack-is, pack-is, fetch-is, binary-is, if-is, try-is, tuple-is, record-is, call-is, raise-is, block-is, let-is, store-is}
-use Rattle.nv_meaning.proofs.TreeKinds.{of-operand}
+use Rattle.nv_ast.proofs.TreeKinds.{number-is, truth-is, variable-is, paren-is, binary-is, if-is, try-is, tuple-is, record-is, call-is, raise-is, block-is, let-is, store-is}
+use Rattle.nv_meaning.proofs.TreeKinds.{of-operand, OverOperand, over-operand}
 use Rattle.nv_meaning.specs.inner.Weight.{weight, weight_all, weight_named, weight_statement, weight_statements, span}
 use Rattle.nv_meaning.proofs.Falls.{word-same, falls, falls_all, falls_call, body-below, item-weight, item-weight_named, item-weight_statement}
 use Rattle.nv_meaning.proofs.Kept.{fewer, extends-nothing, extends-same, extends-from, kept-given, kept-then}
@@ -126,60 +126,13 @@ eval-returns-in-Block t c = record {
 }
 
 pub eval-returns-in-Dot : goal.eval-returns-in-Dot
-eval-returns-in-Dot t c = record {
-  ran = of-operand (declared_in c.args.t.now) (at c.args.left.now c.args.p.now c.args.log.now) (at c.of_operand.new.left c.of_operand.new.p c.of_operand.new.log) c.of_operand.result (scope_of c.args.scope.now.items []) (tree_of c.args.e.now) (DotTree (out-Expr c.args.e.now).span (tree_of c.deref-in-Dot.result.now) c.in-Dot.field-1) (tree_of c.deref-in-Dot.result.now) (dot-is c.args.e.now c.in-Dot.a c.in-Dot.field-1 c.deref-in-Dot.result.now c.in-Dot.is c.deref-in-Dot.ensures) (λ d call s now. refl) c.of_operand.ensures.ran;
-  left = c.of_operand.ensures.left;
-  extends = c.of_operand.ensures.extends;
-  same = c.of_operand.ensures.same;
-}
-
-pub eval-returns-in-Invert : goal.eval-returns-in-Invert
-eval-returns-in-Invert t c = record {
-  ran = of-operand (declared_in c.args.t.now) (at c.args.left.now c.args.p.now c.args.log.now) (at c.of_operand-in-Invert.new.left c.of_operand-in-Invert.new.p c.of_operand-in-Invert.new.log) c.of_operand-in-Invert.result (scope_of c.args.scope.now.items []) (tree_of c.args.e.now) (InvertTree (out-Expr c.args.e.now).span (tree_of c.deref-in-Invert.result.now)) (tree_of c.deref-in-Invert.result.now) (invert-is c.args.e.now c.in-Invert.a c.deref-in-Invert.result.now c.in-Invert.is c.deref-in-Invert.ensures) (λ d call s now. refl) c.of_operand-in-Invert.ensures.ran;
-  left = c.of_operand-in-Invert.ensures.left;
-  extends = c.of_operand-in-Invert.ensures.extends;
-  same = c.of_operand-in-Invert.ensures.same;
-}
-
-pub eval-returns-in-Negate : goal.eval-returns-in-Negate
-eval-returns-in-Negate t c = record {
-  ran = of-operand (declared_in c.args.t.now) (at c.args.left.now c.args.p.now c.args.log.now) (at c.of_operand-in-Negate.new.left c.of_operand-in-Negate.new.p c.of_operand-in-Negate.new.log) c.of_operand-in-Negate.result (scope_of c.args.scope.now.items []) (tree_of c.args.e.now) (NegateTree (out-Expr c.args.e.now).span (tree_of c.deref-in-Negate.result.now)) (tree_of c.deref-in-Negate.result.now) (negate-is c.args.e.now c.in-Negate.a c.deref-in-Negate.result.now c.in-Negate.is c.deref-in-Negate.ensures) (λ d call s now. refl) c.of_operand-in-Negate.ensures.ran;
-  left = c.of_operand-in-Negate.ensures.left;
-  extends = c.of_operand-in-Negate.ensures.extends;
-  same = c.of_operand-in-Negate.ensures.same;
-}
-
-pub eval-returns-in-Shift : goal.eval-returns-in-Shift
-eval-returns-in-Shift t c = record {
-  ran = of-operand (declared_in c.args.t.now) (at c.args.left.now c.args.p.now c.args.log.now) (at c.of_operand-in-Shift.new.left c.of_operand-in-Shift.new.p c.of_operand-in-Shift.new.log) c.of_operand-in-Shift.result (scope_of c.args.scope.now.items []) (tree_of c.args.e.now) (ShiftTree (out-Expr c.args.e.now).span c.in-Shift.field-0 (tree_of c.deref-in-Shift.result.now) c.in-Shift.field-2) (tree_of c.deref-in-Shift.result.now) (shift-is c.args.e.now c.in-Shift.field-0 c.in-Shift.a c.in-Shift.field-2 c.deref-in-Shift.result.now c.in-Shift.is c.deref-in-Shift.ensures) (λ d call s now. refl) c.of_operand-in-Shift.ensures.ran;
-  left = c.of_operand-in-Shift.ensures.left;
-  extends = c.of_operand-in-Shift.ensures.extends;
-  same = c.of_operand-in-Shift.ensures.same;
-}
-
-pub eval-returns-in-Unpack : goal.eval-returns-in-Unpack
-eval-returns-in-Unpack t c = record {
-  ran = of-operand (declared_in c.args.t.now) (at c.args.left.now c.args.p.now c.args.log.now) (at c.of_operand-in-Unpack.new.left c.of_operand-in-Unpack.new.p c.of_operand-in-Unpack.new.log) c.of_operand-in-Unpack.result (scope_of c.args.scope.now.items []) (tree_of c.args.e.now) (UnpackTree (out-Expr c.args.e.now).span c.in-Unpack.field-0 (tree_of c.deref-in-Unpack.result.now)) (tree_of c.deref-in-Unpack.result.now) (unpack-is c.args.e.now c.in-Unpack.field-0 c.in-Unpack.a c.deref-in-Unpack.result.now c.in-Unpack.is c.deref-in-Unpack.ensures) (λ d call s now. refl) c.of_operand-in-Unpack.ensures.ran;
-  left = c.of_operand-in-Unpack.ensures.left;
-  extends = c.of_operand-in-Unpack.ensures.extends;
-  same = c.of_operand-in-Unpack.ensures.same;
-}
-
-pub eval-returns-in-Pack : goal.eval-returns-in-Pack
-eval-returns-in-Pack t c = record {
-  ran = of-operand (declared_in c.args.t.now) (at c.args.left.now c.args.p.now c.args.log.now) (at c.of_operand-in-Pack.new.left c.of_operand-in-Pack.new.p c.of_operand-in-Pack.new.log) c.of_operand-in-Pack.result (scope_of c.args.scope.now.items []) (tree_of c.args.e.now) (PackTree (out-Expr c.args.e.now).span c.in-Pack.field-0 (tree_of c.deref-in-Pack.result.now)) (tree_of c.deref-in-Pack.result.now) (pack-is c.args.e.now c.in-Pack.field-0 c.in-Pack.a c.deref-in-Pack.result.now c.in-Pack.is c.deref-in-Pack.ensures) (λ d call s now. refl) c.of_operand-in-Pack.ensures.ran;
-  left = c.of_operand-in-Pack.ensures.left;
-  extends = c.of_operand-in-Pack.ensures.extends;
-  same = c.of_operand-in-Pack.ensures.same;
-}
-
-pub eval-returns-in-Fetch : goal.eval-returns-in-Fetch
-eval-returns-in-Fetch t c = record {
-  ran = of-operand (declared_in c.args.t.now) (at c.args.left.now c.args.p.now c.args.log.now) (at c.of_operand-in-Fetch.new.left c.of_operand-in-Fetch.new.p c.of_operand-in-Fetch.new.log) c.of_operand-in-Fetch.result (scope_of c.args.scope.now.items []) (tree_of c.args.e.now) (FetchTree (out-Expr c.args.e.now).span c.in-Fetch.field-0 c.in-Fetch.field-1 (tree_of c.deref-in-Fetch.result.now)) (tree_of c.deref-in-Fetch.result.now) (fetch-is c.args.e.now c.in-Fetch.field-0 c.in-Fetch.field-1 c.in-Fetch.a c.deref-in-Fetch.result.now c.in-Fetch.is c.deref-in-Fetch.ensures) (λ d call s now. refl) c.of_operand-in-Fetch.ensures.ran;
-  left = c.of_operand-in-Fetch.ensures.left;
-  extends = c.of_operand-in-Fetch.ensures.extends;
-  same = c.of_operand-in-Fetch.ensures.same;
-}
+eval-returns-in-Dot t c =
+    let it : OverOperand (tree_of c.args.e.now) (tree_of c.deref-in-Dot.result.now) = over-operand c.args.e.now c.in-Dot.a c.deref-in-Dot.result.now c.in-Dot.is c.deref-in-Dot.ensures in record {
+      ran = of-operand (declared_in c.args.t.now) (at c.args.left.now c.args.p.now c.args.log.now) (at c.of_operand.new.left c.of_operand.new.p c.of_operand.new.log) c.of_operand.result (scope_of c.args.scope.now.items []) (tree_of c.args.e.now) it.0 (tree_of c.deref-in-Dot.result.now) it.1 it.2 c.of_operand.ensures.ran;
+      left = c.of_operand.ensures.left;
+      extends = c.of_operand.ensures.extends;
+      same = c.of_operand.ensures.same;
+    }
 
 pub eval-eval-requires : goal.eval-eval-requires
 eval-eval-requires t c =
@@ -219,31 +172,7 @@ eval-block-requires t c =
 
 pub eval-of_operand-requires : goal.eval-of_operand-requires
 eval-of_operand-requires t c =
-    (let w : weight (tree_of c.args.e.now) ≡ 1 + weight (tree_of c.deref-in-Dot.result.now) = ap weight (dot-is c.args.e.now c.in-Dot.a c.in-Dot.field-1 c.deref-in-Dot.result.now c.in-Dot.is c.deref-in-Dot.ensures) in omega (arith, w, c.decreases), tt)
-
-pub eval-of_operand-requires-in-Invert : goal.eval-of_operand-requires-in-Invert
-eval-of_operand-requires-in-Invert t c =
-    (let w : weight (tree_of c.args.e.now) ≡ 1 + weight (tree_of c.deref-in-Invert.result.now) = ap weight (invert-is c.args.e.now c.in-Invert.a c.deref-in-Invert.result.now c.in-Invert.is c.deref-in-Invert.ensures) in omega (arith, w, c.decreases), tt)
-
-pub eval-of_operand-requires-in-Negate : goal.eval-of_operand-requires-in-Negate
-eval-of_operand-requires-in-Negate t c =
-    (let w : weight (tree_of c.args.e.now) ≡ 1 + weight (tree_of c.deref-in-Negate.result.now) = ap weight (negate-is c.args.e.now c.in-Negate.a c.deref-in-Negate.result.now c.in-Negate.is c.deref-in-Negate.ensures) in omega (arith, w, c.decreases), tt)
-
-pub eval-of_operand-requires-in-Shift : goal.eval-of_operand-requires-in-Shift
-eval-of_operand-requires-in-Shift t c =
-    (let w : weight (tree_of c.args.e.now) ≡ 1 + weight (tree_of c.deref-in-Shift.result.now) = ap weight (shift-is c.args.e.now c.in-Shift.field-0 c.in-Shift.a c.in-Shift.field-2 c.deref-in-Shift.result.now c.in-Shift.is c.deref-in-Shift.ensures) in omega (arith, w, c.decreases), tt)
-
-pub eval-of_operand-requires-in-Unpack : goal.eval-of_operand-requires-in-Unpack
-eval-of_operand-requires-in-Unpack t c =
-    (let w : weight (tree_of c.args.e.now) ≡ 1 + weight (tree_of c.deref-in-Unpack.result.now) = ap weight (unpack-is c.args.e.now c.in-Unpack.field-0 c.in-Unpack.a c.deref-in-Unpack.result.now c.in-Unpack.is c.deref-in-Unpack.ensures) in omega (arith, w, c.decreases), tt)
-
-pub eval-of_operand-requires-in-Pack : goal.eval-of_operand-requires-in-Pack
-eval-of_operand-requires-in-Pack t c =
-    (let w : weight (tree_of c.args.e.now) ≡ 1 + weight (tree_of c.deref-in-Pack.result.now) = ap weight (pack-is c.args.e.now c.in-Pack.field-0 c.in-Pack.a c.deref-in-Pack.result.now c.in-Pack.is c.deref-in-Pack.ensures) in omega (arith, w, c.decreases), tt)
-
-pub eval-of_operand-requires-in-Fetch : goal.eval-of_operand-requires-in-Fetch
-eval-of_operand-requires-in-Fetch t c =
-    (let w : weight (tree_of c.args.e.now) ≡ 1 + weight (tree_of c.deref-in-Fetch.result.now) = ap weight (fetch-is c.args.e.now c.in-Fetch.field-0 c.in-Fetch.field-1 c.in-Fetch.a c.deref-in-Fetch.result.now c.in-Fetch.is c.deref-in-Fetch.ensures) in omega (arith, w, c.decreases), tt)
+    (let it : OverOperand (tree_of c.args.e.now) (tree_of c.deref-in-Dot.result.now) = over-operand c.args.e.now c.in-Dot.a c.deref-in-Dot.result.now c.in-Dot.is c.deref-in-Dot.ensures in let w : weight (tree_of c.args.e.now) ≡ 1 + weight (tree_of c.deref-in-Dot.result.now) = ap weight it.1 ∙ it.3 in omega (arith, w, c.decreases), tt)
 
 pub settled-returns-in_err-v : goal.settled-returns-in_err-v
 settled-returns-in_err-v t c = record {

@@ -1,7 +1,7 @@
 use Rattle.std.proofs.Common.{refl, subst, ap, arith, length, map, []}
 use Rattle.nv_ast.specs.ProgramView.{decl_tree}
 use Rattle.nv_ast.specs.Grammar.{IsDecls}
-use Rattle.nv_text.proofs.DeclRules.{tokens_few, program_one, text_of}
+use Rattle.nv_text.proofs.Texts.{tokens_few, program_one, text_of}
 use Rattle.nv_text.proofs.ProgramRules.{of_tokens, failure_of, only_fault_of, no_program, no_fault}
 use Rattle.nv_text.proofs.program.parse.Goals as goal
 

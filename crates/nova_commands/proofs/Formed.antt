@@ -1,0 +1,174 @@
+-- The form, the banks and the code of a program, through all passes.
+use Rattle.std.proofs.Common.{◌≡◌, ℕ, ◌+◌, ◌*◌, ◌<◌, ◌≤◌, ◌^◌, ◌⊎◌, inl, inr, Bool, true, false, ◌&&◌, List, [], Option, None, Some, length, refl, sym, subst, arith}
+use Rattle.std.specs.Prelude.{slice_get}
+use Rattle.std.specs.List.{list_all}
+use Rattle.std.proofs.Math.Nat.{le_trans}
+use Rattle.nv_ast.specs.Sizes.{expanded_size, main_words, room}
+use Rattle.nv_ast.specs.Tree.{ProgramTree}
+use Rattle.nv_base.specs.Meanings.{KeepsOutcomes}
+use Rattle.nv_base.specs.Measures.{IsAtMost, of_size}
+use Rattle.nv_base.proofs.MemoryLemmas.{seen_follows}
+use Rattle.nv_base.proofs.Same.{keeps-trans}
+use Rattle.nv_meaning.specs.Meaning.{source}
+use Rattle.nv_meaning.proofs.Follows.{source-follows}
+use Rattle.flat_ir.specs.Bulk.{bulk, main_bulk}
+use Rattle.flat_ir.specs.Formed.{agree, all_raised, is_function, is_main, is_program}
+use Rattle.flat_ir.specs.Meaning.{flat_meaning}
+use Rattle.flat_ir.specs.Reached.{params_in}
+use Rattle.flat_ir.specs.Wide.{wide}
+use Rattle.flat_ir.specs.declared.flat.FlatFun.{FlatFun}
+use Rattle.ssu_ir.specs.Meaning.{ssu_meaning, ssu_params}
+use Rattle.ssu_ir.specs.Measures.{peak, size, code_bound}
+use Rattle.ssu_ir.specs.Single.{single}
+use Rattle.ssu_ir.specs.Tree.{Label}
+use Rattle.ssu_make.specs.Bounds.{size_bound, length_bound}
+use Rattle.nova_middle.proofs.SourceBounds.{size_end, code_end}
+use Rattle.place_ir.specs.Uses.{values, uses}
+use Rattle.bank_prog.specs.Columns.{columns}
+use Rattle.bank_prog.specs.Program.{rows, IsTooLarge}
+use Rattle.uc_isa.specs.Code.{CodeView}
+use Rattle.uc_isa.specs.Moves.{moves}
+use Rattle.uc_isa.proofs.Through.{agrees-through}
+use Rattle.zo_model.specs.Program.{vector, cost_of, Feasible, IsValid}
+use Rattle.zo_cert.specs.Report.{VerdictHolds}
+use Rattle.zo_cert.specs.declared.cert.Claim.TheVariants.{Least}
+use Rattle.zo_cert.specs.declared.report.Report.{Report}
+use Rattle.zo_cert.specs.declared.report.Verdict.{Verdict}
+use Rattle.zo_cert.specs.declared.report.Verdict.TheVariants as verdict
+use Rattle.zo_cert.proofs.Duality.{proves_holds}
+use Rattle.nova_back.specs.Causes.{IsCodeOf, IsReportOn, IsWithout, IsCause, IsLong, HasVector, report_cost}
+use Rattle.nova_back.specs.declared.error.BackError.{BackError}
+use Rattle.nova_back.specs.declared.error.BackError.TheVariants as back
+use Rattle.nova_commands.specs.Building.{IsFormCause}
+use Rattle.nova_commands.specs.Forms.{IsCodeFor, IsFormOf, HasBanks, HasLargeBanks, HasNoBanks, HasLongCode}
+use Rattle.nova_commands.specs.inner.Telling.{IsHandedAs}
+use Rattle.nova_commands.specs.declared.build.CompileError.{CompileError}
+use Rattle.nova_commands.specs.declared.build.CompileError.TheVariants as compile
+
+-- ---- a program's main counts, so its size is at least 1
+
+second-true : (x y : Bool) → (x && y) ≡ true → y ≡ true
+second-true true y h = h
+second-true false y h = absurd cc
+
+main-counts : (funs : List FlatFun) (o : Option FlatFun) (e : ℕ) → is_main funs o ≡ true → IsAtMost (main_bulk funs o) (of_size e) → 1 ≤ e
+main-counts funs (Some f) e h most = let labels = most.labels in omega arith
+main-counts funs None e h most = absurd cc
+
+some-size : (funs : List FlatFun) (main e : ℕ) → is_program funs main ≡ true → IsAtMost (bulk funs main) (of_size e) → 1 ≤ e
+some-size funs main e h most =
+    let later = second-true (list_all (is_function funs) funs) (agree (all_raised funs) && is_main funs (slice_get funs main)) h in
+    main-counts funs (slice_get funs main) e (second-true (agree (all_raised funs)) (is_main funs (slice_get funs main)) later) most
+
+eight : (n : ℕ) → 8 ≤ n + 8
+eight n = omega arith
+
+roomy : (p : ProgramTree) → 8 ≤ room p
+roomy p = eight _
+
+-- ---- the form
+
+pub form-of : (p : ProgramTree) (funs : List FlatFun) (main : ℕ) (labels : List Label) → is_program funs main ≡ true
+    → KeepsOutcomes (main_words p) (params_in funs main) (source p) (flat_meaning funs main) → wide funs main ≤ room p → IsAtMost (bulk funs main) (of_size (expanded_size p))
+    → single labels ≡ true → KeepsOutcomes (params_in funs main) (ssu_params labels) (flat_meaning funs main) (ssu_meaning labels) → peak labels ≤ wide funs main → size labels ≤ size_bound (wide funs main) (bulk funs main)
+    → code_bound labels ≤ length_bound (wide funs main) (bulk funs main) → IsFormOf p labels
+form-of p funs main labels formed kept narrow most once later held bounded coded = record {
+  used_once = once;
+  kept = keeps-trans (main_words p) (params_in funs main) (ssu_params labels) (source p) (flat_meaning funs main) (ssu_meaning labels) kept later;
+  narrow = le_trans held narrow;
+  small = le_trans bounded (size_end (expanded_size p) (room p) (wide funs main) (bulk funs main) (some-size funs main (expanded_size p) formed most) (roomy p) narrow most);
+  brief = le_trans coded (code_end (expanded_size p) (room p) (wide funs main) (bulk funs main) (some-size funs main (expanded_size p) formed most) (roomy p) narrow most);
+}
+
+-- ---- its code
+
+pub code-for : (p : ProgramTree) (labels : List Label) (c : CodeView) → IsFormOf p labels → IsCodeOf labels c → IsCodeFor p c
+code-for p labels c form code = record {
+  lawful = code.lawful;
+  agrees = agrees-through (main_words p) (ssu_params labels) (source p) (ssu_meaning labels) c form.kept (λ args m words sizes. seen_follows m (source p args m) (source-follows p args m)) code.agrees;
+}
+
+-- ---- its banks
+
+found-meets : (v : Verdict) (r : Report) → HasVector v → VerdictHolds v r → Feasible r.z (vector r.x.on.items)
+found-meets verdict.Optimal r found h = h.0
+found-meets verdict.Feasible r found h = h.0
+found-meets verdict.Infeasible r found h = absurd found
+found-meets verdict.Spent r found h = absurd found
+
+optimal-least : (v : Verdict) (r : Report) → v ≡ verdict.Optimal → IsValid r.z → VerdictHolds v r → (x : ℕ → Bool) → Feasible r.z x → report_cost r ≤ cost_of r.z x
+optimal-least verdict.Optimal r e valid h = proves_holds r.z h.1.0 (Least (report_cost r)) valid h.1.2
+optimal-least verdict.Feasible r e valid h = absurd cc
+optimal-least verdict.Infeasible r e valid h = absurd cc
+optimal-least verdict.Spent r e valid h = absurd cc
+
+pub banks-of : (p : ProgramTree) (labels : List Label) (slots budget : ℕ) (c : CodeView) (r : Report) → IsFormOf p labels → IsReportOn labels slots budget r → HasVector r.verdict
+    → moves c.list [] [] ≤ report_cost r → (peak labels ≤ 15 → report_cost r ≤ 2 * length (values labels) + length (uses labels)) → HasBanks p slots budget c r
+banks-of p labels slots budget c r form report found light cheap = record {
+  form = labels;
+  is_form = form;
+  report = report;
+  found = found;
+  meets = found-meets r.verdict r found report.holds.verdict_holds;
+  optimal = λ e. optimal-least r.verdict r e report.valid.program_valid report.holds.verdict_holds;
+  light = light;
+  cheap = cheap;
+}
+
+-- ---- why there is none
+
+large : (p : ProgramTree) (labels : List Label) (slots n : ℕ) → IsFormOf p labels → IsTooLarge labels slots n → HasLargeBanks p slots n
+large p labels slots n form h = (labels, form, h)
+
+fewer : (s k r : ℕ) → s < k → k ≤ r → s < r
+fewer s k r lt le = omega arith
+
+without : (p : ProgramTree) (labels : List Label) (slots budget : ℕ) (v : Verdict) (r : Report) → IsFormOf p labels → IsWithout labels slots budget v r → HasNoBanks p slots budget v r
+without p labels slots budget v r form h = record { form = labels; is_form = form; without = h; few_slots = fewer slots (peak labels) (room p) h.over_slots form.narrow }
+
+-- no number of columns or rows is too large
+abbrev pub NoneLarge : List Label → ℕ → Type 0
+NoneLarge labels slots = (n : ℕ) → IsTooLarge labels slots n → ⊥
+
+at-most : (n k : ℕ) → (k < n → ⊥) → n ≤ k
+at-most n k h = omega (arith, h)
+
+columns-few : (labels : List Label) (slots : ℕ) → NoneLarge labels slots → length (columns labels) ≤ 2 ^ 26
+columns-few labels slots none = at-most (length (columns labels)) (2 ^ 26) (λ many. none (length (columns labels)) (inl (refl, many)))
+
+rows-few : (labels : List Label) (slots : ℕ) → NoneLarge labels slots → length (rows labels slots) ≤ 2 ^ 26
+rows-few labels slots none = at-most (length (rows labels slots)) (2 ^ 26) (λ many. none (length (rows labels slots)) (inr (columns-few labels slots none, (refl, many))))
+
+long : (p : ProgramTree) (labels : List Label) (slots store n : ℕ) → IsFormOf p labels → NoneLarge labels slots → IsLong labels store n → HasLongCode p slots store n
+long p labels slots store n form none h = record {
+  form = labels;
+  is_form = form;
+  few = columns-few labels slots none;
+  few_rows = rows-few labels slots none;
+  c = h.c;
+  code = code-for p labels h.c form h.code;
+  counted = h.counted;
+  bounded = le_trans h.bounded form.brief;
+  long = h.long;
+}
+
+-- what the back end says, as far as the size of the program of the banks decides it
+abbrev pub SaysLarge : List Label → ℕ → BackError → Type 0
+SaysLarge labels slots error = (n : ℕ) → IsTooLarge labels slots n → (error ≡ back.NoMemory) ⊎ (error ≡ back.TooLarge n)
+
+not-long : (m n : ℕ) → (back.StoreFull m ≡ back.NoMemory) ⊎ (back.StoreFull m ≡ back.TooLarge n) → ⊥
+not-long m n (inl e) = cc
+not-long m n (inr e) = cc
+
+none-given : (a b : BackError) (e : CompileError) → a ≡ b → IsHandedAs a e → IsHandedAs b e
+none-given a b e is h = subst (λ (x : BackError). IsHandedAs x e) is h
+
+pub back-caused : (p : ProgramTree) (labels : List Label) (slots budget store : ℕ) (error : BackError) (e : CompileError) → IsFormOf p labels → SaysLarge labels slots error
+    → (error ≡ back.NoMemory) ⊎ IsCause labels slots budget store error → IsHandedAs error e → (e ≡ compile.NoMemory) ⊎ IsFormCause p slots budget store e
+back-caused p labels slots budget store error e form says (inl none) is = inl (none-given error back.NoMemory e none is)
+back-caused p labels slots budget store back.NoMemory e form says (inr h) is = absurd h
+back-caused p labels slots budget store (back.TooLarge n) e form says (inr h) is = inr (subst (IsFormCause p slots budget store) (sym is) (large p labels slots n form h))
+back-caused p labels slots budget store (back.Infeasible r) e form says (inr h) is = inr (subst (IsFormCause p slots budget store) (sym is) (without p labels slots budget verdict.Infeasible r form h))
+back-caused p labels slots budget store (back.Spent r) e form says (inr h) is = inr (subst (IsFormCause p slots budget store) (sym is) (without p labels slots budget verdict.Spent r form h))
+back-caused p labels slots budget store (back.StoreFull n) e form says (inr h) is =
+    inr (subst (IsFormCause p slots budget store) (sym is) (long p labels slots store n form (λ k large. not-long n k (says k large)) h))

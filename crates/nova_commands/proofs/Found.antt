@@ -1,0 +1,69 @@
+-- What a source that isn't refused comes to, as what `compile` makes of it.
+use Rattle.std.proofs.Common.{◌≡◌, ℕ, List, [], ◌∷◌, length, refl, ap, sym, ◌∙◌, subst}
+use Rattle.nv_ast.specs.TypedView.{typed_program}
+use Rattle.uc_object.specs.Object.{IsObject}
+use Rattle.zo_cert.specs.declared.report.Report.{Report}
+use Rattle.zo_cert.specs.declared.report.Verdict.{Verdict}
+use Rattle.zo_cert.specs.declared.report.Verdict.TheVariants as verdict
+use Rattle.nova_back.specs.Causes.{report_cost}
+use Rattle.nova_commands.specs.Checking.{IsReportOf}
+use Rattle.nova_commands.specs.Headline.{CompiledMakes, WithoutMakes, CompileMakes}
+use Rattle.nova_commands.specs.Lines.{compiled_text, infeasible_text, spent_text}
+use Rattle.nova_commands.specs.Saving.{File, file}
+use Rattle.nova_commands.specs.inner.Found.{IsBuilt, IsWithoutBanks}
+use Rattle.nova_commands.specs.declared.build.Compiled.{Compiled}
+use Rattle.nova_commands.specs.declared.status.Status.{Status}
+use Rattle.nova_commands.specs.declared.status.Status.TheVariants as status
+
+pub built-made : (text object_name report_name object report : List ℕ) (slots budget store : ℕ) (t : Compiled) (files : List File) (line : List ℕ) → IsBuilt text slots budget store t
+    → IsObject object t.built.code → IsReportOf report t.built.report → files ≡ file object_name object ∷ file report_name report ∷ []
+    → line ≡ compiled_text (length t.built.code.list) t.built.report.verdict (report_cost t.built.report) → CompiledMakes text object_name report_name slots budget store files line
+built-made text object_name report_name object report slots budget store t files line h encoded reports saves told = record {
+  object = object;
+  report = report;
+  instructions = length t.built.code.list;
+  r = t.built.report;
+  compiled = record {
+    program = typed_program t.typed;
+    is_source = h.is_source;
+    code = t.built.code;
+    decodes = encoded;
+    lawful = h.code.lawful;
+    agrees = h.code.agrees;
+    number = refl;
+    short = h.short;
+    reports = reports;
+    banks = h.banks;
+  };
+  saves = saves;
+  told = told;
+}
+
+pub without-made : (text report_name report : List ℕ) (slots budget : ℕ) (v : Verdict) (r : Report) (files : List File) → IsWithoutBanks text slots budget v r → IsReportOf report r → files ≡ file report_name report ∷ []
+    → WithoutMakes text report_name slots budget v files
+without-made text report_name report slots budget v r files h reports saves = record {
+  program = h.program;
+  is_source = h.is_source;
+  report = report;
+  r = r;
+  reports = reports;
+  without = h.without;
+  saves = saves;
+}
+
+pub two-files : (a b f g : File) → a ≡ f → b ≡ g → a ∷ b ∷ [] ≡ f ∷ g ∷ []
+two-files a b f g h k = ap (λ (x : File). x ∷ b ∷ []) h ∙ ap (λ (x : File). f ∷ x ∷ []) k
+
+pub told-by : (n m : ℕ) (v : Verdict) (k l : ℕ) (line : List ℕ) → line ≡ compiled_text n v k → n ≡ m → k ≡ l → line ≡ compiled_text m v l
+told-by n m v k l line told h e = told ∙ ap (λ (x : ℕ). compiled_text x v k) h ∙ ap (λ (x : ℕ). compiled_text m v x) e
+
+-- by the status
+pub infeasible-made : (text object_name report_name report : List ℕ) (slots budget store : ℕ) (r : Report) (s : Status) (files : List File) (line : List ℕ) → IsWithoutBanks text slots budget verdict.Infeasible r → IsReportOf report r
+    → s ≡ status.Infeasible → files ≡ file report_name report ∷ [] → line ≡ infeasible_text → CompileMakes text object_name report_name slots budget store s files line
+infeasible-made text object_name report_name report slots budget store r s files line h reports is saves told =
+    subst (λ (x : Status). CompileMakes text object_name report_name slots budget store x files line) (sym is) (without-made text report_name report slots budget verdict.Infeasible r files h reports saves, told)
+
+pub spent-made : (text object_name report_name report : List ℕ) (slots budget store : ℕ) (r : Report) (s : Status) (files : List File) (line : List ℕ) → IsWithoutBanks text slots budget verdict.Spent r → IsReportOf report r
+    → s ≡ status.BudgetSpent → files ≡ file report_name report ∷ [] → line ≡ spent_text budget → CompileMakes text object_name report_name slots budget store s files line
+spent-made text object_name report_name report slots budget store r s files line h reports is saves told =
+    subst (λ (x : Status). CompileMakes text object_name report_name slots budget store x files line) (sym is) (without-made text report_name report slots budget verdict.Spent r files h reports saves, told)

@@ -1,0 +1,11 @@
+pub mod Errors
+pub mod Numbers
+pub mod Formed
+pub mod OneSource
+pub mod OneReport
+pub mod OneAnswer
+pub mod Generated
+pub mod Loads
+pub mod Saves
+pub mod Names
+pub mod Found

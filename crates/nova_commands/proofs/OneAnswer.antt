@@ -1,0 +1,351 @@
+-- The contents of a command's inputs decide the answer.
+use Rattle.std.proofs.Common.{◌≡◌, ℕ, ◌<◌, ◌≤◌, ◌⊎◌, inl, inr, List, [], ◌∷◌, Ok, Err, length, refl, ap, sym, ◌∙◌, subst, codes, arith}
+use Rattle.nv_memtext.specs.MemoryText.{Gives, IsBad}
+use Rattle.nv_memtext.proofs.ExactLemmas.{gives_one, gives_not_large, large_one, given_answer, bad_answer}
+use Rattle.nv_memtext.specs.declared.read.MemError.TheVariants.{Bad}
+use Rattle.nv_base.specs.Memories.{Memories}
+use Rattle.nv_base.specs.Meanings.{FullOutcome}
+use Rattle.nv_base.specs.declared.outcome.Outcome.{Outcome}
+use Rattle.nv_base.specs.declared.outcome.Outcome.TheVariants as outcome
+use Rattle.uc_isa.specs.Code.{CodeView}
+use Rattle.uc_isa.specs.Engine.{engine}
+use Rattle.uc_isa.specs.Lawful.{IsLawful}
+use Rattle.uc_isa.specs.declared.instruction.Instr.{Instr}
+use Rattle.uc_isa.proofs.FirstBroken.{first-one, first-unlawful}
+use Rattle.uc_object.specs.Object.{IsObject}
+use Rattle.uc_object.proofs.Places.{object-one}
+use Rattle.uc_object.proofs.RowPlaces.{place-one, object-good}
+use Rattle.uc_asm.specs.Answer.{IsTrueError, Answers as Assembles}
+use Rattle.uc_asm.specs.Labels.{IsCodeOf}
+use Rattle.uc_asm.specs.Text.{listing}
+use Rattle.uc_asm.specs.declared.error.AsmError.{AsmError}
+use Rattle.uc_asm.specs.declared.error.AsmError.TheVariants as asm
+use Rattle.uc_asm.proofs.Exact.{given-answer, syntax-answer, label-answer, unlawful-answer}
+use Rattle.nova_front.specs.Sources.{IsTypedSource}
+use Rattle.nova_front.proofs.OneSource.{source-program}
+use Rattle.nv_ast.specs.Sizes.{main_words}
+use Rattle.nv_ast.specs.Tree.{ProgramTree}
+use Rattle.nv_meaning.specs.Meaning.{source as meaning}
+use Rattle.nova_commands.specs.Answers.{Makes, Prints, CanMake, CanEnd, Refuses, MustRefuse}
+use Rattle.nova_commands.specs.Assembly.{AsmRefuses, IsListed}
+use Rattle.nova_commands.specs.Command.{Command, Compile, Run, Exec, Asm, Dis, Lint, Check, Gen}
+use Rattle.nova_commands.specs.Executing.{ExecRefuses, IsExecuted}
+use Rattle.nova_commands.specs.Forms.{form_bound}
+use Rattle.nova_commands.specs.Headline.{CompileMakes, IsUnfit, IsEndOf}
+use Rattle.nova_commands.specs.Lines.{counted, refusal_status}
+use Rattle.nova_commands.specs.Machine.{IsBadObjectFor, IsUnlawfulFor, IsMemoryRefusedFor, LintRefuses, RunRefuses, IsLinted, IsRun, spill_base, full_text}
+use Rattle.nova_commands.specs.Saving.{File}
+use Rattle.nova_commands.specs.Status.{outcome_status, MaySave}
+use Rattle.nova_commands.specs.inner.Replies.{IsOutcome}
+use Rattle.nova_commands.specs.declared.refusal.Refusal.{Refusal}
+use Rattle.nova_commands.specs.declared.refusal.Refusal.TheVariants.{NoMemory, ReadFault, TooLarge, Syntax, Label, UnlawfulLine, BadObject, BadMemoryText, Unlawful, SourceLarge, StoreFull}
+use Rattle.nova_commands.specs.declared.status.Status.{Status}
+use Rattle.nova_commands.specs.declared.status.Status.TheVariants.{Done, Infeasible, BudgetSpent}
+use Rattle.nova_commands.proofs.OneReport.{check-one, check-good, checked-one}
+use Rattle.nova_commands.proofs.OneSource.{source-one, source-good}
+
+-- objects
+bad-one : (b : List ℕ) (e e' : Refusal) → IsBadObjectFor b e → IsBadObjectFor b e' → e ≡ e'
+bad-one b (BadObject at) (BadObject at') h k = ap (λ (n : ℕ). BadObject n) (place-one b at at' h k)
+bad-one b (BadObject at) _ h k = absurd k
+bad-one b _ e' h k = absurd h
+
+bad-good : (b : List ℕ) (e : Refusal) (c : CodeView) → IsObject b c → IsBadObjectFor b e → ⊥
+bad-good b (BadObject at) c o h = object-good b c at o h
+bad-good b _ c o h = h
+
+unlawful-one : (code : List Instr) (e e' : Refusal) → IsUnlawfulFor code e → IsUnlawfulFor code e' → e ≡ e'
+unlawful-one code (Unlawful p r) (Unlawful p' r') h k =
+    let same = first-one code p r p' r' h k in
+    ap (λ (n : ℕ). Unlawful n r) same.0 ∙ ap (λ (n : ℕ). Unlawful p' n) same.1
+unlawful-one code (Unlawful p r) _ h k = absurd k
+unlawful-one code _ e' h k = absurd h
+
+unlawful-bad : (code : List Instr) (e : Refusal) → IsLawful code → IsUnlawfulFor code e → ⊥
+unlawful-bad code (Unlawful p r) l h = first-unlawful code p r h l
+unlawful-bad code _ l h = h
+
+lint-one : (b : List ℕ) (e e' : Refusal) → LintRefuses b e → LintRefuses b e' → e ≡ e'
+lint-one b e e' (inl h) (inl k) = bad-one b e e' h k
+lint-one b e e' (inl h) (inr k) = absurd (bad-good b e k.0 k.1 h)
+lint-one b e e' (inr h) (inl k) = absurd (bad-good b e' h.0 h.1 k)
+lint-one b e e' (inr h) (inr k) =
+    let same = object-one b h.0 k.0 h.1 k.1 in
+    unlawful-one k.0.list e e' (subst (λ (c : CodeView). IsUnlawfulFor c.list e) same h.2) k.2
+
+lint-good : (b : List ℕ) (e : Refusal) (c : CodeView) → IsObject b c → IsLawful c.list → LintRefuses b e → ⊥
+lint-good b e c o l (inl h) = bad-good b e c o h
+lint-good b e c o l (inr h) =
+    let same = object-one b h.0 c h.1 o in
+    unlawful-bad c.list e l (subst (λ (d : CodeView). IsUnlawfulFor d.list e) same h.2)
+
+linted-one : (b : List ℕ) (s s' : Status) (t t' : List ℕ) → IsLinted b s t → IsLinted b s' t' → (s ≡ s') × (t ≡ t')
+linted-one b s s' t t' h k =
+    let same = object-one b h.c k.c h.object k.object in
+    let line : CodeView → List ℕ = λ c. counted (codes "lawful ") (length c.list) in
+    (h.done ∙ sym k.done, h.line ∙ ap line same ∙ sym k.line)
+
+listed-one : (b : List ℕ) (s s' : Status) (t t' : List ℕ) → IsListed b s t → IsListed b s' t' → (s ≡ s') × (t ≡ t')
+listed-one b s s' t t' h k =
+    let same = object-one b h.c k.c h.object k.object in
+    (h.done ∙ sym k.done, h.prints ∙ ap listing same ∙ sym k.prints)
+
+-- assembly texts: why one is refused, as the assembler says it
+refusal-of : AsmError → Refusal
+refusal-of asm.NoMemory = NoMemory
+refusal-of (asm.Syntax n) = Syntax n
+refusal-of (asm.Label n) = Label n
+refusal-of (asm.Unlawful n rule) = UnlawfulLine n rule
+
+record IsWhy (text : List ℕ) (e : Refusal) : Type 0 where
+  pub error : AsmError
+  pub is_true : IsTrueError text error
+  pub caused : error ≡ asm.NoMemory → ⊥
+  pub is : e ≡ refusal-of error
+
+why : (text : List ℕ) (e : Refusal) → AsmRefuses text e → IsWhy text e
+unfolding refusal-of
+why text (Syntax n) h = record { error = asm.Syntax n; is_true = h; caused = λ x. cc; is = refl }
+why text (Label n) h = record { error = asm.Label n; is_true = h; caused = λ x. cc; is = refl }
+why text (UnlawfulLine n rule) h = record { error = asm.Unlawful n rule; is_true = h; caused = λ x. cc; is = refl }
+why text _ h = absurd h
+
+error-same : (a b : AsmError) → Assembles (Err a) (Err b) → (a ≡ asm.NoMemory → ⊥) → a ≡ b
+error-same a b (inl e) caused = cc
+error-same a b (inr e) caused = let none : a ≡ asm.NoMemory = cc in absurd (caused none)
+
+error-one : (text : List ℕ) (a b : AsmError) → (a ≡ asm.NoMemory → ⊥) → (b ≡ asm.NoMemory → ⊥) → IsTrueError text a → IsTrueError text b → a ≡ b
+error-one text a asm.NoMemory caused caused' h k = absurd (caused' refl)
+error-one text a (asm.Syntax n) caused caused' h k = error-same a (asm.Syntax n) (syntax-answer text (Err a) tt h n k) caused
+error-one text a (asm.Label n) caused caused' h k = error-same a (asm.Label n) (label-answer text (Err a) tt h n k) caused
+error-one text a (asm.Unlawful n rule) caused caused' h k = error-same a (asm.Unlawful n rule) (unlawful-answer text (Err a) tt h n rule k) caused
+
+assembly-one : (text : List ℕ) (e e' : Refusal) → AsmRefuses text e → AsmRefuses text e' → e ≡ e'
+assembly-one text e e' h k =
+    let a = why text e h in
+    let b = why text e' k in
+    a.is ∙ ap refusal-of (error-one text a.error b.error a.caused b.caused a.is_true b.is_true) ∙ sym b.is
+
+code-unless : (c : CodeView) (a : AsmError) → Assembles (Err a) (Ok c) → (a ≡ asm.NoMemory → ⊥) → ⊥
+code-unless c a (inl e) caused = cc
+code-unless c a (inr e) caused = let none : a ≡ asm.NoMemory = cc in caused none
+
+assembly-good : (text : List ℕ) (e : Refusal) (c : CodeView) → IsCodeOf text c → AsmRefuses text e → ⊥
+assembly-good text e c g h = let a = why text e h in code-unless c a.error (given-answer text (Err a.error) tt a.is_true c g) a.caused
+
+-- memory texts
+bad_line-one : (params : ℕ) (t : List ℕ) (n m : ℕ) → IsBad params t n → IsBad params t m → n ≡ m
+bad_line-one params t n m h k = bad_answer params t (Err (Bad n)) tt h m k
+
+given-bad : (params : ℕ) (t : List ℕ) (p : Memories) (args : List ℕ) (n : ℕ) → Gives params t p args → IsBad params t n → ⊥
+given-bad params t p args n g h = given_answer params t (Err (Bad n)) tt h p args g
+
+memory-one : (params : ℕ) (t : List ℕ) (e e' : Refusal) → IsMemoryRefusedFor params t e → IsMemoryRefusedFor params t e' → e ≡ e'
+memory-one params t (BadMemoryText n) (BadMemoryText m) h k = ap (λ (x : ℕ). BadMemoryText x) (bad_line-one params t n m h k)
+memory-one params t (BadMemoryText n) (TooLarge m) h k = absurd (h.not_large m k)
+memory-one params t (BadMemoryText n) _ h k = absurd k
+memory-one params t (TooLarge n) (TooLarge m) h k = ap (λ (x : ℕ). TooLarge x) (large_one t n m h k)
+memory-one params t (TooLarge n) (BadMemoryText m) h k = absurd (k.not_large n h)
+memory-one params t (TooLarge n) _ h k = absurd k
+memory-one params t _ e' h k = absurd h
+
+memory-good : (params : ℕ) (t : List ℕ) (e : Refusal) (p : Memories) (args : List ℕ) → Gives params t p args → IsMemoryRefusedFor params t e → ⊥
+memory-good params t (BadMemoryText n) p args g h = given-bad params t p args n g h
+memory-good params t (TooLarge n) p args g h = gives_not_large params t p args n g h
+memory-good params t _ p args g h = h
+
+-- runs
+runs-one : (b t : List ℕ) (e e' : Refusal) → RunRefuses b t e → RunRefuses b t e' → e ≡ e'
+runs-one b t e e' (inl h) (inl k) = lint-one b e e' h k
+runs-one b t e e' (inl h) (inr k) = absurd (lint-good b e k.0 k.1 k.2.0 h)
+runs-one b t e e' (inr h) (inl k) = absurd (lint-good b e' h.0 h.1 h.2.0 k)
+runs-one b t e e' (inr h) (inr k) =
+    let same = object-one b h.0 k.0 h.1 k.1 in
+    memory-one k.0.params t e e' (subst (λ (c : CodeView). IsMemoryRefusedFor c.params t e) same h.2.1) k.2.1
+
+run-good : (b t : List ℕ) (e : Refusal) (steps : ℕ) (s : Status) (text : List ℕ) → IsRun b t steps s text → RunRefuses b t e → ⊥
+run-good b t e steps s text r (inl h) = lint-good b e r.c r.object r.lawful h
+run-good b t e steps s text r (inr h) =
+    let same = object-one b h.0 r.c h.1 r.object in
+    memory-good r.c.params t e r.packet r.arguments r.given (subst (λ (c : CodeView). IsMemoryRefusedFor c.params t e) same h.2.1)
+
+run-one : (b t : List ℕ) (steps : ℕ) (s s' : Status) (text text' : List ℕ) → IsRun b t steps s text → IsRun b t steps s' text' → (s ≡ s') × (text ≡ text')
+run-one b t steps s s' text text' h k =
+    let same = object-one b h.c k.c h.object k.object in
+    let given = subst (λ (c : CodeView). Gives c.params t h.packet h.arguments) same h.given in
+    let gives = gives_one k.c.params t h.packet k.packet h.arguments k.arguments given k.given in
+    let run_of : CodeView → List ℕ → Memories → FullOutcome = λ c a p. engine c a spill_base p steps in
+    let run : run_of h.c h.arguments h.packet ≡ run_of k.c k.arguments k.packet =
+    ap (λ (c : CodeView). run_of c h.arguments h.packet) same ∙ ap (λ (p : Memories). run_of k.c h.arguments p) gives.0 ∙ ap (λ (a : List ℕ). run_of k.c a k.packet) gives.1 in
+    let status : FullOutcome → Status = λ f. outcome_status f.outcome in
+    (h.ends ∙ ap status run ∙ sym k.ends, h.prints ∙ ap full_text run ∙ sym k.prints)
+
+-- executions
+exec-one : (b t : List ℕ) (e e' : Refusal) → ExecRefuses b t e → ExecRefuses b t e' → e ≡ e'
+exec-one b t e e' (inl h) (inl k) = source-one b e e' h k
+exec-one b t e e' (inl h) (inr k) = absurd (source-good b e k.0 k.1 h)
+exec-one b t e e' (inr h) (inl k) = absurd (source-good b e' h.0 h.1 k)
+exec-one b t e e' (inr h) (inr k) =
+    let same = source-program b h.0 k.0 h.1.is_source k.1.is_source in
+    memory-one (main_words k.0) t e e' (subst (λ (p : ProgramTree). IsMemoryRefusedFor (main_words p) t e) same h.2) k.2
+
+exec-good : (b t : List ℕ) (e : Refusal) (calls : ℕ) (s : Status) (text : List ℕ) → IsExecuted b t calls s text → ExecRefuses b t e → ⊥
+exec-good b t e calls s text r (inl h) = source-good b e r.program r.is_source h
+exec-good b t e calls s text r (inr h) =
+    let same = source-program b h.0 r.program h.1.is_source r.is_source.is_source in
+    memory-good (main_words r.program) t e r.packet r.arguments r.given (subst (λ (p : ProgramTree). IsMemoryRefusedFor (main_words p) t e) same h.2)
+
+executed-one : (b t : List ℕ) (calls : ℕ) (s s' : Status) (text text' : List ℕ) → IsExecuted b t calls s text → IsExecuted b t calls s' text' → (s ≡ s') × (text ≡ text')
+executed-one b t calls s s' text text' h k =
+    let same = source-program b h.program k.program h.is_source.is_source k.is_source.is_source in
+    let given = subst (λ (p : ProgramTree). Gives (main_words p) t h.packet h.arguments) same h.given in
+    let gives = gives_one (main_words k.program) t h.packet k.packet h.arguments k.arguments given k.given in
+    let run_of : ProgramTree → List ℕ → Memories → FullOutcome = λ q a p. meaning q a p calls in
+    let run : run_of h.program h.arguments h.packet ≡ run_of k.program k.arguments k.packet =
+    ap (λ (q : ProgramTree). run_of q h.arguments h.packet) same ∙ ap (λ (p : Memories). run_of k.program h.arguments p) gives.0 ∙ ap (λ (a : List ℕ). run_of k.program a k.packet) gives.1 in
+    let status : FullOutcome → Status = λ f. outcome_status f.outcome in
+    (h.ends ∙ ap status run ∙ sym k.ends, h.prints ∙ ap full_text run ∙ sym k.prints)
+
+-- compilations
+record IsEndWith (text : List ℕ) (slots store : ℕ) (s : Status) : Type 0 where
+  pub program : ProgramTree
+  pub is_source : IsTypedSource text program
+  pub ends : IsEndOf program slots store s
+
+compiled-end : (text object report : List ℕ) (slots budget store : ℕ) (s : Status) (fs : List File) (t : List ℕ) → CompileMakes text object report slots budget store s fs t → IsEndWith text slots store s
+compiled-end text object report slots budget store Done fs t h = record { program = h.compiled.program; is_source = h.compiled.is_source; ends = tt }
+compiled-end text object report slots budget store Infeasible fs t h = record { program = h.0.program; is_source = h.0.is_source; ends = h.0.without.few_slots }
+compiled-end text object report slots budget store BudgetSpent fs t h = record { program = h.0.program; is_source = h.0.is_source; ends = h.0.without.few_slots }
+compiled-end text object report slots budget store _ fs t h = absurd h
+
+compiled-outcome : (text object report : List ℕ) (slots budget store : ℕ) (s : Status) (fs : List File) (t : List ℕ) → CompileMakes text object report slots budget store s fs t → IsOutcome s
+compiled-outcome text object report slots budget store Done fs t h = tt
+compiled-outcome text object report slots budget store Infeasible fs t h = tt
+compiled-outcome text object report slots budget store BudgetSpent fs t h = tt
+compiled-outcome text object report slots budget store _ fs t h = absurd h
+
+compiled-may_save : (text object report : List ℕ) (slots budget store : ℕ) (s : Status) (fs : List File) (t : List ℕ) → CompileMakes text object report slots budget store s fs t → MaySave s
+compiled-may_save text object report slots budget store Done fs t h = tt
+compiled-may_save text object report slots budget store Infeasible fs t h = tt
+compiled-may_save text object report slots budget store BudgetSpent fs t h = tt
+compiled-may_save text object report slots budget store _ fs t h = absurd h
+
+-- where contents decide a refusal, no other is true of them
+pub refusal-one : (c : Command) (bs : List (List ℕ)) (e e' : Refusal) → Refuses c bs e → MustRefuse c bs e' → e ≡ e'
+refusal-one (Compile source object report slots budget store) (b ∷ []) e e' (inl h) k = source-one b e e' h k
+refusal-one (Compile source object report slots budget store) (b ∷ []) e e' (inr h) k = absurd (source-good b e' h.0 h.1 k)
+refusal-one (Run object memory steps) (b ∷ g ∷ []) e e' h k = runs-one b g e e' h k
+refusal-one (Exec source memory calls) (b ∷ g ∷ []) e e' h k = exec-one b g e e' h k
+refusal-one (Asm input object) (b ∷ []) e e' h k = assembly-one b e e' h k
+refusal-one (Dis object) (b ∷ []) e e' h k = bad-one b e e' h k
+refusal-one (Lint object) (b ∷ []) e e' h k = lint-one b e e' h k
+refusal-one (Check report) (b ∷ []) e e' h k = check-one b e e' h k
+refusal-one _ _ e e' h k = absurd k
+
+-- and none is, where the command makes something
+pub makes-good : (c : Command) (bs : List (List ℕ)) (s : Status) (fs : List File) (t : List ℕ) (e : Refusal) → Makes c bs s fs t → MustRefuse c bs e → ⊥
+makes-good (Compile source object report slots budget store) (b ∷ []) s fs t e h k =
+    let m = compiled-end b object report slots budget store s fs t h in
+    source-good b e m.program m.is_source k
+makes-good (Run object memory steps) (b ∷ g ∷ []) s fs t e h k = run-good b g e steps s t h.1 k
+makes-good (Exec source memory calls) (b ∷ g ∷ []) s fs t e h k = exec-good b g e calls s t h.1 k
+makes-good (Asm input object) (b ∷ []) s fs t e h k = assembly-good b e h.assembled.c h.assembled.code k
+makes-good (Dis object) (b ∷ []) s fs t e h k = bad-good b e h.1.c h.1.object k
+makes-good (Lint object) (b ∷ []) s fs t e h k = lint-good b e h.1.c h.1.object h.1.lawful k
+makes-good (Check report) (b ∷ []) s fs t e h k = check-good b s t e h.1 k
+makes-good _ _ s fs t e h k = k
+
+-- what contents show isn't refused
+pub prints-good : (c : Command) (bs : List (List ℕ)) (s : Status) (t : List ℕ) (e : Refusal) → Prints c bs s t → Refuses c bs e → ⊥
+prints-good (Run object memory steps) (b ∷ g ∷ []) s t e h k = run-good b g e steps s t h k
+prints-good (Exec source memory calls) (b ∷ g ∷ []) s t e h k = exec-good b g e calls s t h k
+prints-good (Dis object) (b ∷ []) s t e h k = bad-good b e h.c h.object k
+prints-good (Lint object) (b ∷ []) s t e h k = lint-good b e h.c h.object h.lawful k
+prints-good (Check report) (b ∷ []) s t e h k = check-good b s t e h k
+prints-good _ _ s t e h k = h
+
+-- and is one
+pub prints-one : (c : Command) (bs : List (List ℕ)) (s s' : Status) (fs : List File) (t t' : List ℕ) → Makes c bs s fs t → Prints c bs s' t' → (s ≡ s') × (t ≡ t')
+prints-one (Run object memory steps) (b ∷ g ∷ []) s s' fs t t' h k = run-one b g steps s s' t t' h.1 k
+prints-one (Exec source memory calls) (b ∷ g ∷ []) s s' fs t t' h k = executed-one b g calls s s' t t' h.1 k
+prints-one (Dis object) (b ∷ []) s s' fs t t' h k = listed-one b s s' t t' h.1 k
+prints-one (Lint object) (b ∷ []) s s' fs t t' h k = linted-one b s s' t t' h.1 k
+prints-one (Check report) (b ∷ []) s s' fs t t' h k = checked-one b s s' t t' h.1 k
+prints-one _ _ s s' fs t t' h k = absurd k
+
+-- how a command ends that can make something
+above : (store n k : ℕ) → store < n → n ≤ k → store < k
+above store n k h le = omega arith
+
+unfit-end : (p : ProgramTree) (slots store : ℕ) (e : Refusal) → IsUnfit p slots store e → IsEndOf p slots store (refusal_status e)
+unfit-end p slots store (SourceLarge n) h = (n, h)
+unfit-end p slots store (StoreFull n) h = above store n (form_bound p) h.long h.bounded
+unfit-end p slots store _ h = absurd h
+
+pub made-end : (c : Command) (bs : List (List ℕ)) (s : Status) (fs : List File) (t : List ℕ) → Makes c bs s fs t → CanMake c bs → CanEnd c bs s
+made-end (Compile source object report slots budget store) (b ∷ []) s fs t h k =
+    let m = compiled-end b object report slots budget store s fs t h in
+    (m.program, m.is_source, m.ends)
+made-end (Asm input object) (b ∷ []) s fs t h k = h.done
+made-end _ _ s fs t h k = absurd k
+
+pub refused-end : (c : Command) (bs : List (List ℕ)) (e : Refusal) → Refuses c bs e → CanMake c bs → CanEnd c bs (refusal_status e)
+refused-end (Compile source object report slots budget store) (b ∷ []) e (inl h) k = absurd (source-good b e k.0 k.1 h)
+refused-end (Compile source object report slots budget store) (b ∷ []) e (inr h) k = (h.0, h.1, unfit-end h.0 slots store e h.2)
+refused-end (Asm input object) (b ∷ []) e h k = absurd (assembly-good b e k.c k.code h)
+refused-end _ _ e h k = absurd k
+
+-- the statuses of what is made
+outcome-is : (o : Outcome) → IsOutcome (outcome_status o)
+outcome-is (outcome.Ended ws) = tt
+outcome-is (outcome.Raised k ws) = tt
+outcome-is (outcome.Fault m a) = tt
+outcome-is outcome.Going = tt
+
+pub makes-outcome : (c : Command) (bs : List (List ℕ)) (s : Status) (fs : List File) (t : List ℕ) → Makes c bs s fs t → IsOutcome s
+makes-outcome (Compile source object report slots budget store) (b ∷ []) s fs t h = compiled-outcome b object report slots budget store s fs t h
+makes-outcome (Run object memory steps) (b ∷ g ∷ []) s fs t h = subst IsOutcome (sym h.1.ends) (outcome-is (engine h.1.c h.1.arguments spill_base h.1.packet steps).outcome)
+makes-outcome (Exec source memory calls) (b ∷ g ∷ []) s fs t h = subst IsOutcome (sym h.1.ends) (outcome-is (meaning h.1.program h.1.arguments h.1.packet calls).outcome)
+makes-outcome (Asm input object) (b ∷ []) s fs t h = subst IsOutcome (sym h.done) tt
+makes-outcome (Dis object) (b ∷ []) s fs t h = subst IsOutcome (sym h.1.done) tt
+makes-outcome (Lint object) (b ∷ []) s fs t h = subst IsOutcome (sym h.1.done) tt
+makes-outcome (Check report) (b ∷ []) s fs t h = subst IsOutcome (sym h.1.done) tt
+makes-outcome (Gen seed size) [] s fs t h = subst IsOutcome (sym h.1) tt
+makes-outcome _ _ s fs t h = absurd h
+
+-- files are saved only with these statuses
+pub makes-kept : (c : Command) (bs : List (List ℕ)) (s : Status) (fs : List File) (t : List ℕ) → Makes c bs s fs t → MaySave s ⊎ (fs ≡ [])
+makes-kept (Compile source object report slots budget store) (b ∷ []) s fs t h = inl (compiled-may_save b object report slots budget store s fs t h)
+makes-kept (Run object memory steps) (b ∷ g ∷ []) s fs t h = inr h.0
+makes-kept (Exec source memory calls) (b ∷ g ∷ []) s fs t h = inr h.0
+makes-kept (Asm input object) (b ∷ []) s fs t h = inl (subst MaySave (sym h.done) tt)
+makes-kept (Dis object) (b ∷ []) s fs t h = inr h.0
+makes-kept (Lint object) (b ∷ []) s fs t h = inr h.0
+makes-kept (Check report) (b ∷ []) s fs t h = inr h.0
+makes-kept (Gen seed size) [] s fs t h = inr h.0
+makes-kept _ _ s fs t h = absurd h
+
+-- contents are never why an input couldn't be read
+abbrev pub IsFault : Refusal → Type 0
+IsFault (ReadFault name) = Unit {0}
+IsFault _ = ⊥
+
+lint-unread : (b : List ℕ) (e : Refusal) → IsFault e → LintRefuses b e → ⊥
+lint-unread b (ReadFault name) f (inl h) = h
+lint-unread b (ReadFault name) f (inr h) = h.2
+lint-unread b _ f h = absurd f
+
+pub refuses-unread : (e : Refusal) (c : Command) (bs : List (List ℕ)) → IsFault e → Refuses c bs e → ⊥
+refuses-unread (ReadFault name) (Compile source object report slots budget store) (b ∷ []) f (inl h) = h
+refuses-unread (ReadFault name) (Compile source object report slots budget store) (b ∷ []) f (inr h) = h.2
+refuses-unread (ReadFault name) (Run object memory steps) (b ∷ g ∷ []) f (inl h) = lint-unread b (ReadFault name) tt h
+refuses-unread (ReadFault name) (Run object memory steps) (b ∷ g ∷ []) f (inr h) = h.2.1
+refuses-unread (ReadFault name) (Exec source memory calls) (b ∷ g ∷ []) f (inl h) = h
+refuses-unread (ReadFault name) (Exec source memory calls) (b ∷ g ∷ []) f (inr h) = h.2
+refuses-unread (ReadFault name) (Asm input object) (b ∷ []) f h = h
+refuses-unread (ReadFault name) (Dis object) (b ∷ []) f h = h
+refuses-unread (ReadFault name) (Lint object) (b ∷ []) f h = lint-unread b (ReadFault name) tt h
+refuses-unread (ReadFault name) (Check report) (b ∷ []) f h = h
+refuses-unread (ReadFault name) (Gen seed size) [] f h = h.2
+refuses-unread (ReadFault name) _ _ f h = h
+refuses-unread _ c bs f h = absurd f

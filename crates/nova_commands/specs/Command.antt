@@ -1,0 +1,167 @@
+-- Command lines.
+use Rattle.std.specs.Prelude.{ℕ, length, List, [], ◌∷◌, ◌++◌, Option, Some, None, Vec, String, map, drop, string_bytes, codes, decimal, Bool, not, ◌&&◌, nat_le, if◌then◌else◌, Contains, ⊤, option_map}
+use Rattle.std.specs.Global.{Global}
+use Rattle.std.specs.Str.{bytes_eq}
+use Rattle.std.specs.Str.Parse.{digits_value}
+use Rattle.nova_commands.specs.Limits.{slots_limit, budget_default, budget_limit, store_default, store_limit}
+
+-- a command with what its words name
+pub data Command : Type 0 where
+  Compile : (source object report : List ℕ) (slots budget store : ℕ) → Command
+  Run : (object memory : List ℕ) (steps : ℕ) → Command
+  Exec : (source memory : List ℕ) (calls : ℕ) → Command
+  Asm : (text object : List ℕ) → Command
+  Dis : (object : List ℕ) → Command
+  Lint : (object : List ℕ) → Command
+  Check : (report : List ℕ) → Command
+  Gen : (seed size : ℕ) → Command
+
+-- the texts of words
+abbrev pub texts : List (String Global) → List (List ℕ)
+texts words = map string_bytes words
+
+abbrev pub texts_of : Vec (String Global) Global → List (List ℕ)
+texts_of words = texts words.items
+
+-- a file name isn't empty
+abbrev pub is_name : List ℕ → Bool
+is_name a = not (bytes_eq a [])
+
+-- two file names differ
+abbrev pub are_names : List ℕ → List ℕ → Bool
+are_names a b = is_name a && is_name b && not (bytes_eq a b)
+
+-- the number of a range that a word spells behind a key
+abbrev pub option_of : List ℕ → ℕ → ℕ → List ℕ → Option ℕ
+option_of key least most word =
+    let n = digits_value 10 (drop (length key) word) in
+    if bytes_eq word (key ++ decimal n) && nat_le least n && nat_le n most then Some n else None
+
+-- the number of steps, or of calls, that a word is for
+abbrev pub steps_of : List ℕ → Option ℕ
+steps_of word = option_of (codes "steps=") 1 100000000 word
+
+-- the number of a range that a word spells
+abbrev pub number_in : ℕ → ℕ → List ℕ → Option ℕ
+number_in least most word =
+    let n = digits_value 10 word in
+    if bytes_eq word (decimal n) && nat_le least n && nat_le n most then Some n else None
+
+-- ---- the options of `compile`
+
+-- the number that the first word spells behind a key, and the words behind it; where it spells none, this other number, and all
+-- words
+abbrev pub taken_or : List (List ℕ) → ℕ → List (List ℕ) → Option ℕ → ℕ × List (List ℕ)
+taken_or words other behind (Some n) = (n, behind)
+taken_or words other behind None = (other, words)
+
+abbrev pub taken : List ℕ → ℕ → ℕ → ℕ → List (List ℕ) → ℕ × List (List ℕ)
+taken key least most other [] = (other, [])
+taken key least most other (word ∷ words) = taken_or (word ∷ words) other words (option_of key least most word)
+
+-- the slots of code, the branches of the search for its banks, and its instructions
+pub record Options : Type 0 where
+  pub slots : ℕ
+  pub budget : ℕ
+  pub store : ℕ
+
+-- no word may stand behind them
+abbrev pub options_with : ℕ → ℕ → ℕ → List (List ℕ) → Option Options
+options_with slots budget store [] = Some (record { slots = slots; budget = budget; store = store })
+options_with slots budget store (word ∷ words) = None
+
+-- [slots=N] [budget=N] [store=N], in this order
+abbrev pub options_of : List (List ℕ) → Option Options
+options_of words =
+    let slots = taken (codes "slots=") 0 slots_limit slots_limit words in
+    let budget = taken (codes "budget=") 1 budget_limit budget_default slots.1 in
+    let store = taken (codes "store=") 1 store_limit store_default budget.1 in
+    options_with slots.0 budget.0 store.0 store.1
+
+-- ---- commands
+
+-- the command of a seed and a size
+abbrev pub gen_with : Option ℕ → Option ℕ → Option Command
+gen_with (Some seed) (Some size) = Some (Gen seed size)
+gen_with _ _ = None
+
+-- gen SEED SIZE: a seed of 32 bits, and a size of 1 to 500
+abbrev pub gen_of : List ℕ → List ℕ → Option Command
+gen_of seed size = gen_with (number_in 0 4294967295 seed) (number_in 1 500 size)
+
+-- dis OBJ, lint OBJ, check REPORT
+abbrev pub command_of_two : List ℕ → List ℕ → Option Command
+command_of_two verb name =
+    if bytes_eq verb (codes "dis") && is_name name then Some (Dis name)
+    else if bytes_eq verb (codes "lint") && is_name name then Some (Lint name)
+    else if bytes_eq verb (codes "check") && is_name name then Some (Check name)
+    else None
+
+-- gen SEED SIZE, asm TEXT OBJ
+abbrev pub command_of_three : List ℕ → List ℕ → List ℕ → Option Command
+command_of_three verb input object =
+    if bytes_eq verb (codes "gen") then gen_of input object
+    else if bytes_eq verb (codes "asm") && are_names input object then Some (Asm input object)
+    else None
+
+-- run OBJ MEM steps=N, exec SRC MEM steps=N, with no word behind them
+abbrev pub command_of_four : List ℕ → List ℕ → List ℕ → List ℕ → List (List ℕ) → Option Command
+command_of_four verb first second option (word ∷ words) = None
+command_of_four verb first second option [] =
+    if bytes_eq verb (codes "run") && are_names first second then option_map (Run first second) (steps_of option)
+    else if bytes_eq verb (codes "exec") && are_names first second then option_map (Exec first second) (steps_of option)
+    else None
+
+-- compile SRC OBJ REPORT, and options
+abbrev pub compile_with : List ℕ → List ℕ → List ℕ → Options → Command
+compile_with source object report o = Compile source object report o.slots o.budget o.store
+
+abbrev pub compile_of : List ℕ → List ℕ → List ℕ → List (List ℕ) → Option Command
+compile_of source object report options =
+    if are_names source object && are_names source report && are_names object report then option_map (compile_with source object report) (options_of options)
+    else None
+
+abbrev pub command_of_more : List ℕ → List ℕ → List ℕ → List ℕ → List (List ℕ) → Option Command
+command_of_more verb a b c words = if bytes_eq verb (codes "compile") then compile_of a b c words else command_of_four verb a b c words
+
+-- the command of a list of words
+abbrev pub command_of : List (List ℕ) → Option Command
+command_of (verb ∷ a ∷ []) = command_of_two verb a
+command_of (verb ∷ a ∷ b ∷ []) = command_of_three verb a b
+command_of (verb ∷ a ∷ b ∷ c ∷ words) = command_of_more verb a b c words
+command_of _ = None
+
+-- the names of the files that a command saves, in this order
+abbrev pub outputs_of : Command → List (List ℕ)
+outputs_of (Compile source object report slots budget store) = object ∷ report ∷ []
+outputs_of (Run object memory steps) = []
+outputs_of (Exec source memory calls) = []
+outputs_of (Asm text object) = object ∷ []
+outputs_of (Dis object) = []
+outputs_of (Lint object) = []
+outputs_of (Check report) = []
+outputs_of (Gen seed size) = []
+
+-- a fact about one of these files
+abbrev pub SomeFile : List (List ℕ) → (List ℕ → Type 0) → Type 0
+SomeFile names P = (name : List ℕ) × Contains names name × P name
+
+-- a fact about the command, where there is one
+abbrev pub IfCommand : Option Command → (Command → Type 0) → Type 0
+IfCommand (Some command) P = P command
+IfCommand None P = ⊤
+
+-- a fact about what `compile` is called with, where the command is that one
+abbrev pub IfCompile : Option Command → (List ℕ → List ℕ → List ℕ → ℕ → ℕ → ℕ → Type 0) → Type 0
+IfCompile (Some (Compile source object report slots budget store)) P = P source object report slots budget store
+IfCompile _ P = ⊤
+
+-- a fact about the seed and the size of `gen`, where the command is that one
+abbrev pub IfGen : Option Command → (ℕ → ℕ → Type 0) → Type 0
+IfGen (Some (Gen seed size)) P = P seed size
+IfGen _ P = ⊤
+
+-- there is a command, of which this holds
+abbrev pub ForCommand : Option Command → (Command → Type 0) → Type 0
+ForCommand (Some command) P = P command
+ForCommand None P = ⊥

@@ -1,0 +1,128 @@
+-- What a compilation promises, and when it is refused.
+use Rattle.std.specs.Prelude.{◌≡◌, ◌≤◌, ◌<◌, ◌⊎◌, ℕ, List, [], ◌∷◌, Some, length, ⊤}
+use Rattle.nv_outside.specs.Holding.{Holding, Replaced}
+use Rattle.nv_ast.specs.Sizes.{main_words, room}
+use Rattle.nv_ast.specs.Tree.{ProgramTree}
+use Rattle.nv_meaning.specs.Meaning.{source}
+use Rattle.uc_isa.specs.Code.{CodeView}
+use Rattle.uc_isa.specs.Agrees.{Agrees}
+use Rattle.uc_isa.specs.Lawful.{IsLawful}
+use Rattle.uc_object.specs.Object.{IsObject}
+use Rattle.zo_cert.specs.declared.report.Report.{Report}
+use Rattle.zo_cert.specs.declared.report.Verdict.{Verdict}
+use Rattle.zo_cert.specs.declared.report.Verdict.TheVariants as verdict
+use Rattle.nova_back.specs.Causes.{report_cost}
+use Rattle.nova_front.specs.Sources.{IsTypedSource}
+use Rattle.nova_commands.specs.Checking.{IsReportOf}
+use Rattle.nova_commands.specs.Forms.{form_bound, HasBanks, HasLargeBanks, HasNoBanks, HasLongCode}
+use Rattle.nova_commands.specs.Lines.{compiled_text, infeasible_text, spent_text}
+use Rattle.nova_commands.specs.Limits.{source_limit}
+use Rattle.nova_commands.specs.Reading.{HasTyped, SourceRefuses}
+use Rattle.nova_commands.specs.Saving.{File, file, IsSameBut}
+use Rattle.nova_commands.specs.declared.refusal.Refusal.{Refusal}
+use Rattle.nova_commands.specs.declared.refusal.Refusal.TheVariants.{SourceLarge, StoreFull}
+use Rattle.nova_commands.specs.declared.status.Status.{Status}
+use Rattle.nova_commands.specs.declared.status.Status.TheVariants as ends
+
+-- ---- what is compiled
+
+-- The object is that of lawful code, of this length, which does what the typed program of the text says. The report is the text of this
+-- one, which is true, on the banks of a form of the program, with these slots and this budget: no vector that meets its rows costs less than
+-- its own, where the verdict is optimal, and the code's moves cost no more.
+pub record IsCompiledTo (text object report : List ℕ) (slots budget store instructions : ℕ) (r : Report) : Type 0 where
+  pub program : ProgramTree
+  pub is_source : IsTypedSource text program
+  pub code : CodeView
+  pub decodes : IsObject object code
+  pub lawful : IsLawful code.list
+  pub agrees : Agrees (main_words program) (source program) code
+  pub number : instructions ≡ length code.list
+  pub short : instructions ≤ store
+  pub reports : IsReportOf report r
+  pub banks : HasBanks program slots budget code r
+
+-- the source is held; the object and the report are now those of its code and its banks, which are told, and no other file changed
+pub record IsCompiled (old new : Holding) (source_name object_name report_name : List ℕ) (slots budget store : ℕ) (line : List ℕ) : Type 0 where
+  pub text : List ℕ
+  pub held : old source_name ≡ Some text
+  pub short : length text ≤ source_limit
+  pub object : List ℕ
+  pub saved : new object_name ≡ Some object
+  pub report : List ℕ
+  pub reported : new report_name ≡ Some report
+  pub elsewhere : IsSameBut (object_name ∷ report_name ∷ []) old new
+  pub instructions : ℕ
+  pub r : Report
+  pub compiled : IsCompiledTo text object report slots budget store instructions r
+  pub told : line ≡ compiled_text instructions r.verdict (report_cost r)
+
+-- ---- what isn't, for want of banks
+
+-- with these statuses no banks were found, and a verdict says why
+abbrev pub IfWithout : Status → (Verdict → Type 0) → Type 0
+IfWithout ends.Infeasible P = P verdict.Infeasible
+IfWithout ends.BudgetSpent P = P verdict.Spent
+IfWithout _ P = ⊤
+
+-- the source is held; the report is now the text of a true one on the banks of a form of its program, which has this verdict, and no other
+-- file changed
+pub record IsReported (old new : Holding) (source_name report_name : List ℕ) (slots budget : ℕ) (verdict : Verdict) : Type 0 where
+  pub text : List ℕ
+  pub held : old source_name ≡ Some text
+  pub program : ProgramTree
+  pub is_source : IsTypedSource text program
+  pub report : List ℕ
+  pub saved : Replaced old new report_name report
+  pub r : Report
+  pub reports : IsReportOf report r
+  pub without : HasNoBanks program slots budget verdict r
+
+-- ---- what `compile` saves and tells
+
+-- the object of a source's code and the report on its banks are saved, and told
+pub record CompiledMakes (text object_name report_name : List ℕ) (slots budget store : ℕ) (files : List File) (line : List ℕ) : Type 0 where
+  pub object : List ℕ
+  pub report : List ℕ
+  pub instructions : ℕ
+  pub r : Report
+  pub compiled : IsCompiledTo text object report slots budget store instructions r
+  pub saves : files ≡ file object_name object ∷ file report_name report ∷ []
+  pub told : line ≡ compiled_text instructions r.verdict (report_cost r)
+
+-- no banks of a source's code were found: the report alone is saved, which is true and says why
+pub record WithoutMakes (text report_name : List ℕ) (slots budget : ℕ) (verdict : Verdict) (files : List File) : Type 0 where
+  pub program : ProgramTree
+  pub is_source : IsTypedSource text program
+  pub report : List ℕ
+  pub r : Report
+  pub reports : IsReportOf report r
+  pub without : HasNoBanks program slots budget verdict r
+  pub saves : files ≡ file report_name report ∷ []
+
+-- what `compile` makes of a source, by the status
+abbrev pub CompileMakes : List ℕ → List ℕ → List ℕ → ℕ → ℕ → ℕ → Status → List File → List ℕ → Type 0
+CompileMakes text object_name report_name slots budget store ends.Done files line = CompiledMakes text object_name report_name slots budget store files line
+CompileMakes text object_name report_name slots budget store ends.Infeasible files line = WithoutMakes text report_name slots budget verdict.Infeasible files × (line ≡ infeasible_text)
+CompileMakes text object_name report_name slots budget store ends.BudgetSpent files line = WithoutMakes text report_name slots budget verdict.Spent files × (line ≡ spent_text budget)
+CompileMakes text object_name report_name slots budget store _ files line = ⊥
+
+-- ---- why it is refused
+
+-- why a typed program isn't compiled: the program of its banks is too large, or its code is too long
+abbrev pub IsUnfit : ProgramTree → ℕ → ℕ → Refusal → Type 0
+IsUnfit program slots store (SourceLarge n) = HasLargeBanks program slots n
+IsUnfit program slots store (StoreFull n) = HasLongCode program slots store n
+IsUnfit program slots store _ = ⊥
+
+-- the source is refused, or its program isn't compiled
+abbrev pub CompileRefuses : List ℕ → ℕ → ℕ → Refusal → Type 0
+CompileRefuses text slots store e = SourceRefuses text e ⊎ HasTyped text (λ program. IsUnfit program slots store e)
+
+-- how the compilation of a typed program can end: without banks only where there are fewer slots than room
+abbrev pub IsEndOf : ProgramTree → ℕ → ℕ → Status → Type 0
+IsEndOf program slots store ends.Done = ⊤
+IsEndOf program slots store ends.TooLarge = (n : ℕ) × HasLargeBanks program slots n
+IsEndOf program slots store ends.Infeasible = slots < room program
+IsEndOf program slots store ends.BudgetSpent = slots < room program
+IsEndOf program slots store ends.StoreFull = store < form_bound program
+IsEndOf program slots store _ = ⊥

@@ -1,0 +1,77 @@
+-- What the commands of the machine's side do, and why they refuse.
+use Rattle.std.specs.Prelude.{◌≡◌, ◌⊎◌, ℕ, List, codes, length}
+use Rattle.nv_base.specs.Log.{empty_log, noted_all}
+use Rattle.nv_base.specs.Meanings.{FullOutcome, source_writes}
+use Rattle.nv_base.specs.Memories.{Memories}
+use Rattle.nv_memtext.specs.MemoryText.{Gives, IsBad, IsTooLarge}
+use Rattle.nv_memtext.specs.OutcomeText.{outcome_text}
+use Rattle.uc_isa.specs.Code.{CodeView}
+use Rattle.uc_isa.specs.Engine.{engine}
+use Rattle.uc_isa.specs.Lawful.{IsLawful, IsFirstBroken}
+use Rattle.uc_isa.specs.declared.instruction.Instr.{Instr}
+use Rattle.uc_object.specs.Object.{IsObject, IsBadPlace}
+use Rattle.nova_commands.specs.Lines.{counted}
+use Rattle.nova_commands.specs.Status.{outcome_status}
+use Rattle.nova_commands.specs.declared.status.Status.{Status}
+use Rattle.nova_commands.specs.declared.status.Status.TheVariants.{Done}
+use Rattle.nova_commands.specs.declared.refusal.Refusal.{Refusal}
+use Rattle.nova_commands.specs.declared.refusal.Refusal.TheVariants.{TooLarge, BadObject, BadMemoryText, Unlawful}
+
+-- the bytes aren't an object, and the refusal has the place where they go wrong
+abbrev pub IsBadObjectFor : List ℕ → Refusal → Type 0
+IsBadObjectFor bytes (BadObject at) = IsBadPlace bytes at
+IsBadObjectFor bytes _ = ⊥
+
+-- the code isn't lawful, and the refusal has the first place and its least rule
+abbrev pub IsUnlawfulFor : List Instr → Refusal → Type 0
+IsUnlawfulFor code (Unlawful place rule) = IsFirstBroken code place rule
+IsUnlawfulFor code _ = ⊥
+
+-- the bytes are the object of a code of which this holds
+abbrev pub HasCode : List ℕ → (CodeView → Type 0) → Type 0
+HasCode bytes P = (c : CodeView) × IsObject bytes c × P c
+
+-- the bytes aren't an object, or are that of a code that isn't lawful
+abbrev pub LintRefuses : List ℕ → Refusal → Type 0
+LintRefuses bytes e = IsBadObjectFor bytes e ⊎ HasCode bytes (λ c. IsUnlawfulFor c.list e)
+
+-- the bytes are the object of lawful code, whose length is told
+pub record IsLinted (bytes : List ℕ) (status : Status) (text : List ℕ) : Type 0 where
+  pub c : CodeView
+  pub object : IsObject bytes c
+  pub lawful : IsLawful c.list
+  pub done : status ≡ Done
+  pub line : text ≡ counted (codes "lawful ") (length c.list)
+
+-- the first scratch word that code may use for itself, where `run` starts it, and how many writes are shown
+abbrev pub spill_base : ℕ
+spill_base = 512
+
+abbrev pub shown_writes : ℕ
+shown_writes = 64
+
+-- what `run` and `exec` print of a full outcome
+abbrev pub full_text : FullOutcome → List ℕ
+full_text f = outcome_text f.outcome f.packet (noted_all (empty_log shown_writes) (source_writes f.writes))
+
+-- the memory text isn't of its form for so many parameters, or has a size that is too large
+abbrev pub IsMemoryRefusedFor : ℕ → List ℕ → Refusal → Type 0
+IsMemoryRefusedFor params text (BadMemoryText n) = IsBad params text n
+IsMemoryRefusedFor params text (TooLarge n) = IsTooLarge text n
+IsMemoryRefusedFor params text _ = ⊥
+
+-- the bytes aren't an object of lawful code, or else the memory text is refused
+abbrev pub RunRefuses : List ℕ → List ℕ → Refusal → Type 0
+RunRefuses bytes text e =
+    LintRefuses bytes e ⊎ HasCode bytes (λ c. IsLawful c.list × IsMemoryRefusedFor c.params text e)
+
+-- the status and the text are those of so many steps of the engine, on the code and the memory text
+pub record IsRun (bytes memory : List ℕ) (steps : ℕ) (status : Status) (text : List ℕ) : Type 0 where
+  pub c : CodeView
+  pub object : IsObject bytes c
+  pub lawful : IsLawful c.list
+  pub packet : Memories
+  pub arguments : List ℕ
+  pub given : Gives c.params memory packet arguments
+  pub ends : status ≡ outcome_status (engine c arguments spill_base packet steps).outcome
+  pub prints : text ≡ full_text (engine c arguments spill_base packet steps)

@@ -1,0 +1,23 @@
+-- Why a source is refused, as the commands tell it.
+use Rattle.std.specs.Prelude.{ℕ, List}
+use Rattle.nv_ast.specs.Tree.{ProgramTree}
+use Rattle.nv_text.specs.Program.{FaultOf}
+use Rattle.nv_text.specs.declared.error.TextError.TheVariants.{Char, Number, Name, Syntax, Deep}
+use Rattle.nova_front.specs.Sources.{IsTypedSource, IsUntyped, IsLarge}
+use Rattle.nova_commands.specs.declared.refusal.Refusal.{Refusal}
+use Rattle.nova_commands.specs.declared.refusal.Refusal.TheVariants.{SourceChar, SourceNumber, SourceName, SourceSyntax, SourceDeep, SourceType, SourceLarge}
+
+-- the text has a fault at this place, or its program has a fault of its types or is too large
+abbrev pub SourceRefuses : List ℕ → Refusal → Type 0
+SourceRefuses text (SourceChar at) = FaultOf text (Char at)
+SourceRefuses text (SourceNumber at) = FaultOf text (Number at)
+SourceRefuses text (SourceName at) = FaultOf text (Name at)
+SourceRefuses text (SourceSyntax at) = FaultOf text (Syntax at)
+SourceRefuses text (SourceDeep at) = FaultOf text (Deep at)
+SourceRefuses text (SourceType kind place) = IsUntyped text kind place
+SourceRefuses text (SourceLarge size) = IsLarge text size
+SourceRefuses text _ = ⊥
+
+-- the text is that of a typed program, not too large, of which this holds
+abbrev pub HasTyped : List ℕ → (ProgramTree → Type 0) → Type 0
+HasTyped text P = (program : ProgramTree) × IsTypedSource text program × P program

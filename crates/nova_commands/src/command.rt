@@ -1,0 +1,264 @@
+//! The words of a command line.
+ghost use Rattle.std.specs.Prelude.{◌≡◌, ◌≤◌, [], None, Some, IfSome, IfNone};
+ghost use Rattle.nova_commands.specs.Command.{command_of, command_of_two, command_of_three, command_of_four, command_of_more, compile_of, options_of, taken, gen_of, number_in, option_of, texts, texts_of};
+ghost use Rattle.nova_commands.specs.Command.{are_names as names_differ};
+ghost use Rattle.nova_commands.specs.inner.Words.{command_as, options_as, AreInLimits, HasLimits};
+
+use crate::limits::{DEFAULT_BUDGET, DEFAULT_STORE, MOST_BUDGET, MOST_SLOTS, MOST_STORE};
+use line_text::read_decimal;
+
+/// The most steps, or calls, of a run.
+const MOST_STEPS: u64 = 100_000_000;
+
+/// The greatest seed.
+const MOST_SEED: u64 = 4_294_967_295;
+
+/// The most lines of a made source.
+const MOST_LINES: u64 = 500;
+
+/// How a source is compiled: with so many slots, in a search of so many branches, to code of so many instructions.
+#[derive(Clone, Copy, Debug, PartialEq, Eq)]
+pub struct Options {
+    pub slots: u32,
+    pub budget: u32,
+    pub store: u32,
+}
+
+/// A command with what its words name.
+#[derive(Clone, Copy, Debug, PartialEq, Eq)]
+pub enum Command<'a> {
+    /// Source, object, report.
+    Compile(&'a str, &'a str, &'a str, Options),
+    /// Object, memory text, number of steps.
+    Run(&'a str, &'a str, u64),
+    /// Source, memory text, number of calls.
+    Exec(&'a str, &'a str, u64),
+    /// Assembly text, object.
+    Asm(&'a str, &'a str),
+    /// Object.
+    Dis(&'a str),
+    /// Object.
+    Lint(&'a str),
+    /// Report.
+    Check(&'a str),
+    /// Seed, size.
+    Gen(u32, u32),
+}
+
+impl<'a> Command<'a> {
+    /// The command that the words are.
+    pub fn of(words: &'a Vec<String>) -> Option<Command<'a>>
+        ensures some { IfSome result (λ c. command_of (texts_of words.now) ≡ Some (command_as c)) }
+        ensures none { IfNone result (command_of (texts_of words.now) ≡ None) }
+        ensures limits { IfSome result HasLimits }
+    {
+        match words.len() {
+            0 | 1 => None,
+            2 => of_two(words[0].as_str(), words[1].as_str()),
+            3 => of_three(words[0].as_str(), words[1].as_str(), words[2].as_str()),
+            _ => of_more(
+                words[0].as_str(),
+                words[1].as_str(),
+                words[2].as_str(),
+                words[3].as_str(),
+                &words[4..],
+            ),
+        }
+    }
+}
+
+// `dis OBJ`, `lint OBJ` and `check REPORT`.
+fn of_two<'a>(verb: &'a str, name: &'a str) -> Option<Command<'a>>
+    ensures some { IfSome result (λ c. command_of_two verb.now name.now ≡ Some (command_as c)) }
+    ensures none { IfNone result (command_of_two verb.now name.now ≡ None) }
+    ensures limits { IfSome result HasLimits }
+{
+    if name.is_empty() {
+        None
+    } else if verb == "dis" {
+        Some(Command::Dis(name))
+    } else if verb == "lint" {
+        Some(Command::Lint(name))
+    } else if verb == "check" {
+        Some(Command::Check(name))
+    } else {
+        None
+    }
+}
+
+// `gen SEED SIZE` and `asm TEXT OBJ`.
+fn of_three<'a>(verb: &'a str, input: &'a str, object: &'a str) -> Option<Command<'a>>
+    ensures some { IfSome result (λ c. command_of_three verb.now input.now object.now ≡ Some (command_as c)) }
+    ensures none { IfNone result (command_of_three verb.now input.now object.now ≡ None) }
+    ensures limits { IfSome result HasLimits }
+{
+    if verb == "gen" {
+        of_gen(input, object)
+    } else if verb == "asm" && are_names(input, object) {
+        Some(Command::Asm(input, object))
+    } else {
+        None
+    }
+}
+
+// `gen SEED SIZE`.
+fn of_gen<'a>(seed: &str, size: &str) -> Option<Command<'a>>
+    ensures some { IfSome result (λ c. gen_of seed.now size.now ≡ Some (command_as c)) }
+    ensures none { IfNone result (gen_of seed.now size.now ≡ None) }
+    ensures limits { IfSome result HasLimits }
+{
+    let seed = number_in(seed, 0, MOST_SEED)?;
+    let size = number_in(size, 1, MOST_LINES)?;
+    Some(Command::Gen(seed as u32, size as u32))
+}
+
+// The number from `least` to `most` of which the word is the spelling.
+fn number_in(word: &str, least: u64, most: u64) -> Option<u64>
+    ensures some { IfSome result (λ n. number_in least most word.now ≡ Some n) }
+    ensures none { IfNone result (number_in least most word.now ≡ None) }
+    ensures least { IfSome result (λ n. least ≤ n) }
+    ensures most { IfSome result (λ n. n ≤ most) }
+{
+    let n = read_decimal(word.as_bytes(), most)?;
+    if n < least { None } else { Some(n) }
+}
+
+// Whether neither file name is empty, and the two differ.
+fn are_names(a: &str, b: &str) -> bool
+    ensures { result ≡ names_differ a.now b.now }
+{
+    !a.is_empty() && !b.is_empty() && a != b
+}
+
+// A command of four words or more, `words` being those behind the fourth.
+fn of_more<'a>(
+    verb: &'a str,
+    first: &'a str,
+    second: &'a str,
+    third: &'a str,
+    words: &'a [String],
+) -> Option<Command<'a>>
+    ensures some { IfSome result (λ c. command_of_more verb.now first.now second.now third.now (texts words.now) ≡ Some (command_as c)) }
+    ensures none { IfNone result (command_of_more verb.now first.now second.now third.now (texts words.now) ≡ None) }
+    ensures limits { IfSome result HasLimits }
+{
+    if verb == "compile" {
+        of_compile(first, second, third, words)
+    } else if words.is_empty() {
+        of_four(verb, first, second, third)
+    } else {
+        None
+    }
+}
+
+// `run OBJ MEM steps=N` and `exec SRC MEM steps=N`.
+fn of_four<'a>(
+    verb: &'a str,
+    first: &'a str,
+    second: &'a str,
+    option: &'a str,
+) -> Option<Command<'a>>
+    ensures some { IfSome result (λ c. command_of_four verb.now first.now second.now option.now [] ≡ Some (command_as c)) }
+    ensures none { IfNone result (command_of_four verb.now first.now second.now option.now [] ≡ None) }
+    ensures limits { IfSome result HasLimits }
+{
+    if !are_names(first, second) {
+        None
+    } else if verb == "run" {
+        match option_in(option, "steps=", 1, MOST_STEPS) {
+            Some(n) => Some(Command::Run(first, second, n)),
+            None => None,
+        }
+    } else if verb == "exec" {
+        match option_in(option, "steps=", 1, MOST_STEPS) {
+            Some(n) => Some(Command::Exec(first, second, n)),
+            None => None,
+        }
+    } else {
+        None
+    }
+}
+
+// `compile SRC OBJ REPORT` and options.
+fn of_compile<'a>(
+    source: &'a str,
+    object: &'a str,
+    report: &'a str,
+    words: &'a [String],
+) -> Option<Command<'a>>
+    ensures some { IfSome result (λ c. compile_of source.now object.now report.now (texts words.now) ≡ Some (command_as c)) }
+    ensures none { IfNone result (compile_of source.now object.now report.now (texts words.now) ≡ None) }
+    ensures limits { IfSome result HasLimits }
+{
+    if !are_names(source, object) || !are_names(source, report) || !are_names(object, report) {
+        return None;
+    }
+    match options_in(words) {
+        Some(options) => Some(Command::Compile(source, object, report, options)),
+        None => None,
+    }
+}
+
+// `slots=N`, `budget=N` and `store=N`, each of which may be absent, and no other word.
+fn options_in<'a>(words: &'a [String]) -> Option<Options>
+    ensures some { IfSome result (λ o. options_of (texts words.now) ≡ Some (options_as o)) }
+    ensures none { IfNone result (options_of (texts words.now) ≡ None) }
+    ensures limits { IfSome result AreInLimits }
+{
+    let most = MOST_SLOTS as u64;
+    let (slots, words) = taken_from(words, "slots=", 0, most, most);
+    let (budget, words) = taken_from(
+        words,
+        "budget=",
+        1,
+        MOST_BUDGET as u64,
+        DEFAULT_BUDGET as u64,
+    );
+    let (store, words) = taken_from(words, "store=", 1, MOST_STORE as u64, DEFAULT_STORE as u64);
+    if words.is_empty() {
+        Some(Options {
+            slots: slots as u32,
+            budget: budget as u32,
+            store: store as u32,
+        })
+    } else {
+        None
+    }
+}
+
+// The number that the first word spells behind a key, and the words behind it; where it spells none, the other number and
+// all words.
+fn taken_from<'a>(
+    words: &'a [String],
+    key: &str,
+    least: u64,
+    most: u64,
+    other: u64,
+) -> (u64, &'a [String])
+    requires least { least ≤ other }
+    requires most { other ≤ most }
+    ensures number { result.0 ≡ (taken key.now least most other (texts words.now)).0 }
+    ensures words { texts result.1.now ≡ (taken key.now least most other (texts words.now)).1 }
+    ensures least { least ≤ result.0 }
+    ensures most { result.0 ≤ most }
+{
+    if words.is_empty() {
+        return (other, words);
+    }
+    match option_in(words[0].as_str(), key, least, most) {
+        Some(n) => (n, &words[1..]),
+        None => (other, words),
+    }
+}
+
+// The number of a range that the word spells behind a key.
+fn option_in(word: &str, key: &str, least: u64, most: u64) -> Option<u64>
+    ensures some { IfSome result (λ n. option_of key.now least most word.now ≡ Some n) }
+    ensures none { IfNone result (option_of key.now least most word.now ≡ None) }
+    ensures least { IfSome result (λ n. least ≤ n) }
+    ensures most { IfSome result (λ n. n ≤ most) }
+{
+    let spelling = word.strip_prefix(key)?;
+    let n = read_decimal(spelling.as_bytes(), most)?;
+    if n < least { None } else { Some(n) }
+}

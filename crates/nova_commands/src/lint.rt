@@ -1,0 +1,28 @@
+//! The command `lint`.
+ghost use Rattle.std.specs.Prelude.{◌≡◌, ◌≤◌, ◌⊎◌, length, IfOk, IfErr};
+ghost use Rattle.nova_commands.specs.Limits.{object_limit};
+ghost use Rattle.nova_commands.specs.Lines.{IsUncaused};
+ghost use Rattle.nova_commands.specs.Machine.{LintRefuses, IsLinted};
+ghost use Rattle.nova_commands.specs.declared.status.Status.{Status};
+
+use crate::object::{check_lawful, code_of};
+use crate::refusal::{Refusal, counted_line};
+use crate::reply::Reply;
+use crate::status::Status;
+use std::alloc::Global;
+
+/// Tells whether the bytes are the object of lawful code.
+pub fn lint_bytes<'a>(alloc: Global, bytes: &[u8]) -> Result<Reply, Refusal<'a>>
+    requires { length bytes.now ≤ object_limit }
+    ensures ended { IfOk result (λ r. IsLinted bytes.now r.status r.text.items) }
+    ensures refused { IfErr result (λ e. IsUncaused e ⊎ LintRefuses bytes.now e) }
+    ensures end { IfOk result (λ r. r.status ≡ Status.Done) }
+{
+    let code = code_of(alloc, bytes)?;
+    check_lawful(&code)?;
+    let text = counted_line(alloc, b"lawful ", code.list().len() as u64)?;
+    Ok(Reply {
+        status: Status::Done,
+        text,
+    })
+}

@@ -1,0 +1,35 @@
+//! The code of an object.
+ghost use Rattle.std.specs.Prelude.{◌≡◌, ◌<◌, ◌^◌, ◌⊎◌, length, IfOk, IfErr, OnOk};
+ghost use Rattle.uc_isa.specs.Lawful.{IsLawful};
+ghost use Rattle.uc_object.specs.Object.{IsObject};
+ghost use Rattle.nova_commands.specs.Lines.{IsUncaused};
+ghost use Rattle.nova_commands.specs.Machine.{IsBadObjectFor, IsUnlawfulFor};
+
+use crate::refusal::Refusal;
+use std::alloc::Global;
+use uc_isa::{Code, lint};
+use uc_object::{ObjectError, decode};
+
+/// The code that the bytes are the object of.
+pub fn code_of<'a>(alloc: Global, bytes: &[u8]) -> Result<Code, Refusal<'a>>
+    requires { length bytes.now < 2 ^ 32 }
+    ensures object { IfOk result (λ c. IsObject bytes.now c) }
+    ensures refused { IfErr result (λ e. IsUncaused e ⊎ IsBadObjectFor bytes.now e) }
+{
+    match decode(alloc, bytes) {
+        Ok(code) => Ok(code),
+        Err(ObjectError::Bad(at)) => Err(Refusal::BadObject(at)),
+        Err(ObjectError::NoMemory) => Err(Refusal::NoMemory),
+    }
+}
+
+/// Refuses code that isn't lawful.
+pub fn check_lawful<'a>(code: &Code) -> Result<(), Refusal<'a>>
+    ensures lawful { OnOk result (IsLawful code.now.list) }
+    ensures refused { IfErr result (λ e. IsUnlawfulFor code.now.list e) }
+{
+    match lint(code) {
+        None => Ok(()),
+        Some((place, rule)) => Err(Refusal::Unlawful(place, rule)),
+    }
+}

@@ -1,5 +1,0 @@
-use Rattle.nv_text.proofs.MadeExpr.{tuple_made}
-use Rattle.nv_text.proofs.nodes.tuple.Goals as goal
-
-pub returns : goal.returns
-returns c = tuple_made c.args.span c.args.parts
