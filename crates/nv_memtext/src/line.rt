@@ -8,7 +8,7 @@ ghost use Rattle.nv_memtext.specs.MemoryText.{SpellsSizes, SpellsArgs, SpellsStr
 ghost use Rattle.nv_memtext.specs.declared.line.Stretch.{Stretch};
 
 use line_text::{Parts, read_word};
-use nv_base::{Mem, Words};
+use nv_base::{COMPILER, Mem, Words};
 
 /// The greatest number of at most ten digits.
 const TEN_DIGITS: u64 = 9_999_999_999;
@@ -108,7 +108,7 @@ fn is_inside(sizes: &Sizes, mem: Mem, at: u64, count: usize) -> bool
     match mem {
         Mem::Sram => at + count as u64 <= sizes.sram,
         Mem::Sdram => 2 * at + count as u64 <= 2 * sizes.sdram,
-        Mem::Scratch => at + count as u64 <= 512,
+        Mem::Scratch => at + count as u64 <= COMPILER as u64,
     }
 }
 

@@ -8,14 +8,11 @@ ghost use Rattle.nv_memtext.specs.Spelling.{name_of};
 ghost use Rattle.nv_memtext.specs.OutcomeText.{outcome_line, write_line, stretch_line, stretch_start, stretch_words, stretch_lines, memory_lines, sizes_line, outcome_text};
 
 use line_text::{push_decimal, push_word};
-use nv_base::{Mem, NoMemory, Outcome, Packet, Write, WriteLog};
+use nv_base::{COMPILER, Mem, NoMemory, Outcome, Packet, Write, WriteLog};
 use std::alloc::{AllocError, Global};
 
 /// How many writes an outcome text shows.
 const SHOWN: usize = 64;
-
-/// The words of scratch that belong to the source.
-const SOURCE_SCRATCH: usize = 512;
 
 /// The name of a memory.
 fn name(mem: Mem) -> &'static [u8]
@@ -196,7 +193,7 @@ pub fn print_outcome(
     push_memory(
         &mut out,
         Mem::Scratch,
-        front(p.words(Mem::Scratch), SOURCE_SCRATCH),
+        front(p.words(Mem::Scratch), COMPILER as usize),
     )?;
     Ok(out)
 }

@@ -9,11 +9,8 @@ ghost use Rattle.uc_isa.specs.Engine.{after, halted, run, stepped_at};
 ghost use Rattle.uc_isa.specs.Lawful.{IsLawful};
 ghost use Rattle.uc_isa.specs.Step.{EndsRun};
 
-use nv_base::{Mem, Outcome, Packet, Words, Write, WriteLog};
+use nv_base::{COMPILER, Mem, Outcome, Packet, Words, Write, WriteLog};
 use uc_isa::{Code, Engine, Stepped, step};
-
-// The first scratch word that belongs to the compiler.
-const COMPILER: u32 = 512;
 
 // Notes a write of the source's; one of the compiler's scratch words isn't noted.
 fn note(log: &mut WriteLog, w: Write)
