@@ -1,7 +1,5 @@
 -- Values in lists: what is said of a list as far as a loop has come.
 use Rattle.std.proofs.Common.{◌≡◌, ◌∙◌, refl, ap, sym, ℕ, zero, suc, ◌+◌, ◌<◌, ◌≤◌, arith, List, [], ◌∷◌, ◌++◌, take, drop, length, get_or, append_assoc, append-nil}
-use Rattle.std.proofs.Math.Seq.{split_at, drop-cons}
-use Rattle.std.proofs.lemmas.List.{take_more}
 use Rattle.nv_values.specs.declared.value.Value.{Value}
 use Rattle.nv_values.specs.Values.{value_and, named_value_and, words_of, all_words, all_named_words}
 use Rattle.nv_values.specs.Values as meaning

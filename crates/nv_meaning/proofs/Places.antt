@@ -9,7 +9,6 @@ use Rattle.std.specs.Map.{update}
 use Rattle.std.specs.Option.{is_some, is_none, option_copied}
 use Rattle.nv_ast.specs.declared.tree.Fun.{Fun}
 use Rattle.nv_ast.specs.declared.tree.Decl.{Decl}
-use Rattle.nv_ast.specs.declared.tree.Decl.TheVariants as decls
 use Rattle.nv_ast.specs.declared.tree.LayoutText.{LayoutText}
 use Rattle.nv_ast.specs.Exceptions.{exceptions}
 use Rattle.nv_ast.specs.ProgramView.{fun_tree, decl_tree}

@@ -1,9 +1,8 @@
 -- An expression of one operand, by its tree.
-use Rattle.std.proofs.Common.{◌≡◌, ◌∙◌, ℕ, ◌+◌, ◌⊎◌, inl, inr, refl, sym, subst, List, Box, Global, Result as Answer}
+use Rattle.std.proofs.Common.{◌≡◌, ℕ, ◌+◌, ◌⊎◌, inl, inr, refl, sym, subst, List, Box, Global, Result as Answer}
 use Rattle.nv_base.specs.declared.term.Mem.{Mem}
 use Rattle.nv_ast.specs.declared.tree.ShiftOp.{ShiftOp}
 use Rattle.nv_ast.specs.declared.tree.Expr.{Expr, out-Expr}
-use Rattle.nv_ast.specs.declared.tree.Kind.TheVariants as variants
 use Rattle.nv_ast.specs.declared.tree.Kind.TheViews as kinds
 use Rattle.nv_ast.specs.ExprView.{tree_of}
 use Rattle.nv_ast.specs.Tree.{Tree, DotTree, InvertTree, NegateTree, ShiftTree, UnpackTree, PackTree, FetchTree}

@@ -11,7 +11,7 @@ use Rattle.nv_ast.specs.Tree.{Tree, NumberTree, TruthTree, VarTree, ParenTree, T
 use Rattle.nv_ast.specs.Tree.{NamedLayout, NamedTypes, named_type_and, FunTree, DeclTree, LayoutDecl, ExceptionDecl, GroupDecl, ProgramTree}
 use Rattle.nv_ast.specs.Outline.{Layouts, outline}
 use Rattle.nv_ast.specs.Types.{named_types_of}
-use Rattle.nv_values.specs.Values.{Value, Word, Truth, Tuple, Record, Values, no_values, value_and, NamedValues, no_named_values, named_value_and, named_values_from, Scope, variable_in, word_of, truth_of, fields_of, field_named, words_of, all_matched, matched}
+use Rattle.nv_values.specs.Values.{Word, Truth, Tuple, Record, Values, no_values, value_and, NamedValues, no_named_values, named_value_and, named_values_from, Scope, variable_in, word_of, truth_of, fields_of, field_named, words_of, all_matched, matched}
 pub use Rattle.nv_values.specs.Operators.{combined, shifted}
 use Rattle.nv_meaning.specs.Packing.{unpacked_value, packed_value}
 use Rattle.nv_values.specs.Running.{Running, Result, Gives, Raises, Stops, Results, GiveAll, NamedResults, GiveNamed, Stated, GoesOn, and_then, and_all, and_named, and_stated, and_further, then_more, then_named, then_stated, before_rest, before_named, handled, exception_number, fetch, store, taken, closed}

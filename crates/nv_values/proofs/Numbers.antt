@@ -1,5 +1,5 @@
 -- The number of an exception, by its place.
-use Rattle.std.proofs.Common.{◌≡◌, ℕ, suc, ◌+◌, Bool, true, false, List, [], ◌∷◌, refl, sym, ap, ◌∙◌, Option, Some, None, bytes_eq, if◌then◌else◌, arith}
+use Rattle.std.proofs.Common.{◌≡◌, ℕ, suc, ◌+◌, Bool, true, false, List, [], ◌∷◌, refl, sym, ap, ◌∙◌, Some, None, bytes_eq, if◌then◌else◌, arith}
 use Rattle.nv_values.specs.Running.{number_from}
 use Rattle.nv_values.specs.inner.Places.{place_from}
 
