@@ -7,16 +7,16 @@ use Rattle.nv_base.specs.declared.term.Mem.{Mem}
 use Rattle.nv_ast.specs.declared.tree.Op.{Op}
 use Rattle.nv_ast.specs.declared.tree.Op.TheVariants.{Add, Sub, And, Or, Xor, Eq, Ne, Lt, Le, Gt, Ge, Both, Either}
 use Rattle.nv_ast.specs.Tree.{Tree, NumberTree, TruthTree, VarTree, ParenTree, TupleTree, FieldsTree, DotTree, InvertTree, NegateTree, BinaryTree, ShiftTree, CallTree, UnpackTree, PackTree, RaiseTree, IfTree, TryTree, FetchTree, BlockTree, StatementTrees, PatternTrees, FunTree}
-use Rattle.nv_meaning.specs.Values.{Value, Truth, Values, Scope, variable_in, word_of, truth_of, all_matched}
-use Rattle.nv_meaning.specs.Running.{Running, Result, Gives, Raises, Stops, Stated, and_then, and_stated, handled, taken}
+use Rattle.nv_values.specs.Values.{Value, Truth, Values, Scope, variable_in, word_of, truth_of, all_matched}
+use Rattle.nv_values.specs.Running.{Running, Result, Gives, Raises, Stops, Stated, and_then, and_stated, handled, taken}
 use Rattle.nv_meaning.specs.Meaning.{Declared, Calls, binary, eval, run_all, enter, entered, function_in, calls_within}
 use Rattle.nv_meaning.specs.inner.Operand.{decided_by, joined_by, made_of}
-use Rattle.nv_meaning.specs.declared.value.Value as code
-use Rattle.nv_meaning.specs.declared.stop.Step.{Step}
-use Rattle.nv_meaning.specs.declared.stop.Step.TheVariants.{Done, Again}
-use Rattle.nv_meaning.specs.declared.stop.Stop.{Stop}
-use Rattle.nv_meaning.specs.declared.stop.Stop.TheVariants.{NoMemory, Raised, Fault, Going}
-use Rattle.nv_meaning.specs.inner.View.{Named, view, list_values, scope_of, Extends}
+use Rattle.nv_values.specs.declared.value.Value as code
+use Rattle.nv_meaning.specs.declared.step.Step.{Step}
+use Rattle.nv_meaning.specs.declared.step.Step.TheVariants.{Done, Again}
+use Rattle.nv_values.specs.declared.stop.Stop.{Stop}
+use Rattle.nv_values.specs.declared.stop.Stop.TheVariants.{NoMemory, Raised, Fault, Going}
+use Rattle.nv_values.specs.inner.View.{Named, view, list_values, scope_of, Extends}
 use Rattle.nv_meaning.specs.inner.Ran.{At, running, Wrote, Grown, IsStep, IsValue, IsScope, RanStep, RanValue, RanScope}
 use Rattle.nv_meaning.proofs.Grows.{grown-here, grown-fetch, grown-if, grown-then, grown-handled, eval-grows, enter-grows}
 use Rattle.nv_meaning.proofs.Moments.{ran-here, ran-as, ran-then, wrote-nothing, wrote-then}

@@ -1,5 +1,4 @@
 pub mod Lists
-pub mod Rows
 pub mod Grows
 pub mod Moments
 pub mod Stops
@@ -14,7 +13,6 @@ pub mod Places
 pub mod Sizing
 pub mod Unpacking
 pub mod Whole
-pub mod Shifts
 pub mod Bindings
 pub mod Filling
 pub mod Packed

@@ -1,11 +1,9 @@
 -- Values in lists: what is said of a list as far as a loop has come.
-use Rattle.std.proofs.Common.{◌≡◌, ◌∙◌, refl, ap, sym, ℕ, zero, suc, ◌+◌, ◌<◌, ◌≤◌, arith, List, [], ◌∷◌, ◌++◌, take, drop, length, get_or, append_assoc, append-nil, slice_index}
-use Rattle.std.proofs.Math.Seq.{split_at, drop-cons}
-use Rattle.std.proofs.lemmas.List.{take_more}
-use Rattle.nv_meaning.specs.declared.value.Value.{Value}
-use Rattle.nv_meaning.specs.Values.{value_and, named_value_and, words_of, all_words, all_named_words, word_values}
-use Rattle.nv_meaning.specs.Values as meaning
-use Rattle.nv_meaning.specs.inner.View.{Named, view, list_values, list_named_values}
+use Rattle.std.proofs.Common.{◌≡◌, ◌∙◌, refl, ap, sym, ℕ, zero, suc, ◌+◌, ◌<◌, ◌≤◌, arith, List, [], ◌∷◌, ◌++◌, take, drop, length, get_or, append_assoc, append-nil}
+use Rattle.nv_values.specs.declared.value.Value.{Value}
+use Rattle.nv_values.specs.Values.{value_and, named_value_and, words_of, all_words, all_named_words}
+use Rattle.nv_values.specs.Values as meaning
+use Rattle.nv_values.specs.inner.View.{Named, view, list_values, list_named_values}
 use Rattle.nv_ast.proofs.Items.{take_item}
 
 -- ---- copies
@@ -52,19 +50,6 @@ pub field_words_added : (old now new : List ℕ) (xs : List Named) (i : ℕ) (x 
 field_words_added old now new xs i x h is e n =
     n ∙ ap (λ l. l ++ words_of (view x.1)) e ∙ append_assoc old (all_named_words (list_named_values (take i xs))) (words_of (view x.1))
     ∙ ap (λ l. old ++ l) (ap (λ l. all_named_words (list_named_values (take i xs)) ++ l) (sym (append-nil (words_of (view x.1)))) ∙ sym (all_named_words-append (take i xs) (x ∷ [])) ∙ ap (λ l. all_named_words (list_named_values l)) (sym (take_item xs i x h is)))
-
--- ---- words as values
-words-again : (xs : List Value) (ws : List ℕ) (w : ℕ) → list_values xs ≡ word_values ws → list_values (xs ++ Value.Word w ∷ []) ≡ word_values (ws ++ w ∷ [])
-words-again [] [] w e = refl
-words-again [] (b ∷ ws) w e = cc
-words-again (a ∷ xs) [] w e = cc
-words-again (a ∷ xs) (b ∷ ws) w e =
-    let h : view a ≡ meaning.Word b = cc in
-    let r : list_values (xs ++ Value.Word w ∷ []) ≡ word_values (ws ++ w ∷ []) = words-again xs ws w (cc) in
-    ap (λ v. value_and v (list_values (xs ++ Value.Word w ∷ []))) h ∙ ap (value_and (meaning.Word b)) r
-
-pub words_listed : (done new : List Value) (ws : List ℕ) (i : ℕ) → i < length ws → list_values done ≡ word_values (take i ws) → new ≡ done ++ Value.Word (slice_index ws i) ∷ [] → list_values new ≡ word_values (take (i + 1) ws)
-words_listed done new ws i h e n = ap list_values n ∙ words-again done (take i ws) (slice_index ws i) e ∙ ap word_values (sym (take_more ws i 0 h))
 
 -- ---- what is left of a list
 

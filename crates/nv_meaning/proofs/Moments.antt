@@ -6,7 +6,7 @@ use Rattle.nv_base.specs.Log.{noted_all}
 use Rattle.nv_base.specs.Meanings.{source_writes, is_source_write, left_by}
 use Rattle.nv_base.proofs.LogLemmas.{noted-append}
 use Rattle.nv_base.proofs.MemoryLemmas.{left-append}
-use Rattle.nv_meaning.specs.Running.{Running}
+use Rattle.nv_values.specs.Running.{Running}
 use Rattle.nv_meaning.specs.Meaning.{Declared, Calls, calls_within}
 use Rattle.nv_meaning.specs.inner.Ran.{At, running, Wrote, Ran}
 use Rattle.nv_meaning.proofs.Grows.{Growing, calls-grow}

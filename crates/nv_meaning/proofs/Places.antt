@@ -9,7 +9,6 @@ use Rattle.std.specs.Map.{update}
 use Rattle.std.specs.Option.{is_some, is_none, option_copied}
 use Rattle.nv_ast.specs.declared.tree.Fun.{Fun}
 use Rattle.nv_ast.specs.declared.tree.Decl.{Decl}
-use Rattle.nv_ast.specs.declared.tree.Decl.TheVariants as decls
 use Rattle.nv_ast.specs.declared.tree.LayoutText.{LayoutText}
 use Rattle.nv_ast.specs.Exceptions.{exceptions}
 use Rattle.nv_ast.specs.ProgramView.{fun_tree, decl_tree}
@@ -17,7 +16,6 @@ use Rattle.nv_ast.specs.LayoutView.{layout_tree}
 use Rattle.nv_ast.specs.Tests.{value_at}
 use Rattle.nv_ast.specs.Outline.{OutlineTree, Layouts, outline, PartsOutline, no_named_outlines}
 use Rattle.nv_ast.specs.Tree.{LayoutTree, FunTree, DeclTree, LayoutDecl, ExceptionDecl, GroupDecl, ProgramTree}
-use Rattle.nv_meaning.specs.Running.{number_from}
 use Rattle.nv_meaning.specs.Meaning.{Declared, with_decl, with_decls, declared, function_in}
 use Rattle.nv_meaning.specs.inner.Tables.{place_from, or_else, laid, layout_pairs, functions_in, layouts_in, exceptions_in}
 use Rattle.nv_meaning.proofs.Lists.{dropped-all}
@@ -142,23 +140,6 @@ function-found i k x (f ∷ fs) d h = by (bytes_eq x f.now.name) refl (λ k h. f
         let s : i + suc k ≡ suc i + k = omega arith in
         ap (λ b. if b then Some (fun_tree f.now) else function_in (trees_of fs) x) e
         ∙ next k (sym (ap (λ b. if b then Some i else place_from (suc i) x (names_of fs)) e) ∙ h ∙ ap (λ j. Some j) s)
-
--- ---- exceptions
-pub number-none : (i : ℕ) (x : List ℕ) (xs : List (List ℕ)) → place_from i x xs ≡ None → number_from (i + 1) xs x ≡ 0
-number-none i x [] h = refl
-number-none i x (y ∷ xs) h = by (bytes_eq x y) refl (λ k. number-none (suc i) x xs k)
-  where
-    by : (b : Bool) → bytes_eq x y ≡ b → (place_from (suc i) x xs ≡ None → number_from (suc i + 1) xs x ≡ 0) → number_from (i + 1) (y ∷ xs) x ≡ 0
-    by true e next = let k : Some i ≡ None = sym (ap (λ b. if b then Some i else place_from (suc i) x xs) e) ∙ h in cc
-    by false e next = let s : i + 1 + 1 ≡ suc i + 1 = omega arith in ap (λ b. if b then i + 1 else number_from (i + 1 + 1) xs x) e ∙ ap (λ k. number_from k xs x) s ∙ next (sym (ap (λ b. if b then Some i else place_from (suc i) x xs) e) ∙ h)
-
-pub number-found : (i j : ℕ) (x : List ℕ) (xs : List (List ℕ)) → place_from i x xs ≡ Some j → number_from (i + 1) xs x ≡ j + 1
-number-found i j x [] h = cc
-number-found i j x (y ∷ xs) h = by (bytes_eq x y) refl (λ k. number-found (suc i) j x xs k)
-  where
-    by : (b : Bool) → bytes_eq x y ≡ b → (place_from (suc i) x xs ≡ Some j → number_from (suc i + 1) xs x ≡ j + 1) → number_from (i + 1) (y ∷ xs) x ≡ j + 1
-    by true e next = ap (λ b. if b then i + 1 else number_from (i + 1 + 1) xs x) e ∙ ap (λ k. k + 1) (some_same (sym (ap (λ b. if b then Some i else place_from (suc i) x xs) e) ∙ h))
-    by false e next = let s : i + 1 + 1 ≡ suc i + 1 = omega arith in ap (λ b. if b then i + 1 else number_from (i + 1 + 1) xs x) e ∙ ap (λ k. number_from k xs x) s ∙ next (sym (ap (λ b. if b then Some i else place_from (suc i) x xs) e) ∙ h)
 
 -- ---- what a program declares
 pub declared-functions : (d : Declared) (ds : List DeclTree) → (with_decls d ds).functions ≡ d.functions ++ functions_in ds

@@ -3,7 +3,7 @@ use Rattle.std.proofs.Common.{◌≡◌, refl, ℕ, zero, suc, Bool, true, false
 use Rattle.nv_ast.specs.Tests.{value_at as found_at}
 use Rattle.nv_ast.specs.Tree.{LayoutTree, NamedLayout, GapLayout, PartsLayout, JoinedLayout}
 use Rattle.nv_ast.specs.Outline.{Layouts, OutlineTree, PartsOutline, no_named_outlines, outline}
-use Rattle.nv_meaning.specs.Values.{Record, fields_of}
+use Rattle.nv_values.specs.Values.{Record, fields_of}
 use Rattle.nv_meaning.specs.Packing.{value_at}
 use Rattle.nv_meaning.specs.inner.Tables.{laid}
 

@@ -1,19 +1,18 @@
 -- An expression of one operand, by its tree.
-use Rattle.std.proofs.Common.{◌≡◌, ◌∙◌, ℕ, ◌+◌, ◌⊎◌, inl, inr, refl, sym, subst, List, Box, Global, Result as Answer}
+use Rattle.std.proofs.Common.{◌≡◌, ℕ, ◌+◌, ◌⊎◌, inl, inr, refl, sym, subst, List, Box, Global, Result as Answer}
 use Rattle.nv_base.specs.declared.term.Mem.{Mem}
 use Rattle.nv_ast.specs.declared.tree.ShiftOp.{ShiftOp}
 use Rattle.nv_ast.specs.declared.tree.Expr.{Expr, out-Expr}
-use Rattle.nv_ast.specs.declared.tree.Kind.TheVariants as variants
 use Rattle.nv_ast.specs.declared.tree.Kind.TheViews as kinds
 use Rattle.nv_ast.specs.ExprView.{tree_of}
 use Rattle.nv_ast.specs.Tree.{Tree, DotTree, InvertTree, NegateTree, ShiftTree, UnpackTree, PackTree, FetchTree}
 use Rattle.nv_ast.proofs.TreeKinds.{dot-is, invert-is, negate-is, shift-is, unpack-is, pack-is, fetch-is}
-use Rattle.nv_meaning.specs.Values.{Scope}
-use Rattle.nv_meaning.specs.Running.{Running, and_then}
+use Rattle.nv_values.specs.Values.{Scope}
+use Rattle.nv_values.specs.Running.{Running, and_then}
 use Rattle.nv_meaning.specs.Meaning.{Declared, Calls, eval}
 use Rattle.nv_meaning.specs.inner.Operand.{made_of}
-use Rattle.nv_meaning.specs.declared.stop.Step.{Step}
-use Rattle.nv_meaning.specs.declared.stop.Stop.{Stop}
+use Rattle.nv_meaning.specs.declared.step.Step.{Step}
+use Rattle.nv_values.specs.declared.stop.Stop.{Stop}
 use Rattle.nv_meaning.specs.inner.Ran.{At, IsStep, RanStep}
 use Rattle.nv_meaning.specs.inner.Weight.{weight}
 use Rattle.nv_meaning.proofs.Moments.{ran-as}

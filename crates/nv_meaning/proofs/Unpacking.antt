@@ -6,10 +6,10 @@ use Rattle.nv_ast.specs.declared.tree.LayoutText.{LayoutText}
 use Rattle.nv_ast.specs.Tree.{LayoutTree, NamedLayout, GapLayout, PartsLayout, JoinedLayout}
 use Rattle.nv_ast.specs.LayoutView.{layout_tree, field_tree, list_fields, list_layouts}
 use Rattle.nv_ast.specs.Outline.{Layouts, OutlineTrees, NamedOutlines, outline, outlines, field_outline, field_outlines, size, total_size, total_named_size, longest, outline_height, highest_outline, highest_named_outline}
-use Rattle.nv_meaning.specs.Values.{NamedValues, no_named_values, named_value_and, ◌++_fields◌, fields_of}
+use Rattle.nv_values.specs.Values.{NamedValues, no_named_values, named_value_and, ◌++_fields◌, fields_of}
 use Rattle.nv_meaning.specs.inner.Tables.{is_alias}
 use Rattle.nv_meaning.specs.Packing.{value_at, parts_at, alternatives_at, joined_at}
-use Rattle.nv_meaning.specs.inner.View.{Named, view, list_named_values}
+use Rattle.nv_values.specs.inner.View.{Named, view, list_named_values}
 use Rattle.nv_ast.proofs.Items.{take_item, split_item}
 
 abbrev pub FieldItem : Type 0

@@ -10,13 +10,13 @@ use Rattle.nv_base.specs.Memories.{Memories}
 use Rattle.nv_base.specs.Meanings.{FullOutcome, source_writes, left_by, IsPrefix}
 use Rattle.nv_ast.specs.Name.{IsName}
 use Rattle.nv_ast.specs.Tree.{ProgramTree, FunTree}
-use Rattle.nv_meaning.specs.Values.{Scope, words_of, all_words}
-use Rattle.nv_meaning.specs.Running.{Running, Result, Gives, Raises, Stops, closed, over}
+use Rattle.nv_values.specs.Values.{Scope, words_of, all_words}
+use Rattle.nv_values.specs.Running.{Running, Result, Gives, Raises, Stops, closed, over}
 use Rattle.nv_meaning.specs.Meaning.{Declared, eval, run_main, source, declared, function_in, calls_within}
-use Rattle.nv_meaning.specs.declared.value.Value as code
-use Rattle.nv_meaning.specs.declared.stop.Stop.{Stop}
-use Rattle.nv_meaning.specs.declared.stop.Stop.TheVariants as stops
-use Rattle.nv_meaning.specs.inner.View.{view, list_values}
+use Rattle.nv_values.specs.declared.value.Value as code
+use Rattle.nv_values.specs.declared.stop.Stop.{Stop}
+use Rattle.nv_values.specs.declared.stop.Stop.TheVariants as stops
+use Rattle.nv_values.specs.inner.View.{view, list_values}
 use Rattle.nv_meaning.specs.inner.Ran.{At, at, running, Wrote, RanValue, IsValue, Grown, now_of, Executes}
 use Rattle.nv_meaning.proofs.Grows.{grown-here}
 

@@ -1,6 +1,7 @@
-pub mod Values
+pub use Rattle.nv_values.specs.Values
+pub use Rattle.nv_values.specs.Operators
+pub use Rattle.nv_values.specs.Running
 pub mod Packing
-pub mod Running
 pub mod Meaning
 pub mod Laws
 pub mod inner

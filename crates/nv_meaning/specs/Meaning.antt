@@ -1,52 +1,26 @@
 -- What a program means: by recursion on its text and on the number of calls, over words, truths, tuples and records.
 -- Evaluation is strict and from left to right. Where a program is not typed, what it asks for has a harmless answer.
-use Rattle.std.specs.Prelude.{ℕ, zero, suc, true, false, not, nat_eq, nat_lt, if◌then◌else◌, List, [], ◌∷◌, ◌++◌, Option, Some, None, bytes_eq, codes}
-use Rattle.nv_base.specs.declared.term.Bin.TheVariants as bin
+use Rattle.std.specs.Prelude.{ℕ, zero, suc, true, false, not, if◌then◌else◌, List, [], ◌∷◌, ◌++◌, Option, Some, None, bytes_eq, codes}
 use Rattle.nv_base.specs.declared.outcome.Outcome.TheVariants as outcome
-use Rattle.nv_base.specs.Words.{bin_word, word, word_not, shifted_left, shifted_right, rotated_left}
+use Rattle.nv_base.specs.Words.{word, word_not}
 use Rattle.nv_base.specs.Memories.{Memories}
 use Rattle.nv_base.specs.Meanings.{Meaning}
 use Rattle.nv_ast.specs.declared.tree.Op.{Op}
-use Rattle.nv_ast.specs.declared.tree.Op.TheVariants.{Add, Sub, And, Or, Xor, Eq, Ne, Lt, Le, Gt, Ge, Both, Either}
-use Rattle.nv_ast.specs.declared.tree.ShiftOp.{ShiftOp}
-use Rattle.nv_ast.specs.declared.tree.ShiftOp.TheVariants.{Left, Right, Rotate}
+use Rattle.nv_ast.specs.declared.tree.Op.TheVariants.{Both, Either}
 use Rattle.nv_ast.specs.Tree.{Tree, NumberTree, TruthTree, VarTree, ParenTree, TupleTree, FieldsTree, DotTree, InvertTree, NegateTree, BinaryTree, ShiftTree, CallTree, UnpackTree, PackTree, RaiseTree, IfTree, TryTree, FetchTree, BlockTree, Trees, no_trees, tree_and, NamedTrees, no_named_trees, named_tree_and, StatementTree, LetStatement, StoreStatement, StatementTrees, no_statements, statement_and}
 use Rattle.nv_ast.specs.Tree.{NamedLayout, NamedTypes, named_type_and, FunTree, DeclTree, LayoutDecl, ExceptionDecl, GroupDecl, ProgramTree}
 use Rattle.nv_ast.specs.Outline.{Layouts, outline}
 use Rattle.nv_ast.specs.Types.{named_types_of}
-use Rattle.nv_meaning.specs.Values.{Value, Word, Truth, Tuple, Record, Values, no_values, value_and, NamedValues, no_named_values, named_value_and, named_values_from, Scope, variable_in, word_of, truth_of, fields_of, field_named, words_of, all_matched, matched}
+use Rattle.nv_values.specs.Values.{Word, Truth, Tuple, Record, Values, no_values, value_and, NamedValues, no_named_values, named_value_and, named_values_from, Scope, variable_in, word_of, truth_of, fields_of, field_named, words_of, all_matched, matched}
+pub use Rattle.nv_values.specs.Operators.{combined, shifted}
 use Rattle.nv_meaning.specs.Packing.{unpacked_value, packed_value}
-use Rattle.nv_meaning.specs.Running.{Running, Result, Gives, Raises, Stops, Results, GiveAll, NamedResults, GiveNamed, Stated, GoesOn, and_then, and_all, and_named, and_stated, and_further, then_more, then_named, then_stated, before_rest, before_named, handled, exception_number, fetch, store, taken, closed}
+use Rattle.nv_values.specs.Running.{Running, Result, Gives, Raises, Stops, Results, GiveAll, NamedResults, GiveNamed, Stated, GoesOn, and_then, and_all, and_named, and_stated, and_further, then_more, then_named, then_stated, before_rest, before_named, handled, exception_number, fetch, store, taken, closed}
 
--- ---- operators
-
--- the value of an operator that evaluates both operands; comparison is unsigned
-abbrev pub combined : Op → ℕ → ℕ → Value
-combined Add x y = Word (bin_word bin.Add x y)
-combined Sub x y = Word (bin_word bin.Sub x y)
-combined And x y = Word (bin_word bin.And x y)
-combined Or x y = Word (bin_word bin.Or x y)
-combined Xor x y = Word (bin_word bin.Xor x y)
-combined Eq x y = Truth (nat_eq x y)
-combined Ne x y = Truth (not (nat_eq x y))
-combined Lt x y = Truth (nat_lt x y)
-combined Le x y = Truth (not (nat_lt y x))
-combined Gt x y = Truth (nat_lt y x)
-combined Ge x y = Truth (not (nat_lt x y))
-combined Both x y = Truth false
-combined Either x y = Truth false
-
--- the left operand first; && and || evaluate the right one only where it decides
+-- ---- operators: the left operand first; && and || evaluate the right one only where it decides
 abbrev pub binary : Op → Result → (Running → Result) → Result
 binary Both left right = and_then left (λ v now. if truth_of v then right now else Gives (Truth false) now)
 binary Either left right = and_then left (λ v now. if truth_of v then Gives (Truth true) now else right now)
 binary op left right = and_then left (λ v now. and_then (right now) (λ w last. Gives (combined op (word_of v) (word_of w)) last))
-
--- the word of a shift by n places
-abbrev pub shifted : ShiftOp → ℕ → ℕ → ℕ
-shifted Left n x = shifted_left n x
-shifted Right n x = shifted_right n x
-shifted Rotate n x = rotated_left n x
 
 -- ---- what a program declares
 

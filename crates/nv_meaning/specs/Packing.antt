@@ -4,7 +4,7 @@ use Rattle.std.specs.Prelude.{ℕ, zero, suc, min, if◌then◌else◌, List, []
 use Rattle.nv_ast.specs.Bits.{bits, number, packed}
 use Rattle.nv_ast.specs.Outline.{OutlineTree, BitsOutline, GapOutline, PartsOutline, OverlayOutline, JoinedOutline, OutlineTrees, no_outlines, outline_and, NamedOutlines, no_named_outlines, named_outline_and, size}
 use Rattle.nv_ast.specs.Types.{packed_words}
-use Rattle.nv_meaning.specs.Values.{Value, Word, Record, NamedValues, no_named_values, named_value_and, ◌++_fields◌, words_of, words_value, word_of, fields_of, field_named, has_field}
+use Rattle.nv_values.specs.Values.{Value, Word, Record, NamedValues, no_named_values, named_value_and, ◌++_fields◌, words_of, words_value, word_of, fields_of, field_named, has_field}
 
 -- ---- unpacking: the value of an outline whose bits begin a list. A field has at most 32 bits; of a wider one, which no
 -- typed program has, the first 32 are read.

@@ -1,4 +1,4 @@
-pub mod View
+pub use Rattle.nv_values.specs.inner.View
 pub mod Tables
 pub mod Sizes
 pub mod TableView

@@ -4,16 +4,15 @@
 mod arguments;
 pub mod laws;
 mod memory;
-mod operators;
 mod pack;
+mod parts;
 mod program;
 mod run;
 mod scope;
 mod sizes;
-mod stop;
+mod step;
 mod table;
 mod unpack;
-mod value;
 
 pub use program::exec;
 pub use table::Table;

@@ -1,23 +1,23 @@
 // Whole programs.
 
-ghost use Rattle.std.specs.Prelude.{◌≡◌, ℕ, List, [], Some, take, IfOk, OnOk, OnErr};
+ghost use Rattle.std.specs.Prelude.{◌≡◌, ℕ, List, [], Some, IfOk, OnOk, OnErr};
 ghost use Rattle.nv_base.specs.Log.{noted_all};
 ghost use Rattle.nv_base.specs.Meanings.{source_writes, left_by, IsPrefix};
 ghost use Rattle.nv_base.specs.declared.outcome.Write.{Write as WriteEvent};
 ghost use Rattle.nv_ast.specs.TypedView.{typed_program};
 ghost use Rattle.nv_meaning.specs.Meaning.{source, run_main as main_run};
 ghost use Rattle.nv_ast.specs.ProgramView.{fun_tree};
-ghost use Rattle.nv_meaning.specs.Running.{Running, Result as RunResult, closed, over};
+ghost use Rattle.nv_values.specs.Running.{Running, Result as RunResult, closed, over};
 ghost use Rattle.nv_meaning.specs.inner.TableView.{declared_in};
 ghost use Rattle.nv_meaning.specs.inner.Ran.{at, Executes, IsValue, Grown};
 
 use crate::arguments::add_arguments;
+use crate::parts::{all_words_in, words_in};
 use crate::run::settled;
-use crate::stop::Stop;
 use crate::table::Table;
-use crate::value::{Value, all_words_in, words_in};
 use nv_ast::{Fun, Name, Typed};
-use nv_base::{NoMemory, Outcome, Packet, Words, WriteLog};
+use nv_base::{NoMemory, Outcome, Packet, WriteLog};
+use nv_values::{Stop, Value, first_words};
 use std::alloc::Global;
 
 /// Runs a program on these arguments with `n` calls: outcome, packet and log are those of its
@@ -81,16 +81,5 @@ fn outcome_of(alloc: Global, answer: Result<Value, Stop>) -> Result<Outcome, NoM
             Stop::Fault(m, at) => Ok(Outcome::Fault(m, at as u64)),
             Stop::Going => Ok(Outcome::Going),
         },
-    }
-}
-
-// The first eight of some words; a typed program's outcome has no more.
-fn first_words(words: &[u32]) -> Words
-    ensures { result ≡ take 8 words.now }
-{
-    if words.len() <= 8 {
-        Words::of(words)
-    } else {
-        Words::of(&words[..8])
     }
 }

@@ -11,6 +11,7 @@ ghost use Rattle.nv_meaning.specs.inner.Sizes.{sizes_of};
 use crate::sizes::{name_size, sizes};
 use nv_ast::{Decl, Fun, LayoutText, Name, Program};
 use nv_base::NoMemory;
+use nv_values::exception_at;
 use std::alloc::Global;
 use std::collections::HashMap;
 
@@ -183,7 +184,7 @@ impl<'a> Table<'a> {
     ghost use Rattle.nv_ast.specs.ProgramView.{program_of, fun_tree};
     ghost use Rattle.nv_ast.specs.Tree.{NamedLayout};
     ghost use Rattle.nv_meaning.specs.Meaning.{declared, function_in};
-    ghost use Rattle.nv_meaning.specs.Running.{exception_number};
+    ghost use Rattle.nv_values.specs.Running.{exception_number};
     ghost use Rattle.nv_meaning.specs.inner.Tables.{is_alias, laid, layout_pairs};
     ghost use Rattle.nv_meaning.specs.inner.TableView.{declared_in};
 
@@ -235,8 +236,8 @@ impl<'a> Table<'a> {
         ensures { result ≡ exception_number (declared_in self.now).exceptions x.now }
     {
         match self.exception_places.get(&x) {
-            Some(place) => *place as u16 + 1,
-            None => 0,
+            Some(place) => exception_at(Some(*place)),
+            None => exception_at(None),
         }
     }
 

@@ -4,20 +4,19 @@ use Rattle.std.specs.Borrow.{Bor}
 use Rattle.std.specs.declared.alloc.Global.{Global}
 use Rattle.nv_base.specs.declared.outcome.Write.{Write}
 use Rattle.nv_base.specs.declared.outcome.Outcome.{Outcome}
-use Rattle.nv_base.specs.declared.outcome.Outcome.TheVariants as outcome
 use Rattle.nv_base.specs.declared.error.NoMemory as base
 use Rattle.nv_base.specs.Memories.{Memories}
 use Rattle.nv_base.specs.Log.{Log, noted_all}
 use Rattle.nv_base.specs.Meanings.{FullOutcome, source_writes, left_by, IsPrefix}
-use Rattle.nv_meaning.specs.Values.{Word, Tuple, Record, Scope}
-use Rattle.nv_meaning.specs.Running.{Running, Result, Gives, Raises, Stops, Results, GiveAll, Breaks, NamedResults, GiveNamed, BreaksNamed, Stated, GoesOn, StopsAt}
+use Rattle.nv_values.specs.Values.{Word, Tuple, Record, Scope}
+use Rattle.nv_values.specs.Running.{Running, Result, Gives, Results, GiveAll, Breaks, NamedResults, GiveNamed, BreaksNamed, Stated, GoesOn, StopsAt}
 use Rattle.nv_meaning.specs.Meaning.{Declared, Calls, calls_within}
-use Rattle.nv_meaning.specs.inner.View.{view, list_values, list_named_values}
-use Rattle.nv_meaning.specs.declared.value.Value.{Value}
-use Rattle.nv_meaning.specs.declared.stop.Step.{Step}
-use Rattle.nv_meaning.specs.declared.stop.Step.TheVariants.{Done, Again}
-use Rattle.nv_meaning.specs.declared.stop.Stop.{Stop}
-use Rattle.nv_meaning.specs.declared.stop.Stop.TheVariants.{NoMemory, Raised, Fault, Going}
+pub use Rattle.nv_values.specs.inner.Stopping.{now_of, Grown, Stopped, IsValue}
+use Rattle.nv_values.specs.inner.View.{view, list_values, list_named_values}
+use Rattle.nv_values.specs.declared.value.Value.{Value}
+use Rattle.nv_meaning.specs.declared.step.Step.{Step}
+use Rattle.nv_meaning.specs.declared.step.Step.TheVariants.{Done, Again}
+use Rattle.nv_values.specs.declared.stop.Stop.{Stop}
 
 -- ---- moments of the interpreter's work: the calls that are left, the memories and the log
 pub record At : Type 0 where
@@ -40,25 +39,6 @@ pub record Wrote (a b : At) (ws : List Write) : Type 0 where
 
 -- ---- answers
 
--- the run of a result
-abbrev pub now_of : Result → Running
-now_of (Gives v now) = now
-now_of (Raises k vs now) = now
-now_of (Stops how now) = now
-
--- the writes so far are the first ones of a result's, and the further ones made its memories of those so far
-pub record Grown (now : Running) (r : Result) : Type 0 where
-  pub rest : List Write
-  pub writes : (now_of r).writes ≡ now.writes ++ rest
-  pub packet : (now_of r).packet ≡ left_by rest now.packet
-
--- a stop is what the run came to; after want of memory its writes so far are the first ones of the result's
-abbrev pub Stopped : Stop → Running → Result → Type 0
-Stopped NoMemory now r = Grown now r
-Stopped (Raised k vs) now r = r ≡ Raises k (list_values vs.items) now
-Stopped (Fault m at) now r = r ≡ Stops (outcome.Fault m at) now
-Stopped Going now r = r ≡ Stops outcome.Going now
-
 -- a step with the call in its place made
 abbrev pub step_result : Calls → Step → Running → Result
 step_result call (Done v) now = Gives (view v) now
@@ -67,10 +47,6 @@ step_result call (Again f vs) now = call f.now (list_values vs.items) now
 abbrev pub IsStep : Calls → Answer Step Stop → Running → Result → Type 0
 IsStep call (Ok step) now r = r ≡ step_result call step now
 IsStep call (Err stop) now r = Stopped stop now r
-
-abbrev pub IsValue : Answer Value Stop → Running → Result → Type 0
-IsValue (Ok v) now r = r ≡ Gives (view v) now
-IsValue (Err stop) now r = Stopped stop now r
 
 -- some values as their tuple or record, and a scope as any value
 abbrev pub all_result : Results → Result

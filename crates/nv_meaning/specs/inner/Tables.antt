@@ -1,15 +1,11 @@
 -- What a table of declarations holds.
-use Rattle.std.specs.Prelude.{ℕ, suc, Bool, true, false, List, [], ◌∷◌, ◌++◌, Option, Some, None, bytes_eq, if◌then◌else◌, map}
+use Rattle.std.specs.Prelude.{ℕ, Bool, true, false, List, [], ◌∷◌, ◌++◌, Option, Some, None, map}
 use Rattle.std.specs.Borrow.{Bor}
 use Rattle.nv_ast.specs.Tree.{LayoutTree, NamedLayout, GapLayout, PartsLayout, JoinedLayout, FunTree, DeclTree, LayoutDecl, ExceptionDecl, GroupDecl}
 use Rattle.nv_ast.specs.declared.tree.LayoutText.{LayoutText}
 use Rattle.nv_ast.specs.LayoutView.{layout_tree}
 use Rattle.nv_ast.specs.Outline.{Layouts, outline}
-
--- the place of the first of this name, counted from i
-abbrev pub place_from : ℕ → List ℕ → List (List ℕ) → Option ℕ
-place_from i x [] = None
-place_from i x (y ∷ ys) = if bytes_eq x y then Some i else place_from (suc i) x ys
+pub use Rattle.nv_values.specs.inner.Places.{place_from}
 
 -- the outlines of the known layouts and of further ones, each of which may name those before it
 abbrev pub laid : Layouts → List (List ℕ × LayoutTree) → Layouts

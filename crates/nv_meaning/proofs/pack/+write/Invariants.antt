@@ -4,7 +4,7 @@ use Rattle.nv_ast.specs.LayoutView.{layout_tree, field_tree, list_fields, list_l
 use Rattle.nv_ast.specs.Outline.{outline, outlines, field_outline, field_outlines, outline_height, highest_outline, highest_named_outline}
 use Rattle.nv_meaning.specs.Packing.{parts_bits, joined_bits, chosen_bits}
 use Rattle.nv_meaning.specs.inner.TableView.{declared_in}
-use Rattle.nv_meaning.specs.inner.View.{view, list_named_values}
+use Rattle.nv_values.specs.inner.View.{view, list_named_values}
 use Rattle.nv_meaning.proofs.Unpacking.{alias_rank}
 use Rattle.nv_meaning.proofs.pack.+write.Given as goal
 

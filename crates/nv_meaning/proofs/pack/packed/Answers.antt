@@ -2,9 +2,9 @@ use Rattle.std.proofs.Common.{◌≡◌, ◌∙◌, ap, sym, subst, length, min,
 use Rattle.std.below.core.specs.declared.int.u64.TheConstants.{MAX}
 use Rattle.nv_ast.specs.Tree.{NamedLayout}
 use Rattle.nv_ast.specs.Outline.{outline, size}
-use Rattle.nv_meaning.specs.Values.{words_value}
+use Rattle.nv_values.specs.Values.{words_value}
 use Rattle.nv_meaning.specs.Packing.{packed_value}
-use Rattle.nv_meaning.specs.inner.View.{view}
+use Rattle.nv_values.specs.inner.View.{view}
 use Rattle.nv_meaning.proofs.Places.{all-laid}
 use Rattle.nv_meaning.proofs.pack.packed.Goals as goal
 

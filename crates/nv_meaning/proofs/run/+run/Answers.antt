@@ -1,4 +1,4 @@
-use Rattle.std.proofs.Common.{◌≡◌, ◌∙◌, ℕ, ◌<◌, ◌^◌, ◌+◌, ◌-◌, ◌*◌, ◌≤◌, [], ◌∷◌, ◌++◌, refl, sym, ap, subst, drop, Ok, Err, arith, append-nil}
+use Rattle.std.proofs.Common.{◌≡◌, ◌∙◌, ◌+◌, ◌-◌, ◌*◌, ◌≤◌, [], ◌∷◌, ◌++◌, refl, sym, ap, subst, drop, Ok, Err, arith, append-nil}
 use Rattle.std.proofs.lemmas.Result.{err_from_is_err_and}
 use Rattle.nv_ast.specs.declared.tree.Expr.{out-Expr}
 use Rattle.nv_ast.specs.ExprView.{tree_of, list_trees, list_named_trees, list_statements, statement_tree}
@@ -6,15 +6,15 @@ use Rattle.nv_ast.specs.PatternView.{pattern_tree, list_patterns}
 use Rattle.nv_ast.specs.TypeView.{list_named_types}
 use Rattle.nv_ast.specs.ProgramView.{fun_tree}
 use Rattle.nv_ast.specs.Tree.{NumberTree, TruthTree, VarTree, ParenTree, TupleTree, FieldsTree, BinaryTree, CallTree, RaiseTree, IfTree, TryTree, BlockTree}
-use Rattle.nv_meaning.specs.Values.{Word, Truth, all_matched, matched, word_of, words_of}
-use Rattle.nv_meaning.specs.Running.{Gives, exception_number, store, then_stated}
+use Rattle.nv_values.specs.Values.{Word, Truth, all_matched, matched, word_of, words_of}
+use Rattle.nv_values.specs.Running.{Gives, exception_number, store, then_stated}
 use Rattle.nv_meaning.specs.Meaning.{eval as evaluated, run_one, entered}
 use Rattle.nv_meaning.specs.inner.TableView.{declared_in}
-use Rattle.nv_meaning.specs.inner.View.{view, list_values, scope_of}
+use Rattle.nv_values.specs.inner.View.{view, list_values, scope_of}
 use Rattle.nv_meaning.specs.inner.Ran.{at, IsStep, RanScope}
-use Rattle.nv_meaning.specs.declared.value.Value as code
-use Rattle.nv_meaning.specs.declared.stop.Step.TheVariants.{Done, Again}
-use Rattle.nv_meaning.specs.declared.stop.Stop.TheVariants.{NoMemory, Raised, Fault, Going}
+use Rattle.nv_values.specs.declared.value.Value as code
+use Rattle.nv_meaning.specs.declared.step.Step.TheVariants.{Done, Again}
+use Rattle.nv_values.specs.declared.stop.Stop.TheVariants.{NoMemory, Raised, Fault, Going}
 use Rattle.nv_meaning.proofs.Bindings.{extends-more}
 use Rattle.nv_meaning.proofs.Moments.{ran-here}
 use Rattle.nv_meaning.proofs.Lists.{dropped-all}

@@ -1,0 +1,127 @@
+-- A run in progress, and what a part of the text comes to in it.
+use Rattle.std.specs.Prelude.{ℕ, zero, suc, ◌==◌, ◌+◌, List, [], ◌∷◌, ◌++◌, Option, Some, None, length, take, if◌then◌else◌, bytes_eq}
+use Rattle.nv_base.specs.declared.term.Mem.{Mem}
+use Rattle.nv_base.specs.declared.outcome.Write.{Write}
+use Rattle.nv_base.specs.declared.outcome.Outcome.{Outcome}
+use Rattle.nv_base.specs.declared.outcome.Outcome.TheVariants as outcome
+use Rattle.nv_base.specs.Memories.{Memories, fetched, stored}
+use Rattle.nv_base.specs.Meanings.{FullOutcome}
+use Rattle.nv_ast.specs.Faults.{can_move}
+use Rattle.nv_values.specs.Values.{Value, Word, Values, value_and, NamedValues, named_value_and, Scope, words_of, all_words, words_value}
+
+-- how many calls are left in the whole run, the memories, and the writes so far, the first one first
+pub record Running : Type 0 where
+  pub calls : ℕ
+  pub packet : Memories
+  pub writes : List Write
+
+-- what an expression comes to: a value, an exception with its number on the way to a handler, or the end of the run
+pub data Result : Type 0 where
+  Gives : (v : Value) (now : Running) → Result
+  Raises : (k : ℕ) (vs : Values) (now : Running) → Result
+  Stops : (how : Outcome) (now : Running) → Result
+
+-- what expressions one after another come to: all their values, or what the first came to that gave none
+pub data Results : Type 0 where
+  GiveAll : (vs : Values) (now : Running) → Results
+  Breaks : (how : Result) → Results
+
+-- the same for expressions with names
+pub data NamedResults : Type 0 where
+  GiveNamed : (vs : NamedValues) (now : Running) → NamedResults
+  BreaksNamed : (how : Result) → NamedResults
+
+-- what statements come to: the scope behind them, or what an expression came to that gave no value
+pub data Stated : Type 0 where
+  GoesOn : (scope : Scope) (now : Running) → Stated
+  StopsAt : (how : Result) → Stated
+
+-- ---- what follows a value, in each of these
+abbrev pub and_then : Result → (Value → Running → Result) → Result
+and_then (Gives v now) next = next v now
+and_then (Raises k vs now) next = Raises k vs now
+and_then (Stops how now) next = Stops how now
+
+abbrev pub and_all : Results → (Values → Running → Result) → Result
+and_all (GiveAll vs now) next = next vs now
+and_all (Breaks how) next = how
+
+abbrev pub and_named : NamedResults → (NamedValues → Running → Result) → Result
+and_named (GiveNamed vs now) next = next vs now
+and_named (BreaksNamed how) next = how
+
+abbrev pub and_stated : Stated → (Scope → Running → Result) → Result
+and_stated (GoesOn scope now) next = next scope now
+and_stated (StopsAt how) next = how
+
+abbrev pub and_further : Stated → (Scope → Running → Stated) → Stated
+and_further (GoesOn scope now) next = next scope now
+and_further (StopsAt how) next = StopsAt how
+
+abbrev pub then_more : Result → (Value → Running → Results) → Results
+then_more (Gives v now) next = next v now
+then_more (Raises k vs now) next = Breaks (Raises k vs now)
+then_more (Stops how now) next = Breaks (Stops how now)
+
+abbrev pub then_named : Result → (Value → Running → NamedResults) → NamedResults
+then_named (Gives v now) next = next v now
+then_named (Raises k vs now) next = BreaksNamed (Raises k vs now)
+then_named (Stops how now) next = BreaksNamed (Stops how now)
+
+abbrev pub then_stated : Result → (Value → Running → Stated) → Stated
+then_stated (Gives v now) next = next v now
+then_stated (Raises k vs now) next = StopsAt (Raises k vs now)
+then_stated (Stops how now) next = StopsAt (Stops how now)
+
+-- a value in front of those that follow
+abbrev pub before_rest : Value → Results → Results
+before_rest v (GiveAll vs now) = GiveAll (value_and v vs) now
+before_rest v (Breaks how) = Breaks how
+
+abbrev pub before_named : List ℕ → Value → NamedResults → NamedResults
+before_named x v (GiveNamed vs now) = GiveNamed (named_value_and x v vs) now
+before_named x v (BreaksNamed how) = BreaksNamed how
+
+-- ---- exceptions: the handler of exception k takes it, and hands on every other one
+abbrev pub handled : ℕ → (Values → Running → Result) → Result → Result
+handled k handler (Gives v now) = Gives v now
+handled k handler (Raises j vs now) = if j == k then handler vs now else Raises j vs now
+handled k handler (Stops how now) = Stops how now
+
+-- exceptions are numbered from 1 in the order of their declarations; 0 is none
+abbrev pub number_from : ℕ → List (List ℕ) → List ℕ → ℕ
+number_from k [] x = 0
+number_from k (y ∷ ys) x = if bytes_eq x y then k else number_from (k + 1) ys x
+
+abbrev pub exception_number : List (List ℕ) → List ℕ → ℕ
+exception_number exceptions x = number_from 1 exceptions x
+
+-- ---- accesses: one that reaches past the memory ends the run with its kind and first address, and changes nothing.
+-- One of a number of words that no typed program fetches or stores there gives 0, or changes nothing.
+abbrev pub after_fetch : Mem → ℕ → Option (List ℕ) → Running → Result
+after_fetch m at (Some ws) now = Gives (words_value ws) now
+after_fetch m at None now = Stops (outcome.Fault m at) now
+
+abbrev pub fetch : Mem → ℕ → ℕ → Running → Result
+fetch m n at now = if can_move m n then after_fetch m at (fetched m at n now.packet) now else Gives (Word 0) now
+
+abbrev pub after_store : Scope → Mem → ℕ → List ℕ → Option Memories → Running → Stated
+after_store scope m at ws (Some p) now = GoesOn scope (record { calls = now.calls; packet = p; writes = now.writes ++ record { mem = m; at = at; words = ws } ∷ [] })
+after_store scope m at ws None now = StopsAt (Stops (outcome.Fault m at) now)
+
+abbrev pub store : Scope → Mem → ℕ → List ℕ → Running → Stated
+store scope m at ws now = if can_move m (length ws) then after_store scope m at ws (stored m at ws now.packet) now else GoesOn scope now
+
+-- ---- a call takes one of those left in the run; where none is left the run is still going, with its writes so far
+abbrev pub taken : ℕ → Running → (Running → Result) → Result
+taken zero now next = Stops outcome.Going now
+taken (suc left) now next = next (record { calls = left; packet = now.packet; writes = now.writes })
+
+-- ---- the full outcome of a run whose main came to this; of a typed program it has at most eight words
+abbrev pub over : Outcome → Running → FullOutcome
+over how now = record { outcome = how; packet = now.packet; writes = now.writes }
+
+abbrev pub closed : Result → FullOutcome
+closed (Gives v now) = over (outcome.Ended (take 8 (words_of v))) now
+closed (Raises k vs now) = over (outcome.Raised k (take 8 (all_words vs))) now
+closed (Stops how now) = over how now

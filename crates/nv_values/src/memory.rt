@@ -1,0 +1,57 @@
+// Accesses to a packet.
+
+ghost use Rattle.std.specs.Prelude.{◌≡◌, ◌<◌, ◌^◌, ℕ, [], ◌∷◌};
+ghost use Rattle.nv_base.specs.Log.{noted_all};
+ghost use Rattle.nv_base.specs.Meanings.{source_writes};
+ghost use Rattle.nv_ast.specs.Faults.{can_move as may_move};
+ghost use Rattle.nv_values.specs.Running.{Running, fetch};
+ghost use Rattle.nv_values.specs.inner.Stopping.{IsValue};
+
+use crate::stop::Stop;
+use crate::value::{Value, value_of_words};
+use nv_base::{Access, Mem, Packet, Write, WriteLog};
+use std::alloc::Global;
+
+// The first scratch word that belongs to the compiler.
+const COMPILER: u32 = 512;
+
+/// Whether an access may have so many words.
+pub fn can_move(m: Mem, n: usize) -> bool
+    ensures { result ≡ may_move m n }
+{
+    match m {
+        Mem::Sram | Mem::Scratch => 1 <= n && n <= 8,
+        Mem::Sdram => n == 2 || n == 4 || n == 6 || n == 8,
+    }
+}
+
+/// Fetches n words from an address.
+pub fn fetched<'a>(
+    alloc: Global,
+    p: &Packet,
+    m: Mem,
+    n: u32,
+    at: u32,
+) -> Result<Value<'a>, Stop<'a>>
+    ensures { (now : Running) → now.packet ≡ p.now → IsValue result now (fetch m n at now) }
+{
+    if !can_move(m, n as usize) {
+        return Ok(Value::Word(0));
+    }
+    let mut words = [0u32; 8];
+    let into = &mut words[..n as usize];
+    match p.read(m, at as u64, into) {
+        Access::Done => Ok(value_of_words(alloc, into)?),
+        Access::Bad => Err(Stop::Fault(m, at)),
+    }
+}
+
+/// Notes a write of the source's; one of the compiler's scratch words isn't noted.
+pub fn note(log: &mut WriteLog, w: Write)
+    requires { log.old.count < 2 ^ 63 }
+    ensures { log.new ≡ noted_all log.old (source_writes (w ∷ [])) }
+{
+    if w.mem != Mem::Scratch || w.at < COMPILER {
+        log.note(w);
+    }
+}
