@@ -13,9 +13,9 @@ use Rattle.place_ir.specs.Fits.{IsFirst, Fits}
 use Rattle.place_ir.proofs.Scoped.{in-itself}
 use Rattle.place_ir.proofs.Sound.{Each, each-append}
 use Rattle.place_ir.proofs.Spilled.{each-all}
-use Rattle.bank_prog.specs.declared.column.Column.TheVariants.{First}
-use Rattle.bank_prog.specs.Columns.{eight, place_words, may_begin, point_uses}
-use Rattle.bank_prog.specs.Rows.{Line, lines, parameter_choice, result_choice, access_choice, use_choice, one_choice, use_cover, copy_cover, argument_cover, homes_cover, operand_banks, capacity, owners, stay_begins, word_begins, begins_at, adjacency, slot_read, value_written, passes}
+use Rattle.bank_form.specs.declared.column.Column.TheVariants.{First}
+use Rattle.bank_form.specs.Columns.{eight, place_words, may_begin, point_uses}
+use Rattle.bank_form.specs.Rows.{Line, lines, parameter_choice, result_choice, access_choice, use_choice, one_choice, use_cover, copy_cover, argument_cover, homes_cover, operand_banks, capacity, owners, stay_begins, word_begins, begins_at, adjacency, slot_read, value_written, passes}
 use Rattle.bank_prog.specs.Meaning.{Chosen, Holds}
 use Rattle.reg_assign.specs.inner.Chosen.{IsChosen}
 use Rattle.reg_assign.proofs.Counts.{In, contained-in, in-kept, each-from}

@@ -16,11 +16,11 @@ use Rattle.place_ir.specs.Fits.{IsFirst, is_early, Fits}
 use Rattle.place_ir.proofs.Scoped.{in-itself}
 use Rattle.place_ir.proofs.Sound.{Each}
 use Rattle.zo_model.specs.Program.{cost_where}
-use Rattle.bank_prog.specs.declared.column.Column.{Column}
-use Rattle.bank_prog.specs.declared.column.Column.TheVariants.{Dir, Stay, Ear, First, PasL, PasS}
-use Rattle.bank_prog.specs.Columns.{Priced, each_point, eight, point_uses, place_words, beginnings, role_beginnings, sort_beginnings, def_columns, fill_columns, dir_columns, point_dirs, stay_columns, point_stays, ear_columns, first_columns, srv_columns, for_eight, pas_l_columns, pas_s_columns, all_dirs, all_stays, all_ears, all_pas_l, all_pas_s, priced, columns}
+use Rattle.bank_form.specs.declared.column.Column.{Column}
+use Rattle.bank_form.specs.declared.column.Column.TheVariants.{Dir, Stay, Ear, First, PasL, PasS}
+use Rattle.bank_form.specs.Columns.{Priced, each_point, eight, point_uses, place_words, beginnings, role_beginnings, sort_beginnings, def_columns, fill_columns, dir_columns, point_dirs, stay_columns, point_stays, ear_columns, first_columns, srv_columns, for_eight, pas_l_columns, pas_s_columns, all_dirs, all_stays, all_ears, all_pas_l, all_pas_s, priced, columns}
 use Rattle.bank_prog.specs.Meaning.{Chosen, named_cost}
-use Rattle.bank_prog.proofs.Families.{role-beginnings}
+use Rattle.bank_rows.proofs.Families.{role-beginnings}
 use Rattle.reg_assign.specs.inner.Facts.{count}
 use Rattle.reg_assign.specs.inner.Chosen.{waits, goes_there, chosen, IsChosen}
 use Rattle.reg_assign.proofs.Counts.{In, contained-in, map-in, some-counted, each-from}

@@ -19,11 +19,11 @@ use Rattle.place_ir.specs.inner.Numbers.{values_among}
 use Rattle.place_ir.proofs.Sound.{Each, place_ok, Sound, sound-points, uses_among}
 use Rattle.place_ir.proofs.Spilled.{each-at}
 use Rattle.zo_model.specs.Program.{cost_where}
-use Rattle.bank_prog.specs.declared.column.Bank.TheVariants.{T}
-use Rattle.bank_prog.specs.declared.column.Column.TheVariants.{Srv}
-use Rattle.bank_prog.specs.declared.column.Service.{Service}
-use Rattle.bank_prog.specs.Columns.{sort_of, is_fetched, services, has_bank, srv_columns}
-use Rattle.bank_prog.specs.Program.{same_bank}
+use Rattle.bank_form.specs.declared.column.Bank.TheVariants.{T}
+use Rattle.bank_form.specs.declared.column.Column.TheVariants.{Srv}
+use Rattle.bank_form.specs.declared.column.Service.{Service}
+use Rattle.bank_form.specs.Columns.{sort_of, is_fetched, services, has_bank, srv_columns}
+use Rattle.bank_form.specs.Program.{same_bank}
 use Rattle.bank_prog.specs.Meaning.{named_cost}
 use Rattle.reg_assign.specs.inner.Chosen.{use_at, bank_of, is_in_bank, wanted_bank, chosen}
 use Rattle.reg_assign.proofs.Counts.{In, each-from}

@@ -13,10 +13,10 @@ use Rattle.place_ir.specs.Uses.{Sort, Parameter, Result, Fetched, Value, values,
 use Rattle.place_ir.specs.Fits.{IsGeneral, is_write_register, word_register, is_early, early_uses, maybe, AreCopies, IsPutEarly, is_sort_homed, wants_home, Fits}
 use Rattle.place_ir.proofs.Sound.{Each}
 use Rattle.zo_model.specs.Program.{cost_where}
-use Rattle.bank_prog.specs.declared.column.Bank.TheVariants.{A, B, M}
-use Rattle.bank_prog.specs.declared.column.Column.TheVariants.{Fill}
-use Rattle.bank_prog.specs.Columns.{is_fetched, sort_defs, def_columns, fill_columns}
-use Rattle.bank_prog.specs.Rows.{is_parameter}
+use Rattle.bank_form.specs.declared.column.Bank.TheVariants.{A, B, M}
+use Rattle.bank_form.specs.declared.column.Column.TheVariants.{Fill}
+use Rattle.bank_form.specs.Columns.{is_fetched, sort_defs, def_columns, fill_columns}
+use Rattle.bank_form.specs.Rows.{is_parameter}
 use Rattle.bank_prog.specs.Meaning.{named_cost}
 use Rattle.reg_assign.specs.inner.Chosen.{is_in_bank, waits, goes_there, chosen}
 use Rattle.reg_assign.proofs.Counts.{In, in-kept, each-from}

@@ -21,8 +21,8 @@ use Rattle.place_ir.proofs.Scoped.{in-itself}
 use Rattle.place_ir.proofs.Sound.{Each, each-append, Sound, sound-points, uses_among}
 use Rattle.place_ir.proofs.Spilled.{Apart, all-each, each-at, sort_param, param_vars}
 use Rattle.place_ir.specs.inner.Numbers.{values_among}
-use Rattle.bank_prog.specs.declared.column.Column.{Column}
-use Rattle.bank_prog.specs.Columns.{is_fetched}
+use Rattle.bank_form.specs.declared.column.Column.{Column}
+use Rattle.bank_form.specs.Columns.{is_fetched}
 use Rattle.bank_prog.specs.Meaning.{Chosen}
 use Rattle.reg_assign.specs.inner.Chosen.{use_in, use_at, value_in, value_at, chosen, IsChosen}
 use Rattle.reg_assign.proofs.Counts.{In, contained-in, in-map, in-kept, each-from}

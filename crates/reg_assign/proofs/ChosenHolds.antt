@@ -7,11 +7,11 @@ use Rattle.std.proofs.lemmas.Bool.{false≢true, and_parts, or_left, or_right, n
 use Rattle.nv_base.specs.Sets.{is_in, all_different}
 use Rattle.ssu_ir.specs.Points.{Point}
 use Rattle.zo_model.specs.Program.{cost_where}
-use Rattle.bank_prog.specs.declared.column.Column.{Column}
-use Rattle.bank_prog.specs.Columns.{each_point}
-use Rattle.bank_prog.specs.Rows.{at_least, at_most, covers, exactly_one}
+use Rattle.bank_form.specs.declared.column.Column.{Column}
+use Rattle.bank_form.specs.Columns.{each_point}
+use Rattle.bank_form.specs.Rows.{at_least, at_most, covers, exactly_one}
 use Rattle.bank_prog.specs.Meaning.{Chosen, Holds}
-use Rattle.bank_prog.proofs.PlainLines.{mapped-each, Pairs}
+use Rattle.bank_rows.proofs.PlainLines.{mapped-each, Pairs}
 use Rattle.place_ir.proofs.Scoped.{in-itself}
 use Rattle.place_ir.proofs.Sound.{Each, each-append}
 use Rattle.reg_assign.specs.inner.Facts.{count}

@@ -16,12 +16,12 @@ use Rattle.place_ir.specs.inner.Numbers.{values_among}
 use Rattle.place_ir.proofs.Sound.{Each, Sound, sound-points, uses_among}
 use Rattle.place_ir.proofs.Spilled.{each-at}
 use Rattle.zo_model.specs.Program.{cost_where}
-use Rattle.bank_prog.specs.declared.column.Bank.{Bank}
-use Rattle.bank_prog.specs.declared.column.Bank.TheVariants.{A, B, M, T, L, A15, W}
-use Rattle.bank_prog.specs.declared.column.Column.{Column}
-use Rattle.bank_prog.specs.declared.column.Column.TheVariants.{Srv}
-use Rattle.bank_prog.specs.Program.{same_bank}
-use Rattle.bank_prog.specs.Rows.{banks, srv_at, two_operands, both_at, pair_lines, operand_lines, operand_banks}
+use Rattle.bank_form.specs.declared.column.Bank.{Bank}
+use Rattle.bank_form.specs.declared.column.Bank.TheVariants.{A, B, M, T, L, A15, W}
+use Rattle.bank_form.specs.declared.column.Column.{Column}
+use Rattle.bank_form.specs.declared.column.Column.TheVariants.{Srv}
+use Rattle.bank_form.specs.Program.{same_bank}
+use Rattle.bank_form.specs.Rows.{banks, srv_at, two_operands, both_at, pair_lines, operand_lines, operand_banks}
 use Rattle.bank_prog.specs.Meaning.{Chosen, Holds}
 use Rattle.reg_assign.specs.inner.Facts.{count}
 use Rattle.reg_assign.specs.inner.Chosen.{use_at, bank_of, is_in_bank, operand_bank, wanted_bank, IsChosen}

@@ -22,12 +22,12 @@ use Rattle.place_ir.proofs.Fitting.{apart-from, vars-of-place}
 use Rattle.place_ir.proofs.Scoped.{in-itself, in-either, different-filter, different-without}
 use Rattle.place_ir.proofs.Sound.{Each, each-append}
 use Rattle.place_ir.proofs.Spilled.{Apart}
-use Rattle.bank_prog.specs.declared.column.Column.{Column}
-use Rattle.bank_prog.specs.declared.column.Column.TheVariants.{Dir, Stay, Ear, First, PasL, PasS}
-use Rattle.bank_prog.specs.Columns.{each_point, sort_of, eight}
-use Rattle.bank_prog.specs.Rows.{Line, at_most, is_sdram, same_side, run_at, sort_stays, stays_at, role_early, early_at, covering, side_covering, waiting, read_owners, access_owners, fill_owners, side_owners, write_owners, owners}
+use Rattle.bank_form.specs.declared.column.Column.{Column}
+use Rattle.bank_form.specs.declared.column.Column.TheVariants.{Dir, Stay, Ear, First, PasL, PasS}
+use Rattle.bank_form.specs.Columns.{each_point, sort_of, eight}
+use Rattle.bank_form.specs.Rows.{Line, at_most, is_sdram, same_side, run_at, sort_stays, stays_at, role_early, early_at, covering, side_covering, waiting, read_owners, access_owners, fill_owners, side_owners, write_owners, owners}
 use Rattle.bank_prog.specs.Meaning.{Chosen, Holds}
-use Rattle.bank_prog.proofs.PlainLines.{mapped-each, each-kept, Pairs}
+use Rattle.bank_rows.proofs.PlainLines.{mapped-each, each-kept, Pairs}
 use Rattle.reg_assign.specs.inner.Facts.{count, waits_at}
 use Rattle.reg_assign.specs.inner.Chosen.{names, value_at, waits, goes_there, use_at, IsChosen}
 use Rattle.reg_assign.proofs.Counts.{In, contained-in, count-append, counted-some, some-counted, in-either as in-parts, in-flat, in-map, in-kept, in-if, each-in, each-from}

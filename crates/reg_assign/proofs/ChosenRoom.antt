@@ -19,13 +19,13 @@ use Rattle.place_ir.proofs.Sound.{Each}
 use Rattle.nv_base.specs.declared.term.Mem.{Mem}
 use Rattle.nv_base.specs.declared.term.Mem.TheVariants.{Sram, Sdram, Scratch}
 use Rattle.zo_model.specs.Program.{cost_where}
-use Rattle.bank_prog.specs.declared.column.Bank.{Bank}
-use Rattle.bank_prog.specs.declared.column.Bank.TheVariants.{A, B, M, T, L, A15, W}
-use Rattle.bank_prog.specs.declared.column.Column.TheVariants.{Def, Fill}
-use Rattle.bank_prog.specs.Columns.{is_fetched}
-use Rattle.bank_prog.specs.Rows.{home, held_in, room_lines, capacity}
+use Rattle.bank_form.specs.declared.column.Bank.{Bank}
+use Rattle.bank_form.specs.declared.column.Bank.TheVariants.{A, B, M, T, L, A15, W}
+use Rattle.bank_form.specs.declared.column.Column.TheVariants.{Def, Fill}
+use Rattle.bank_form.specs.Columns.{is_fetched}
+use Rattle.bank_form.specs.Rows.{home, held_in, room_lines, capacity}
 use Rattle.bank_prog.specs.Meaning.{Chosen, Holds}
-use Rattle.bank_prog.proofs.PlainLines.{mapped-each, Pairs}
+use Rattle.bank_rows.proofs.PlainLines.{mapped-each, Pairs}
 use Rattle.reg_assign.specs.inner.Facts.{count, in_bank}
 use Rattle.reg_assign.specs.inner.ReadOff.{room}
 use Rattle.reg_assign.specs.inner.Chosen.{is_in_bank, IsChosen}

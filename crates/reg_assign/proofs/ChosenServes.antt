@@ -16,16 +16,16 @@ use Rattle.place_ir.specs.Uses.{Access, accesses, Sort, Parameter, Result, Fetch
 use Rattle.place_ir.specs.Fits.{read_place, IsGeneral, is_write_register, is_result, IsHome, IsHoused, served, is_early, IsFirst, parameter, IsOperandAt, IsAddressAt, IsServedAt, Fits}
 use Rattle.place_ir.proofs.Scoped.{in-itself}
 use Rattle.place_ir.proofs.Fitting.{apart-from}
-use Rattle.bank_prog.specs.declared.column.Bank.{Bank}
-use Rattle.bank_prog.specs.declared.column.Bank.TheVariants.{A, B, M, T, L, A15, W}
-use Rattle.bank_prog.specs.declared.column.Column.{Column}
-use Rattle.bank_prog.specs.declared.column.Column.TheVariants.{Dir, Ear, Srv}
-use Rattle.bank_prog.specs.declared.column.Service.{Service}
-use Rattle.bank_prog.specs.Columns.{sort_of, is_fetched, eight, place_words, beginnings, role_beginnings, services, has_bank}
-use Rattle.bank_prog.specs.Program.{same_bank}
-use Rattle.bank_prog.specs.Rows.{srv, dir, ear, early, is_written, is_parameter}
+use Rattle.bank_form.specs.declared.column.Bank.{Bank}
+use Rattle.bank_form.specs.declared.column.Bank.TheVariants.{A, B, M, T, L, A15, W}
+use Rattle.bank_form.specs.declared.column.Column.{Column}
+use Rattle.bank_form.specs.declared.column.Column.TheVariants.{Dir, Ear, Srv}
+use Rattle.bank_form.specs.declared.column.Service.{Service}
+use Rattle.bank_form.specs.Columns.{sort_of, is_fetched, eight, place_words, beginnings, role_beginnings, services, has_bank}
+use Rattle.bank_form.specs.Program.{same_bank}
+use Rattle.bank_form.specs.Rows.{srv, dir, ear, early, is_written, is_parameter}
 use Rattle.bank_prog.specs.Meaning.{Chosen}
-use Rattle.bank_prog.proofs.Keys.{bank-true}
+use Rattle.bank_form.proofs.Keys.{bank-true}
 use Rattle.reg_assign.specs.inner.Facts.{count, OnlyThere}
 use Rattle.reg_assign.specs.inner.Chosen.{bank_of, is_in_bank, operand_bank, wanted_bank, goes_there, chosen}
 use Rattle.reg_assign.proofs.Counts.{In, contained-in, some-counted, count-append, map-in}

@@ -22,14 +22,14 @@ use Rattle.place_ir.proofs.Scoped.{in-itself}
 use Rattle.place_ir.proofs.Sound.{place_ok, Sound, sound-points, uses_among}
 use Rattle.place_ir.proofs.Spilled.{each-at, sort_param, param_vars}
 use Rattle.place_ir.proofs.Fitting.{entries-in, label-entry}
-use Rattle.bank_prog.specs.declared.column.Bank.{Bank}
-use Rattle.bank_prog.specs.declared.column.Bank.TheVariants.{A, B, M, T, W}
-use Rattle.bank_prog.specs.declared.column.Column.TheVariants.{Def, Fill}
-use Rattle.bank_prog.specs.Columns.{sort_of, is_fetched}
-use Rattle.bank_prog.specs.Rows.{homes, home as home_columns, is_parameter}
-use Rattle.bank_prog.specs.Program.{same_bank}
+use Rattle.bank_form.specs.declared.column.Bank.{Bank}
+use Rattle.bank_form.specs.declared.column.Bank.TheVariants.{A, B, M, T, W}
+use Rattle.bank_form.specs.declared.column.Column.TheVariants.{Def, Fill}
+use Rattle.bank_form.specs.Columns.{sort_of, is_fetched}
+use Rattle.bank_form.specs.Rows.{homes, home as home_columns, is_parameter}
+use Rattle.bank_form.specs.Program.{same_bank}
 use Rattle.bank_prog.specs.Meaning.{Chosen}
-use Rattle.bank_prog.proofs.Itself.{bank-itself}
+use Rattle.bank_form.proofs.Itself.{bank-itself}
 use Rattle.reg_assign.specs.inner.Facts.{count}
 use Rattle.reg_assign.specs.inner.Chosen.{bank_of, is_in_bank}
 use Rattle.reg_assign.proofs.Counts.{In, some-counted, each-in, kept-in}

@@ -15,13 +15,13 @@ use Rattle.place_ir.specs.Fits.{IsFirst, is_result}
 use Rattle.place_ir.specs.inner.Numbers.{values_among}
 use Rattle.place_ir.proofs.Sound.{place_ok, Sound, sound-points, uses_among}
 use Rattle.place_ir.proofs.Spilled.{each-at}
-use Rattle.bank_prog.specs.declared.column.Bank.{Bank}
-use Rattle.bank_prog.specs.declared.column.Column.TheVariants.{Def, Dir, Fill, Stay, Ear, First, Srv, PasL, PasS}
-use Rattle.bank_prog.specs.declared.column.Service.{Service}
-use Rattle.bank_prog.specs.Columns.{each_point, may_begin, sort_of, is_fetched, point_uses, place_words, eight, beginnings, role_beginnings, sort_beginnings, services, has_bank, columns}
-use Rattle.bank_prog.specs.Rows.{homes}
-use Rattle.bank_prog.proofs.Present as present
-use Rattle.bank_prog.proofs.Tabled.{uses-each, accesses-each, values-each}
+use Rattle.bank_form.specs.declared.column.Bank.{Bank}
+use Rattle.bank_form.specs.declared.column.Column.TheVariants.{Def, Dir, Fill, Stay, Ear, First, Srv, PasL, PasS}
+use Rattle.bank_form.specs.declared.column.Service.{Service}
+use Rattle.bank_form.specs.Columns.{each_point, may_begin, sort_of, is_fetched, point_uses, place_words, eight, beginnings, role_beginnings, sort_beginnings, services, has_bank, columns}
+use Rattle.bank_form.specs.Rows.{homes}
+use Rattle.bank_rows.proofs.Present as present
+use Rattle.bank_form.proofs.Tabled.{uses-each, accesses-each, values-each}
 use Rattle.reg_assign.proofs.Counts.{In, in-contained, contained-in, in-left, in-right, kept-in}
 use Rattle.reg_assign.proofs.FactsThere.{point-of}
 use Rattle.reg_assign.proofs.FactsPoints.{below-eight, role-among}

@@ -13,17 +13,17 @@ use Rattle.place_ir.specs.Uses.{Access, accesses, Sort, Parameter, Result, Fetch
 use Rattle.place_ir.specs.Fits.{is_slot, is_read_register, served, is_early, IsFirst, parameter, IsServedAt, stays, Fits}
 use Rattle.place_ir.proofs.Scoped.{in-itself}
 use Rattle.place_ir.proofs.Sound.{Each, each-append}
-use Rattle.bank_prog.specs.declared.column.Bank.{Bank}
-use Rattle.bank_prog.specs.declared.column.Bank.TheVariants.{A, B, M, T, L, A15, W}
-use Rattle.bank_prog.specs.declared.column.Column.{Column}
-use Rattle.bank_prog.specs.declared.column.Column.TheVariants.{Def, Dir, Stay, Ear, First, Srv, PasL}
-use Rattle.bank_prog.specs.declared.column.Service.{Service}
-use Rattle.bank_prog.specs.Columns.{sort_of, is_fetched, eight, place_words, beginnings, role_beginnings, sort_beginnings, services, point_uses}
-use Rattle.bank_prog.specs.Program.{same_bank}
-use Rattle.bank_prog.specs.Rows.{Line, covers, homes, banks, home as home_columns, stay, srv, early, srv_from, srv_at, use_choice, served_home, served_stay, use_stay, use_cover, at_home, argument_lines, argument_cover, word_begins, is_slot as is_slot_bank, slot_read}
+use Rattle.bank_form.specs.declared.column.Bank.{Bank}
+use Rattle.bank_form.specs.declared.column.Bank.TheVariants.{A, B, M, T, L, A15, W}
+use Rattle.bank_form.specs.declared.column.Column.{Column}
+use Rattle.bank_form.specs.declared.column.Column.TheVariants.{Def, Dir, Stay, Ear, First, Srv, PasL}
+use Rattle.bank_form.specs.declared.column.Service.{Service}
+use Rattle.bank_form.specs.Columns.{sort_of, is_fetched, eight, place_words, beginnings, role_beginnings, sort_beginnings, services, point_uses}
+use Rattle.bank_form.specs.Program.{same_bank}
+use Rattle.bank_form.specs.Rows.{Line, covers, homes, banks, home as home_columns, stay, srv, early, srv_from, srv_at, use_choice, served_home, served_stay, use_stay, use_cover, at_home, argument_lines, argument_cover, word_begins, is_slot as is_slot_bank, slot_read}
 use Rattle.bank_prog.specs.Meaning.{Chosen, Holds}
-use Rattle.bank_prog.proofs.PlainLines.{mapped-each}
-use Rattle.bank_prog.proofs.Keys.{bank-true}
+use Rattle.bank_rows.proofs.PlainLines.{mapped-each}
+use Rattle.bank_form.proofs.Keys.{bank-true}
 use Rattle.reg_assign.specs.inner.Facts.{count}
 use Rattle.reg_assign.specs.inner.Chosen.{bank_of, wanted_bank}
 use Rattle.reg_assign.proofs.Counts.{In, contained-in, in-kept, in-map, map-in, some-counted, counted-some, each-from}

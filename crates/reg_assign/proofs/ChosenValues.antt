@@ -13,16 +13,16 @@ use Rattle.place_ir.specs.Uses.{Sort, Parameter, Result, Fetched, Value, values,
 use Rattle.place_ir.specs.Fits.{IsGeneral, is_slot, is_write_register, word_register, is_early, early_uses, AreCopies, IsPutEarly, is_result, same_bank, comes_to_slot, IsEighth, Fits, stays}
 use Rattle.place_ir.proofs.Scoped.{in-itself}
 use Rattle.place_ir.proofs.Sound.{Each, each-append}
-use Rattle.bank_prog.specs.declared.column.Bank.{Bank}
-use Rattle.bank_prog.specs.declared.column.Bank.TheVariants.{A, B, M}
-use Rattle.bank_prog.specs.declared.column.Column.{Column}
-use Rattle.bank_prog.specs.declared.column.Column.TheVariants.{Def, Fill, Stay, Ear, First, PasS}
-use Rattle.bank_prog.specs.Columns.{is_fetched, eight, place_words, beginnings, sort_beginnings}
-use Rattle.bank_prog.specs.Rows.{at_most, covers, exactly_one, homes, def, home as home_columns, dir, ear, is_parameter, is_written, in_register, fill, word_from_register, copy_lines, copy_cover, parameter_choice, result_choice, stay_begins, slot_written, result_written, value_written}
+use Rattle.bank_form.specs.declared.column.Bank.{Bank}
+use Rattle.bank_form.specs.declared.column.Bank.TheVariants.{A, B, M}
+use Rattle.bank_form.specs.declared.column.Column.{Column}
+use Rattle.bank_form.specs.declared.column.Column.TheVariants.{Def, Fill, Stay, Ear, First, PasS}
+use Rattle.bank_form.specs.Columns.{is_fetched, eight, place_words, beginnings, sort_beginnings}
+use Rattle.bank_form.specs.Rows.{at_most, covers, exactly_one, homes, def, home as home_columns, dir, ear, is_parameter, is_written, in_register, fill, word_from_register, copy_lines, copy_cover, parameter_choice, result_choice, stay_begins, slot_written, result_written, value_written}
 use Rattle.bank_prog.specs.Meaning.{Chosen, Holds}
-use Rattle.bank_prog.proofs.PlainLines.{mapped-each}
-use Rattle.bank_prog.proofs.Keys.{bank-true}
-use Rattle.bank_prog.proofs.Itself.{bank-itself}
+use Rattle.bank_rows.proofs.PlainLines.{mapped-each}
+use Rattle.bank_form.proofs.Keys.{bank-true}
+use Rattle.bank_form.proofs.Itself.{bank-itself}
 use Rattle.reg_assign.specs.inner.Facts.{count}
 use Rattle.reg_assign.specs.inner.Chosen.{value_at, bank_of, is_in_bank, goes_there, names}
 use Rattle.reg_assign.proofs.Counts.{In, kept-in, map-in, in-right, some-counted, count-append, each-in, each-from}

@@ -9,10 +9,10 @@ use Rattle.place_ir.specs.Plan.{Plan, first, serve}
 use Rattle.place_ir.specs.Costs.{cost}
 use Rattle.place_ir.specs.Uses.{Use, uses_of}
 use Rattle.place_ir.specs.Fits.{is_read_register, is_write_register, served, Fits}
-use Rattle.bank_prog.specs.declared.column.Column.{Column}
-use Rattle.bank_prog.specs.declared.column.Column.TheVariants.{Def, Dir, Fill, Stay, Ear, First, Srv, PasL, PasS}
-use Rattle.bank_prog.specs.Columns.{columns, costs}
-use Rattle.bank_prog.specs.Program.{same_bank}
+use Rattle.bank_form.specs.declared.column.Column.{Column}
+use Rattle.bank_form.specs.declared.column.Column.TheVariants.{Def, Dir, Fill, Stay, Ear, First, Srv, PasL, PasS}
+use Rattle.bank_form.specs.Columns.{columns, costs}
+use Rattle.bank_form.specs.Program.{same_bank}
 use Rattle.bank_prog.specs.Meaning.{on, IsFeasible}
 use Rattle.bank_prog.proofs.LawsColumns.{on-there, chosen-on}
 use Rattle.bank_prog.proofs.LawsCost.{costs-by-name}

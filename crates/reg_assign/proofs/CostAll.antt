@@ -16,14 +16,14 @@ use Rattle.place_ir.proofs.Fitting.{apart-from}
 use Rattle.place_ir.proofs.Scoped.{in-itself}
 use Rattle.place_ir.proofs.Spilled.{all-each}
 use Rattle.zo_model.specs.Program.{cost_where}
-use Rattle.bank_prog.specs.declared.column.Bank.TheVariants.{A, B, M}
-use Rattle.bank_prog.specs.declared.column.Column.{Column}
-use Rattle.bank_prog.specs.declared.column.Column.TheVariants.{Def, Dir, Fill, Ear, Srv}
-use Rattle.bank_prog.specs.declared.column.Service.{Service}
-use Rattle.bank_prog.specs.Columns.{Priced, eight, sort_of, is_fetched, point_uses, place_words, role_beginnings, sort_defs, def_columns, fill_columns, ear_columns, first_columns, services, has_bank, srv_columns, all_dirs, all_stays, all_ears, all_pas_l, all_pas_s, priced}
-use Rattle.bank_prog.specs.Rows.{ear, lines}
+use Rattle.bank_form.specs.declared.column.Bank.TheVariants.{A, B, M}
+use Rattle.bank_form.specs.declared.column.Column.{Column}
+use Rattle.bank_form.specs.declared.column.Column.TheVariants.{Def, Dir, Fill, Ear, Srv}
+use Rattle.bank_form.specs.declared.column.Service.{Service}
+use Rattle.bank_form.specs.Columns.{Priced, eight, sort_of, is_fetched, point_uses, place_words, role_beginnings, sort_defs, def_columns, fill_columns, ear_columns, first_columns, services, has_bank, srv_columns, all_dirs, all_stays, all_ears, all_pas_l, all_pas_s, priced}
+use Rattle.bank_form.specs.Rows.{ear, lines}
 use Rattle.bank_prog.specs.Meaning.{Chosen, on, named_cost, Holds}
-use Rattle.bank_prog.proofs.PlainLines.{each-kept}
+use Rattle.bank_rows.proofs.PlainLines.{each-kept}
 use Rattle.reg_assign.specs.ByLabel.{lies_in, point_in, column_point, label_cost, label_price}
 use Rattle.reg_assign.specs.inner.Facts.{OnlyThere, ValueFacts, UseFacts, Facts}
 use Rattle.reg_assign.specs.inner.ReadOff.{Numbers, AreRead, read_off}

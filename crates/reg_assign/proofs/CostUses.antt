@@ -14,12 +14,12 @@ use Rattle.place_ir.specs.Uses.{Sort, Parameter, Result, Fetched, Value, values,
 use Rattle.place_ir.specs.Fits.{read_place, write_place}
 use Rattle.place_ir.proofs.Sound.{Each}
 use Rattle.zo_model.specs.Program.{cost_where}
-use Rattle.bank_prog.specs.declared.column.Bank.{Bank}
-use Rattle.bank_prog.specs.declared.column.Bank.TheVariants.{A, B, M, T, L, A15, W}
-use Rattle.bank_prog.specs.declared.column.Column.TheVariants.{Srv}
-use Rattle.bank_prog.specs.declared.column.Service.{Service}
-use Rattle.bank_prog.specs.Columns.{sort_in, sort_of, is_fetched, services, has_bank, srv_columns}
-use Rattle.bank_prog.specs.Rows.{dir, ear, early, is_written}
+use Rattle.bank_form.specs.declared.column.Bank.{Bank}
+use Rattle.bank_form.specs.declared.column.Bank.TheVariants.{A, B, M, T, L, A15, W}
+use Rattle.bank_form.specs.declared.column.Column.TheVariants.{Srv}
+use Rattle.bank_form.specs.declared.column.Service.{Service}
+use Rattle.bank_form.specs.Columns.{sort_in, sort_of, is_fetched, services, has_bank, srv_columns}
+use Rattle.bank_form.specs.Rows.{dir, ear, early, is_written}
 use Rattle.bank_prog.specs.Meaning.{Chosen, named_cost}
 use Rattle.reg_assign.specs.inner.Facts.{count, IsIn, UseFacts}
 use Rattle.reg_assign.specs.inner.ReadOff.{Numbers, begins, service_on, role_place, word_place, sort_place, place_in, bank_place, target, serve_by, use_serve, read_off}

@@ -17,13 +17,13 @@ use Rattle.place_ir.specs.Fits.{is_result, write_place, is_sort_homed, wants_hom
 use Rattle.place_ir.proofs.Scoped.{in-itself}
 use Rattle.place_ir.proofs.Sound.{Each}
 use Rattle.zo_model.specs.Program.{cost_where}
-use Rattle.bank_prog.specs.declared.column.Bank.{Bank}
-use Rattle.bank_prog.specs.declared.column.Bank.TheVariants.{A, B, M, T, L, A15, W}
-use Rattle.bank_prog.specs.declared.column.Column.{Column}
-use Rattle.bank_prog.specs.declared.column.Column.TheVariants.{Def, Dir, Fill, Srv}
-use Rattle.bank_prog.specs.declared.column.Service.{Service}
-use Rattle.bank_prog.specs.Columns.{sort_of, is_fetched, eight, sort_defs, def_columns, fill_columns, services}
-use Rattle.bank_prog.specs.Rows.{homes, def, dir, ear, srv, early, is_parameter, is_written}
+use Rattle.bank_form.specs.declared.column.Bank.{Bank}
+use Rattle.bank_form.specs.declared.column.Bank.TheVariants.{A, B, M, T, L, A15, W}
+use Rattle.bank_form.specs.declared.column.Column.{Column}
+use Rattle.bank_form.specs.declared.column.Column.TheVariants.{Def, Dir, Fill, Srv}
+use Rattle.bank_form.specs.declared.column.Service.{Service}
+use Rattle.bank_form.specs.Columns.{sort_of, is_fetched, eight, sort_defs, def_columns, fill_columns, services}
+use Rattle.bank_form.specs.Rows.{homes, def, dir, ear, srv, early, is_parameter, is_written}
 use Rattle.bank_prog.specs.Meaning.{Chosen, named_cost}
 use Rattle.reg_assign.specs.inner.Facts.{count, in_bank, IsIn, ValueFacts, UseFacts}
 use Rattle.reg_assign.specs.inner.ReadOff.{Numbers, begins, goes_early, def_bank, home_place, word_place, fills_of, words_of, copies_of, first_word, put_home, sort_home, IsAtHome, AreRead, read_off}

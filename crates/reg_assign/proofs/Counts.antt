@@ -7,9 +7,9 @@ use Rattle.std.proofs.lemmas.Int.{ints}
 use Rattle.std.proofs.lemmas.Bool.{false≢true}
 use Rattle.ssu_ir.specs.Points.{Point}
 use Rattle.zo_model.specs.Program.{where_one, cost_where}
-use Rattle.bank_prog.specs.declared.column.Column.{Column}
-use Rattle.bank_prog.specs.Columns.{each_point}
-use Rattle.bank_prog.specs.Rows.{plus, minus, at_least, at_most, covers, exactly_one}
+use Rattle.bank_form.specs.declared.column.Column.{Column}
+use Rattle.bank_form.specs.Columns.{each_point}
+use Rattle.bank_form.specs.Rows.{plus, minus, at_least, at_most, covers, exactly_one}
 use Rattle.bank_prog.specs.Meaning.{Chosen, named_sum, Holds}
 use Rattle.place_ir.proofs.Sound.{Each}
 use Rattle.place_ir.proofs.Spilled.{each-left, each-right}

@@ -13,8 +13,8 @@ use Rattle.place_ir.proofs.Numbering.{places-of-labels, different-labels}
 use Rattle.place_ir.proofs.Fitting.{apart-from, values-are}
 use Rattle.place_ir.proofs.Sound.{Each}
 use Rattle.place_ir.proofs.Spilled.{each-all, all-each, each-left, each-right}
-use Rattle.bank_prog.specs.Columns.{each_point}
-use Rattle.bank_prog.specs.Rows.{Line, lines, parameter_choice, result_choice, access_choice, use_choice, one_choice, use_cover, copy_cover, argument_cover, homes_cover, operand_lines, operand_banks, room_lines, capacity, read_owners, fill_owners, write_owners, owners, adjacency, slot_read, value_written, passes}
+use Rattle.bank_form.specs.Columns.{each_point}
+use Rattle.bank_form.specs.Rows.{Line, lines, parameter_choice, result_choice, access_choice, use_choice, one_choice, use_cover, copy_cover, argument_cover, homes_cover, operand_lines, operand_banks, room_lines, capacity, read_owners, fill_owners, write_owners, owners, adjacency, slot_read, value_written, passes}
 use Rattle.bank_prog.specs.Meaning.{Chosen, Holds}
 use Rattle.reg_assign.specs.inner.Facts.{OnlyThere, ValueFacts, AccessFacts, UseFacts, Facts}
 use Rattle.reg_assign.proofs.Counts.{each-in, each-from, each-flat, each-points}

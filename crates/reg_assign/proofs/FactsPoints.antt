@@ -14,12 +14,12 @@ use Rattle.place_ir.specs.Fits.{point_values, same_use}
 use Rattle.place_ir.proofs.Scoped.{in-itself}
 use Rattle.place_ir.proofs.Sound.{Each}
 use Rattle.place_ir.proofs.Spilled.{each-left, each-right}
-use Rattle.bank_prog.specs.declared.column.Bank.{Bank}
-use Rattle.bank_prog.specs.declared.column.Bank.TheVariants.{A, B, M, T, L, A15, W}
-use Rattle.bank_prog.specs.declared.column.Column.{Column}
-use Rattle.bank_prog.specs.declared.column.Column.TheVariants.{Def, Dir, Fill, Stay, Ear, First, Srv, PasL, PasS}
-use Rattle.bank_prog.specs.Columns.{sort_of, eight, may_begin, beginnings, role_beginnings, sort_beginnings, place_words}
-use Rattle.bank_prog.specs.Rows.{Line, at_most, banks, srv_at, two_operands, both_at, pair_lines, operand_lines, held_in, home, room_lines, is_sdram, same_side, run_at, sort_stays, stays_at, role_early, early_at, covering, side_covering, waiting, read_owners, access_owners, fill_owners, side_owners, write_owners}
+use Rattle.bank_form.specs.declared.column.Bank.{Bank}
+use Rattle.bank_form.specs.declared.column.Bank.TheVariants.{A, B, M, T, L, A15, W}
+use Rattle.bank_form.specs.declared.column.Column.{Column}
+use Rattle.bank_form.specs.declared.column.Column.TheVariants.{Def, Dir, Fill, Stay, Ear, First, Srv, PasL, PasS}
+use Rattle.bank_form.specs.Columns.{sort_of, eight, may_begin, beginnings, role_beginnings, sort_beginnings, place_words}
+use Rattle.bank_form.specs.Rows.{Line, at_most, banks, srv_at, two_operands, both_at, pair_lines, operand_lines, held_in, home, room_lines, is_sdram, same_side, run_at, sort_stays, stays_at, role_early, early_at, covering, side_covering, waiting, read_owners, access_owners, fill_owners, side_owners, write_owners}
 use Rattle.bank_prog.specs.Meaning.{Chosen, Holds}
 use Rattle.reg_assign.specs.inner.Facts.{count, in_bank, StaysIn, WaitsIn, Covers, waits_at, same_group, PointFacts}
 use Rattle.reg_assign.proofs.Counts.{In, in-contained, in-left, in-right, in-kept, kept-in, map-in, each-in, each-flat, each-map, if-there, at-most, count-append, some-counted, both-counted, part-counted, parts-counted}

@@ -9,13 +9,13 @@ use Rattle.place_ir.specs.Uses.{Access, accesses_from, accesses, place_accesses,
 use Rattle.place_ir.specs.Fits.{is_result, parameter}
 use Rattle.place_ir.proofs.Sound.{Each}
 use Rattle.place_ir.proofs.Spilled.{each-left, each-right}
-use Rattle.bank_prog.specs.declared.column.Bank.{Bank}
-use Rattle.bank_prog.specs.declared.column.Bank.TheVariants.{A, B, M, T, L, A15, W}
-use Rattle.bank_prog.specs.declared.column.Column.{Column}
-use Rattle.bank_prog.specs.declared.column.Column.TheVariants.{Def, Dir, Fill, Stay, Ear, First, Srv, PasL}
-use Rattle.bank_prog.specs.declared.column.Service.{Service}
-use Rattle.bank_prog.specs.Columns.{sort_of, is_fetched, eight, may_begin, role_beginnings, place_words, point_uses, services, has_bank}
-use Rattle.bank_prog.specs.Rows.{homes, banks, home, stay, srv, srv_from, srv_at, early, covers, is_slot, access_choice, use_choice, served_home, served_stay, use_stay, use_cover, at_home, argument_lines, argument_cover, stay_begins, word_begins, begins_at, slot_read}
+use Rattle.bank_form.specs.declared.column.Bank.{Bank}
+use Rattle.bank_form.specs.declared.column.Bank.TheVariants.{A, B, M, T, L, A15, W}
+use Rattle.bank_form.specs.declared.column.Column.{Column}
+use Rattle.bank_form.specs.declared.column.Column.TheVariants.{Def, Dir, Fill, Stay, Ear, First, Srv, PasL}
+use Rattle.bank_form.specs.declared.column.Service.{Service}
+use Rattle.bank_form.specs.Columns.{sort_of, is_fetched, eight, may_begin, role_beginnings, place_words, point_uses, services, has_bank}
+use Rattle.bank_form.specs.Rows.{homes, banks, home, stay, srv, srv_from, srv_at, early, covers, is_slot, access_choice, use_choice, served_home, served_stay, use_stay, use_cover, at_home, argument_lines, argument_cover, stay_begins, word_begins, begins_at, slot_read}
 use Rattle.bank_prog.specs.Meaning.{Chosen, Holds}
 use Rattle.reg_assign.specs.inner.Facts.{count, some_on, in_bank, early_in, IsIn, AccessFacts, UseFacts}
 use Rattle.reg_assign.proofs.Counts.{In, contained-in, in-either, in-kept, kept-in, map-in, each-in, each-flat, each-map, each-points, if-there, covered, exactly-one, count-append, some-counted, counted-any}

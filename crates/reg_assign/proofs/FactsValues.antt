@@ -11,15 +11,15 @@ use Rattle.place_ir.specs.Fits.{is_result, same_use}
 use Rattle.place_ir.proofs.Scoped.{in-itself}
 use Rattle.place_ir.proofs.Sound.{Each}
 use Rattle.place_ir.proofs.Spilled.{Apart, each-left, each-right}
-use Rattle.bank_prog.specs.declared.column.Bank.{Bank}
-use Rattle.bank_prog.specs.declared.column.Bank.TheVariants.{A, B, M}
-use Rattle.bank_prog.specs.declared.column.Column.{Column}
-use Rattle.bank_prog.specs.declared.column.Column.TheVariants.{Def, Fill, Stay, Ear, First, PasS}
-use Rattle.bank_prog.specs.Columns.{sort_in, is_fetched, eight, may_begin, beginnings, role_beginnings, sort_beginnings, place_words, point_uses}
+use Rattle.bank_form.specs.declared.column.Bank.{Bank}
+use Rattle.bank_form.specs.declared.column.Bank.TheVariants.{A, B, M}
+use Rattle.bank_form.specs.declared.column.Column.{Column}
+use Rattle.bank_form.specs.declared.column.Column.TheVariants.{Def, Fill, Stay, Ear, First, PasS}
+use Rattle.bank_form.specs.Columns.{sort_in, is_fetched, eight, may_begin, beginnings, role_beginnings, sort_beginnings, place_words, point_uses}
 use Rattle.zo_model.specs.Program.{cost_where}
 use Rattle.nv_base.proofs.Sets.{same-number}
-use Rattle.bank_prog.specs.Rows as rows
-use Rattle.bank_prog.specs.Rows.{Line, def, dir, ear, home, homes, fill, covers, at_most, exactly_one, is_parameter, is_written, parameter_choice, result_choice, copy_cover, copy_lines, word_from_register, stay_begins, word_begins, begins_at, adjacency, value_written, slot_written}
+use Rattle.bank_form.specs.Rows as rows
+use Rattle.bank_form.specs.Rows.{Line, def, dir, ear, home, homes, fill, covers, at_most, exactly_one, is_parameter, is_written, parameter_choice, result_choice, copy_cover, copy_lines, word_from_register, stay_begins, word_begins, begins_at, adjacency, value_written, slot_written}
 use Rattle.bank_prog.specs.Meaning.{Chosen, Holds}
 use Rattle.reg_assign.specs.inner.Facts.{OnlyThere, count, some_on, in_register, ValueFacts}
 use Rattle.reg_assign.proofs.Counts.{In, in-contained, in-kept, map-in, each-in, each-flat, each-map, each-points, if-there, at-most, covered, exactly-one, count-append, some-counted, counted-any}

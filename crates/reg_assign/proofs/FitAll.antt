@@ -10,9 +10,9 @@ use Rattle.place_ir.specs.declared.place.Pass.{Pass}
 use Rattle.place_ir.specs.Plan.{Home, first}
 use Rattle.place_ir.specs.Uses.{Access, reads_at, writes_at, place_accesses, accesses_from, accesses, values, place_roles, uses}
 use Rattle.place_ir.specs.Fits.{point_values, IsFirst, IsHoused, IsServed, KeepsHeld, KeepsRead, KeepsWaiting, AreApart, FitsAt, Fits}
-use Rattle.bank_prog.specs.declared.column.Column.TheVariants.{First}
-use Rattle.bank_prog.specs.declared.column.Bank.TheVariants.{T}
-use Rattle.bank_prog.specs.Rows.{homes, lines}
+use Rattle.bank_form.specs.declared.column.Column.TheVariants.{First}
+use Rattle.bank_form.specs.declared.column.Bank.TheVariants.{T}
+use Rattle.bank_form.specs.Rows.{homes, lines}
 use Rattle.bank_prog.specs.Meaning.{Chosen, Holds}
 use Rattle.place_ir.proofs.Sound.{Each, Sound, uses_among, sound-points}
 use Rattle.place_ir.proofs.Spilled.{each-all, all-each, each-at}

@@ -13,11 +13,11 @@ use Rattle.place_ir.specs.Places.{same_place}
 use Rattle.place_ir.specs.Plan.{Home, Plan, home, pass}
 use Rattle.place_ir.specs.Uses.{Sort, Parameter, Result, Fetched, Role, Operand, Address, Written, Argument, Ending, Use, uses_of}
 use Rattle.place_ir.specs.Fits.{read_place, is_general, stays, general_places, kept_register, has_place, none_shared, maybe, KeepsHeld}
-use Rattle.bank_prog.specs.declared.column.Bank.{Bank}
-use Rattle.bank_prog.specs.declared.column.Bank.TheVariants.{A, B, M, T, L, A15, W}
-use Rattle.bank_prog.specs.declared.column.Column.TheVariants.{Def, Fill, PasL}
-use Rattle.bank_prog.specs.Columns.{eight, is_fetched}
-use Rattle.bank_prog.specs.Rows.{is_written, is_sdram}
+use Rattle.bank_form.specs.declared.column.Bank.{Bank}
+use Rattle.bank_form.specs.declared.column.Bank.TheVariants.{A, B, M, T, L, A15, W}
+use Rattle.bank_form.specs.declared.column.Column.TheVariants.{Def, Fill, PasL}
+use Rattle.bank_form.specs.Columns.{eight, is_fetched}
+use Rattle.bank_form.specs.Rows.{is_written, is_sdram}
 use Rattle.bank_prog.specs.Meaning.{Chosen}
 use Rattle.place_ir.proofs.Sound.{Each, each-append}
 use Rattle.std.proofs.lemmas.Bool.{or_left, or_right}

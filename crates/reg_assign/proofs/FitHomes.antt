@@ -11,10 +11,10 @@ use Rattle.place_ir.specs.Plan.{Plan}
 use Rattle.place_ir.specs.Uses.{Use, uses_of}
 use Rattle.place_ir.specs.Fits.{IsGeneral, same_bank, maybe, AreFills}
 use Rattle.zo_model.specs.Program.{cost_where}
-use Rattle.bank_prog.specs.declared.column.Bank.{Bank}
-use Rattle.bank_prog.specs.declared.column.Bank.TheVariants.{A, B, M, T, L, A15, W}
-use Rattle.bank_prog.specs.declared.column.Column.TheVariants.{Def, Fill}
-use Rattle.bank_prog.specs.Rows.{def, dir, ear, is_written}
+use Rattle.bank_form.specs.declared.column.Bank.{Bank}
+use Rattle.bank_form.specs.declared.column.Bank.TheVariants.{A, B, M, T, L, A15, W}
+use Rattle.bank_form.specs.declared.column.Column.TheVariants.{Def, Fill}
+use Rattle.bank_form.specs.Rows.{def, dir, ear, is_written}
 use Rattle.bank_prog.specs.Meaning.{Chosen}
 use Rattle.place_ir.proofs.Sound.{Each, each-append}
 use Rattle.place_ir.proofs.Spilled.{each-all}

@@ -9,12 +9,12 @@ use Rattle.place_ir.specs.declared.place.Place.{Place}
 use Rattle.place_ir.specs.Plan.{Home, home_in, first}
 use Rattle.place_ir.specs.Uses.{Sort, Parameter, Result, Fetched, Value, Role, Operand, Address, Written, Argument, Ending, Use, uses, uses_of, is_used}
 use Rattle.place_ir.specs.Fits.{read_place, IsGeneral, is_slot, same_bank, is_early, AreCopies, IsPutEarly, IsHome, is_result, is_sort_homed}
-use Rattle.bank_prog.specs.declared.column.Bank.{Bank}
-use Rattle.bank_prog.specs.declared.column.Bank.TheVariants.{A, B, M, T, L, A15, W}
-use Rattle.bank_prog.specs.declared.column.Column.TheVariants.{Def, Dir, Fill, Ear}
-use Rattle.bank_prog.specs.declared.column.Service.{Service}
-use Rattle.bank_prog.specs.Columns.{eight, services, sort_of, is_fetched}
-use Rattle.bank_prog.specs.Rows.{def, dir, ear, srv, early, is_written, is_parameter}
+use Rattle.bank_form.specs.declared.column.Bank.{Bank}
+use Rattle.bank_form.specs.declared.column.Bank.TheVariants.{A, B, M, T, L, A15, W}
+use Rattle.bank_form.specs.declared.column.Column.TheVariants.{Def, Dir, Fill, Ear}
+use Rattle.bank_form.specs.declared.column.Service.{Service}
+use Rattle.bank_form.specs.Columns.{eight, services, sort_of, is_fetched}
+use Rattle.bank_form.specs.Rows.{def, dir, ear, srv, early, is_written, is_parameter}
 use Rattle.bank_prog.specs.Meaning.{Chosen}
 use Rattle.place_ir.proofs.Sound.{Each}
 use Rattle.reg_assign.specs.inner.Facts.{count, in_bank, in_register, IsIn, ValueFacts, UseFacts}

@@ -8,13 +8,13 @@ use Rattle.place_ir.specs.Plan.{Home}
 use Rattle.place_ir.specs.Uses.{Sort, Parameter, Result, Fetched, Value, values, Use, uses, uses_of, is_used}
 use Rattle.place_ir.specs.Fits.{is_general, general_places, IsPutEarly, IsHoused, is_result}
 use Rattle.place_ir.proofs.Sound.{Each}
-use Rattle.bank_prog.specs.declared.column.Bank.{Bank}
-use Rattle.bank_prog.specs.declared.column.Bank.TheVariants.{A, B, M, T, L, A15, W}
-use Rattle.bank_prog.specs.declared.column.Column.TheVariants.{Def, Fill}
-use Rattle.bank_prog.specs.Columns.{is_fetched}
-use Rattle.bank_prog.specs.Rows.{homes, def, is_parameter}
+use Rattle.bank_form.specs.declared.column.Bank.{Bank}
+use Rattle.bank_form.specs.declared.column.Bank.TheVariants.{A, B, M, T, L, A15, W}
+use Rattle.bank_form.specs.declared.column.Column.TheVariants.{Def, Fill}
+use Rattle.bank_form.specs.Columns.{is_fetched}
+use Rattle.bank_form.specs.Rows.{homes, def, is_parameter}
 use Rattle.bank_prog.specs.Meaning.{Chosen}
-use Rattle.bank_prog.proofs.PlainLines.{each-kept}
+use Rattle.bank_rows.proofs.PlainLines.{each-kept}
 use Rattle.reg_assign.specs.inner.Facts.{count, in_bank, ValueFacts, UseFacts}
 use Rattle.reg_assign.specs.inner.ReadOff.{Numbers, goes_early, def_bank, first_word, put_home, room, IsBelow, AreNumbered, read_off}
 use Rattle.reg_assign.proofs.Counts.{In, contained-in}

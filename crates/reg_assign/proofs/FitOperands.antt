@@ -11,12 +11,12 @@ use Rattle.place_ir.specs.Plan.{Home, serve}
 use Rattle.place_ir.specs.Uses.{values, Role, Operand, Address, Written, Argument, Ending, Use, uses_at, uses}
 use Rattle.place_ir.specs.Fits.{read_place, different_groups, AreApart}
 use Rattle.place_ir.proofs.Sound.{Each}
-use Rattle.bank_prog.specs.declared.column.Bank.{Bank}
-use Rattle.bank_prog.specs.declared.column.Bank.TheVariants.{A, B, T, L, A15}
-use Rattle.bank_prog.specs.declared.column.Column.TheVariants.{Srv}
-use Rattle.bank_prog.specs.declared.column.Service.{Service}
-use Rattle.bank_prog.specs.Columns.{services}
-use Rattle.bank_prog.specs.Rows.{dir, ear, srv, early, is_written, two_operands}
+use Rattle.bank_form.specs.declared.column.Bank.{Bank}
+use Rattle.bank_form.specs.declared.column.Bank.TheVariants.{A, B, T, L, A15}
+use Rattle.bank_form.specs.declared.column.Column.TheVariants.{Srv}
+use Rattle.bank_form.specs.declared.column.Service.{Service}
+use Rattle.bank_form.specs.Columns.{services}
+use Rattle.bank_form.specs.Rows.{dir, ear, srv, early, is_written, two_operands}
 use Rattle.bank_prog.specs.Meaning.{Chosen}
 use Rattle.reg_assign.specs.inner.Facts.{count, UseFacts, same_group}
 use Rattle.reg_assign.specs.inner.ReadOff.{Numbers, service_on, place_in, bank_place, target, serve_by, use_serve, read_off}

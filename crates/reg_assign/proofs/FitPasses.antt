@@ -10,9 +10,9 @@ use Rattle.place_ir.specs.declared.place.Serve.{Serve}
 use Rattle.place_ir.specs.Plan.{Home, home, home_in}
 use Rattle.place_ir.specs.Uses.{Sort, Parameter, Result, Fetched, Value, numbered, place_values, values, place_roles, Use, uses_at, uses, uses_of, is_used}
 use Rattle.place_ir.specs.Fits.{is_slot, served, is_result, comes_to_slot, PassesSlots}
-use Rattle.bank_prog.specs.declared.column.Bank.{Bank}
-use Rattle.bank_prog.specs.declared.column.Bank.TheVariants.{A, B, M, T, L, A15, W}
-use Rattle.bank_prog.specs.declared.column.Column.TheVariants.{Def, Fill, PasL, PasS}
+use Rattle.bank_form.specs.declared.column.Bank.{Bank}
+use Rattle.bank_form.specs.declared.column.Bank.TheVariants.{A, B, M, T, L, A15, W}
+use Rattle.bank_form.specs.declared.column.Column.TheVariants.{Def, Fill, PasL, PasS}
 use Rattle.bank_prog.specs.Meaning.{Chosen}
 use Rattle.reg_assign.specs.inner.Facts.{some_on}
 use Rattle.reg_assign.specs.inner.ReadOff.{Numbers, goes_early, def_bank, home_place, word_place, first_word, fill_at, fills_of, words_of, copies_of, put_home, sort_home, value_home, read_off}

@@ -14,9 +14,9 @@ use Rattle.place_ir.specs.Places.{same_place}
 use Rattle.place_ir.specs.Plan.{Home, Plan, home, first, pass}
 use Rattle.place_ir.specs.Uses.{Access, place_values, place_roles, uses_at}
 use Rattle.place_ir.specs.Fits.{read_place, IsFirst, is_slot, served, stays, kept_register, read_places, none_shared, run_of, comes_to_slot, IsEighth, PassesSlots}
-use Rattle.bank_prog.specs.declared.column.Column.TheVariants.{First, PasL, PasS}
-use Rattle.bank_prog.specs.Columns.{eight, may_begin}
-use Rattle.bank_prog.specs.Rows.{is_sdram}
+use Rattle.bank_form.specs.declared.column.Column.TheVariants.{First, PasL, PasS}
+use Rattle.bank_form.specs.Columns.{eight, may_begin}
+use Rattle.bank_form.specs.Rows.{is_sdram}
 use Rattle.bank_prog.specs.Meaning.{Chosen}
 use Rattle.reg_assign.specs.inner.Facts.{some_on, Covers, StaysIn, PointFacts}
 use Rattle.reg_assign.specs.inner.ReadOff.{Numbers, first_on, pass_l, pass_s, read_off}

@@ -19,10 +19,10 @@ use Rattle.place_ir.proofs.Sound.{Each, entry_params, place_results, Sound, uses
 use Rattle.place_ir.proofs.Spilled.{all-each, each-at, param_vars, params-wanted, used-wanted}
 use Rattle.place_ir.proofs.Valued.{each-values}
 use Rattle.place_ir.proofs.Fitting.{each-uses, apart-from, uses-are, values-are, entries-in}
-use Rattle.bank_prog.specs.declared.column.Bank.{Bank}
-use Rattle.bank_prog.specs.declared.column.Column.TheVariants.{Def, First}
-use Rattle.bank_prog.specs.Columns.{eight, may_begin, is_fetched}
-use Rattle.bank_prog.specs.Rows.{homes}
+use Rattle.bank_form.specs.declared.column.Bank.{Bank}
+use Rattle.bank_form.specs.declared.column.Column.TheVariants.{Def, First}
+use Rattle.bank_form.specs.Columns.{eight, may_begin, is_fetched}
+use Rattle.bank_form.specs.Rows.{homes}
 use Rattle.bank_prog.specs.Meaning.{Chosen}
 use Rattle.reg_assign.specs.inner.Facts.{OnlyThere, ValueFacts, AccessFacts, UseFacts, Facts}
 use Rattle.reg_assign.specs.inner.ReadOff.{Numbers, begins, sort_place, place_in, value_home, IsAtHome, AreRead, AreNumbered, read_off}

@@ -12,12 +12,12 @@ use Rattle.place_ir.specs.Places.{same_place}
 use Rattle.place_ir.specs.Plan.{Home, home, pass}
 use Rattle.place_ir.specs.Uses.{Sort, Parameter, Result, Fetched, Value, values, Role, Operand, Address, Written, Argument, Ending, Use, uses}
 use Rattle.place_ir.specs.Fits.{read_place, is_write_register, is_home, IsOperandAt, IsAddressAt, parameter, word_register, IsServedAt, IsServed, is_result}
-use Rattle.bank_prog.specs.declared.column.Bank.{Bank}
-use Rattle.bank_prog.specs.declared.column.Bank.TheVariants.{A, B, M, T, L, A15, W}
-use Rattle.bank_prog.specs.declared.column.Column.TheVariants.{Def, Fill, Srv}
-use Rattle.bank_prog.specs.declared.column.Service.{Service}
-use Rattle.bank_prog.specs.Columns.{services, is_fetched}
-use Rattle.bank_prog.specs.Rows.{def, srv, early, is_written, is_parameter}
+use Rattle.bank_form.specs.declared.column.Bank.{Bank}
+use Rattle.bank_form.specs.declared.column.Bank.TheVariants.{A, B, M, T, L, A15, W}
+use Rattle.bank_form.specs.declared.column.Column.TheVariants.{Def, Fill, Srv}
+use Rattle.bank_form.specs.declared.column.Service.{Service}
+use Rattle.bank_form.specs.Columns.{services, is_fetched}
+use Rattle.bank_form.specs.Rows.{def, srv, early, is_written, is_parameter}
 use Rattle.bank_prog.specs.Meaning.{Chosen}
 use Rattle.place_ir.proofs.Scoped.{in-itself}
 use Rattle.place_ir.proofs.Sound.{Each}

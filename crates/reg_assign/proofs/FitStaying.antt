@@ -10,12 +10,12 @@ use Rattle.place_ir.specs.declared.place.Serve.{Serve}
 use Rattle.place_ir.specs.Plan.{Home}
 use Rattle.place_ir.specs.Uses.{Sort, Parameter, Result, Fetched, Value, values, Role, Operand, Address, Written, Argument, Ending, Use, uses, uses_of, is_used}
 use Rattle.place_ir.specs.Fits.{is_slot, is_read_register, served, stays, wants_home}
-use Rattle.bank_prog.specs.declared.column.Bank.{Bank}
-use Rattle.bank_prog.specs.declared.column.Bank.TheVariants.{A, B, M, T, L, A15, W}
-use Rattle.bank_prog.specs.declared.column.Column.TheVariants.{Stay, Srv}
-use Rattle.bank_prog.specs.declared.column.Service.{Service}
-use Rattle.bank_prog.specs.Columns.{eight, sort_of, is_fetched, services}
-use Rattle.bank_prog.specs.Rows.{homes, srv, early, is_written}
+use Rattle.bank_form.specs.declared.column.Bank.{Bank}
+use Rattle.bank_form.specs.declared.column.Bank.TheVariants.{A, B, M, T, L, A15, W}
+use Rattle.bank_form.specs.declared.column.Column.TheVariants.{Stay, Srv}
+use Rattle.bank_form.specs.declared.column.Service.{Service}
+use Rattle.bank_form.specs.Columns.{eight, sort_of, is_fetched, services}
+use Rattle.bank_form.specs.Rows.{homes, srv, early, is_written}
 use Rattle.bank_prog.specs.Meaning.{Chosen}
 use Rattle.reg_assign.specs.inner.Facts.{count, UseFacts}
 use Rattle.reg_assign.specs.inner.ReadOff.{Numbers, begins, service_on, role_place, sort_place, place_in, sort_home, bank_place, serve_by, use_serve, AreApart, read_off}

@@ -14,12 +14,12 @@ use Rattle.place_ir.specs.Places.{same_place}
 use Rattle.place_ir.specs.Plan.{Home, first, pass}
 use Rattle.place_ir.specs.Uses.{Access, writes_at, Role, Operand, Address, Written, Argument, Ending, Use, uses}
 use Rattle.place_ir.specs.Fits.{write_place, word_register, is_early, maybe, has_place, run_of, Waits, KeepsWaiting}
-use Rattle.bank_prog.specs.declared.column.Column.{Column}
-use Rattle.bank_prog.specs.declared.column.Column.TheVariants.{Dir, Ear, First, PasS}
-use Rattle.bank_prog.specs.Columns.{eight}
-use Rattle.bank_prog.specs.Rows.{dir, ear, is_written, is_sdram}
+use Rattle.bank_form.specs.declared.column.Column.{Column}
+use Rattle.bank_form.specs.declared.column.Column.TheVariants.{Dir, Ear, First, PasS}
+use Rattle.bank_form.specs.Columns.{eight}
+use Rattle.bank_form.specs.Rows.{dir, ear, is_written, is_sdram}
 use Rattle.bank_prog.specs.Meaning.{Chosen}
-use Rattle.bank_prog.proofs.Present.{contains-other}
+use Rattle.bank_rows.proofs.Present.{contains-other}
 use Rattle.place_ir.proofs.Scoped.{in-itself}
 use Rattle.place_ir.proofs.Sound.{Each}
 use Rattle.place_ir.proofs.Spilled.{each-all, each-at}

@@ -13,12 +13,12 @@ use Rattle.place_ir.specs.Places.{same_place}
 use Rattle.place_ir.specs.Plan.{Home, home_in, pass}
 use Rattle.place_ir.specs.Uses.{Sort, Parameter, Result, Fetched, Value, values, Use, uses, is_used}
 use Rattle.place_ir.specs.Fits.{read_place, parameter, IsServed, is_result}
-use Rattle.bank_prog.specs.declared.column.Bank.{Bank}
-use Rattle.bank_prog.specs.declared.column.Bank.TheVariants.{A, B, M, T, L, A15, W}
-use Rattle.bank_prog.specs.declared.column.Column.TheVariants.{Def, PasL}
-use Rattle.bank_prog.specs.declared.column.Service.{Service}
-use Rattle.bank_prog.specs.Columns.{eight, sort_of, is_fetched, services}
-use Rattle.bank_prog.specs.Rows.{def, is_parameter}
+use Rattle.bank_form.specs.declared.column.Bank.{Bank}
+use Rattle.bank_form.specs.declared.column.Bank.TheVariants.{A, B, M, T, L, A15, W}
+use Rattle.bank_form.specs.declared.column.Column.TheVariants.{Def, PasL}
+use Rattle.bank_form.specs.declared.column.Service.{Service}
+use Rattle.bank_form.specs.Columns.{eight, sort_of, is_fetched, services}
+use Rattle.bank_form.specs.Rows.{def, is_parameter}
 use Rattle.bank_prog.specs.Meaning.{Chosen}
 use Rattle.place_ir.proofs.Scoped.{in-itself}
 use Rattle.reg_assign.specs.inner.Facts.{count, some_on, in_bank, IsIn, ValueFacts}

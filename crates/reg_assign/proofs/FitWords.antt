@@ -9,13 +9,13 @@ use Rattle.place_ir.specs.Plan.{Home}
 use Rattle.place_ir.specs.Uses.{Sort, Parameter, Result, Fetched, Value, values, Role, Operand, Address, Written, Argument, Ending, Use, uses, uses_of}
 use Rattle.place_ir.specs.Fits.{write_place, is_write_register, role_register, word_register, is_early, early_uses}
 use Rattle.zo_model.specs.Program.{cost_where}
-use Rattle.bank_prog.specs.declared.column.Column.{Column}
-use Rattle.bank_prog.specs.declared.column.Column.TheVariants.{Srv}
-use Rattle.bank_prog.specs.declared.column.Service.{Service}
-use Rattle.bank_prog.specs.Columns.{services}
-use Rattle.bank_prog.specs.Rows.{dir, ear, srv, early, is_written}
+use Rattle.bank_form.specs.declared.column.Column.{Column}
+use Rattle.bank_form.specs.declared.column.Column.TheVariants.{Srv}
+use Rattle.bank_form.specs.declared.column.Service.{Service}
+use Rattle.bank_form.specs.Columns.{services}
+use Rattle.bank_form.specs.Rows.{dir, ear, srv, early, is_written}
 use Rattle.bank_prog.specs.Meaning.{Chosen}
-use Rattle.bank_prog.proofs.PlainLines.{each-kept}
+use Rattle.bank_rows.proofs.PlainLines.{each-kept}
 use Rattle.place_ir.proofs.Sound.{Each}
 use Rattle.reg_assign.specs.inner.Facts.{count, UseFacts}
 use Rattle.reg_assign.specs.inner.ReadOff.{Numbers, goes_early, service_on, sort_place, place_in, role_place, word_place, words_of, bank_place, serve_by, use_serve, read_off}

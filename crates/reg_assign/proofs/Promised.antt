@@ -12,7 +12,7 @@ use Rattle.place_ir.specs.Fits.{Fits}
 use Rattle.place_ir.specs.Plan.{Plan, home_view, plan_view}
 use Rattle.zo_model.specs.declared.program.Assignment.{Assignment}
 use Rattle.zo_model.specs.Program.{vector, costs_of}
-use Rattle.bank_prog.specs.Columns.{priced, costs}
+use Rattle.bank_form.specs.Columns.{priced, costs}
 use Rattle.bank_prog.specs.Meaning.{on, named_cost, IsFeasible}
 use Rattle.bank_prog.proofs.LawsColumns.{on-there}
 use Rattle.bank_prog.proofs.LawsCost.{costs-by-name}

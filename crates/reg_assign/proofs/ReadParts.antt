@@ -13,10 +13,10 @@ use Rattle.place_ir.specs.Plan.{Home, first_in, first, serve_in, pass_in}
 use Rattle.place_ir.specs.Uses.{Access, accesses, Use}
 use Rattle.place_ir.specs.Fits.{Rises, same_use, IsEighth, at_operand, use_operand}
 use Rattle.zo_model.specs.Program.{cost_where}
-use Rattle.bank_prog.specs.declared.column.Column.{Column}
-use Rattle.bank_prog.specs.declared.column.Column.TheVariants.{First}
-use Rattle.bank_prog.specs.declared.column.Service.{Service}
-use Rattle.bank_prog.specs.Columns.{eight, services}
+use Rattle.bank_form.specs.declared.column.Column.{Column}
+use Rattle.bank_form.specs.declared.column.Column.TheVariants.{First}
+use Rattle.bank_form.specs.declared.column.Service.{Service}
+use Rattle.bank_form.specs.Columns.{eight, services}
 use Rattle.bank_prog.specs.Meaning.{Chosen}
 use Rattle.place_ir.proofs.Scoped.{in-itself}
 use Rattle.place_ir.proofs.Sound.{Each}

@@ -6,9 +6,9 @@ use Rattle.ssu_ir.specs.Points.{label_points}
 use Rattle.place_ir.specs.Costs.{values_cost, uses_cost}
 use Rattle.place_ir.specs.Plan.{Plan}
 use Rattle.place_ir.specs.Uses.{Value, values, uses}
-use Rattle.bank_prog.specs.declared.column.Column.{Column}
-use Rattle.bank_prog.specs.declared.column.Column.TheVariants.{Def, Dir, Fill, Stay, Ear, First, Srv, PasL, PasS}
-use Rattle.bank_prog.specs.Columns.{priced}
+use Rattle.bank_form.specs.declared.column.Column.{Column}
+use Rattle.bank_form.specs.declared.column.Column.TheVariants.{Def, Dir, Fill, Stay, Ear, First, Srv, PasL, PasS}
+use Rattle.bank_form.specs.Columns.{priced}
 use Rattle.bank_prog.specs.Meaning.{on, named_cost}
 
 -- the label of point k, where these labels are numbered from l and their points from n; past the last point it is none of them

@@ -8,12 +8,12 @@ use Rattle.ssu_ir.specs.Points.{Point, points}
 use Rattle.place_ir.specs.Uses.{Access, accesses, reads_at, writes_at, Fetched, Value, values, place_values, Written, Argument, Use, uses, place_roles, uses_of, is_used}
 use Rattle.place_ir.specs.Fits.{is_result, parameter, point_values, same_use}
 use Rattle.zo_model.specs.Program.{cost_where}
-use Rattle.bank_prog.specs.declared.column.Bank.{Bank}
-use Rattle.bank_prog.specs.declared.column.Bank.TheVariants.{A, B, M, T, L, A15, W}
-use Rattle.bank_prog.specs.declared.column.Column.{Column}
-use Rattle.bank_prog.specs.declared.column.Column.TheVariants.{Def, Dir, Fill, Stay, Ear, First, Srv, PasL, PasS}
-use Rattle.bank_prog.specs.Columns.{columns, sort_of, is_fetched, eight, may_begin, services}
-use Rattle.bank_prog.specs.Rows.{def, dir, srv, early, is_parameter, is_written, is_sdram, two_operands}
+use Rattle.bank_form.specs.declared.column.Bank.{Bank}
+use Rattle.bank_form.specs.declared.column.Bank.TheVariants.{A, B, M, T, L, A15, W}
+use Rattle.bank_form.specs.declared.column.Column.{Column}
+use Rattle.bank_form.specs.declared.column.Column.TheVariants.{Def, Dir, Fill, Stay, Ear, First, Srv, PasL, PasS}
+use Rattle.bank_form.specs.Columns.{columns, sort_of, is_fetched, eight, may_begin, services}
+use Rattle.bank_form.specs.Rows.{def, dir, srv, early, is_parameter, is_written, is_sdram, two_operands}
 use Rattle.bank_prog.specs.Meaning.{Chosen}
 
 -- a column that isn't there is off

@@ -12,12 +12,12 @@ use Rattle.place_ir.specs.declared.place.Pass.{Pass}
 use Rattle.place_ir.specs.Plan.{Home, Plan, home_in}
 use Rattle.place_ir.specs.Uses.{Access, accesses, Sort, Parameter, Result, Fetched, Value, values, Role, Operand, Address, Written, Argument, Ending, Use, uses, uses_of, is_used}
 use Rattle.place_ir.specs.Fits.{read_place, write_place, parameter, wants_home, Rises}
-use Rattle.bank_prog.specs.declared.column.Bank.{Bank}
-use Rattle.bank_prog.specs.declared.column.Bank.TheVariants.{A, B, M, T, L, A15, W}
-use Rattle.bank_prog.specs.declared.column.Column.TheVariants.{Def, Fill, First, Srv, PasL, PasS}
-use Rattle.bank_prog.specs.declared.column.Service.{Service}
-use Rattle.bank_prog.specs.Columns.{eight, services}
-use Rattle.bank_prog.specs.Rows.{homes, early, is_parameter}
+use Rattle.bank_form.specs.declared.column.Bank.{Bank}
+use Rattle.bank_form.specs.declared.column.Bank.TheVariants.{A, B, M, T, L, A15, W}
+use Rattle.bank_form.specs.declared.column.Column.TheVariants.{Def, Fill, First, Srv, PasL, PasS}
+use Rattle.bank_form.specs.declared.column.Service.{Service}
+use Rattle.bank_form.specs.Columns.{eight, services}
+use Rattle.bank_form.specs.Rows.{homes, early, is_parameter}
 use Rattle.bank_prog.specs.Meaning.{Chosen}
 
 -- the number of a value's register in bank A or B, or of its slot

@@ -2,9 +2,9 @@ use Rattle.std.proofs.Common.{◌≡◌, ◌∙◌, List, ap, map}
 use Rattle.std.proofs.lemmas.Result.{IfOk-weaker}
 use Rattle.std.specs.HashMap.{get}
 use Rattle.ssu_ir.specs.View.{labels_view}
-use Rattle.bank_prog.specs.declared.column.Column.{Column}
-use Rattle.bank_prog.specs.Columns.{Priced, priced}
-use Rattle.bank_prog.specs.Program.{same_column, number_in, number_of}
+use Rattle.bank_form.specs.declared.column.Column.{Column}
+use Rattle.bank_form.specs.Columns.{Priced, priced}
+use Rattle.bank_form.specs.Program.{same_column, number_in, number_of}
 use Rattle.bank_prog.proofs.named.column_numbers.Goals as goal
 
 pub returns : goal.returns
