@@ -24,8 +24,8 @@ use Rattle.nova_back.proofs.PairedCost.{paired-cost}
 use Rattle.nova_back.proofs.PairedOn.{IsPaired}
 use Rattle.nova_back.proofs.PairedPoints.{operands-lines, capacity-lines, owners-lines, adjacency-lines, passes-lines}
 use Rattle.nova_back.proofs.PairedRows.{parameter-lines, result-lines, access-lines, use-lines, cover-lines, copies-lines, arguments-lines}
-use Rattle.reg_assign.proofs.ChosenHolds.{flat-each}
-use Rattle.reg_assign.proofs.Counts.{In, each-from}
+use Rattle.bank_places.proofs.ChosenHolds.{flat-each}
+use Rattle.bank_places.proofs.Counts.{In, each-from}
 
 -- ---- all lines
 

@@ -17,8 +17,8 @@ use Rattle.bank_form.specs.Program.{number_of}
 use Rattle.bank_rows.proofs.PlainLines.{mapped-each, each-kept}
 use Rattle.nova_back.specs.inner.Paired.{paired}
 use Rattle.nova_back.proofs.PairedOn.{IsPaired, off, each-any}
-use Rattle.reg_assign.proofs.ChosenHolds.{flat-each, if-each, points-each}
-use Rattle.reg_assign.proofs.CostSums.{cost-append}
+use Rattle.bank_places.proofs.ChosenHolds.{flat-each, if-each, points-each}
+use Rattle.bank_places.proofs.CostSums.{cost-append}
 
 -- ---- columns that cost nothing
 

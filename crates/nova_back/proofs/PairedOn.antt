@@ -23,13 +23,13 @@ use Rattle.bank_form.specs.Rows.{is_written}
 use Rattle.bank_prog.proofs.LawsColumns.{on-there, chosen-on}
 use Rattle.bank_rows.proofs.Present.{use-place, def-there, fill-there, home-a, home-b}
 use Rattle.nova_back.specs.inner.Paired.{is_there, is_second, paired}
-use Rattle.reg_assign.specs.inner.Facts.{count}
-use Rattle.reg_assign.proofs.ChosenForm.{held-value}
-use Rattle.reg_assign.proofs.ChosenHolds.{in-test}
-use Rattle.reg_assign.proofs.Counts.{In, in-contained, contained-in, map-in, each-in, some-counted}
-use Rattle.reg_assign.proofs.FactsThere.{there, IsService}
-use Rattle.reg_assign.proofs.FactsValues.{same-use}
-use Rattle.reg_assign.proofs.LabelPoints.{used-here}
+use Rattle.bank_places.specs.inner.Facts.{count}
+use Rattle.bank_places.proofs.ChosenForm.{held-value}
+use Rattle.bank_places.proofs.ChosenHolds.{in-test}
+use Rattle.bank_places.proofs.Counts.{In, in-contained, contained-in, map-in, each-in, some-counted}
+use Rattle.bank_places.proofs.FactsThere.{there, IsService}
+use Rattle.bank_places.proofs.FactsValues.{same-use}
+use Rattle.bank_places.proofs.LabelPoints.{used-here}
 
 -- these columns are on: those of the paired choice that are there
 pub record IsPaired (labels : List Label) (on : Chosen) : Type 0 where

@@ -26,10 +26,10 @@ use Rattle.bank_rows.proofs.PlainLines.{mapped-each}
 use Rattle.nova_back.specs.inner.Paired.{is_there, is_second, serves_a, serves_b}
 use Rattle.nova_back.proofs.PairedOn.{IsPaired, on-paired, off, contained-there, count-off, count-none, first-most, each-any, use-at, home-most, home-b-most, home-m-none}
 use Rattle.nova_back.proofs.PairedRows.{AreOff, zero-most, zero-covers, numbered-off, at-a, at-off, serves-none}
-use Rattle.reg_assign.specs.inner.Facts.{count}
-use Rattle.reg_assign.proofs.ChosenHolds.{most-holds, flat-each, if-each, points-each, only-most}
-use Rattle.reg_assign.proofs.Counts.{In, contained-in, in-kept, each-from, count-append}
-use Rattle.reg_assign.proofs.FactsThere.{there}
+use Rattle.bank_places.specs.inner.Facts.{count}
+use Rattle.bank_places.proofs.ChosenHolds.{most-holds, flat-each, if-each, points-each, only-most}
+use Rattle.bank_places.proofs.Counts.{In, contained-in, in-kept, each-from, count-append}
+use Rattle.bank_places.proofs.FactsThere.{there}
 
 -- ---- two operands
 

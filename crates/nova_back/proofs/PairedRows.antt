@@ -26,11 +26,11 @@ use Rattle.bank_rows.proofs.Present.{contains-beginning, first-there, srv-there}
 use Rattle.bank_rows.proofs.PlainLines.{mapped-each}
 use Rattle.nova_back.specs.inner.Paired.{is_second, serves_a, serves_b, serves, paired}
 use Rattle.nova_back.proofs.PairedOn.{IsPaired, off, put, is_operand, first-use, not-both, count-off, count-none, first-most, first-one, each-any, used-value, is-used, home-most, home-a-some, home-b-most, home-b-some, home-m-none, put-a}
-use Rattle.reg_assign.specs.inner.Facts.{count}
-use Rattle.reg_assign.proofs.ChosenHolds.{most-holds, covers-hold, one-holds, flat-each, if-each}
-use Rattle.reg_assign.proofs.ChosenSource.{argument-value}
-use Rattle.reg_assign.proofs.Counts.{In, contained-in, each-in, count-append, some-counted}
-use Rattle.reg_assign.proofs.ChosenValues.{unfetched, result-unfetched}
+use Rattle.bank_places.specs.inner.Facts.{count}
+use Rattle.bank_places.proofs.ChosenHolds.{most-holds, covers-hold, one-holds, flat-each, if-each}
+use Rattle.bank_places.proofs.ChosenSource.{argument-value}
+use Rattle.bank_places.proofs.Counts.{In, contained-in, each-in, count-append, some-counted}
+use Rattle.bank_places.proofs.ChosenValues.{unfetched, result-unfetched}
 
 -- ---- lines of columns that are off
 

@@ -17,11 +17,11 @@ use Rattle.bank_prog.specs.Meaning.{on, IsFeasible}
 use Rattle.bank_prog.proofs.LawsColumns.{on-there, chosen-on}
 use Rattle.bank_prog.proofs.LawsCost.{costs-by-name}
 use Rattle.reg_assign.specs.declared.plan_tables.PlanTables.{PlanTables}
-use Rattle.reg_assign.specs.inner.Chosen.{use_at, value_at, bank_of, is_in_bank, wanted_bank, waits, goes_there, names, chosen, IsChosen}
+use Rattle.bank_places.specs.inner.Chosen.{use_at, value_at, bank_of, is_in_bank, wanted_bank, waits, goes_there, names, chosen, IsChosen}
 use Rattle.reg_assign.specs.inner.PlanTables.{first_told, from_told, at_told, value_told, role_told, point_told, waits_told, goes_told, stays_told, told, AreTold}
-use Rattle.reg_assign.proofs.FitWords.{map-same}
-use Rattle.reg_assign.proofs.ChosenAll.{lines-hold}
-use Rattle.reg_assign.proofs.ChosenCostAll.{cost-same}
+use Rattle.bank_places.proofs.FitWords.{map-same}
+use Rattle.bank_places.proofs.ChosenAll.{lines-hold}
+use Rattle.bank_places.proofs.ChosenCostAll.{cost-same}
 
 -- ---- the tables tell of the columns that the placement has on
 

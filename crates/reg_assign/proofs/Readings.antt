@@ -11,7 +11,7 @@ use Rattle.bank_form.specs.declared.column.Service.{Service}
 use Rattle.bank_form.specs.Columns.{eight}
 use Rattle.bank_form.specs.Rows.{dir, ear, is_written}
 use Rattle.bank_prog.specs.Meaning.{Chosen}
-use Rattle.reg_assign.specs.inner.ReadOff.{first_on, goes_early, service_on}
+use Rattle.bank_places.specs.inner.ReadOff.{first_on, goes_early, service_on}
 
 -- ---- the first that passes a test
 

@@ -3,7 +3,7 @@
 ghost use Rattle.std.specs.Prelude.{◌≡◌};
 ghost use Rattle.bank_form.specs.Columns.{eight};
 ghost use Rattle.bank_form.specs.inner.Form.{use_view};
-ghost use Rattle.reg_assign.specs.inner.ReadOff as pure;
+ghost use Rattle.bank_places.specs.inner.ReadOff as pure;
 ghost use Rattle.reg_assign.specs.inner.Reading.{says, column_of};
 
 use crate::reading::Reading;

@@ -19,7 +19,7 @@ use Rattle.bank_form.specs.inner.Form.{role_view}
 use Rattle.bank_form.specs.Program.{same_bank}
 use Rattle.bank_prog.specs.Meaning.{Chosen}
 use Rattle.reg_assign.specs.declared.plan_tables.PlanTables.{PlanTables}
-use Rattle.reg_assign.specs.inner.Chosen.{use_at, value_at, bank_of, is_in_bank, wanted_bank, names}
+use Rattle.bank_places.specs.inner.Chosen.{use_at, value_at, bank_of, is_in_bank, wanted_bank, names}
 
 -- ---- what is found in a table, or stands for what isn't there
 

@@ -22,7 +22,7 @@ use Rattle.reg_assign.specs.declared.columns.Family.{Family}
 use Rattle.reg_assign.specs.declared.columns.Family.TheVariants as family
 use Rattle.reg_assign.specs.declared.reading.Reading.{Reading}
 use Rattle.reg_assign.specs.declared.numbers.BankNumbers.{BankNumbers}
-use Rattle.reg_assign.specs.inner.ReadOff.{Numbers, has_home, goes_early, word_place, value_home, AreRead, read_off, pass_by, pass_l, pass_s}
+use Rattle.bank_places.specs.inner.ReadOff.{Numbers, has_home, goes_early, word_place, value_home, AreRead, read_off, pass_by, pass_l, pass_s}
 
 -- ---- columns
 
