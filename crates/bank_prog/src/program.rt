@@ -1,18 +1,13 @@
 //! The program of a form.
 
 ghost use Rattle.std.specs.Prelude.{◌≡◌, ◌≤◌, ◌<◌, ◌^◌, ℕ, true, length, map, Err, IfOk};
-ghost use Rattle.std.specs.HashMap.{get};
-ghost use Rattle.std.specs.List.{AllZip};
-ghost use Rattle.ssu_ir.specs.Points.{points};
 ghost use Rattle.ssu_ir.specs.Single.{single};
 ghost use Rattle.ssu_ir.specs.View.{labels_view};
-ghost use Rattle.place_ir.specs.Held.{IsRow, items_of};
-ghost use Rattle.zo_model.specs.Contents.{contents, row_contents};
+ghost use Rattle.zo_model.specs.Contents.{contents};
 ghost use Rattle.zo_model.specs.Program.{IsValid};
 ghost use Rattle.bank_form.specs.Columns.{columns};
 ghost use Rattle.bank_form.specs.Program as program;
-ghost use Rattle.bank_form.specs.Program.{same_column, row_of, bank_program, IsTooLarge};
-ghost use Rattle.bank_form.specs.Rows.{lines};
+ghost use Rattle.bank_form.specs.Program.{bank_program, IsTooLarge};
 ghost use Rattle.bank_prog.specs.declared.error.BankError.TheVariants.{TooLarge as Exceeds};
 
 use crate::error::BankError;

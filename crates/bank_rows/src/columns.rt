@@ -7,10 +7,10 @@ ghost use Rattle.place_ir.specs.Uses.{is_used};
 ghost use Rattle.bank_form.specs.Columns as columns;
 ghost use Rattle.bank_form.specs.declared.column.Column.TheVariants as column;
 ghost use Rattle.bank_form.specs.inner.Form as form;
-ghost use Rattle.bank_form.specs.inner.Form.{stop_view, use_view, value_view, access_view, role_view, sort_view};
+ghost use Rattle.bank_form.specs.inner.Form.{stop_view, use_view, value_view, access_view};
 
 use bank_form::column::{Bank, Column, Priced, Service};
-use bank_form::form::{Access, Form, Role, Sort, Stop, Use, Value};
+use bank_form::form::{Access, Form, Sort, Stop, Use, Value};
 use bank_form::names;
 use bank_form::runs::{beginnings, role_beginnings, sort_beginnings};
 use bank_form::services::services;
