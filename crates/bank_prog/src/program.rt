@@ -1,6 +1,6 @@
 //! The program of a form.
 
-ghost use Rattle.std.specs.Prelude.{◌≡◌, ◌≤◌, ◌<◌, ◌^◌, ℕ, true, length, map, Err, IfOk};
+ghost use Rattle.std.specs.Prelude.{◌≡◌, ◌≤◌, ◌^◌, ℕ, true, length, Err, IfOk};
 ghost use Rattle.ssu_ir.specs.Single.{single};
 ghost use Rattle.ssu_ir.specs.View.{labels_view};
 ghost use Rattle.zo_model.specs.Contents.{contents};
@@ -11,22 +11,13 @@ ghost use Rattle.bank_form.specs.Program.{bank_program, IsTooLarge};
 ghost use Rattle.bank_prog.specs.declared.error.BankError.TheVariants.{TooLarge as Exceeds};
 
 use crate::error::BankError;
-use bank_form::column::Column;
 use bank_form::form::form_of;
 use bank_form::numbers::{COUNT_LIMIT, number_columns};
-use bank_rows::{columns_of, rows_of};
-use nv_base::NoMemory;
+use bank_rows::{columns_of, costs_of, rows_of};
 use place_ir::held;
 use ssu_ir::Ssu;
 use std::alloc::Global;
 use zo_model::ZeroOne;
-
-/// The costs of the columns.
-fn costs_of(alloc: Global, priced: &[(Column, u32)]) -> Result<Vec<u32>, NoMemory>
-    ensures { IfOk result (λ v. v.items ≡ map (λ c. c.1) priced.now) }
-{
-    Ok(priced.iter().map(|c| c.1).collect(alloc)?)
-}
 
 /// The program of the banks, where so many slots may be used.
 ///

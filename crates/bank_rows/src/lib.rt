@@ -6,6 +6,7 @@ mod begins;
 mod choice;
 mod columns;
 mod cover;
+mod named;
 mod owners;
 mod passes;
 mod refills;
@@ -13,4 +14,5 @@ mod spans;
 mod waiting;
 
 pub use all_rows::rows_of;
-pub use columns::columns_of;
+pub use columns::{columns_of, costs_of};
+pub use named::{column_names, column_numbers};

@@ -5,7 +5,7 @@ use Rattle.std.specs.declared.alloc.Global.{Global}
 use Rattle.ssu_ir.specs.View.{labels_view}
 use Rattle.bank_form.specs.declared.column.Column.{Column}
 use Rattle.bank_form.specs.Columns.{Priced, priced, columns}
-use Rattle.bank_prog.proofs.named.column_names.Goals as goal
+use Rattle.bank_rows.proofs.named.column_names.Goals as goal
 
 pub returns : goal.returns
 returns c =

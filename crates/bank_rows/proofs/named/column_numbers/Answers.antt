@@ -5,7 +5,7 @@ use Rattle.ssu_ir.specs.View.{labels_view}
 use Rattle.bank_form.specs.declared.column.Column.{Column}
 use Rattle.bank_form.specs.Columns.{Priced, priced}
 use Rattle.bank_form.specs.Program.{same_column, number_in, number_of}
-use Rattle.bank_prog.proofs.named.column_numbers.Goals as goal
+use Rattle.bank_rows.proofs.named.column_numbers.Goals as goal
 
 pub returns : goal.returns
 returns c =

@@ -8,10 +8,10 @@ ghost use Rattle.bank_form.specs.Columns as columns;
 ghost use Rattle.bank_form.specs.Program.{same_column, number_of};
 ghost use Rattle.bank_form.specs.declared.column.Column as column;
 
+use crate::columns::columns_of;
 use bank_form::column::Column;
 use bank_form::form::form_of;
 use bank_form::numbers::{COUNT_LIMIT, Numbers, number_columns};
-use bank_rows::columns_of;
 use nv_base::NoMemory;
 use ssu_ir::Ssu;
 use std::alloc::Global;
