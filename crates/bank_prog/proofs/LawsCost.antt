@@ -6,13 +6,13 @@ use Rattle.place_ir.proofs.Sound.{Each}
 use Rattle.zo_model.specs.declared.program.ZeroOne.{ZeroOne}
 use Rattle.zo_model.specs.Contents.{contents}
 use Rattle.zo_model.specs.Program.{cost_where, cost_below, costs_of, cost_of}
-use Rattle.bank_prog.specs.declared.column.Column.{Column}
-use Rattle.bank_prog.specs.Columns.{Priced, priced, costs}
+use Rattle.bank_form.specs.declared.column.Column.{Column}
+use Rattle.bank_form.specs.Columns.{Priced, priced, costs}
 use Rattle.bank_prog.specs.Meaning.{Chosen, number_on, on, named_cost}
-use Rattle.bank_prog.specs.Program.{Numbers, number_in, number_of, bank_program}
-use Rattle.bank_prog.proofs.Distinct.{Apart, Distinct}
-use Rattle.bank_prog.proofs.Families.{priced-distinct}
-use Rattle.bank_prog.proofs.Itself.{column-itself}
+use Rattle.bank_form.specs.Program.{Numbers, number_in, number_of, bank_program}
+use Rattle.bank_rows.proofs.Distinct.{Apart, Distinct}
+use Rattle.bank_rows.proofs.Families.{priced-distinct}
+use Rattle.bank_form.proofs.Itself.{column-itself}
 
 -- ---- the columns are on as the vector says
 

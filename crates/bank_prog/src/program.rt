@@ -1,68 +1,23 @@
 //! The program of a form.
 
-ghost use Rattle.std.specs.Prelude.{◌≡◌, ◌≤◌, ◌<◌, ◌^◌, ℕ, true, length, map, Err, IfOk};
-ghost use Rattle.std.specs.HashMap.{get};
-ghost use Rattle.std.specs.List.{AllZip};
-ghost use Rattle.ssu_ir.specs.Points.{points};
+ghost use Rattle.std.specs.Prelude.{◌≡◌, ◌≤◌, ◌^◌, ℕ, true, length, Err, IfOk};
 ghost use Rattle.ssu_ir.specs.Single.{single};
 ghost use Rattle.ssu_ir.specs.View.{labels_view};
-ghost use Rattle.place_ir.specs.Held.{IsRow, items_of};
-ghost use Rattle.zo_model.specs.Contents.{contents, row_contents};
+ghost use Rattle.zo_model.specs.Contents.{contents};
 ghost use Rattle.zo_model.specs.Program.{IsValid};
-ghost use Rattle.bank_prog.specs.Columns.{columns};
-ghost use Rattle.bank_prog.specs.Program as program;
-ghost use Rattle.bank_prog.specs.Program.{same_column, row_of, bank_program, IsTooLarge};
-ghost use Rattle.bank_prog.specs.Rows.{lines};
+ghost use Rattle.bank_form.specs.Columns.{columns};
+ghost use Rattle.bank_form.specs.Program as program;
+ghost use Rattle.bank_form.specs.Program.{bank_program, IsTooLarge};
 ghost use Rattle.bank_prog.specs.declared.error.BankError.TheVariants.{TooLarge as Exceeds};
 
-use crate::begins::push_adjacency;
-use crate::capacity::push_capacity;
-use crate::choice::push_one_choice;
-use crate::column::Column;
-use crate::columns::columns_of;
-use crate::cover::push_homes_cover;
 use crate::error::BankError;
-use crate::form::{Form, form_of};
-use crate::numbers::{COUNT_LIMIT, Numbers, number_columns};
-use crate::operands::push_operand_banks;
-use crate::owners::push_owners;
-use crate::passes::push_passes;
-use nv_base::NoMemory;
+use bank_form::form::form_of;
+use bank_form::numbers::{COUNT_LIMIT, number_columns};
+use bank_rows::{columns_of, costs_of, rows_of};
 use place_ir::held;
 use ssu_ir::Ssu;
 use std::alloc::Global;
-use zo_model::{Row, ZeroOne};
-
-/// The costs of the columns.
-fn costs_of(alloc: Global, priced: &[(Column, u32)]) -> Result<Vec<u32>, NoMemory>
-    ensures { IfOk result (λ v. v.items ≡ map (λ c. c.1) priced.now) }
-{
-    Ok(priced.iter().map(|c| c.1).collect(alloc)?)
-}
-
-/// The rows of all families, where these values are held at the points.
-fn rows_of(
-    alloc: Global,
-    numbers: &Numbers,
-    f: &Form<'_>,
-    slots: u32,
-    rows_held: &[Vec<u32>],
-) -> Result<Vec<Row>, NoMemory>
-    requires single { single (labels_view f.now.ssu.now) ≡ true }
-    requires slots { slots ≤ 128 }
-    requires held { AllZip IsRow (items_of rows_held.now) (points (labels_view f.now.ssu.now)) }
-    ensures { IfOk result (λ v. map row_contents v.items ≡ map (row_of (get same_column numbers.now)) (lines (labels_view f.now.ssu.now) slots)) }
-{
-    let mut rows = Vec::new(alloc);
-    push_one_choice(alloc, numbers, f, &mut rows)?;
-    push_homes_cover(alloc, numbers, f, &mut rows)?;
-    push_operand_banks(alloc, numbers, f, &mut rows)?;
-    push_capacity(alloc, numbers, f, slots, rows_held, &mut rows)?;
-    push_owners(alloc, numbers, f, rows_held, &mut rows)?;
-    push_adjacency(alloc, numbers, f, &mut rows)?;
-    push_passes(alloc, numbers, f, &mut rows)?;
-    Ok(rows)
-}
+use zo_model::ZeroOne;
 
 /// The program of the banks, where so many slots may be used.
 ///

@@ -9,14 +9,14 @@ use Rattle.place_ir.specs.Uses.{accesses, values, uses}
 use Rattle.place_ir.proofs.Sound.{Each, each-append}
 use Rattle.place_ir.proofs.Spilled.{each-all}
 use Rattle.zo_model.specs.Program.{vector, costs_of}
-use Rattle.bank_prog.specs.declared.column.Bank.{Bank}
-use Rattle.bank_prog.specs.declared.column.Bank.TheVariants.{A, B, M, T, L, A15, W}
-use Rattle.bank_prog.specs.declared.column.Column.{Column}
-use Rattle.bank_prog.specs.declared.column.Column.TheVariants.{Def, Dir, Fill, Stay, Ear, First, Srv, PasL, PasS}
-use Rattle.bank_prog.specs.Columns.{columns, costs}
+use Rattle.bank_form.specs.declared.column.Bank.{Bank}
+use Rattle.bank_form.specs.declared.column.Bank.TheVariants.{A, B, M, T, L, A15, W}
+use Rattle.bank_form.specs.declared.column.Column.{Column}
+use Rattle.bank_form.specs.declared.column.Column.TheVariants.{Def, Dir, Fill, Stay, Ear, First, Srv, PasL, PasS}
+use Rattle.bank_form.specs.Columns.{columns, costs}
 use Rattle.bank_prog.specs.Meaning.{Chosen, on, Holds}
-use Rattle.bank_prog.specs.Program.{Numbers, number_of}
-use Rattle.bank_prog.specs.Rows.{Line, lines, parameter_choice, result_choice, access_choice, use_choice, one_choice, use_cover, copy_cover, argument_cover, homes_cover, operand_banks, capacity, owners, adjacency, passes}
+use Rattle.bank_form.specs.Program.{Numbers, number_of}
+use Rattle.bank_form.specs.Rows.{Line, lines, parameter_choice, result_choice, access_choice, use_choice, one_choice, use_cover, copy_cover, argument_cover, homes_cover, operand_banks, capacity, owners, adjacency, passes}
 use Rattle.bank_prog.proofs.LawsColumns.{on-there, chosen-on}
 use Rattle.bank_prog.proofs.LawsCost.{costs-by-name}
 use Rattle.nova_back.specs.inner.Paired.{fills, serves, paired}
@@ -24,8 +24,8 @@ use Rattle.nova_back.proofs.PairedCost.{paired-cost}
 use Rattle.nova_back.proofs.PairedOn.{IsPaired}
 use Rattle.nova_back.proofs.PairedPoints.{operands-lines, capacity-lines, owners-lines, adjacency-lines, passes-lines}
 use Rattle.nova_back.proofs.PairedRows.{parameter-lines, result-lines, access-lines, use-lines, cover-lines, copies-lines, arguments-lines}
-use Rattle.reg_assign.proofs.ChosenHolds.{flat-each}
-use Rattle.reg_assign.proofs.Counts.{In, each-from}
+use Rattle.bank_places.proofs.ChosenHolds.{flat-each}
+use Rattle.bank_places.proofs.Counts.{In, each-from}
 
 -- ---- all lines
 

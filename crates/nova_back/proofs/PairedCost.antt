@@ -7,18 +7,18 @@ use Rattle.place_ir.specs.Fits.{is_result}
 use Rattle.place_ir.specs.Uses.{Access, accesses, Sort, Parameter, Result, Fetched, Value, values, place_values, Role, Operand, Address, Written, Argument, Ending, Use, uses, is_used}
 use Rattle.place_ir.proofs.Sound.{Each}
 use Rattle.zo_model.specs.Program.{cost_where}
-use Rattle.bank_prog.specs.declared.column.Bank.TheVariants.{A, B, M, T, L, A15, W}
-use Rattle.bank_prog.specs.declared.column.Column.{Column}
-use Rattle.bank_prog.specs.declared.column.Column.TheVariants.{Def, Dir, Fill, Stay, Ear, First, Srv, PasL, PasS}
-use Rattle.bank_prog.specs.declared.column.Service.{Service}
-use Rattle.bank_prog.specs.Columns.{sort_of, is_fetched, eight, beginnings, role_beginnings, sort_beginnings, place_words, point_uses, Priced, sort_defs, def_columns, dir_columns, point_dirs, fill_columns, stay_columns, point_stays, ear_columns, point_ears, first_columns, services, has_bank, srv_columns, for_eight, pas_l_columns, pas_s_columns, all_dirs, all_stays, all_ears, all_pas_l, all_pas_s, priced}
+use Rattle.bank_form.specs.declared.column.Bank.TheVariants.{A, B, M, T, L, A15, W}
+use Rattle.bank_form.specs.declared.column.Column.{Column}
+use Rattle.bank_form.specs.declared.column.Column.TheVariants.{Def, Dir, Fill, Stay, Ear, First, Srv, PasL, PasS}
+use Rattle.bank_form.specs.declared.column.Service.{Service}
+use Rattle.bank_form.specs.Columns.{sort_of, is_fetched, eight, beginnings, role_beginnings, sort_beginnings, place_words, point_uses, Priced, sort_defs, def_columns, dir_columns, point_dirs, fill_columns, stay_columns, point_stays, ear_columns, point_ears, first_columns, services, has_bank, srv_columns, for_eight, pas_l_columns, pas_s_columns, all_dirs, all_stays, all_ears, all_pas_l, all_pas_s, priced}
 use Rattle.bank_prog.specs.Meaning.{Chosen, named_cost}
-use Rattle.bank_prog.specs.Program.{number_of}
-use Rattle.bank_prog.proofs.PlainLines.{mapped-each, each-kept}
+use Rattle.bank_form.specs.Program.{number_of}
+use Rattle.bank_rows.proofs.PlainLines.{mapped-each, each-kept}
 use Rattle.nova_back.specs.inner.Paired.{paired}
 use Rattle.nova_back.proofs.PairedOn.{IsPaired, off, each-any}
-use Rattle.reg_assign.proofs.ChosenHolds.{flat-each, if-each, points-each}
-use Rattle.reg_assign.proofs.CostSums.{cost-append}
+use Rattle.bank_places.proofs.ChosenHolds.{flat-each, if-each, points-each}
+use Rattle.bank_places.proofs.CostSums.{cost-append}
 
 -- ---- columns that cost nothing
 

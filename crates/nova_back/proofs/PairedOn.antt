@@ -11,25 +11,25 @@ use Rattle.place_ir.proofs.Fitting.{apart-from}
 use Rattle.place_ir.proofs.Sound.{Each, Sound, sound-points, uses_among}
 use Rattle.place_ir.proofs.Spilled.{each-at}
 use Rattle.zo_model.specs.Program.{vector, cost_where}
-use Rattle.bank_prog.specs.declared.column.Bank.{Bank}
-use Rattle.bank_prog.specs.declared.column.Bank.TheVariants.{A, B, M, L, W}
-use Rattle.bank_prog.specs.declared.column.Column.{Column}
-use Rattle.bank_prog.specs.declared.column.Column.TheVariants.{Def, Fill, Srv}
-use Rattle.bank_prog.specs.declared.column.Service.{Service}
-use Rattle.bank_prog.specs.Columns.{columns, services, point_uses, is_fetched}
+use Rattle.bank_form.specs.declared.column.Bank.{Bank}
+use Rattle.bank_form.specs.declared.column.Bank.TheVariants.{A, B, M, L, W}
+use Rattle.bank_form.specs.declared.column.Column.{Column}
+use Rattle.bank_form.specs.declared.column.Column.TheVariants.{Def, Fill, Srv}
+use Rattle.bank_form.specs.declared.column.Service.{Service}
+use Rattle.bank_form.specs.Columns.{columns, services, point_uses, is_fetched}
 use Rattle.bank_prog.specs.Meaning.{Chosen, number_on}
-use Rattle.bank_prog.specs.Program.{same_bank, number_of}
-use Rattle.bank_prog.specs.Rows.{is_written}
+use Rattle.bank_form.specs.Program.{same_bank, number_of}
+use Rattle.bank_form.specs.Rows.{is_written}
 use Rattle.bank_prog.proofs.LawsColumns.{on-there, chosen-on}
-use Rattle.bank_prog.proofs.Present.{use-place, def-there, fill-there, home-a, home-b}
+use Rattle.bank_rows.proofs.Present.{use-place, def-there, fill-there, home-a, home-b}
 use Rattle.nova_back.specs.inner.Paired.{is_there, is_second, paired}
-use Rattle.reg_assign.specs.inner.Facts.{count}
-use Rattle.reg_assign.proofs.ChosenForm.{held-value}
-use Rattle.reg_assign.proofs.ChosenHolds.{in-test}
-use Rattle.reg_assign.proofs.Counts.{In, in-contained, contained-in, map-in, each-in, some-counted}
-use Rattle.reg_assign.proofs.FactsThere.{there, IsService}
-use Rattle.reg_assign.proofs.FactsValues.{same-use}
-use Rattle.reg_assign.proofs.LabelPoints.{used-here}
+use Rattle.bank_places.specs.inner.Facts.{count}
+use Rattle.bank_places.proofs.ChosenForm.{held-value}
+use Rattle.bank_places.proofs.ChosenHolds.{in-test}
+use Rattle.bank_places.proofs.Counts.{In, in-contained, contained-in, map-in, each-in, some-counted}
+use Rattle.bank_places.proofs.FactsThere.{there, IsService}
+use Rattle.bank_places.proofs.FactsValues.{same-use}
+use Rattle.bank_places.proofs.LabelPoints.{used-here}
 
 -- these columns are on: those of the paired choice that are there
 pub record IsPaired (labels : List Label) (on : Chosen) : Type 0 where

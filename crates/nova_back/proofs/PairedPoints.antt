@@ -12,24 +12,24 @@ use Rattle.place_ir.specs.Fits.{is_result, point_values}
 use Rattle.place_ir.specs.Uses.{Access, reads_at, writes_at, Sort, Parameter, Result, Fetched, Value, values, place_values, Role, Operand, Address, Written, Argument, Ending, Use, uses_at, uses, place_roles, is_used}
 use Rattle.place_ir.proofs.Scoped.{different-filter}
 use Rattle.place_ir.proofs.Sound.{Each, each-append}
-use Rattle.bank_prog.specs.declared.column.Bank.{Bank}
-use Rattle.bank_prog.specs.declared.column.Bank.TheVariants.{A, B, M, T, L, A15, W}
-use Rattle.bank_prog.specs.declared.column.Column.{Column}
-use Rattle.bank_prog.specs.declared.column.Column.TheVariants.{Def, Dir, Fill, Stay, Ear, First, Srv, PasL, PasS}
-use Rattle.bank_prog.specs.declared.column.Service.{Service}
-use Rattle.bank_prog.specs.Columns.{each_point, sort_of, eight, place_words, point_uses, role_beginnings, sort_beginnings, services}
+use Rattle.bank_form.specs.declared.column.Bank.{Bank}
+use Rattle.bank_form.specs.declared.column.Bank.TheVariants.{A, B, M, T, L, A15, W}
+use Rattle.bank_form.specs.declared.column.Column.{Column}
+use Rattle.bank_form.specs.declared.column.Column.TheVariants.{Def, Dir, Fill, Stay, Ear, First, Srv, PasL, PasS}
+use Rattle.bank_form.specs.declared.column.Service.{Service}
+use Rattle.bank_form.specs.Columns.{each_point, sort_of, eight, place_words, point_uses, role_beginnings, sort_beginnings, services}
 use Rattle.bank_prog.specs.Meaning.{Chosen, Holds}
-use Rattle.bank_prog.specs.Program.{number_of}
-use Rattle.bank_prog.specs.Rows.{at_most, covers, home, srv_at, two_operands, both_at, pair_lines, operand_lines, operand_banks, held_in, room_lines, capacity, is_sdram, same_side, run_at, sort_stays, stays_at, role_early, early_at, covering, side_covering, waiting, read_owners, access_owners, fill_owners, side_owners, write_owners, owners, stay_begins, word_begins, begins_at, adjacency, is_slot, slot_read, slot_written, result_written, value_written, passes}
-use Rattle.bank_prog.proofs.Present.{srv-there}
-use Rattle.bank_prog.proofs.PlainLines.{mapped-each}
+use Rattle.bank_form.specs.Program.{number_of}
+use Rattle.bank_form.specs.Rows.{at_most, covers, home, srv_at, two_operands, both_at, pair_lines, operand_lines, operand_banks, held_in, room_lines, capacity, is_sdram, same_side, run_at, sort_stays, stays_at, role_early, early_at, covering, side_covering, waiting, read_owners, access_owners, fill_owners, side_owners, write_owners, owners, stay_begins, word_begins, begins_at, adjacency, is_slot, slot_read, slot_written, result_written, value_written, passes}
+use Rattle.bank_rows.proofs.Present.{srv-there}
+use Rattle.bank_rows.proofs.PlainLines.{mapped-each}
 use Rattle.nova_back.specs.inner.Paired.{is_there, is_second, serves_a, serves_b}
 use Rattle.nova_back.proofs.PairedOn.{IsPaired, on-paired, off, contained-there, count-off, count-none, first-most, each-any, use-at, home-most, home-b-most, home-m-none}
 use Rattle.nova_back.proofs.PairedRows.{AreOff, zero-most, zero-covers, numbered-off, at-a, at-off, serves-none}
-use Rattle.reg_assign.specs.inner.Facts.{count}
-use Rattle.reg_assign.proofs.ChosenHolds.{most-holds, flat-each, if-each, points-each, only-most}
-use Rattle.reg_assign.proofs.Counts.{In, contained-in, in-kept, each-from, count-append}
-use Rattle.reg_assign.proofs.FactsThere.{there}
+use Rattle.bank_places.specs.inner.Facts.{count}
+use Rattle.bank_places.proofs.ChosenHolds.{most-holds, flat-each, if-each, points-each, only-most}
+use Rattle.bank_places.proofs.Counts.{In, contained-in, in-kept, each-from, count-append}
+use Rattle.bank_places.proofs.FactsThere.{there}
 
 -- ---- two operands
 

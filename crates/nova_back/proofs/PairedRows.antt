@@ -13,24 +13,24 @@ use Rattle.place_ir.specs.Uses.{Access, place_accesses, accesses_from, accesses,
 use Rattle.place_ir.specs.inner.Numbers.{values_among}
 use Rattle.place_ir.proofs.Slotted.{first-fits}
 use Rattle.place_ir.proofs.Sound.{Each, each-append, Sound, sound-points, place_ok, uses_among}
-use Rattle.bank_prog.specs.declared.column.Bank.{Bank}
-use Rattle.bank_prog.specs.declared.column.Bank.TheVariants.{A, B, M, T, L, A15, W}
-use Rattle.bank_prog.specs.declared.column.Column.{Column}
-use Rattle.bank_prog.specs.declared.column.Column.TheVariants.{Def, Dir, Fill, Ear, First, Srv}
-use Rattle.bank_prog.specs.declared.column.Service.{Service}
-use Rattle.bank_prog.specs.Columns.{sort_of, is_fetched, eight, may_begin, services, has_bank}
+use Rattle.bank_form.specs.declared.column.Bank.{Bank}
+use Rattle.bank_form.specs.declared.column.Bank.TheVariants.{A, B, M, T, L, A15, W}
+use Rattle.bank_form.specs.declared.column.Column.{Column}
+use Rattle.bank_form.specs.declared.column.Column.TheVariants.{Def, Dir, Fill, Ear, First, Srv}
+use Rattle.bank_form.specs.declared.column.Service.{Service}
+use Rattle.bank_form.specs.Columns.{sort_of, is_fetched, eight, may_begin, services, has_bank}
 use Rattle.bank_prog.specs.Meaning.{Chosen, Holds}
-use Rattle.bank_prog.specs.Program.{number_of}
-use Rattle.bank_prog.specs.Rows.{at_most, covers, exactly_one, homes, banks, def, home, stay, srv, srv_from, srv_at, dir, ear, early, is_parameter, is_written, parameter_choice, result_choice, access_choice, use_choice, served_home, use_stay, use_cover, in_register, fill, word_from_register, copy_lines, copy_cover, at_home, argument_lines, argument_cover}
-use Rattle.bank_prog.proofs.Present.{contains-beginning, first-there, srv-there}
-use Rattle.bank_prog.proofs.PlainLines.{mapped-each}
+use Rattle.bank_form.specs.Program.{number_of}
+use Rattle.bank_form.specs.Rows.{at_most, covers, exactly_one, homes, banks, def, home, stay, srv, srv_from, srv_at, dir, ear, early, is_parameter, is_written, parameter_choice, result_choice, access_choice, use_choice, served_home, use_stay, use_cover, in_register, fill, word_from_register, copy_lines, copy_cover, at_home, argument_lines, argument_cover}
+use Rattle.bank_rows.proofs.Present.{contains-beginning, first-there, srv-there}
+use Rattle.bank_rows.proofs.PlainLines.{mapped-each}
 use Rattle.nova_back.specs.inner.Paired.{is_second, serves_a, serves_b, serves, paired}
 use Rattle.nova_back.proofs.PairedOn.{IsPaired, off, put, is_operand, first-use, not-both, count-off, count-none, first-most, first-one, each-any, used-value, is-used, home-most, home-a-some, home-b-most, home-b-some, home-m-none, put-a}
-use Rattle.reg_assign.specs.inner.Facts.{count}
-use Rattle.reg_assign.proofs.ChosenHolds.{most-holds, covers-hold, one-holds, flat-each, if-each}
-use Rattle.reg_assign.proofs.ChosenSource.{argument-value}
-use Rattle.reg_assign.proofs.Counts.{In, contained-in, each-in, count-append, some-counted}
-use Rattle.reg_assign.proofs.ChosenValues.{unfetched, result-unfetched}
+use Rattle.bank_places.specs.inner.Facts.{count}
+use Rattle.bank_places.proofs.ChosenHolds.{most-holds, covers-hold, one-holds, flat-each, if-each}
+use Rattle.bank_places.proofs.ChosenSource.{argument-value}
+use Rattle.bank_places.proofs.Counts.{In, contained-in, each-in, count-append, some-counted}
+use Rattle.bank_places.proofs.ChosenValues.{unfetched, result-unfetched}
 
 -- ---- lines of columns that are off
 

@@ -21,8 +21,8 @@ use Rattle.zo_solve.specs.Solved.{CostsAtMost, HadNoStart, IsDecided, OfVector, 
 use Rattle.zo_solve.specs.Vector.{IsVector, cost_at, start_cost}
 use Rattle.zo_solve.specs.declared.search.Solved.{Solved}
 use Rattle.zo_solve.specs.declared.search.Solved.TheVariants as answers
-use Rattle.bank_prog.specs.Columns.{columns, priced}
-use Rattle.bank_prog.specs.Program.{bank_program}
+use Rattle.bank_form.specs.Columns.{columns, priced}
+use Rattle.bank_form.specs.Program.{bank_program}
 use Rattle.bank_prog.proofs.LawsRows.{feasible-by-name}
 use Rattle.nova_back.specs.Causes.{HasVector, IsEnded, IsReportOn, IsWithout, claim_of, report_cost}
 use Rattle.nova_back.specs.declared.error.BackError.{BackError}

@@ -16,7 +16,7 @@ use Rattle.zo_cert.specs.declared.cert.Claim.TheVariants.{Least, Nothing}
 use Rattle.zo_cert.specs.declared.report.Report.{Report}
 use Rattle.zo_cert.specs.declared.report.Verdict.{Verdict}
 use Rattle.zo_cert.specs.declared.report.Verdict.TheVariants.{Optimal, Feasible, Infeasible, Spent}
-use Rattle.bank_prog.specs.Program.{bank_program, IsTooLarge}
+use Rattle.bank_form.specs.Program.{bank_program, IsTooLarge}
 use Rattle.nova_back.specs.declared.error.BackError.{BackError}
 use Rattle.nova_back.specs.declared.error.BackError.TheVariants as back
 

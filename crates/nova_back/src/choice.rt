@@ -5,8 +5,8 @@ ghost use Rattle.ssu_ir.specs.Single.{single};
 ghost use Rattle.ssu_ir.specs.View.{labels_view};
 ghost use Rattle.zo_model.specs.Contents.{contents};
 ghost use Rattle.zo_model.specs.Program.{IsValid};
-ghost use Rattle.bank_prog.specs.Columns as banks;
-ghost use Rattle.bank_prog.specs.Program.{bank_program, rows, IsTooLarge};
+ghost use Rattle.bank_form.specs.Columns as banks;
+ghost use Rattle.bank_form.specs.Program.{bank_program, rows, IsTooLarge};
 ghost use Rattle.nova_back.specs.Causes.{HasVector};
 ghost use Rattle.nova_back.specs.inner.Search.{IsChosen, IsSearchOn, IsTold, IsUnbuilt, IsUnfound};
 

@@ -7,9 +7,9 @@ ghost use Rattle.ssu_ir.specs.Single.{single};
 ghost use Rattle.ssu_ir.specs.View.{labels_view};
 ghost use Rattle.place_ir.specs.Uses.{values, uses};
 ghost use Rattle.zo_model.specs.Program.{vector, costs_of};
-ghost use Rattle.bank_prog.specs.Columns as columns;
+ghost use Rattle.bank_form.specs.Columns as columns;
 ghost use Rattle.bank_prog.specs.Meaning.{IsFeasible};
-ghost use Rattle.bank_prog.specs.Program.{same_column};
+ghost use Rattle.bank_form.specs.Program.{same_column};
 ghost use Rattle.nova_back.specs.inner.Paired as inner;
 
 use bank_prog::{Bank, Column, Numbers, column_names, column_numbers, number};

@@ -24,8 +24,8 @@ use Rattle.ssu_ir.specs.Tree.{Label}
 use Rattle.ssu_make.specs.Bounds.{size_bound, length_bound}
 use Rattle.nova_middle.proofs.SourceBounds.{size_end, code_end}
 use Rattle.place_ir.specs.Uses.{values, uses}
-use Rattle.bank_prog.specs.Columns.{columns}
-use Rattle.bank_prog.specs.Program.{rows, IsTooLarge}
+use Rattle.bank_form.specs.Columns.{columns}
+use Rattle.bank_form.specs.Program.{rows, IsTooLarge}
 use Rattle.uc_isa.specs.Code.{CodeView}
 use Rattle.uc_isa.specs.Moves.{moves}
 use Rattle.uc_isa.proofs.Through.{agrees-through}

@@ -9,8 +9,8 @@ use Rattle.ssu_ir.specs.Measures.{peak, size, code_bound}
 use Rattle.ssu_ir.specs.Single.{single}
 use Rattle.ssu_ir.specs.Tree.{Label}
 use Rattle.place_ir.specs.Uses.{values, uses}
-use Rattle.bank_prog.specs.Columns.{columns}
-use Rattle.bank_prog.specs.Program.{rows, IsTooLarge}
+use Rattle.bank_form.specs.Columns.{columns}
+use Rattle.bank_form.specs.Program.{rows, IsTooLarge}
 use Rattle.uc_isa.specs.Agrees.{Agrees}
 use Rattle.uc_isa.specs.Code.{CodeView}
 use Rattle.uc_isa.specs.Lawful.{IsLawful}

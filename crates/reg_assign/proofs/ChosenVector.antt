@@ -9,19 +9,19 @@ use Rattle.place_ir.specs.Plan.{Plan, first, serve}
 use Rattle.place_ir.specs.Costs.{cost}
 use Rattle.place_ir.specs.Uses.{Use, uses_of}
 use Rattle.place_ir.specs.Fits.{is_read_register, is_write_register, served, Fits}
-use Rattle.bank_prog.specs.declared.column.Column.{Column}
-use Rattle.bank_prog.specs.declared.column.Column.TheVariants.{Def, Dir, Fill, Stay, Ear, First, Srv, PasL, PasS}
-use Rattle.bank_prog.specs.Columns.{columns, costs}
-use Rattle.bank_prog.specs.Program.{same_bank}
+use Rattle.bank_form.specs.declared.column.Column.{Column}
+use Rattle.bank_form.specs.declared.column.Column.TheVariants.{Def, Dir, Fill, Stay, Ear, First, Srv, PasL, PasS}
+use Rattle.bank_form.specs.Columns.{columns, costs}
+use Rattle.bank_form.specs.Program.{same_bank}
 use Rattle.bank_prog.specs.Meaning.{on, IsFeasible}
 use Rattle.bank_prog.proofs.LawsColumns.{on-there, chosen-on}
 use Rattle.bank_prog.proofs.LawsCost.{costs-by-name}
 use Rattle.reg_assign.specs.declared.plan_tables.PlanTables.{PlanTables}
-use Rattle.reg_assign.specs.inner.Chosen.{use_at, value_at, bank_of, is_in_bank, wanted_bank, waits, goes_there, names, chosen, IsChosen}
+use Rattle.bank_places.specs.inner.Chosen.{use_at, value_at, bank_of, is_in_bank, wanted_bank, waits, goes_there, names, chosen, IsChosen}
 use Rattle.reg_assign.specs.inner.PlanTables.{first_told, from_told, at_told, value_told, role_told, point_told, waits_told, goes_told, stays_told, told, AreTold}
-use Rattle.reg_assign.proofs.FitWords.{map-same}
-use Rattle.reg_assign.proofs.ChosenAll.{lines-hold}
-use Rattle.reg_assign.proofs.ChosenCostAll.{cost-same}
+use Rattle.bank_places.proofs.FitWords.{map-same}
+use Rattle.bank_places.proofs.ChosenAll.{lines-hold}
+use Rattle.bank_places.proofs.ChosenCostAll.{cost-same}
 
 -- ---- the tables tell of the columns that the placement has on
 

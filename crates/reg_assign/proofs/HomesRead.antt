@@ -17,12 +17,12 @@ use Rattle.place_ir.specs.Fits.{wants_home, Rises}
 use Rattle.place_ir.proofs.Scoped.{in-itself}
 use Rattle.place_ir.proofs.Sound.{Each}
 use Rattle.place_ir.proofs.Spilled.{each-all, all-each, each-weaker, each-apply}
-use Rattle.bank_prog.specs.declared.column.Bank.{Bank}
+use Rattle.bank_form.specs.declared.column.Bank.{Bank}
 use Rattle.bank_prog.specs.Meaning.{Chosen}
-use Rattle.bank_prog.proofs.Loops.{flat-filter}
-use Rattle.reg_assign.specs.inner.ReadOff.{Numbers, def_bank, put_home, sort_home, value_home, IsAtHome, AreRead}
+use Rattle.bank_form.proofs.Loops.{flat-filter}
+use Rattle.bank_places.specs.inner.ReadOff.{Numbers, def_bank, put_home, sort_home, value_home, IsAtHome, AreRead}
 use Rattle.reg_assign.specs.inner.Reading.{wanted_home}
-use Rattle.reg_assign.proofs.FactsAll.{values-differ}
+use Rattle.bank_places.proofs.FactsAll.{values-differ}
 use Rattle.reg_assign.proofs.Numbered.{still-different}
 
 -- ---- a home has the variable of its value

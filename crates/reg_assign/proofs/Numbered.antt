@@ -18,13 +18,13 @@ use Rattle.place_ir.proofs.Scoped.{in-itself, in-filter, in-either, different-fi
 use Rattle.place_ir.proofs.Sound.{Each, each-append, entry_params, Sound, uses_among, sound-points}
 use Rattle.place_ir.proofs.Spilled.{each-all, all-each, each-weaker}
 use Rattle.place_ir.proofs.Fitting.{uses-are}
-use Rattle.bank_prog.specs.declared.column.Bank.{Bank}
-use Rattle.bank_prog.specs.declared.column.Bank.TheVariants.{A, B, M}
-use Rattle.bank_prog.specs.Rows.{homes, is_parameter}
+use Rattle.bank_form.specs.declared.column.Bank.{Bank}
+use Rattle.bank_form.specs.declared.column.Bank.TheVariants.{A, B, M}
+use Rattle.bank_form.specs.Rows.{homes, is_parameter}
 use Rattle.bank_prog.specs.Meaning.{Chosen}
 use Rattle.reg_assign.specs.declared.numbers.BankNumbers.{BankNumbers}
-use Rattle.reg_assign.specs.inner.Facts.{Facts}
-use Rattle.reg_assign.specs.inner.ReadOff.{has_home, AreApart, is_held, IsBelow, AreNumbered}
+use Rattle.bank_places.specs.inner.Facts.{Facts}
+use Rattle.bank_places.specs.inner.ReadOff.{has_home, AreApart, is_held, IsBelow, AreNumbered}
 use Rattle.reg_assign.specs.inner.Reading.{number_in, numbers_of}
 
 -- ---- rows of those values that pass a test

@@ -15,14 +15,14 @@ use Rattle.place_ir.specs.declared.place.Placement.{Placement}
 use Rattle.place_ir.specs.Held.{Kept, items_of}
 use Rattle.place_ir.specs.Plan.{Home, Plan, home_view}
 use Rattle.place_ir.specs.Uses.{Value, accesses, Use, uses, uses_of}
-use Rattle.bank_prog.specs.declared.column.Bank.TheVariants.{A, B, M}
-use Rattle.bank_prog.specs.declared.form.Value.{Value as KeptValue}
-use Rattle.bank_prog.specs.Columns.{each_point}
+use Rattle.bank_form.specs.declared.column.Bank.TheVariants.{A, B, M}
+use Rattle.bank_form.specs.declared.form.Value.{Value as KeptValue}
+use Rattle.bank_form.specs.Columns.{each_point}
 use Rattle.bank_prog.specs.Meaning.{Chosen}
-use Rattle.bank_prog.specs.inner.Form.{value_view, use_view, access_view, stop_view, parts}
-use Rattle.bank_prog.proofs.Loops.{each-parts, flat-filter}
+use Rattle.bank_form.specs.inner.Form.{value_view, use_view, access_view, stop_view, parts}
+use Rattle.bank_form.proofs.Loops.{each-parts, flat-filter}
 use Rattle.reg_assign.specs.declared.given.Given.{Given}
-use Rattle.reg_assign.specs.inner.ReadOff.{Numbers, goes_early, word_place, sort_place, place_in, fill_at, fills_of, copies_of, access_first, use_serve, pass_l, pass_s, pass_by, passes_from, read_off}
+use Rattle.bank_places.specs.inner.ReadOff.{Numbers, goes_early, word_place, sort_place, place_in, fill_at, fills_of, copies_of, access_first, use_serve, pass_l, pass_s, pass_by, passes_from, read_off}
 use Rattle.reg_assign.specs.inner.Given.{labels_in, says_in, numbers_in}
 use Rattle.reg_assign.specs.inner.Reading.{known_place, place_noted, early_word, wanted_home, part_pass, IsReadOff}
 use Rattle.reg_assign.proofs.HomesRead.{homes-read}

@@ -12,20 +12,20 @@ use Rattle.place_ir.specs.Fits.{Fits}
 use Rattle.place_ir.specs.Plan.{Plan, home_view, plan_view}
 use Rattle.zo_model.specs.declared.program.Assignment.{Assignment}
 use Rattle.zo_model.specs.Program.{vector, costs_of}
-use Rattle.bank_prog.specs.Columns.{priced, costs}
+use Rattle.bank_form.specs.Columns.{priced, costs}
 use Rattle.bank_prog.specs.Meaning.{on, named_cost, IsFeasible}
 use Rattle.bank_prog.proofs.LawsColumns.{on-there}
 use Rattle.bank_prog.proofs.LawsCost.{costs-by-name}
 use Rattle.reg_assign.specs.declared.given.Given.{Given}
 use Rattle.reg_assign.specs.declared.numbers.BankNumbers.{BankNumbers}
 use Rattle.reg_assign.specs.declared.reading.Reading.{Reading}
-use Rattle.reg_assign.specs.ByLabel.{label_cost, label_price}
-use Rattle.reg_assign.specs.inner.Facts.{OnlyThere}
-use Rattle.reg_assign.specs.inner.ReadOff.{Numbers, AreNumbered, read_off}
+use Rattle.bank_places.specs.ByLabel.{label_cost, label_price}
+use Rattle.bank_places.specs.inner.Facts.{OnlyThere}
+use Rattle.bank_places.specs.inner.ReadOff.{Numbers, AreNumbered, read_off}
 use Rattle.reg_assign.specs.inner.Given.{labels_in, says_in, numbers_in}
 use Rattle.reg_assign.specs.inner.Reading.{labels_of, says, numbers_of, IsReadOff}
-use Rattle.reg_assign.proofs.CostAll.{plan-cost, label-paid}
-use Rattle.reg_assign.proofs.FitAll.{read-off-fits}
+use Rattle.bank_places.proofs.CostAll.{plan-cost, label-paid}
+use Rattle.bank_places.proofs.FitAll.{read-off-fits}
 
 -- what is promised of the placement of a vector
 pub record IsAssigned (labels : List Label) (n : ℕ) (v : ℕ → Bool) (p : Placement) : Type 0 where

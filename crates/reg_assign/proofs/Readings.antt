@@ -5,13 +5,13 @@ use Rattle.std.specs.List.{list_any}
 use Rattle.std.proofs.lemmas.Bool.{false≢true}
 use Rattle.std.proofs.lemmas.List.{at_drop_more, at_drop_all}
 use Rattle.place_ir.specs.Uses.{Use}
-use Rattle.bank_prog.specs.declared.column.Column.{Column}
-use Rattle.bank_prog.specs.declared.column.Column.TheVariants.{Dir, Ear, Srv}
-use Rattle.bank_prog.specs.declared.column.Service.{Service}
-use Rattle.bank_prog.specs.Columns.{eight}
-use Rattle.bank_prog.specs.Rows.{dir, ear, is_written}
+use Rattle.bank_form.specs.declared.column.Column.{Column}
+use Rattle.bank_form.specs.declared.column.Column.TheVariants.{Dir, Ear, Srv}
+use Rattle.bank_form.specs.declared.column.Service.{Service}
+use Rattle.bank_form.specs.Columns.{eight}
+use Rattle.bank_form.specs.Rows.{dir, ear, is_written}
 use Rattle.bank_prog.specs.Meaning.{Chosen}
-use Rattle.reg_assign.specs.inner.ReadOff.{first_on, goes_early, service_on}
+use Rattle.bank_places.specs.inner.ReadOff.{first_on, goes_early, service_on}
 
 -- ---- the first that passes a test
 

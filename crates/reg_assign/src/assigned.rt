@@ -7,9 +7,9 @@ ghost use Rattle.place_ir.specs.Costs as costs;
 ghost use Rattle.place_ir.specs.Fits.{Fits};
 ghost use Rattle.place_ir.specs.Plan.{plan_view};
 ghost use Rattle.zo_model.specs.Program.{vector, costs_of};
-ghost use Rattle.bank_prog.specs.Columns as columns;
+ghost use Rattle.bank_form.specs.Columns as columns;
 ghost use Rattle.bank_prog.specs.Meaning.{IsFeasible};
-ghost use Rattle.reg_assign.specs.ByLabel as by_label;
+ghost use Rattle.bank_places.specs.ByLabel as by_label;
 ghost use Rattle.reg_assign.specs.inner.Given.{labels_in, says_in, numbers_in};
 ghost use Rattle.reg_assign.specs.inner.Reading.{IsReadOff};
 

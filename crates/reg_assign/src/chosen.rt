@@ -7,7 +7,7 @@ ghost use Rattle.place_ir.specs.Costs as costs;
 ghost use Rattle.place_ir.specs.Fits.{Fits};
 ghost use Rattle.place_ir.specs.Plan.{plan_view};
 ghost use Rattle.zo_model.specs.Program.{vector, costs_of};
-ghost use Rattle.bank_prog.specs.Columns as columns;
+ghost use Rattle.bank_form.specs.Columns as columns;
 ghost use Rattle.bank_prog.specs.Meaning.{IsFeasible};
 
 use crate::plan_columns::all_on;

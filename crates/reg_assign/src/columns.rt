@@ -1,9 +1,9 @@
 //! What a vector of the bank program says of the columns by name.
 
 ghost use Rattle.std.specs.Prelude.{◌≡◌};
-ghost use Rattle.bank_prog.specs.Columns.{eight};
-ghost use Rattle.bank_prog.specs.inner.Form.{use_view};
-ghost use Rattle.reg_assign.specs.inner.ReadOff as pure;
+ghost use Rattle.bank_form.specs.Columns.{eight};
+ghost use Rattle.bank_form.specs.inner.Form.{use_view};
+ghost use Rattle.bank_places.specs.inner.ReadOff as pure;
 ghost use Rattle.reg_assign.specs.inner.Reading.{says, column_of};
 
 use crate::reading::Reading;

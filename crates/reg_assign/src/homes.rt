@@ -5,8 +5,8 @@ ghost use Rattle.std.specs.List.{flat_map};
 ghost use Rattle.std.specs.List.Sorted.{IsPermutation, IsNonDecreasingBy};
 ghost use Rattle.place_ir.specs.Fits as fits;
 ghost use Rattle.place_ir.specs.Plan.{home_view};
-ghost use Rattle.bank_prog.specs.inner.Form.{use_view, value_view};
-ghost use Rattle.reg_assign.specs.inner.ReadOff as pure;
+ghost use Rattle.bank_form.specs.inner.Form.{use_view, value_view};
+ghost use Rattle.bank_places.specs.inner.ReadOff as pure;
 ghost use Rattle.reg_assign.specs.inner.Given.{labels_in, says_in, numbers_in};
 ghost use Rattle.reg_assign.specs.inner.Reading.{says, early_word, wanted_home};
 

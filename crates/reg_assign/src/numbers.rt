@@ -9,8 +9,8 @@ ghost use Rattle.place_ir.specs.Held.{IsRow, HaveNumbers, items_of};
 ghost use Rattle.place_ir.specs.inner.Parts.{in_byte};
 ghost use Rattle.zo_model.specs.Program.{vector};
 ghost use Rattle.bank_prog.specs.Meaning.{IsFeasible};
-ghost use Rattle.reg_assign.specs.inner.ReadOff as pure;
-ghost use Rattle.reg_assign.specs.inner.ReadOff.{AreNumbered};
+ghost use Rattle.bank_places.specs.inner.ReadOff as pure;
+ghost use Rattle.bank_places.specs.inner.ReadOff.{AreNumbered};
 ghost use Rattle.reg_assign.specs.inner.Reading.{says, labels_of, number_in, numbers_of, kept_value};
 
 use crate::reading::Reading;

@@ -3,8 +3,8 @@
 ghost use Rattle.std.specs.Prelude.{◌≡◌, ◌+◌, ℕ, nat_eq, map, IfOk, OnOk};
 ghost use Rattle.std.specs.HashMap.{get};
 ghost use Rattle.place_ir.specs.Fits as fits;
-ghost use Rattle.bank_prog.specs.inner.Form.{use_view, value_view, sort_view};
-ghost use Rattle.reg_assign.specs.inner.ReadOff as pure;
+ghost use Rattle.bank_form.specs.inner.Form.{use_view, value_view, sort_view};
+ghost use Rattle.bank_places.specs.inner.ReadOff as pure;
 ghost use Rattle.reg_assign.specs.inner.Given.{labels_in, says_in, numbers_in};
 ghost use Rattle.reg_assign.specs.inner.Reading.{says, numbers_of, known_place, place_noted};
 

@@ -5,10 +5,10 @@ ghost use Rattle.std.specs.List.{list_any};
 ghost use Rattle.ssu_ir.specs.View.{labels_view};
 ghost use Rattle.place_ir.specs.Fits as fits;
 ghost use Rattle.place_ir.specs.Uses.{uses_of};
-ghost use Rattle.bank_prog.specs.Program as program;
-ghost use Rattle.bank_prog.specs.declared.column.Bank.TheVariants.{A15};
-ghost use Rattle.bank_prog.specs.inner.Form.{role_view, use_view};
-ghost use Rattle.reg_assign.specs.inner.Chosen as chosen;
+ghost use Rattle.bank_form.specs.Program as program;
+ghost use Rattle.bank_form.specs.declared.column.Bank.TheVariants.{A15};
+ghost use Rattle.bank_form.specs.inner.Form.{role_view, use_view};
+ghost use Rattle.bank_places.specs.inner.Chosen as chosen;
 ghost use Rattle.reg_assign.specs.inner.PlanTables as tables;
 
 use crate::plan_tables::PlanTables;

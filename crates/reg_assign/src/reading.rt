@@ -4,8 +4,8 @@ ghost use Rattle.std.specs.Prelude.{◌≡◌, true, IfOk};
 ghost use Rattle.std.specs.HashMap.{get};
 ghost use Rattle.ssu_ir.specs.Single.{single};
 ghost use Rattle.ssu_ir.specs.View.{labels_view};
-ghost use Rattle.bank_prog.specs.Program.{same_column, number_of};
-ghost use Rattle.bank_prog.specs.declared.column.Column as column;
+ghost use Rattle.bank_form.specs.Program.{same_column, number_of};
+ghost use Rattle.bank_form.specs.declared.column.Column as column;
 
 use bank_prog::{Form, Numbers, column_numbers, form_of};
 use nv_base::NoMemory;

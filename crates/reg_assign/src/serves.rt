@@ -2,8 +2,8 @@
 
 ghost use Rattle.std.specs.Prelude.{◌≡◌, ◌++◌, map, IfOk, OnOk};
 ghost use Rattle.std.specs.List.{flat_map};
-ghost use Rattle.bank_prog.specs.inner.Form.{use_view, access_view, stop_view, role_view};
-ghost use Rattle.reg_assign.specs.inner.ReadOff as pure;
+ghost use Rattle.bank_form.specs.inner.Form.{use_view, access_view, stop_view, role_view};
+ghost use Rattle.bank_places.specs.inner.ReadOff as pure;
 ghost use Rattle.reg_assign.specs.inner.Given.{labels_in, says_in, numbers_in};
 ghost use Rattle.reg_assign.specs.inner.Reading.{says, part_pass};
 

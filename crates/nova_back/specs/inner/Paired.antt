@@ -1,10 +1,10 @@
 -- The paired choice of banks: each value in A and in B.
 use Rattle.std.specs.Prelude.{ℕ, nat_eq, is_some, Bool, true, false, not, ◌&&◌}
-use Rattle.bank_prog.specs.declared.column.Bank.{Bank}
-use Rattle.bank_prog.specs.declared.column.Bank.TheVariants.{A, B, M, L, W}
-use Rattle.bank_prog.specs.declared.column.Column.TheVariants.{Def, Dir, Fill, Stay, Ear, First, Srv, PasL, PasS}
+use Rattle.bank_form.specs.declared.column.Bank.{Bank}
+use Rattle.bank_form.specs.declared.column.Bank.TheVariants.{A, B, M, L, W}
+use Rattle.bank_form.specs.declared.column.Column.TheVariants.{Def, Dir, Fill, Stay, Ear, First, Srv, PasL, PasS}
 use Rattle.bank_prog.specs.Meaning.{Chosen}
-use Rattle.bank_prog.specs.Program.{Numbers}
+use Rattle.bank_form.specs.Program.{Numbers}
 
 abbrev pub is_there : Numbers → Chosen
 is_there number c = is_some (number c)

@@ -15,9 +15,9 @@ use Rattle.zo_cert.specs.declared.report.Verdict.{Verdict}
 use Rattle.zo_cert.specs.declared.report.Verdict.TheVariants.{Optimal, Feasible, Infeasible, Spent}
 use Rattle.zo_solve.specs.Solved.{CostsAtMost}
 use Rattle.zo_solve.specs.Vector.{start_cost}
-use Rattle.bank_prog.specs.Columns.{columns, costs}
+use Rattle.bank_form.specs.Columns.{columns, costs}
 use Rattle.bank_prog.specs.Meaning.{IsFeasible}
-use Rattle.bank_prog.specs.Program.{IsTooLarge}
+use Rattle.bank_form.specs.Program.{IsTooLarge}
 use Rattle.nova_back.specs.Causes.{IsReportOn, IsWithout, HasVector, IsEnded, claim_of, report_cost}
 use Rattle.nova_back.specs.declared.error.BackError.{BackError}
 use Rattle.nova_back.specs.declared.error.BackError.TheVariants as back

@@ -13,13 +13,13 @@ use Rattle.place_ir.specs.Plan.{Plan, home, first, serve, pass}
 use Rattle.place_ir.specs.Uses as pure
 use Rattle.place_ir.specs.Uses.{uses_of}
 use Rattle.place_ir.specs.Fits.{is_read_register, is_write_register}
-use Rattle.bank_prog.specs.declared.column.Column.TheVariants.{Def, Dir, Fill, Stay, Ear, First, Srv, PasL, PasS}
-use Rattle.bank_prog.specs.declared.form.Use.{Use}
-use Rattle.bank_prog.specs.inner.Form.{role_view}
-use Rattle.bank_prog.specs.Program.{same_bank}
+use Rattle.bank_form.specs.declared.column.Column.TheVariants.{Def, Dir, Fill, Stay, Ear, First, Srv, PasL, PasS}
+use Rattle.bank_form.specs.declared.form.Use.{Use}
+use Rattle.bank_form.specs.inner.Form.{role_view}
+use Rattle.bank_form.specs.Program.{same_bank}
 use Rattle.bank_prog.specs.Meaning.{Chosen}
 use Rattle.reg_assign.specs.declared.plan_tables.PlanTables.{PlanTables}
-use Rattle.reg_assign.specs.inner.Chosen.{use_at, value_at, bank_of, is_in_bank, wanted_bank, names}
+use Rattle.bank_places.specs.inner.Chosen.{use_at, value_at, bank_of, is_in_bank, wanted_bank, names}
 
 -- ---- what is found in a table, or stands for what isn't there
 

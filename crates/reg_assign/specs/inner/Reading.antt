@@ -12,17 +12,17 @@ use Rattle.place_ir.specs.Fits.{wants_home}
 use Rattle.place_ir.specs.Plan.{Home, home_view, plan_view}
 use Rattle.place_ir.specs.Uses.{Value, Use}
 use Rattle.zo_model.specs.Program.{vector}
-use Rattle.bank_prog.specs.declared.column.Bank.{Bank}
-use Rattle.bank_prog.specs.declared.column.Bank.TheVariants.{A, B, M, T, L, A15, W}
-use Rattle.bank_prog.specs.declared.column.Column.{Column}
-use Rattle.bank_prog.specs.declared.column.Column.TheVariants as column
+use Rattle.bank_form.specs.declared.column.Bank.{Bank}
+use Rattle.bank_form.specs.declared.column.Bank.TheVariants.{A, B, M, T, L, A15, W}
+use Rattle.bank_form.specs.declared.column.Column.{Column}
+use Rattle.bank_form.specs.declared.column.Column.TheVariants as column
 use Rattle.bank_prog.specs.Meaning.{Chosen, on}
-use Rattle.bank_prog.specs.inner.Form.{Part}
+use Rattle.bank_form.specs.inner.Form.{Part}
 use Rattle.reg_assign.specs.declared.columns.Family.{Family}
 use Rattle.reg_assign.specs.declared.columns.Family.TheVariants as family
 use Rattle.reg_assign.specs.declared.reading.Reading.{Reading}
 use Rattle.reg_assign.specs.declared.numbers.BankNumbers.{BankNumbers}
-use Rattle.reg_assign.specs.inner.ReadOff.{Numbers, has_home, goes_early, word_place, value_home, AreRead, read_off, pass_by, pass_l, pass_s}
+use Rattle.bank_places.specs.inner.ReadOff.{Numbers, has_home, goes_early, word_place, value_home, AreRead, read_off, pass_by, pass_l, pass_s}
 
 -- ---- columns
 

@@ -3,13 +3,13 @@ use Rattle.std.proofs.lemmas.List.{length-map}
 use Rattle.std.specs.HashMap.{get}
 use Rattle.ssu_ir.specs.View.{labels_view}
 use Rattle.zo_model.specs.Contents.{row_contents}
-use Rattle.bank_prog.specs.declared.column.Column.{Column}
-use Rattle.bank_prog.specs.Columns.{priced, columns, costs}
-use Rattle.bank_prog.specs.Program as program
-use Rattle.bank_prog.specs.Program.{same_column, row_of, number_in, number_of}
-use Rattle.bank_prog.specs.Rows.{lines}
-use Rattle.bank_prog.proofs.FormLemmas.{rows-alike, same-program}
-use Rattle.bank_prog.proofs.PlainLines.{program-valid}
+use Rattle.bank_form.specs.declared.column.Column.{Column}
+use Rattle.bank_form.specs.Columns.{priced, columns, costs}
+use Rattle.bank_form.specs.Program as program
+use Rattle.bank_form.specs.Program.{same_column, row_of, number_in, number_of}
+use Rattle.bank_form.specs.Rows.{lines}
+use Rattle.bank_form.proofs.FormLemmas.{rows-alike, same-program}
+use Rattle.bank_rows.proofs.PlainLines.{program-valid}
 use Rattle.bank_prog.proofs.program.build.Goals as goal
 
 pub returns-then-len-gt-COUNT_LIMIT-2-clause-many : goal.returns-then-len-gt-COUNT_LIMIT-2-clause-many

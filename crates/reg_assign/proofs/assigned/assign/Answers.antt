@@ -6,8 +6,8 @@ use Rattle.place_ir.specs.Costs.{cost}
 use Rattle.place_ir.specs.Fits.{Fits}
 use Rattle.place_ir.specs.Plan.{plan_view}
 use Rattle.zo_model.specs.Program.{vector, costs_of}
-use Rattle.bank_prog.specs.Columns.{costs}
-use Rattle.reg_assign.specs.ByLabel.{label_cost, label_price}
+use Rattle.bank_form.specs.Columns.{costs}
+use Rattle.bank_places.specs.ByLabel.{label_cost, label_price}
 use Rattle.reg_assign.proofs.Promised.{IsAssigned, assigned}
 use Rattle.reg_assign.proofs.assigned.assign.Goals as goal
 

@@ -1,11 +1,11 @@
 use Rattle.std.proofs.Common.{List, map, refl, ap, ◌∙◌}
 use Rattle.std.specs.List.{flat_map}
-use Rattle.bank_prog.specs.declared.form.Value.{Value}
-use Rattle.bank_prog.specs.declared.form.Access.{Access}
-use Rattle.bank_prog.specs.declared.form.Use.{Use}
-use Rattle.bank_prog.specs.declared.form.Stop.{Stop}
-use Rattle.bank_prog.specs.inner.Form.{value_view, access_view, use_view, stop_view}
-use Rattle.reg_assign.specs.inner.ReadOff.{access_first, use_serve}
+use Rattle.bank_form.specs.declared.form.Value.{Value}
+use Rattle.bank_form.specs.declared.form.Access.{Access}
+use Rattle.bank_form.specs.declared.form.Use.{Use}
+use Rattle.bank_form.specs.declared.form.Stop.{Stop}
+use Rattle.bank_form.specs.inner.Form.{value_view, access_view, use_view, stop_view}
+use Rattle.bank_places.specs.inner.ReadOff.{access_first, use_serve}
 use Rattle.reg_assign.specs.inner.Given.{labels_in, says_in, numbers_in}
 use Rattle.reg_assign.specs.inner.Reading.{wanted_home, part_pass}
 use Rattle.reg_assign.proofs.Placed.{is-read-off}

@@ -1,7 +1,7 @@
 use Rattle.std.proofs.Common.{◌++◌, map, arith}
 use Rattle.std.specs.List.{flat_map}
-use Rattle.bank_prog.specs.inner.Form.{use_view}
-use Rattle.bank_prog.proofs.Loops.{out-more, out-all}
+use Rattle.bank_form.specs.inner.Form.{use_view}
+use Rattle.bank_form.proofs.Loops.{out-more, out-all}
 use Rattle.reg_assign.specs.inner.Reading.{says, early_word}
 use Rattle.reg_assign.proofs.homes.push_words.Goals as goal
 

@@ -1,6 +1,6 @@
 use Rattle.std.proofs.Common.{◌≡◌, ◌++◌, map, drop}
 use Rattle.std.specs.List.{flat_map}
-use Rattle.bank_prog.specs.inner.Form.{use_view}
+use Rattle.bank_form.specs.inner.Form.{use_view}
 use Rattle.reg_assign.specs.inner.Reading.{says, early_word}
 use Rattle.reg_assign.proofs.homes.push_words.Given as goal
 

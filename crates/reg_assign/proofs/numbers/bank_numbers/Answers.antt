@@ -2,9 +2,9 @@ use Rattle.bank_prog.proofs.LawsColumns.{on-there}
 use Rattle.zo_model.specs.Program.{vector}
 use Rattle.reg_assign.specs.inner.Reading.{says, labels_of}
 use Rattle.reg_assign.proofs.Numbered.{are-numbered, room-a, room-b, room-m}
-use Rattle.reg_assign.proofs.FactsAll.{facts}
+use Rattle.bank_places.proofs.FactsAll.{facts}
 use Rattle.reg_assign.specs.declared.numbers.BankNumbers.{BankNumbers}
-use Rattle.reg_assign.specs.inner.Facts.{Facts}
+use Rattle.bank_places.specs.inner.Facts.{Facts}
 use Rattle.reg_assign.proofs.numbers.bank_numbers.Goals as goal
 
 pub returns : goal.returns

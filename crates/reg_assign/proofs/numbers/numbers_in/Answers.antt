@@ -4,7 +4,7 @@ use Rattle.std.specs.HashMap.{get}
 use Rattle.std.specs.List.{AllZip}
 use Rattle.ssu_ir.specs.Points.{Point, points}
 use Rattle.place_ir.specs.Held.{IsRowOf, HaveNumbers, items_of}
-use Rattle.reg_assign.specs.inner.ReadOff.{has_home}
+use Rattle.bank_places.specs.inner.ReadOff.{has_home}
 use Rattle.reg_assign.specs.inner.Reading.{says, labels_of}
 use Rattle.reg_assign.proofs.Numbered.{rows-kept, rows-short, if-ok-all}
 use Rattle.reg_assign.proofs.numbers.numbers_in.Goals as goal

@@ -1,7 +1,7 @@
 use Rattle.std.proofs.Common.{◌∙◌, arith}
 use Rattle.std.specs.List.{flat_map}
-use Rattle.bank_prog.proofs.Loops.{plain-more, plain-all, flat-filter, map-itself}
-use Rattle.reg_assign.specs.inner.ReadOff.{has_home}
+use Rattle.bank_form.proofs.Loops.{plain-more, plain-all, flat-filter, map-itself}
+use Rattle.bank_places.specs.inner.ReadOff.{has_home}
 use Rattle.reg_assign.specs.inner.Reading.{says, kept_value}
 use Rattle.reg_assign.proofs.numbers.row_in.Goals as goal
 

@@ -1,7 +1,7 @@
 use Rattle.std.proofs.Common.{◌∙◌, ◌++◌, ◌∷◌, [], ap, map, filter, arith}
 use Rattle.std.proofs.lemmas.List.{map-append}
 use Rattle.place_ir.specs.Held.{Kept, items_of}
-use Rattle.reg_assign.specs.inner.ReadOff.{has_home}
+use Rattle.bank_places.specs.inner.ReadOff.{has_home}
 use Rattle.reg_assign.specs.inner.Reading.{says}
 use Rattle.reg_assign.proofs.Placed.{rows-more, rows-all}
 use Rattle.reg_assign.proofs.numbers.rows_in.Goals as goal

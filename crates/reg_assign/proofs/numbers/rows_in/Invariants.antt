@@ -1,6 +1,6 @@
 use Rattle.std.proofs.Common.{◌≡◌, ◌++◌, map, drop, filter}
 use Rattle.place_ir.specs.Held.{items_of}
-use Rattle.reg_assign.specs.inner.ReadOff.{has_home}
+use Rattle.bank_places.specs.inner.ReadOff.{has_home}
 use Rattle.reg_assign.specs.inner.Reading.{says}
 use Rattle.reg_assign.proofs.numbers.rows_in.Given as goal
 

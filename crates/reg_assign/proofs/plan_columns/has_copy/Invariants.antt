@@ -1,6 +1,6 @@
 use Rattle.std.proofs.Common.{◌≡◌, drop}
 use Rattle.std.specs.List.{list_any}
-use Rattle.reg_assign.specs.inner.Chosen.{is_in_bank}
+use Rattle.bank_places.specs.inner.Chosen.{is_in_bank}
 use Rattle.reg_assign.specs.inner.PlanTables.{copied_told}
 use Rattle.reg_assign.proofs.plan_columns.has_copy.Given as goal
 

@@ -1,7 +1,7 @@
 use Rattle.std.proofs.Common.{◌≡◌, ◌≤◌, ℕ, length, map, drop, nat_eq}
 use Rattle.std.specs.HashMap.{get}
-use Rattle.bank_prog.specs.inner.Form.{value_view}
-use Rattle.reg_assign.specs.inner.Chosen.{value_in}
+use Rattle.bank_form.specs.inner.Form.{value_view}
+use Rattle.bank_places.specs.inner.Chosen.{value_in}
 use Rattle.reg_assign.specs.inner.PlanTables.{known_number}
 use Rattle.reg_assign.proofs.plan_tables.points_by.Given as goal
 

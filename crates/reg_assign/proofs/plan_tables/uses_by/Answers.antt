@@ -1,9 +1,9 @@
 use Rattle.std.proofs.Common.{◌≡◌, ◌+◌, ◌-◌, ◌<◌, ◌&&◌, nat_eq, length, map, refl, arith}
 use Rattle.std.specs.HashMap.{get}
 use Rattle.place_ir.specs.Uses as pure
-use Rattle.bank_prog.specs.declared.form.Use.{Use}
-use Rattle.bank_prog.specs.inner.Form.{use_view, role_view}
-use Rattle.reg_assign.specs.inner.Chosen.{use_in}
+use Rattle.bank_form.specs.declared.form.Use.{Use}
+use Rattle.bank_form.specs.inner.Form.{use_view, role_view}
+use Rattle.bank_places.specs.inner.Chosen.{use_in}
 use Rattle.reg_assign.specs.inner.PlanTables.{pair_eq, known_value, known_role}
 use Rattle.reg_assign.proofs.TableSteps.{found-more, if-field}
 use Rattle.reg_assign.proofs.plan_tables.uses_by.Goals as goal

@@ -1,7 +1,7 @@
 use Rattle.std.proofs.Common.{◌≡◌, ◌≤◌, ℕ, length, map, drop}
 use Rattle.std.specs.HashMap.{get}
-use Rattle.bank_prog.specs.inner.Form.{use_view}
-use Rattle.reg_assign.specs.inner.Chosen.{use_in}
+use Rattle.bank_form.specs.inner.Form.{use_view}
+use Rattle.bank_places.specs.inner.Chosen.{use_in}
 use Rattle.reg_assign.specs.inner.PlanTables.{pair_eq, known_value, known_role}
 use Rattle.reg_assign.proofs.plan_tables.uses_by.Given as goal
 

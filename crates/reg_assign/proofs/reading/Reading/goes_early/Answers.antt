@@ -1,8 +1,8 @@
 use Rattle.std.proofs.Common.{◌≡◌, true, ◌||◌, sym, ap, ◌∙◌}
 use Rattle.std.specs.Prelude.{is_some}
-use Rattle.bank_prog.specs.Rows.{is_written}
-use Rattle.bank_prog.specs.declared.form.Role.{Role}
-use Rattle.bank_prog.specs.inner.Form.{use_view, role_view}
+use Rattle.bank_form.specs.Rows.{is_written}
+use Rattle.bank_form.specs.declared.form.Role.{Role}
+use Rattle.bank_form.specs.inner.Form.{use_view, role_view}
 use Rattle.reg_assign.specs.inner.Reading.{says}
 use Rattle.reg_assign.proofs.Readings.{dir_first, ear_first, early-written}
 use Rattle.reg_assign.proofs.reading.Reading.goes_early.Goals as goal

@@ -1,6 +1,6 @@
 use Rattle.std.proofs.Common.{sym, ◌∙◌, arith}
-use Rattle.bank_prog.specs.inner.Form.{use_view}
-use Rattle.reg_assign.specs.inner.ReadOff.{service_on}
+use Rattle.bank_form.specs.inner.Form.{use_view}
+use Rattle.bank_places.specs.inner.ReadOff.{service_on}
 use Rattle.reg_assign.specs.inner.Reading.{says}
 use Rattle.reg_assign.proofs.Readings.{service-more, service-here, service-none}
 use Rattle.reg_assign.proofs.reading.Reading.service_on.Goals as goal

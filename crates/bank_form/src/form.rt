@@ -1,0 +1,156 @@
+//! The values, uses and accesses of a form in tables.
+
+ghost use Rattle.std.specs.Prelude.{◌≡◌, true, map, IfOk};
+ghost use Rattle.ssu_ir.specs.Single.{single};
+ghost use Rattle.ssu_ir.specs.View.{labels_view};
+ghost use Rattle.place_ir.specs.Uses.{uses_of, is_used};
+ghost use Rattle.place_ir.specs.Fits.{parameter};
+ghost use Rattle.bank_form.specs.Columns.{sort_of, is_fetched};
+ghost use Rattle.bank_form.specs.inner.Form.{AreTables, sort_view, use_view};
+
+use crate::tables::tables_of;
+use nv_base::{Mem, NoMemory};
+use ssu_ir::Ssu;
+use std::alloc::Global;
+use std::collections::HashMap;
+
+/// How a value comes: parameter i of label l, a result, or word i of a read.
+#[derive(Clone, Copy, Debug, PartialEq, Eq)]
+pub enum Sort {
+    Parameter(u32, u32),
+    Result,
+    Fetched(Mem, u32),
+}
+
+impl Sort {
+    /// Whether the value is read.
+    pub fn is_fetched(self) -> bool
+        ensures { result ≡ is_fetched (sort_view self) }
+    {
+        match self {
+            Sort::Parameter(_, _) => false,
+            Sort::Result => false,
+            Sort::Fetched(_, _) => true,
+        }
+    }
+}
+
+/// What a use is: an operand, an address, word i of a write, the word for parameter i of label l, or
+/// word i of an end.
+#[derive(Clone, Copy, Debug, PartialEq, Eq)]
+pub enum Role {
+    Operand,
+    Address,
+    Written(Mem, u32),
+    Argument(u32, u32),
+    Ending(u32),
+}
+
+/// A value, by the point that defines it.
+#[derive(Clone, Copy, Debug, PartialEq, Eq)]
+pub struct Value {
+    pub point: u32,
+    pub var: u32,
+    pub sort: Sort,
+}
+
+/// A use of a value.
+#[derive(Clone, Copy, Debug, PartialEq, Eq)]
+pub struct Use {
+    pub point: u32,
+    pub operand: u32,
+    pub value: u32,
+    pub role: Role,
+}
+
+/// So many words of a memory are read or written at a point.
+#[derive(Clone, Copy, Debug, PartialEq, Eq)]
+pub struct Access {
+    pub point: u32,
+    pub mem: Mem,
+    pub words: u32,
+}
+
+/// A point: what it defines, uses, reads and writes.
+#[derive(Debug, Drop)]
+pub struct Stop {
+    pub point: u32,
+    /// How many words its access has.
+    pub words: u32,
+    /// Whether it is an instruction of two operands.
+    pub two: bool,
+    /// Whether it has a use.
+    pub busy: bool,
+    pub values: Vec<Value>,
+    pub uses: Vec<Use>,
+    pub reads: Vec<Access>,
+    pub writes: Vec<Access>,
+}
+
+/// All points, values, uses and accesses in order, of each variable how its value comes, and of each
+/// value that is used its uses.
+#[derive(Drop)]
+pub struct Tables {
+    pub stops: Vec<Stop>,
+    pub values: Vec<Value>,
+    pub uses: Vec<Use>,
+    pub accesses: Vec<Access>,
+    pub sorts: HashMap<u32, Sort>,
+    pub users: HashMap<u32, Vec<Use>>,
+}
+
+/// A form with its tables.
+#[derive(Drop)]
+pub struct Form<'a> {
+    pub ssu: &'a Ssu,
+    pub tables: Tables,
+    ghost right: { AreTables (labels_view ssu.now) tables },
+}
+
+/// A form with its tables.
+pub fn form_of(alloc: Global, s: &Ssu) -> Result<Form<'_>, NoMemory>
+    requires { single (labels_view s.now) ≡ true }
+    ensures { IfOk result (λ f. f.ssu.now ≡ s.now) }
+{
+    let tables = tables_of(alloc, s)?;
+    Ok(Form { ssu: s, tables })
+}
+
+impl Form<'_> {
+    /// How the value of a variable comes.
+    pub fn sort_of(&self, x: u32) -> Sort
+        ensures { sort_view result ≡ sort_of (labels_view self.now.ssu.now) x }
+    {
+        match self.tables.sorts.get(&x) {
+            Some(s) => *s,
+            None => Sort::Result,
+        }
+    }
+
+    /// The uses of a value.
+    pub fn uses_of(&self, x: u32) -> &[Use]
+        ensures { map use_view result.now ≡ uses_of (labels_view self.now.ssu.now) x }
+    {
+        match self.tables.users.get(&x) {
+            Some(us) => us,
+            None => &[],
+        }
+    }
+
+    /// Whether a value is used.
+    pub fn is_used(&self, x: u32) -> bool
+        ensures { result ≡ is_used (labels_view self.now.ssu.now) x }
+    {
+        !self.uses_of(x).is_empty()
+    }
+
+    /// The parameter of this number of a label.
+    pub fn parameter(&self, l: u32, i: u32) -> u32
+        ensures { result ≡ parameter (labels_view self.now.ssu.now) l i }
+    {
+        match self.ssu.labels.get(l as usize) {
+            Some(l) => l.params.get(i as usize).copied().unwrap_or(0),
+            None => 0,
+        }
+    }
+}

@@ -1,0 +1,48 @@
+//! Columns of words that are copied early into their write registers.
+
+ghost use Rattle.std.specs.Prelude.{◌≡◌, ◌++◌, map, OnOk};
+ghost use Rattle.std.specs.List.{flat_map};
+ghost use Rattle.bank_form.specs.Columns as columns;
+ghost use Rattle.bank_form.specs.declared.column.Column.TheVariants as column;
+ghost use Rattle.bank_form.specs.inner.Form as form;
+ghost use Rattle.bank_form.specs.inner.Form.{stop_view, use_view};
+
+use bank_form::column::{Column, Priced};
+use bank_form::form::{Stop, Use};
+use bank_form::runs::role_beginnings;
+use nv_base::NoMemory;
+use std::alloc::Global;
+
+fn push_ears_at(out: &mut Priced, u: Use, firsts: &[u8]) -> Result<(), NoMemory>
+    ensures { OnOk result (out.new.items ≡ out.old.items ++ map (λ f. (column.Ear u.point u.operand f, 1)) firsts.now) }
+{
+    for f in firsts {
+        out.push((Column::Ear(u.point, u.operand, *f), 1))?;
+    }
+    Ok(())
+}
+
+fn push_ear(alloc: Global, out: &mut Priced, n: u32, u: Use) -> Result<(), NoMemory>
+    ensures { OnOk result (out.new.items ≡ out.old.items ++ columns.ear_columns n (use_view u)) }
+{
+    push_ears_at(out, u, &role_beginnings(alloc, n, u.role)?)
+}
+
+fn push_stop_ears(alloc: Global, out: &mut Priced, n: u32, uses: &[Use]) -> Result<(), NoMemory>
+    ensures { OnOk result (out.new.items ≡ out.old.items ++ flat_map (columns.ear_columns n) (map use_view uses.now)) }
+{
+    for u in uses {
+        push_ear(alloc, out, n, *u)?;
+    }
+    Ok(())
+}
+
+/// A column for each register where a word may be copied early, with its cost.
+pub fn push_ears(alloc: Global, out: &mut Priced, stops: &[Stop]) -> Result<(), NoMemory>
+    ensures { OnOk result (out.new.items ≡ out.old.items ++ flat_map form.part_ears (map stop_view stops.now)) }
+{
+    for stop in stops {
+        push_stop_ears(alloc, out, stop.words, &stop.uses)?;
+    }
+    Ok(())
+}

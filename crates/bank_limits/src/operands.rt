@@ -1,0 +1,108 @@
+//! Rows of the third family: the two operands of an instruction come from different groups of registers.
+
+ghost use Rattle.std.specs.Prelude.{[], ◌∷◌, map, OnOk};
+ghost use Rattle.std.specs.HashMap.{get};
+ghost use Rattle.std.specs.List.{flat_map};
+ghost use Rattle.ssu_ir.specs.View.{labels_view};
+ghost use Rattle.bank_form.specs.Program.{same_column};
+ghost use Rattle.bank_form.specs.Rows as lines;
+ghost use Rattle.bank_form.specs.declared.column.Bank.TheVariants as bank;
+ghost use Rattle.bank_form.specs.inner.Adds.{Adds};
+ghost use Rattle.bank_form.specs.inner.Form.{part_operands, stop_view};
+
+use bank_form::column::Bank;
+use bank_form::form::{Form, Stop};
+use bank_form::lines::push_at_most;
+use bank_form::names;
+use bank_form::numbers::Numbers;
+use nv_base::NoMemory;
+use std::alloc::Global;
+use zo_model::Row;
+
+/// At most one operand comes from bank A.
+fn push_in_a(alloc: Global, numbers: &Numbers, k: u32, rows: &mut Vec<Row>) -> Result<(), NoMemory>
+    ensures { OnOk result (Adds (get same_column numbers.now) rows.old.items rows.new.items (lines.at_most 1 (lines.both_at k (bank.A ∷ bank.A15 ∷ [])) ∷ [])) }
+{
+    let mut cs = Vec::new(alloc);
+    cs.extend_from_slice(&names::srv_at(k, 0, Bank::A))?;
+    cs.extend_from_slice(&names::srv_at(k, 0, Bank::A15))?;
+    cs.extend_from_slice(&names::srv_at(k, 1, Bank::A))?;
+    cs.extend_from_slice(&names::srv_at(k, 1, Bank::A15))?;
+    push_at_most(alloc, numbers, 1, &cs, rows)
+}
+
+/// At most one operand comes from bank B.
+fn push_in_b(alloc: Global, numbers: &Numbers, k: u32, rows: &mut Vec<Row>) -> Result<(), NoMemory>
+    ensures { OnOk result (Adds (get same_column numbers.now) rows.old.items rows.new.items (lines.at_most 1 (lines.both_at k (bank.B ∷ [])) ∷ [])) }
+{
+    let mut cs = Vec::new(alloc);
+    cs.extend_from_slice(&names::srv_at(k, 0, Bank::B))?;
+    cs.extend_from_slice(&names::srv_at(k, 1, Bank::B))?;
+    push_at_most(alloc, numbers, 1, &cs, rows)
+}
+
+/// At most one operand comes from a read register.
+fn push_in_read(
+    alloc: Global,
+    numbers: &Numbers,
+    k: u32,
+    rows: &mut Vec<Row>,
+) -> Result<(), NoMemory>
+    ensures { OnOk result (Adds (get same_column numbers.now) rows.old.items rows.new.items (lines.at_most 1 (lines.both_at k (bank.L ∷ bank.T ∷ [])) ∷ [])) }
+{
+    let mut cs = Vec::new(alloc);
+    cs.extend_from_slice(&names::srv_at(k, 0, Bank::L))?;
+    cs.extend_from_slice(&names::srv_at(k, 0, Bank::T))?;
+    cs.extend_from_slice(&names::srv_at(k, 1, Bank::L))?;
+    cs.extend_from_slice(&names::srv_at(k, 1, Bank::T))?;
+    push_at_most(alloc, numbers, 1, &cs, rows)
+}
+
+/// The rows of an instruction with two operands.
+fn push_pair(alloc: Global, numbers: &Numbers, k: u32, rows: &mut Vec<Row>) -> Result<(), NoMemory>
+    ensures { OnOk result (Adds (get same_column numbers.now) rows.old.items rows.new.items (lines.pair_lines k)) }
+{
+    push_in_a(alloc, numbers, k, rows)?;
+    push_in_b(alloc, numbers, k, rows)?;
+    push_in_read(alloc, numbers, k, rows)
+}
+
+fn push_stop_operands(
+    alloc: Global,
+    numbers: &Numbers,
+    stop: &Stop,
+    rows: &mut Vec<Row>,
+) -> Result<(), NoMemory>
+    ensures { OnOk result (Adds (get same_column numbers.now) rows.old.items rows.new.items (part_operands (stop_view stop.now))) }
+{
+    if stop.two {
+        push_pair(alloc, numbers, stop.point, rows)?;
+    }
+    Ok(())
+}
+
+fn push_operands(
+    alloc: Global,
+    numbers: &Numbers,
+    stops: &[Stop],
+    rows: &mut Vec<Row>,
+) -> Result<(), NoMemory>
+    ensures { OnOk result (Adds (get same_column numbers.now) rows.old.items rows.new.items (flat_map part_operands (map stop_view stops.now))) }
+{
+    for stop in stops {
+        push_stop_operands(alloc, numbers, stop, rows)?;
+    }
+    Ok(())
+}
+
+/// The rows of the third family.
+pub fn push_operand_banks(
+    alloc: Global,
+    numbers: &Numbers,
+    f: &Form<'_>,
+    rows: &mut Vec<Row>,
+) -> Result<(), NoMemory>
+    ensures { OnOk result (Adds (get same_column numbers.now) rows.old.items rows.new.items (lines.operand_banks (labels_view f.now.ssu.now))) }
+{
+    push_operands(alloc, numbers, &f.tables.stops, rows)
+}

@@ -1,0 +1,2 @@
+pub mod ByLabel
+pub mod inner

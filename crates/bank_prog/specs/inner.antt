@@ -1,4 +1,0 @@
-pub mod Form
-pub mod Adds
-pub mod Owners
-pub mod Waiting

@@ -1,0 +1,11 @@
+pub mod OwnerSteps
+pub mod Fills
+pub mod WriteSteps
+pub mod Above
+pub mod Below
+pub mod Waits
+pub mod Distinct
+pub mod Families
+pub mod Present
+pub mod PlainRows
+pub mod PlainLines

@@ -1,0 +1,9 @@
+use Rattle.std.proofs.Common.{◌≡◌, ◌++◌, nat_eq, map, drop}
+use Rattle.std.specs.HashMap.{get}
+use Rattle.bank_form.specs.inner.Form.{use_view}
+use Rattle.bank_rows.specs.inner.Waiting.{each_waiting, lists_of}
+use Rattle.bank_rows.proofs.waiting.words_of_points.Given as goal
+
+abbrev pub invariant-loop-k : goal.invariant-loop-k
+invariant-loop-k l =
+    lists_of l.words.items ++ each_waiting l.below (get nat_eq l.defined) (map use_view l.uses) l.k (drop l.k l.stops) ≡ each_waiting l.below (get nat_eq l.defined) (map use_view l.uses) 0 l.stops
