@@ -9,11 +9,8 @@ ghost use Rattle.nv_values.specs.inner.Stopping.{IsValue};
 
 use crate::stop::Stop;
 use crate::value::{Value, value_of_words};
-use nv_base::{Access, Mem, Packet, Write, WriteLog};
+use nv_base::{Access, COMPILER, Mem, Packet, Write, WriteLog};
 use std::alloc::Global;
-
-// The first scratch word that belongs to the compiler.
-const COMPILER: u32 = 512;
 
 /// Whether an access may have so many words.
 pub fn can_move(m: Mem, n: usize) -> bool
