@@ -11,7 +11,7 @@ ghost use Rattle.bank_form.specs.Columns as columns;
 ghost use Rattle.bank_prog.specs.Meaning.{IsFeasible};
 
 use crate::plan_columns::all_on;
-use crate::plan_tables::plan_tables;
+use bank_places::plan_tables::plan_tables;
 use bank_prog::{column_names, form_of};
 use nv_base::NoMemory;
 use place_ir::Placement;

@@ -2,7 +2,7 @@ use Rattle.std.proofs.Common.{◌∙◌, map, ap}
 use Rattle.ssu_ir.specs.View.{labels_view}
 use Rattle.place_ir.specs.Plan.{plan_view}
 use Rattle.bank_places.specs.inner.Chosen.{chosen}
-use Rattle.reg_assign.proofs.ChosenVector.{all-told, IsVector, vector-long, vector-feasible, vector-costs}
+use Rattle.bank_places.proofs.ChosenVector.{all-told, IsVector, vector-long, vector-feasible, vector-costs}
 use Rattle.reg_assign.proofs.chosen.from_placement.Goals as goal
 
 pub returns : goal.returns
