@@ -1,6 +1,6 @@
 //! Rows of the third family: the two operands of an instruction come from different groups of registers.
 
-ghost use Rattle.std.specs.Prelude.{[], ◌∷◌, map, OnOk};
+ghost use Rattle.std.specs.Prelude.{◌≡◌, ◌++◌, [], ◌∷◌, map, OnOk};
 ghost use Rattle.std.specs.HashMap.{get};
 ghost use Rattle.std.specs.List.{flat_map};
 ghost use Rattle.ssu_ir.specs.View.{labels_view};
@@ -10,7 +10,7 @@ ghost use Rattle.bank_form.specs.declared.column.Bank.TheVariants as bank;
 ghost use Rattle.bank_form.specs.inner.Adds.{Adds};
 ghost use Rattle.bank_form.specs.inner.Form.{part_operands, stop_view};
 
-use bank_form::column::Bank;
+use bank_form::column::{Bank, Column};
 use bank_form::form::{Form, Stop};
 use bank_form::lines::push_at_most;
 use bank_form::names;
@@ -19,15 +19,22 @@ use nv_base::NoMemory;
 use std::alloc::Global;
 use zo_model::Row;
 
+/// The ways to serve an operand at one of two banks.
+fn add_served(cs: &mut Vec<Column>, k: u32, i: u32, p: Bank, q: Bank) -> Result<(), NoMemory>
+    ensures { OnOk result (cs.new.items ≡ cs.old.items ++ flat_map (lines.srv_at k i) (p ∷ q ∷ [])) }
+{
+    cs.extend_from_slice(&names::srv_at(k, i, p))?;
+    cs.extend_from_slice(&names::srv_at(k, i, q))?;
+    Ok(())
+}
+
 /// At most one operand comes from bank A.
 fn push_in_a(alloc: Global, numbers: &Numbers, k: u32, rows: &mut Vec<Row>) -> Result<(), NoMemory>
     ensures { OnOk result (Adds (get same_column numbers.now) rows.old.items rows.new.items (lines.at_most 1 (lines.both_at k (bank.A ∷ bank.A15 ∷ [])) ∷ [])) }
 {
     let mut cs = Vec::new(alloc);
-    cs.extend_from_slice(&names::srv_at(k, 0, Bank::A))?;
-    cs.extend_from_slice(&names::srv_at(k, 0, Bank::A15))?;
-    cs.extend_from_slice(&names::srv_at(k, 1, Bank::A))?;
-    cs.extend_from_slice(&names::srv_at(k, 1, Bank::A15))?;
+    add_served(&mut cs, k, 0, Bank::A, Bank::A15)?;
+    add_served(&mut cs, k, 1, Bank::A, Bank::A15)?;
     push_at_most(alloc, numbers, 1, &cs, rows)
 }
 
@@ -51,10 +58,8 @@ fn push_in_read(
     ensures { OnOk result (Adds (get same_column numbers.now) rows.old.items rows.new.items (lines.at_most 1 (lines.both_at k (bank.L ∷ bank.T ∷ [])) ∷ [])) }
 {
     let mut cs = Vec::new(alloc);
-    cs.extend_from_slice(&names::srv_at(k, 0, Bank::L))?;
-    cs.extend_from_slice(&names::srv_at(k, 0, Bank::T))?;
-    cs.extend_from_slice(&names::srv_at(k, 1, Bank::L))?;
-    cs.extend_from_slice(&names::srv_at(k, 1, Bank::T))?;
+    add_served(&mut cs, k, 0, Bank::L, Bank::T)?;
+    add_served(&mut cs, k, 1, Bank::L, Bank::T)?;
     push_at_most(alloc, numbers, 1, &cs, rows)
 }
 

@@ -40,3 +40,9 @@ pub mod ChosenOwners
 pub mod ChosenCostValues
 pub mod ChosenCostUses
 pub mod ChosenCostAll
+pub mod Readings
+pub mod Numbered
+pub mod HomesRead
+pub mod RowsKept
+pub mod TableSteps
+pub mod ChosenVector

@@ -1,3 +1,5 @@
 pub mod Facts
 pub mod ReadOff
 pub mod Chosen
+pub mod Reading
+pub mod PlanTables

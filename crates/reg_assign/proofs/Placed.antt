@@ -12,7 +12,6 @@ use Rattle.place_ir.specs.declared.place.Serve.{Serve}
 use Rattle.place_ir.specs.declared.place.Pass.{Pass}
 use Rattle.place_ir.specs.declared.place.Home.{Home as KeptHome}
 use Rattle.place_ir.specs.declared.place.Placement.{Placement}
-use Rattle.place_ir.specs.Held.{Kept, items_of}
 use Rattle.place_ir.specs.Plan.{Home, Plan, home_view}
 use Rattle.place_ir.specs.Uses.{Value, accesses, Use, uses, uses_of}
 use Rattle.bank_form.specs.declared.column.Bank.TheVariants.{A, B, M}
@@ -24,8 +23,8 @@ use Rattle.bank_form.proofs.Loops.{each-parts, flat-filter}
 use Rattle.reg_assign.specs.declared.given.Given.{Given}
 use Rattle.bank_places.specs.inner.ReadOff.{Numbers, goes_early, word_place, sort_place, place_in, fill_at, fills_of, copies_of, access_first, use_serve, pass_l, pass_s, pass_by, passes_from, read_off}
 use Rattle.reg_assign.specs.inner.Given.{labels_in, says_in, numbers_in}
-use Rattle.reg_assign.specs.inner.Reading.{known_place, place_noted, early_word, wanted_home, part_pass, IsReadOff}
-use Rattle.reg_assign.proofs.HomesRead.{homes-read}
+use Rattle.bank_places.specs.inner.Reading.{known_place, place_noted, early_word, wanted_home, part_pass, IsReadOff}
+use Rattle.bank_places.proofs.HomesRead.{homes-read}
 
 -- ---- where values come
 
@@ -57,17 +56,6 @@ known-then None = refl
 
 pub places-all : (on : Chosen) (vs : List KeptValue) (i x : ℕ) (o : Option Place) (goal : Place) → length vs ≤ i → place_then o (place_in on (map value_view (drop i vs)) x) ≡ goal → known_place o ≡ goal
 places-all on vs i x o goal l h = sym (known-then o) ∙ sym (at_drop_all (λ ws. place_then o (place_in on (map value_view ws) x)) vs i l) ∙ h
-
--- ---- rows
-
-pub rows-more : (f : List ℕ → List ℕ) (vs : List Kept) (i : ℕ) (d : Kept) (out out' : List (List ℕ)) (goal : List (List ℕ)) → i < length vs → out' ≡ out ++ f (get_or vs i d).items ∷ []
-    → out ++ map f (items_of (drop i vs)) ≡ goal → out' ++ map f (items_of (drop (i + 1) vs)) ≡ goal
-rows-more f vs i d out out' goal l e h =
-    ap (λ o. o ++ map f (items_of (drop (i + 1) vs))) e ∙ append_assoc out (f (get_or vs i d).items ∷ []) (map f (items_of (drop (i + 1) vs)))
-    ∙ sym (at_drop_more (λ ws. out ++ map f (items_of ws)) vs i d l) ∙ h
-
-pub rows-all : (f : List ℕ → List ℕ) (vs : List Kept) (i : ℕ) (out goal : List (List ℕ)) → length vs ≤ i → out ++ map f (items_of (drop i vs)) ≡ goal → out ≡ goal
-rows-all f vs i out goal l h = sym (append-nil out) ∙ sym (at_drop_all (λ ws. out ++ map f (items_of ws)) vs i l) ∙ h
 
 -- ---- an element for each, by its view
 

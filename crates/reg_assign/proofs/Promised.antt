@@ -17,13 +17,13 @@ use Rattle.bank_prog.specs.Meaning.{on, named_cost, IsFeasible}
 use Rattle.bank_prog.proofs.LawsColumns.{on-there}
 use Rattle.bank_prog.proofs.LawsCost.{costs-by-name}
 use Rattle.reg_assign.specs.declared.given.Given.{Given}
-use Rattle.reg_assign.specs.declared.numbers.BankNumbers.{BankNumbers}
-use Rattle.reg_assign.specs.declared.reading.Reading.{Reading}
+use Rattle.bank_places.specs.declared.numbers.BankNumbers.{BankNumbers}
+use Rattle.bank_places.specs.declared.reading.Reading.{Reading}
 use Rattle.bank_places.specs.ByLabel.{label_cost, label_price}
 use Rattle.bank_places.specs.inner.Facts.{OnlyThere}
 use Rattle.bank_places.specs.inner.ReadOff.{Numbers, AreNumbered, read_off}
 use Rattle.reg_assign.specs.inner.Given.{labels_in, says_in, numbers_in}
-use Rattle.reg_assign.specs.inner.Reading.{labels_of, says, numbers_of, IsReadOff}
+use Rattle.bank_places.specs.inner.Reading.{labels_of, says, numbers_of, IsReadOff}
 use Rattle.bank_places.proofs.CostAll.{plan-cost, label-paid}
 use Rattle.bank_places.proofs.FitAll.{read-off-fits}
 

@@ -11,13 +11,13 @@ ghost use Rattle.bank_form.specs.Columns as columns;
 ghost use Rattle.bank_prog.specs.Meaning.{IsFeasible};
 ghost use Rattle.bank_places.specs.ByLabel as by_label;
 ghost use Rattle.reg_assign.specs.inner.Given.{labels_in, says_in, numbers_in};
-ghost use Rattle.reg_assign.specs.inner.Reading.{IsReadOff};
+ghost use Rattle.bank_places.specs.inner.Reading.{IsReadOff};
 
 use crate::given::{Given, given_of};
 use crate::homes::{by_variable, homes_of};
-use crate::numbers::bank_numbers;
-use crate::reading::reading_of;
 use crate::serves::{firsts_of, passes_of, serves_of};
+use bank_places::numbers::bank_numbers;
+use bank_places::reading::reading_of;
 use nv_base::NoMemory;
 use place_ir::Placement;
 use ssu_ir::Ssu;

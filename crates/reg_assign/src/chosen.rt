@@ -1,6 +1,6 @@
 //! The vector of a placement.
 
-ghost use Rattle.std.specs.Prelude.{◌≡◌, true, length, IfOk};
+ghost use Rattle.std.specs.Prelude.{◌≡◌, true, length, map, IfOk};
 ghost use Rattle.ssu_ir.specs.Single.{single};
 ghost use Rattle.ssu_ir.specs.View.{labels_view};
 ghost use Rattle.place_ir.specs.Costs as costs;
@@ -9,15 +9,29 @@ ghost use Rattle.place_ir.specs.Plan.{plan_view};
 ghost use Rattle.zo_model.specs.Program.{vector, costs_of};
 ghost use Rattle.bank_form.specs.Columns as columns;
 ghost use Rattle.bank_prog.specs.Meaning.{IsFeasible};
+ghost use Rattle.bank_places.specs.inner.Chosen as chosen;
 
 use crate::plan_columns::all_on;
-use crate::plan_tables::plan_tables;
-use bank_prog::{column_names, form_of};
+use bank_places::plan_tables::plan_tables;
+use bank_prog::{Column, Form, column_names, form_of};
 use nv_base::NoMemory;
 use place_ir::Placement;
 use ssu_ir::Ssu;
 use std::alloc::Global;
 use zo_model::Assignment;
+
+/// Of each of these columns whether a placement has it on.
+fn on_of(
+    alloc: Global,
+    f: &Form<'_>,
+    p: &Placement,
+    columns: &[Column],
+) -> Result<Vec<bool>, NoMemory>
+    ensures { IfOk result (λ v. v.items ≡ map (chosen.chosen (labels_view f.now.ssu.now) (plan_view p.now)) columns.now) }
+{
+    let t = plan_tables(alloc, f, p)?;
+    all_on(alloc, f, &t, columns)
+}
 
 /// The vector of the bank program that stands for a placement: it meets the rows, and costs what the placement does.
 pub fn from_placement(alloc: Global, s: &Ssu, p: &Placement) -> Result<Assignment, NoMemory>
@@ -27,9 +41,8 @@ pub fn from_placement(alloc: Global, s: &Ssu, p: &Placement) -> Result<Assignmen
     ensures feasible { IfOk result (λ x. IsFeasible (labels_view s.now) p.now.slots (vector x.on.items)) }
     ensures cost { IfOk result (λ x. costs_of (columns.costs (labels_view s.now)) (vector x.on.items) ≡ costs.cost (labels_view s.now) (plan_view p.now)) }
 {
-    let f = form_of(alloc, s)?;
-    let t = plan_tables(alloc, &f, p)?;
     let columns = column_names(alloc, s)?;
-    let on = all_on(alloc, &f, &t, &columns)?;
+    let f = form_of(alloc, s)?;
+    let on = on_of(alloc, &f, p, &columns)?;
     Ok(Assignment { on })
 }

@@ -4,11 +4,11 @@ ghost use Rattle.std.specs.Prelude.{◌≡◌, ℕ, nat_eq, IfOk};
 ghost use Rattle.std.specs.HashMap.{get};
 ghost use Rattle.place_ir.specs.Uses.{values};
 ghost use Rattle.bank_places.specs.inner.ReadOff as pure;
-ghost use Rattle.reg_assign.specs.inner.Reading.{says, labels_of, known_place};
+ghost use Rattle.bank_places.specs.inner.Reading.{says, labels_of, known_place};
 
-use crate::numbers::BankNumbers;
 use crate::places::{Came, came_of};
-use crate::reading::Reading;
+use bank_places::numbers::BankNumbers;
+use bank_places::reading::Reading;
 use nv_base::NoMemory;
 use std::alloc::Global;
 

@@ -8,11 +8,11 @@ ghost use Rattle.place_ir.specs.Plan.{home_view};
 ghost use Rattle.bank_form.specs.inner.Form.{use_view, value_view};
 ghost use Rattle.bank_places.specs.inner.ReadOff as pure;
 ghost use Rattle.reg_assign.specs.inner.Given.{labels_in, says_in, numbers_in};
-ghost use Rattle.reg_assign.specs.inner.Reading.{says, early_word, wanted_home};
+ghost use Rattle.bank_places.specs.inner.Reading.{says, early_word, wanted_home};
 
 use crate::given::Given;
 use crate::places::{home_place, sort_place, word_place};
-use crate::reading::Reading;
+use bank_places::reading::Reading;
 use bank_prog::{Bank, Column, Sort, Use, Value};
 use nv_base::NoMemory;
 use place_ir::{Home, Place};

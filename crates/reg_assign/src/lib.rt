@@ -3,14 +3,10 @@
 
 mod assigned;
 mod chosen;
-mod columns;
 mod given;
 mod homes;
-mod numbers;
 mod places;
 mod plan_columns;
-mod plan_tables;
-mod reading;
 mod serves;
 
 pub use assigned::assign;

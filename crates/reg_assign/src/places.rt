@@ -6,12 +6,12 @@ ghost use Rattle.place_ir.specs.Fits as fits;
 ghost use Rattle.bank_form.specs.inner.Form.{use_view, value_view, sort_view};
 ghost use Rattle.bank_places.specs.inner.ReadOff as pure;
 ghost use Rattle.reg_assign.specs.inner.Given.{labels_in, says_in, numbers_in};
-ghost use Rattle.reg_assign.specs.inner.Reading.{says, numbers_of, known_place, place_noted};
+ghost use Rattle.bank_places.specs.inner.Reading.{says, numbers_of, known_place, place_noted};
 
-use crate::columns::Family;
 use crate::given::Given;
-use crate::numbers::BankNumbers;
-use crate::reading::Reading;
+use bank_places::columns::Family;
+use bank_places::numbers::BankNumbers;
+use bank_places::reading::Reading;
 use bank_prog::{Bank, Role, Sort, Use, Value};
 use nv_base::{Mem, NoMemory};
 use place_ir::Place;

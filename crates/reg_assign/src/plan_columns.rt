@@ -9,9 +9,9 @@ ghost use Rattle.bank_form.specs.Program as program;
 ghost use Rattle.bank_form.specs.declared.column.Bank.TheVariants.{A15};
 ghost use Rattle.bank_form.specs.inner.Form.{role_view, use_view};
 ghost use Rattle.bank_places.specs.inner.Chosen as chosen;
-ghost use Rattle.reg_assign.specs.inner.PlanTables as tables;
+ghost use Rattle.bank_places.specs.inner.PlanTables as tables;
 
-use crate::plan_tables::PlanTables;
+use bank_places::plan_tables::PlanTables;
 use bank_prog::{Bank, Column, Form, Role, Use};
 use nv_base::NoMemory;
 use place_ir::Place;

@@ -5,12 +5,12 @@ ghost use Rattle.std.specs.List.{flat_map};
 ghost use Rattle.bank_form.specs.inner.Form.{use_view, access_view, stop_view, role_view};
 ghost use Rattle.bank_places.specs.inner.ReadOff as pure;
 ghost use Rattle.reg_assign.specs.inner.Given.{labels_in, says_in, numbers_in};
-ghost use Rattle.reg_assign.specs.inner.Reading.{says, part_pass};
+ghost use Rattle.bank_places.specs.inner.Reading.{says, part_pass};
 
-use crate::columns::Family;
 use crate::given::Given;
 use crate::places::{bank_place, home_place, small, word_place};
-use crate::reading::Reading;
+use bank_places::columns::Family;
+use bank_places::reading::Reading;
 use bank_prog::services::services;
 use bank_prog::{Access, Bank, Role, Service, Stop, Use};
 use nv_base::NoMemory;

@@ -1,4 +1,4 @@
-use Rattle.std.proofs.Common.{◌≡◌, ◌∙◌, ℕ, ap, sym, inr, map, length, arith}
+use Rattle.std.proofs.Common.{◌≡◌, ◌∙◌, ℕ, ap, sym, inl, inr, map, length, arith}
 use Rattle.std.proofs.lemmas.List.{length-map}
 use Rattle.std.specs.HashMap.{get}
 use Rattle.ssu_ir.specs.View.{labels_view}
@@ -11,6 +11,23 @@ use Rattle.bank_form.specs.Rows.{lines}
 use Rattle.bank_form.proofs.FormLemmas.{rows-alike, same-program}
 use Rattle.bank_rows.proofs.PlainLines.{program-valid}
 use Rattle.bank_prog.proofs.program.build.Goals as goal
+
+pub returns-then-len-gt-COUNT_LIMIT-clause-many : goal.returns-then-len-gt-COUNT_LIMIT-clause-many
+returns-then-len-gt-COUNT_LIMIT-clause-many c = λ n h.
+    let labels = labels_view c.args.s.now in
+    let here : labels_view c.in_ok-f.f.ssu.now ≡ labels = ap labels_view c.in_ok-f.ensures in
+    let all : c.in_ok-priced.priced.items ≡ priced labels = c.in_ok-priced.ensures ∙ ap priced here in
+    let cols : length (columns labels) ≡ length c.in_ok-priced.priced.items = length-map (priced labels) (λ (x : Column × ℕ). x.0) ∙ ap length (sym all) in
+    let e : c.len-then-len-gt-COUNT_LIMIT.result ≡ n = cc in
+    inl (omega (arith, cols, e), omega (arith, cols, e))
+
+pub returns-clause-few : goal.returns-clause-few
+returns-clause-few c =
+    let labels = labels_view c.args.s.now in
+    let here : labels_view c.in_ok-f.f.ssu.now ≡ labels = ap labels_view c.in_ok-f.ensures in
+    let all : c.in_ok-priced.priced.items ≡ priced labels = c.in_ok-priced.ensures ∙ ap priced here in
+    let cols : length (columns labels) ≡ length c.in_ok-priced.priced.items = length-map (priced labels) (λ (x : Column × ℕ). x.0) ∙ ap length (sym all) in
+    omega (arith, cols)
 
 pub returns-then-len-gt-COUNT_LIMIT-2-clause-many : goal.returns-then-len-gt-COUNT_LIMIT-2-clause-many
 returns-then-len-gt-COUNT_LIMIT-2-clause-many c = λ n h.

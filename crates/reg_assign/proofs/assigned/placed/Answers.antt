@@ -7,7 +7,7 @@ use Rattle.bank_form.specs.declared.form.Stop.{Stop}
 use Rattle.bank_form.specs.inner.Form.{value_view, access_view, use_view, stop_view}
 use Rattle.bank_places.specs.inner.ReadOff.{access_first, use_serve}
 use Rattle.reg_assign.specs.inner.Given.{labels_in, says_in, numbers_in}
-use Rattle.reg_assign.specs.inner.Reading.{wanted_home, part_pass}
+use Rattle.bank_places.specs.inner.Reading.{wanted_home, part_pass}
 use Rattle.reg_assign.proofs.Placed.{is-read-off}
 use Rattle.reg_assign.proofs.assigned.placed.Goals as goal
 

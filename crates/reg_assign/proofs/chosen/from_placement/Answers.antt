@@ -2,18 +2,16 @@ use Rattle.std.proofs.Common.{◌∙◌, map, ap}
 use Rattle.ssu_ir.specs.View.{labels_view}
 use Rattle.place_ir.specs.Plan.{plan_view}
 use Rattle.bank_places.specs.inner.Chosen.{chosen}
-use Rattle.reg_assign.proofs.ChosenVector.{all-told, IsVector, vector-long, vector-feasible, vector-costs}
+use Rattle.bank_places.proofs.ChosenVector.{IsVector, vector-long, vector-feasible, vector-costs}
 use Rattle.reg_assign.proofs.chosen.from_placement.Goals as goal
 
 pub returns : goal.returns
 returns c =
     let labels = labels_view c.args.s.now in
     let p = plan_view c.args.p.now in
-    let form = labels_view c.in_ok-f.f.ssu.now in
     let names = c.deref.result.now in
     let is : IsVector labels p c.in_ok-on.on.items = record {
       is = c.in_ok-on.ensures
-          ∙ all-told form p c.in_ok-t.t names c.in_ok-t.ensures
           ∙ ap (λ l. map (chosen l p) names) (ap labels_view c.in_ok-f.ensures)
           ∙ ap (map (chosen labels p)) (c.deref.ensures.value ∙ c.in_ok-columns.ensures);
     } in

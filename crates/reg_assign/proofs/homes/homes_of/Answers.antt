@@ -4,7 +4,7 @@ use Rattle.place_ir.specs.Plan.{home_view}
 use Rattle.bank_form.specs.inner.Form.{value_view}
 use Rattle.bank_form.proofs.Loops.{out-more, out-all}
 use Rattle.reg_assign.specs.inner.Given.{labels_in, says_in, numbers_in}
-use Rattle.reg_assign.specs.inner.Reading.{wanted_home}
+use Rattle.bank_places.specs.inner.Reading.{wanted_home}
 use Rattle.reg_assign.proofs.homes.homes_of.Goals as goal
 
 pub loop-v-preserved : goal.loop-v-preserved

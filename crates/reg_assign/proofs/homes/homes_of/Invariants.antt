@@ -3,7 +3,7 @@ use Rattle.std.specs.List.{flat_map}
 use Rattle.place_ir.specs.Plan.{home_view}
 use Rattle.bank_form.specs.inner.Form.{value_view}
 use Rattle.reg_assign.specs.inner.Given.{labels_in, says_in, numbers_in}
-use Rattle.reg_assign.specs.inner.Reading.{wanted_home}
+use Rattle.bank_places.specs.inner.Reading.{wanted_home}
 use Rattle.reg_assign.proofs.homes.homes_of.Given as goal
 
 abbrev pub invariant-loop-v : goal.invariant-loop-v

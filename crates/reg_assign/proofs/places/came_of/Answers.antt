@@ -2,7 +2,7 @@ use Rattle.std.proofs.Common.{◌≡◌, ap, map, nat_eq, None, arith, rules}
 use Rattle.std.specs.HashMap.{get}
 use Rattle.bank_form.specs.inner.Form.{value_view}
 use Rattle.bank_places.specs.inner.ReadOff.{place_in}
-use Rattle.reg_assign.specs.inner.Reading.{says}
+use Rattle.bank_places.specs.inner.Reading.{says}
 use Rattle.reg_assign.proofs.Placed.{place_then, places-more, places-all}
 use Rattle.reg_assign.proofs.places.came_of.Goals as goal
 

@@ -2,7 +2,7 @@ use Rattle.std.proofs.Common.{◌≡◌, ℕ, map, drop, nat_eq}
 use Rattle.std.specs.HashMap.{get}
 use Rattle.bank_form.specs.inner.Form.{value_view}
 use Rattle.bank_places.specs.inner.ReadOff.{place_in}
-use Rattle.reg_assign.specs.inner.Reading.{says}
+use Rattle.bank_places.specs.inner.Reading.{says}
 use Rattle.reg_assign.proofs.Placed.{place_then}
 use Rattle.reg_assign.proofs.places.came_of.Given as goal
 

@@ -3,7 +3,7 @@ use Rattle.std.specs.List.{flat_map}
 use Rattle.bank_form.specs.declared.form.Stop.{Stop}
 use Rattle.bank_form.specs.inner.Form.{stop_view}
 use Rattle.bank_form.proofs.Loops.{out-more, out-all}
-use Rattle.reg_assign.specs.inner.Reading.{says, part_pass}
+use Rattle.bank_places.specs.inner.Reading.{says, part_pass}
 use Rattle.reg_assign.proofs.serves.passes_of.Goals as goal
 
 pub loop-stop-preserved : goal.loop-stop-preserved

@@ -1,7 +1,7 @@
 use Rattle.std.proofs.Common.{◌≡◌, ◌++◌, map, drop}
 use Rattle.std.specs.List.{flat_map}
 use Rattle.bank_form.specs.inner.Form.{stop_view}
-use Rattle.reg_assign.specs.inner.Reading.{says, part_pass}
+use Rattle.bank_places.specs.inner.Reading.{says, part_pass}
 use Rattle.reg_assign.proofs.serves.passes_of.Given as goal
 
 abbrev pub invariant-loop-stop : goal.invariant-loop-stop

@@ -1,0 +1,19 @@
+use Rattle.std.proofs.Common.{◌≡◌, ◌∙◌, Bool, map}
+use Rattle.std.proofs.lemmas.Result.{IfOk-weaker}
+use Rattle.std.specs.declared.vec.Vec.{Vec}
+use Rattle.std.specs.declared.alloc.Global.{Global}
+use Rattle.ssu_ir.specs.View.{labels_view}
+use Rattle.place_ir.specs.Plan.{plan_view}
+use Rattle.bank_places.specs.inner.Chosen.{chosen}
+use Rattle.bank_places.specs.inner.PlanTables.{told}
+use Rattle.bank_places.proofs.ChosenVector.{all-told}
+use Rattle.reg_assign.proofs.chosen.on_of.Goals as goal
+
+pub returns : goal.returns
+returns c =
+    let labels = labels_view c.args.f.now.ssu.now in
+    let p = plan_view c.args.p.now in
+    let t = c.in_ok-t.t in
+    let columns = c.args.columns.now in
+    IfOk-weaker c.all_on.result (λ (v : Vec Bool Global). v.items ≡ map (told labels t) columns) (λ (v : Vec Bool Global). v.items ≡ map (chosen labels p) columns)
+    (λ v h. h ∙ all-told labels p t columns c.in_ok-t.ensures) c.all_on.ensures
