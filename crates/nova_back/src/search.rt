@@ -2,7 +2,7 @@
 
 ghost use Rattle.std.specs.Prelude.{◌≡◌, ◌≤◌, IfOk, IfSome, length};
 ghost use Rattle.zo_model.specs.Program.{IsValid, columns};
-ghost use Rattle.zo_solve.specs.Vector.{IsVector};
+ghost use Rattle.zo_state.specs.Vector.{IsVector};
 ghost use Rattle.nova_back.specs.inner.Search.{IsFound};
 
 use std::alloc::Global;

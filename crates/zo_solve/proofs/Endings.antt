@@ -13,14 +13,16 @@ use Rattle.zo_cert.specs.declared.cert.CertNode.TheVariants.{Branch, Bound, Clas
 use Rattle.zo_cert.specs.declared.cert.Claim.{Claim}
 use Rattle.zo_cert.specs.declared.cert.Claim.TheVariants as claims
 use Rattle.zo_cert.proofs.Walk.{each_weaker}
-use Rattle.zo_solve.specs.Nodes.{IsBelow, IsPicked}
-use Rattle.zo_solve.specs.inner.Search.{IsAnswerOf, IsAtMostStart, IsClaimOf, IsFound, IsGood, LeftsLast}
+use Rattle.zo_rounds.specs.Nodes.{IsBelow, IsPicked}
+use Rattle.zo_state.specs.inner.Better.{IsAtMostStart, IsClaimOf}
+use Rattle.zo_rounds.specs.inner.Node.{IsGood}
+use Rattle.zo_solve.specs.inner.Search.{IsAnswerOf, IsFound, LeftsLast}
 use Rattle.zo_solve.specs.Solved.{CostsAtMost, EachIn, HadNoStart, IsCutOff, IsDecided, IsProved, OfVector, claim_of, tree_of}
-use Rattle.zo_solve.specs.Vector.{IsVector, cost_at, start_cost}
-use Rattle.zo_solve.specs.declared.node.Best.{Best}
+use Rattle.zo_state.specs.Vector.{IsVector, cost_at, start_cost}
+use Rattle.zo_state.specs.declared.best.Best.{Best}
 use Rattle.zo_solve.specs.declared.search.Solved.{Solved}
 use Rattle.zo_solve.specs.declared.search.Solved.TheVariants as answers
-use Rattle.zo_solve.proofs.Close.{below_budget}
+use Rattle.zo_solve.proofs.FewBranches.{below_budget}
 use Rattle.zo_solve.proofs.Grow.{closed_leaves, depth_first, nodes_counted}
 
 -- what is known of an ended search, and of its answer

@@ -1,15 +1,15 @@
 -- a list of nodes that grows, a node at a time
-use Rattle.std.proofs.Common.{◌≡◌, ◌≢◌, ℕ, ◌+◌, ◌*◌, ◌<◌, List, [], ◌∷◌, ◌++◌, length, Bool, true, false, inl, inr, ◌⊎◌, Option, Some, None, slice_get, slice_set, refl, sym, ◌∙◌, ap, subst, arith, append_assoc, length-append}
+use Rattle.std.proofs.Common.{◌≡◌, ◌≢◌, ℕ, ◌+◌, ◌*◌, ◌<◌, List, [], ◌∷◌, ◌++◌, length, Bool, true, false, inl, inr, ◌⊎◌, Option, Some, slice_set, refl, sym, ◌∙◌, ap, subst, arith, append_assoc, length-append}
 use Rattle.std.proofs.lemmas.List.{append-nil}
-use Rattle.zo_cert.specs.Certificate.{Tree, leaf, branch, preorder, EachNode, IsLeaf, branches, HasLeft}
-use Rattle.zo_cert.specs.inner.Path.{current}
+use Rattle.zo_cert.specs.Certificate.{Tree, leaf, branch, preorder, EachNode, branches, HasLeft}
 use Rattle.zo_cert.specs.Searched.{GoesDepthFirst, IsLeftOrDone}
 use Rattle.zo_cert.specs.inner.Walk.{MayCome, Walks, after}
 use Rattle.zo_cert.specs.declared.cert.CertNode.{CertNode}
 use Rattle.zo_cert.specs.declared.cert.CertNode.TheVariants.{Branch, Bound, Clash, Left}
 use Rattle.zo_cert.proofs.Walk.{walks_tree}
 use Rattle.zo_cert.proofs.Nodes.{branches_cons}
-use Rattle.zo_solve.specs.inner.Search.{Leaves, LeftsLast}
+use Rattle.zo_rounds.specs.inner.Node.{Leaves}
+use Rattle.zo_solve.specs.inner.Search.{LeftsLast}
 
 -- ---- what walks the rest ends a walk of the whole
 
@@ -30,17 +30,6 @@ may_weaker P Q h (f ∷ fs) (Branch j) m = (m.0, h f (Branch j) m.1)
 may_weaker P Q h (f ∷ fs) (Bound d ms) m = h f (Bound d ms) m
 may_weaker P Q h (f ∷ fs) (Clash ms) m = h f (Clash ms) m
 may_weaker P Q h (f ∷ fs) Left m = h f Left m
-
-pub may_leaf : (P : List (Option Bool) → CertNode → Type 0) (fs : List (List (Option Bool))) (n : CertNode) → fs ≢ [] → IsLeaf n → P (current fs) n → MayCome P fs n
-may_leaf P [] n some l h = absurd (some refl)
-may_leaf P (f ∷ fs) (Branch j) some l h = absurd l
-may_leaf P (f ∷ fs) (Bound d ms) some l h = h
-may_leaf P (f ∷ fs) (Clash ms) some l h = h
-may_leaf P (f ∷ fs) Left some l h = h
-
-pub may_branch : (P : List (Option Bool) → CertNode → Type 0) (fs : List (List (Option Bool))) (j : ℕ) → fs ≢ [] → slice_get (current fs) j ≡ Some None → P (current fs) (Branch j) → MayCome P fs (Branch j)
-may_branch P [] j some free h = absurd (some refl)
-may_branch P (f ∷ fs) j some free h = (free, h)
 
 -- ---- counts
 

@@ -1,10 +1,5 @@
-pub mod Close
 pub mod Endings
+pub mod FewBranches
 pub mod Grow
-pub mod Rows
-pub mod Steps
-pub mod Choice
 pub mod Reports
-pub mod Along
-pub mod Spread
-pub mod Placed
+pub mod Weaker

@@ -6,7 +6,7 @@ ghost use Rattle.zo_cert.specs.Certificate.{IsShaped, IsTreeWith};
 ghost use Rattle.zo_cert.specs.Report.{IsNode, IsTrueReport, IsValidReport};
 ghost use Rattle.zo_solve.specs.Reported.{IsReportOf};
 ghost use Rattle.zo_solve.specs.Solved.{IsCutOff, IsProved, OfVector, tree_of};
-ghost use Rattle.zo_solve.specs.Vector.{IsVector};
+ghost use Rattle.zo_state.specs.Vector.{IsVector};
 
 use crate::search::Solved;
 use std::alloc::{AllocError, Global};

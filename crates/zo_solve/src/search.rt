@@ -1,26 +1,28 @@
 //! The search, and its answers.
 
-ghost use Rattle.std.specs.Prelude.{◌≡◌, ◌+◌, ◌-◌, ◌*◌, ◌≤◌, ◌^◌, IfOk, IfSome, length, All};
+ghost use Rattle.std.specs.Prelude.{◌≡◌, ◌+◌, ◌-◌, ◌*◌, ◌≤◌, ◌^◌, [], IfOk, IfSome, length, All};
 ghost use Rattle.zo_model.specs.Program.{IsValid, columns};
 ghost use Rattle.zo_cert.specs.Certificate.{IsShaped, IsTreeWith, branches};
 ghost use Rattle.zo_cert.specs.Report.{IsNode};
+ghost use Rattle.zo_cert.specs.inner.Leaf.{IsClear};
+ghost use Rattle.zo_cert.specs.inner.Path.{begun};
 ghost use Rattle.zo_cert.specs.Searched.{IsSearched};
-ghost use Rattle.zo_solve.specs.Pick.{Answers, CanPick};
-ghost use Rattle.zo_solve.specs.Nodes.{IsBelow, IsPicked};
-ghost use Rattle.zo_solve.specs.inner.Search.{IsAnswerOf, IsBest, IsFound};
+ghost use Rattle.zo_state.specs.Pick.{Answers, CanPick};
+ghost use Rattle.zo_rounds.specs.Nodes.{IsBelow, IsPicked};
+ghost use Rattle.zo_state.specs.inner.Better.{IsBest};
+ghost use Rattle.zo_solve.specs.inner.Search.{IsAnswerOf, IsFound};
 ghost use Rattle.zo_solve.specs.Solved.{CostsAtMost, EachIn, HadNoStart, IsCutOff, IsDecided, IsProved, OfVector, claim_of, tree_of};
-ghost use Rattle.zo_solve.specs.Vector.{IsVector, cost_at, start_cost};
+ghost use Rattle.zo_state.specs.Vector.{IsVector, cost_at, start_cost};
 
-use crate::begin::begin;
-use crate::node::{Best, step};
-use crate::pick::Pick;
-use crate::rounds::Rounds;
-use crate::sums::Sums;
-use std::alloc::Global;
+use std::alloc::{AllocError, Global};
 use zo_cert::path::Path;
 use zo_cert::report::has_left;
 use zo_cert::{Cert, CertNode, Fixed};
 use zo_model::{Assignment, NoMemory, ZeroOne};
+use zo_rounds::begin;
+use zo_rounds::node::step;
+use zo_rounds::rounds::Rounds;
+use zo_state::{Best, Pick, Sums};
 
 /// So many terms of rows are visited in the rounds of one search; after that nodes are closed without multipliers.
 const WORK_LIMIT: u64 = 300_000_000;
@@ -38,57 +40,78 @@ pub enum Solved {
     Spent(Cert),
 }
 
-/// The best vector and the nodes of a search that has ended.
-#[derive(Drop)]
-pub struct Found {
-    best: Best,
-    nodes: Vec<CertNode>,
-}
-
-/// A tree of at most `budget` branches, depth first.
-fn search<F: Fn(&ZeroOne, &Fixed) -> u32>(
+/// The nodes of a tree of at most `budget` branches, depth first.
+fn walk<F: Fn(&ZeroOne, &Fixed) -> u32>(
     alloc: Global,
     z: &ZeroOne,
-    first: Best,
-    budget: u32,
     pick: &Pick<F>,
-) -> Result<Found, NoMemory>
+    budget: u32,
+    best: &mut Best,
+    sums: &mut Sums,
+    rounds: &mut Rounds,
+    weights: &mut [i128],
+    path: &mut Path,
+    nodes: &mut Vec<CertNode>,
+) -> Result<(), AllocError>
     requires valid { IsValid z.now }
     requires can_pick { CanPick (F.pre pick.now.choose) (F.post pick.now.choose) }
-    requires best { IsBest z.now first }
-    ensures { IfOk result (λ found. IsFound z.now first.start (Answers (F.post pick.now.choose) z.now) budget found.best found.nodes.items) }
+    requires best { IsBest z.now best.old }
+    requires program { sums.old.program ≡ z.now }
+    requires places { length sums.old.fixed ≡ columns z.now }
+    requires clear { IsClear (columns z.now) weights.old }
+    requires path { path.old ≡ begun z.now.costs.items }
+    requires none { nodes.old.items ≡ [] }
+    ensures { IfOk result (λ _. IsFound z.now best.old.start (Answers (F.post pick.now.choose) z.now) budget best.new nodes.new.items) }
 {
-    let mut best = first;
-    let mut path = Path::new(alloc, z)?;
-    let mut weights = vec![in alloc; 0i128; z.costs.len()]?;
-    let mut rounds = Rounds::new(alloc, z, WORK_LIMIT)?;
-    let mut sums = Sums::new(alloc, z)?;
-    let mut nodes = Vec::new(alloc);
     let mut left = budget;
     'nodes: while !path.is_done() {
         left = step(
-            alloc,
-            z,
-            pick,
-            left,
-            &mut best,
-            &mut sums,
-            &mut rounds,
-            &mut weights,
-            &mut path,
-            &mut nodes,
+            alloc, z, pick, left, best, sums, rounds, weights, path, nodes,
         )?;
     }
-    Ok(Found { best, nodes })
+    Ok(())
+}
+
+/// The nodes of a tree of at most `budget` branches, depth first; the best vector goes with it.
+fn search<F: Fn(&ZeroOne, &Fixed) -> u32>(
+    alloc: Global,
+    z: &ZeroOne,
+    pick: &Pick<F>,
+    budget: u32,
+    best: &mut Best,
+) -> Result<Vec<CertNode>, NoMemory>
+    requires valid { IsValid z.now }
+    requires can_pick { CanPick (F.pre pick.now.choose) (F.post pick.now.choose) }
+    requires best { IsBest z.now best.old }
+    ensures { IfOk result (λ nodes. IsFound z.now best.old.start (Answers (F.post pick.now.choose) z.now) budget best.new nodes.items) }
+{
+    let mut weights = vec![in alloc; 0i128; z.costs.len()]?;
+    let mut path = Path::new(alloc, z)?;
+    let mut rounds = Rounds::new(alloc, z, WORK_LIMIT)?;
+    let mut sums = Sums::new(alloc, z)?;
+    let mut nodes = Vec::new(alloc);
+    walk(
+        alloc,
+        z,
+        pick,
+        budget,
+        best,
+        &mut sums,
+        &mut rounds,
+        &mut weights,
+        &mut path,
+        &mut nodes,
+    )?;
+    Ok(nodes)
 }
 
 /// The answer of a search that has ended.
-fn answer(found: Found) -> Solved
-    ensures { IsAnswerOf found.best.x found.nodes.items result }
+fn answer(x: Option<Assignment>, nodes: Vec<CertNode>) -> Solved
+    ensures { IsAnswerOf x nodes.items result }
 {
-    let is_open = has_left(&found.nodes);
-    let tree = Cert { nodes: found.nodes };
-    match found.best.x {
+    let is_open = has_left(&nodes);
+    let tree = Cert { nodes };
+    match x {
         Some(x) if is_open => Solved::Feasible(x, tree),
         Some(x) => Solved::Optimal(x, tree),
         None if is_open => Solved::Spent(tree),
@@ -130,7 +153,7 @@ pub fn solve<F: Fn(&ZeroOne, &Fixed) -> u32>(
     ensures picked { IfOk result (EachIn z.now (IsPicked (Answers (F.post pick.now.choose) z.now))) }
     ensures below_start { IfOk result (EachIn z.now (IsBelow z.now (start_cost z.now start))) }
 {
-    let best = begin(alloc, z, start)?;
-    let found = search(alloc, z, best, budget, pick)?;
-    Ok(answer(found))
+    let mut best = begin(alloc, z, start)?;
+    let nodes = search(alloc, z, pick, budget, &mut best)?;
+    Ok(answer(best.x, nodes))
 }

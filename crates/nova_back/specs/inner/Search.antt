@@ -14,7 +14,7 @@ use Rattle.zo_cert.specs.declared.report.Report.{Report}
 use Rattle.zo_cert.specs.declared.report.Verdict.{Verdict}
 use Rattle.zo_cert.specs.declared.report.Verdict.TheVariants.{Optimal, Feasible, Infeasible, Spent}
 use Rattle.zo_solve.specs.Solved.{CostsAtMost}
-use Rattle.zo_solve.specs.Vector.{start_cost}
+use Rattle.zo_state.specs.Vector.{start_cost}
 use Rattle.bank_form.specs.Columns.{columns, costs}
 use Rattle.bank_prog.specs.Meaning.{IsFeasible}
 use Rattle.bank_form.specs.Program.{IsTooLarge}

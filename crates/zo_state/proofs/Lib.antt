@@ -1,0 +1,5 @@
+pub mod Along
+pub mod Choice
+pub mod Placed
+pub mod Rows
+pub mod Spread
