@@ -1,18 +1,18 @@
-//! The compiler's program: `run` does what the words of a command line say, over any files and any sink.
+//! The compiler's program: `run` on the words of its command line, over the system's files and the standard output. The tests of `run` stand
+//! here too, since a crate that holds tests is proved twice.
 #![tactic(auto)]
 
 #[cfg(test)]
 mod tests;
-mod top;
 
 pub use nova_commands::{CompileError, Compiled, Status, compile_text};
+pub use nova_top::run;
 use nv_base::NoMemory;
 use nv_outside::{DiskFiles, StdSink};
 use std::env;
 use std::io::ErrorKind;
 use std::process::ExitCode;
 use std::rt::Env;
-pub use top::run;
 
 fn main(rt: HostRuntime) -> ExitCode {
     let status = match command_line(&rt) {

@@ -1,17 +1,16 @@
 // The files of the system.
-ghost use Rattle.std.specs.Prelude.{◌≡◌, ◌≢◌, ◌↔◌, ◌+◌, ◌≤◌, ◌<◌, ◌++◌, ℕ, List, None, OnOk, IsOk, IfOk, IfErr, IfSome, length};
+ghost use Rattle.std.specs.Prelude.{◌≡◌, ◌≢◌, ◌↔◌, None, IsOk, IfOk, IfErr};
 ghost use Rattle.std.specs.Fs.{file_type, IsFile};
 ghost use Rattle.std.specs.IoError.{error_kind};
-ghost use Rattle.std.specs.Io.KnownBytes.{Appends};
 ghost use Rattle.nv_outside.specs.System.{disk_call_count, disk_load_count, disk_save_count};
 ghost use Rattle.nv_outside.specs.declared.disk.Way.{Way};
-ghost use Rattle.nv_outside.specs.declared.files.Loaded.{Loaded};
 
 use crate::files::{Files, Loaded, Saved};
+use crate::stream::{fill, read_whole};
 use arrayvec::ArrayString;
 use std::fmt::Write as _;
-use std::fs::{File, Metadata, OpenFile, OpenOptions, Permissions};
-use std::io::{ErrorKind, Read, Write};
+use std::fs::{File, Metadata, OpenOptions, Permissions};
+use std::io::ErrorKind;
 use std::random::RandomSource;
 use std::{fs, io, rt};
 
@@ -86,41 +85,6 @@ impl<'a, R: rt::Files + RandomSource + AllocGlobal> Files for DiskFiles<'a, R> {
     }
 }
 
-// Appends what a file has left, where that is at most `limit` bytes. Of a longer one at most a buffer more is read.
-pub(crate) fn read_whole<F: Read>(file: &mut F, limit: u64, into: &mut Vec<u8>) -> Loaded
-    ensures whole { result ≡ Loaded.Done → IfSome (F.remaining file.old) (λ left. into.new.items ≡ into.old.items ++ left) }
-    ensures within { result ≡ Loaded.Done → (bytes : List ℕ) × (length bytes ≤ limit) × (into.new.items ≡ into.old.items ++ bytes) }
-    ensures too_long { result ≡ Loaded.TooLong → IfSome (F.remaining file.old) (λ left. limit < length left) }
-    ensures not_done { result ≢ Loaded.Done → into.new.items ≡ into.old.items }
-{
-    let before = into.len();
-    let mut left = limit;
-    let mut buf = [0u8; 4096];
-    for _ in 0..u64::MAX {
-        match file.read(&mut buf) {
-            Err(e) if e.kind() == ErrorKind::Interrupted => {}
-            Err(_) => {
-                into.truncate(before);
-                return Loaded::Failed;
-            }
-            Ok(0) => return Loaded::Done,
-            Ok(n) => {
-                if n as u64 > left {
-                    into.truncate(before);
-                    return Loaded::TooLong;
-                }
-                left -= n as u64;
-                if into.extend_from_slice(&buf[..n]).is_err() {
-                    into.truncate(before);
-                    return Loaded::NoMemory;
-                }
-            }
-        }
-    }
-    into.truncate(before);
-    Loaded::Failed
-}
-
 // How a file comes to have other bytes.
 #[derive(Drop)]
 enum Way {
@@ -164,22 +128,30 @@ fn write_whole<R: rt::Files + RandomSource + AllocGlobal>(
     bytes: &[u8],
 ) -> io::Result<()> {
     match way_by(fs::metadata(rt, name))? {
-        Way::Replace(permissions) => {
-            // A file that may not be written may not be replaced either.
-            OpenOptions::new().write(true).open(rt, name)?;
-            if fs::symlink_metadata(rt, name)?.is_symlink() {
-                let path = fs::canonicalize(rt, name)?;
-                replace(rt, path.as_str(), bytes, Some(permissions))
-            } else {
-                replace(rt, name, bytes, Some(permissions))
-            }
-        }
+        Way::Replace(permissions) => replace_regular(rt, name, bytes, permissions),
         Way::InPlace => fs::write(rt, name, bytes),
         Way::New => match way_by(fs::symlink_metadata(rt, name))? {
             Way::New => replace(rt, name, bytes, None),
             // A link that leads nowhere: the file that it names is made.
             _ => fs::write(rt, name, bytes),
         },
+    }
+}
+
+// Replaces a regular file, that which a link leads to.
+fn replace_regular<R: rt::Files + RandomSource + AllocGlobal>(
+    rt: &R,
+    name: &str,
+    bytes: &[u8],
+    permissions: Permissions,
+) -> io::Result<()> {
+    // A file that may not be written may not be replaced either.
+    OpenOptions::new().write(true).open(rt, name)?;
+    if fs::symlink_metadata(rt, name)?.is_symlink() {
+        let path = fs::canonicalize(rt, name)?;
+        replace(rt, path.as_str(), bytes, Some(permissions))
+    } else {
+        replace(rt, name, bytes, Some(permissions))
     }
 }
 
@@ -215,21 +187,6 @@ fn replaced<R: rt::Files + RandomSource>(
     moved
 }
 
-// Writes these bytes to a new file, and sees that they have reached the disk.
-pub(crate) fn fill<F: Write + OpenFile>(
-    file: &mut F,
-    bytes: &[u8],
-    permissions: Option<Permissions>,
-) -> io::Result<()>
-    ensures { OnOk result (Appends (F.contents file.old) (F.contents file.new) bytes.now) }
-{
-    if let Some(permissions) = permissions {
-        file.set_permissions(permissions)?;
-    }
-    file.write_all(bytes)?;
-    file.sync_all()
-}
-
 // A new file in the folder of a file, and its path. The names begin at a random number, so what killed runs
 // left takes none of them.
 fn create_temporary<R: rt::Files + RandomSource>(
@@ -244,10 +201,7 @@ fn create_temporary<R: rt::Files + RandomSource>(
     rt.fill_bytes(&mut random)?;
     let first = u64::from_le_bytes(random);
     for number in 0..TEMPORARY_NAMES {
-        let mut path = ArrayString::new();
-        if write!(path, "{folder}/.novac-{first}-{number}.tmp").is_err() {
-            return Err(io::Error::from(ErrorKind::InvalidFilename));
-        }
+        let path = temporary_path(folder, first, number)?;
         match File::create_new(rt, path.as_str()) {
             Ok(file) => return Ok((path, file)),
             Err(e) if e.kind() == ErrorKind::AlreadyExists => {}
@@ -255,4 +209,13 @@ fn create_temporary<R: rt::Files + RandomSource>(
         }
     }
     Err(io::Error::from(ErrorKind::AlreadyExists))
+}
+
+// The path of a temporary file.
+fn temporary_path(folder: &str, first: u64, number: u32) -> io::Result<ArrayString<PATH_BYTES>> {
+    let mut path = ArrayString::new();
+    match write!(path, "{folder}/.novac-{first}-{number}.tmp") {
+        Ok(()) => Ok(path),
+        Err(_) => Err(io::Error::from(ErrorKind::InvalidFilename)),
+    }
 }

@@ -7,10 +7,7 @@ mod files;
 mod memory;
 mod output;
 mod sink;
-#[cfg(test)]
-mod stream_tests;
-#[cfg(test)]
-mod tests;
+pub mod stream;
 
 pub use disk::DiskFiles;
 pub use files::{Files, Loaded, Saved};

@@ -2,8 +2,9 @@
 ghost use Rattle.std.specs.Prelude.{◌≡◌, ◌<◌, ◌≤◌, ◌^◌, ℕ, [], length, true, false, Ok, Err, IfOk, IfErr};
 ghost use Rattle.uc_isa.specs.Code.{CodeView};
 ghost use Rattle.uc_asm.specs.Answer.{Answers, IsTrueError};
-ghost use Rattle.uc_asm.specs.Labels.{IsCodeOf, IsLabelError, IsUnlawfulError};
+ghost use Rattle.uc_asm.specs.Labels.{AreNamed, AreResolved, IsCodeOf, IsLabelError, IsUnlawfulError};
 ghost use Rattle.uc_asm.specs.inner.Reading.{HasItems};
+ghost use Rattle.uc_asm.specs.inner.Resolving.{IsNameError};
 ghost use Rattle.uc_asm.specs.inner.Seen.{all_seen};
 ghost use Rattle.uc_asm.specs.Text.{IsSyntaxError, Reads, count};
 
@@ -13,7 +14,7 @@ use crate::line::{Item, is_instruction, item_of, params_of};
 use crate::resolve::{instructions, line_at, line_of};
 use line_text::Lines;
 use std::alloc::Global;
-use uc_isa::{Code, Dst, Gpr, Src, lint};
+use uc_isa::{Code, Dst, Gpr, Instr, Src, lint};
 
 // The items of a text.
 #[derive(Drop)]
@@ -44,13 +45,23 @@ fn assembled(alloc: Global, text: &[u8]) -> Result<Code, AsmError>
     ensures error { IfErr result (IsTrueError text.now) }
 {
     let read = read_text(alloc, text)?;
-    let labels = declarations(alloc, &read.items)?;
-    let list = instructions(alloc, &read.items, &labels)?;
+    let list = listed(alloc, &read.items)?;
     let code = Code::new(read.params, list);
     match lint(&code) {
         None => Ok(code),
         Some((place, rule)) => Err(AsmError::Unlawful(line_of(&read.items, place), rule)),
     }
+}
+
+// The instructions of the items, each label in its place.
+fn listed(alloc: Global, items: &[Item]) -> Result<Vec<Instr>, AsmError>
+    requires { length items.now < 2 ^ 31 }
+    ensures named { IfOk result (λ list. AreNamed (all_seen items.now)) }
+    ensures resolved { IfOk result (λ list. AreResolved (all_seen items.now) (all_seen items.now) list.items) }
+    ensures error { IfErr result (IsNameError (all_seen items.now)) }
+{
+    let labels = declarations(alloc, items)?;
+    instructions(alloc, items, &labels)
 }
 
 // Line 1.

@@ -34,41 +34,29 @@ fn push_params(out: &mut Vec<u8>, params: u8) -> Result<(), AllocError>
     Ok(())
 }
 
-// The line of an instruction.
+// The line of an instruction, with its end.
 fn push_instruction(out: &mut Vec<u8>, i: Instr) -> Result<(), AllocError>
     ensures line { OnOk result (out.new.items ≡ out.old.items ++ (instruction_line i ++ 10 ∷ [])) }
     ensures fits { InRange i }
 {
-    match i {
-        Instr::Alu { dst, op, x, y } => push_alu(out, dst, op, x, y)?,
-        Instr::Un { dst, op, x } => push_un(out, dst, op, x)?,
-        Instr::Immed { dst, v, s } => {
-            out.extend_from_slice(b"immed")?;
-            push_target(out, dst)?;
-            push_number(out, u64::from(v))?;
-            push_number(out, u64::from(s))?;
-        }
-        Instr::Br { cond, target } => {
-            out.extend_from_slice(b"br")?;
-            push_word(out, condition(cond))?;
-            push_letter(out, b"@", u64::from(target))?;
-        }
-        Instr::Read { mem, r, n, x, off } => {
-            out.extend_from_slice(b"read")?;
-            push_access(out, mem, r, n, x, off)?;
-        }
-        Instr::Write { mem, r, n, x, off } => {
-            out.extend_from_slice(b"write")?;
-            push_access(out, mem, r, n, x, off)?;
-        }
-        Instr::Halt { k, n } => {
-            out.extend_from_slice(b"halt")?;
-            push_number(out, u64::from(k))?;
-            push_number(out, u64::from(n))?;
-        }
-    }
+    push_words(out, i)?;
     out.push(b'\n')?;
     Ok(())
+}
+
+// The words of an instruction.
+fn push_words(out: &mut Vec<u8>, i: Instr) -> Result<(), AllocError>
+    ensures { OnOk result (out.new.items ≡ out.old.items ++ instruction_line i) }
+{
+    match i {
+        Instr::Alu { dst, op, x, y } => push_alu(out, dst, op, x, y),
+        Instr::Un { dst, op, x } => push_un(out, dst, op, x),
+        Instr::Immed { dst, v, s } => push_immed(out, dst, v, s),
+        Instr::Br { cond, target } => push_branch(out, cond, target),
+        Instr::Read { mem, r, n, x, off } => push_access(out, b"read", mem, r, n, x, off),
+        Instr::Write { mem, r, n, x, off } => push_access(out, b"write", mem, r, n, x, off),
+        Instr::Halt { k, n } => push_halt(out, k, n),
+    }
 }
 
 fn push_alu(out: &mut Vec<u8>, dst: Dst, op: Bin, x: Src, y: Src) -> Result<(), AllocError>
@@ -92,16 +80,49 @@ fn push_un(out: &mut Vec<u8>, dst: Dst, op: UnOp, x: Src) -> Result<(), AllocErr
     Ok(())
 }
 
-// The operands of a memory instruction.
-fn push_access(out: &mut Vec<u8>, mem: Mem, r: u8, n: u8, x: Gpr, off: u8) -> Result<(), AllocError>
-    ensures { OnOk result (out.new.items ≡ out.old.items ++ flat_map (λ w. 32 ∷ w) (memory_name mem ∷ decimal r ∷ decimal n ∷ address_name x ∷ decimal off ∷ [])) }
+fn push_immed(out: &mut Vec<u8>, dst: Dst, v: u16, s: u8) -> Result<(), AllocError>
+    ensures { OnOk result (out.new.items ≡ out.old.items ++ instruction_line (Instr.Immed dst v s)) }
 {
+    out.extend_from_slice(b"immed")?;
+    push_target(out, dst)?;
+    push_number(out, u64::from(v))?;
+    push_number(out, u64::from(s))
+}
+
+fn push_branch(out: &mut Vec<u8>, cond: Cond, target: u32) -> Result<(), AllocError>
+    ensures { OnOk result (out.new.items ≡ out.old.items ++ instruction_line (Instr.Br cond target)) }
+{
+    out.extend_from_slice(b"br")?;
+    push_word(out, condition(cond))?;
+    push_letter(out, b"@", u64::from(target))
+}
+
+fn push_halt(out: &mut Vec<u8>, k: u16, n: u8) -> Result<(), AllocError>
+    ensures { OnOk result (out.new.items ≡ out.old.items ++ instruction_line (Instr.Halt k n)) }
+{
+    out.extend_from_slice(b"halt")?;
+    push_number(out, u64::from(k))?;
+    push_number(out, u64::from(n))
+}
+
+// A memory instruction of this kind.
+fn push_access(
+    out: &mut Vec<u8>,
+    kind: &[u8],
+    mem: Mem,
+    r: u8,
+    n: u8,
+    x: Gpr,
+    off: u8,
+) -> Result<(), AllocError>
+    ensures { OnOk result (out.new.items ≡ out.old.items ++ (kind.now ++ flat_map (λ w. 32 ∷ w) (memory_name mem ∷ decimal r ∷ decimal n ∷ address_name x ∷ decimal off ∷ []))) }
+{
+    out.extend_from_slice(kind)?;
     push_word(out, memory(mem))?;
     push_number(out, u64::from(r))?;
     push_number(out, u64::from(n))?;
     push_address(out, x)?;
-    push_number(out, u64::from(off))?;
-    Ok(())
+    push_number(out, u64::from(off))
 }
 
 // A word behind a space.

@@ -5,7 +5,7 @@ use Rattle.nova_commands.specs.inner.Words.{command_as}
 use Rattle.nova_commands.specs.inner.Contents.{contents_of, files_of}
 use Rattle.nova_commands.proofs.Loads.{rose-later}
 use Rattle.nova_commands.proofs.Saves.{saves-end, pass-unread, pass-refused}
-use Rattle.novac.proofs.top.perform.Goals as goal
+use Rattle.nova_top.proofs.top.perform.Goals as goal
 
 pub returns-clause-ended : goal.returns-clause-ended
 returns-clause-ended g c =

@@ -3,9 +3,9 @@ use Rattle.nv_outside.specs.Causes.{Rose}
 use Rattle.nv_outside.specs.Holding.{AppendsFront}
 use Rattle.nova_commands.specs.Command.{command_of, texts_of}
 use Rattle.nova_commands.specs.Lines.{usage_text}
-use Rattle.novac.proofs.Printing.{compiled, reported, generated, memory-generated, printed, begun, only-refused, only-shown, only-made, read-fault, write-fault, unchanged, elsewhere, all-same, memory-printed}
+use Rattle.nova_top.proofs.Printing.{compiled, reported, generated, memory-generated, printed, begun, only-refused, only-shown, only-made, read-fault, write-fault, unchanged, elsewhere, all-same, memory-printed}
 use Rattle.nova_commands.proofs.Names.{words-apart}
-use Rattle.novac.proofs.top.run.Goals as goal
+use Rattle.nova_top.proofs.top.run.Goals as goal
 
 pub returns-in-Ok-clause-compiled : goal.returns-in-Ok-clause-compiled
 returns-in-Ok-clause-compiled g c = λ t.
