@@ -5,14 +5,26 @@ import os
 import re
 
 TOP = os.path.dirname(os.path.dirname(os.path.realpath(__file__)))
-PAGE = '    Page {{\n        name: "{}",\n        text: r#"{}"#,\n    }},\n'
+PAGE = '            Page {{\n                name: "{}",\n                text: r#"{}"#,\n            }},\n'
+# How many pages a function has: a function with many is dear to prove.
+MOST = 8
 HEAD = """//! Pages of docs/FAULTS.md, written by tests/pages.py.
 
-use crate::pages::Page;
+use crate::pages::{{Page, page_among}};
 
-/// {}
-pub const {}: [Page; {}] = [
-{}];
+/// The page of this name among those of {0}.
+pub fn {1}_page(name: &[u8]) -> Option<&'static str> {{
+    {1}_page_0(name){2}
+}}
+"""
+PART = """
+fn {}_page_{}(name: &[u8]) -> Option<&'static str> {{
+    page_among(
+        &[
+{}        ],
+        name,
+    )
+}}
 """
 
 
@@ -51,13 +63,17 @@ def files(top=TOP):
     types = [it for it in found if it[0].startswith("type ")]
     others = [it for it in found if it not in types]
     return {
-        "type_pages.rt": made("The kinds of type faults.", "TYPE_PAGES", types),
-        "other_pages.rt": made("The text faults, the statuses and the other lines.", "OTHER_PAGES", others),
+        "type_pages.rt": made("the kinds of type faults", "type", types),
+        "other_pages.rt": made("the text faults, the statuses and the other lines", "other", others),
     }
 
 
-def made(what, name, found):
-    return HEAD.format(what, name, len(found), "".join(PAGE.format(*it) for it in found))
+def made(what, word, found):
+    parts = [found[at : at + MOST] for at in range(0, len(found), MOST)]
+    further = "".join(f"\n        .or({word}_page_{number}(name))" for number in range(1, len(parts)))
+    return HEAD.format(what, word, further) + "".join(
+        PART.format(word, number, "".join(PAGE.format(*it) for it in part)) for number, part in enumerate(parts)
+    )
 
 
 if __name__ == "__main__":

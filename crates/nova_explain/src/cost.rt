@@ -44,6 +44,18 @@ impl Cost {
         Cost { words: 0, ..self }
     }
 
+    /// Of a block whose tail costs this and whose statements have this size; with the greatest need of its parts.
+    pub fn of_block(self, size: u64, need: u64) -> Cost {
+        Cost {
+            words: self.words,
+            size: size
+                .saturating_add(self.size)
+                .saturating_add(self.words)
+                .saturating_add(1),
+            need: need.saturating_add(2),
+        }
+    }
+
     /// What the fields of an unpack or a pack cost.
     pub fn of_fields(fields: u64) -> Cost {
         Cost {

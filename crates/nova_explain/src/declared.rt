@@ -1,15 +1,16 @@
 //! What is declared, and the variables in sight.
 
+use crate::text::Sheet;
 use indexmap::IndexMap;
 use nv_ast::Name;
-use nv_base::NoMemory;
 use std::alloc::Global;
 
-/// Things by name, in the order of their declarations.
+/// Things by name, in the order of their declarations. Where memory runs out some are missing, and `is_short` tells.
 #[derive(Drop)]
 pub struct Declared<'a, T> {
     entries: IndexMap<&'a Name, T>,
     names: Vec<&'a Name>,
+    is_short: bool,
 }
 
 impl<'a, T: Copy + Drop> Declared<'a, T> {
@@ -18,6 +19,7 @@ impl<'a, T: Copy + Drop> Declared<'a, T> {
         Declared {
             entries: IndexMap::new(alloc),
             names: Vec::new(alloc),
+            is_short: false,
         }
     }
 
@@ -27,10 +29,18 @@ impl<'a, T: Copy + Drop> Declared<'a, T> {
     }
 
     /// One more declaration.
-    pub fn add(&mut self, name: &'a Name, value: T) -> Result<(), NoMemory> {
-        self.entries.insert(name, value)?;
-        self.names.push(name)?;
-        Ok(())
+    pub fn add(&mut self, name: &'a Name, value: T) {
+        if self.entries.insert(name, value).is_err() {
+            self.is_short = true;
+        }
+        if self.names.push(name).is_err() {
+            self.is_short = true;
+        }
+    }
+
+    /// Whether memory ran out for a declaration.
+    pub fn is_short(&self) -> bool {
+        self.is_short
     }
 
     /// The names in order.
@@ -46,11 +56,13 @@ struct Binding<'a> {
     hidden: Option<usize>,
 }
 
-/// The variables with their types; a newer one hides an earlier one of its name.
+/// The variables with their types; a newer one hides an earlier one of its name. Where memory runs out some are missing, and
+/// `is_short` tells.
 #[derive(Drop)]
 pub struct Scope<'a> {
     seen: IndexMap<&'a Name, usize>,
     stack: Vec<Binding<'a>>,
+    is_short: bool,
 }
 
 impl<'a> Scope<'a> {
@@ -59,7 +71,13 @@ impl<'a> Scope<'a> {
         Scope {
             seen: IndexMap::new(alloc),
             stack: Vec::new(alloc),
+            is_short: false,
         }
+    }
+
+    /// Whether memory ran out for a variable.
+    pub fn is_short(&self) -> bool {
+        self.is_short
     }
 
     /// The type of a variable.
@@ -68,11 +86,18 @@ impl<'a> Scope<'a> {
     }
 
     /// One more variable.
-    pub fn bind(&mut self, name: &'a Name, t: usize) -> Result<(), NoMemory> {
+    pub fn bind(&mut self, name: &'a Name, t: usize) {
         let hidden = self.get(name);
-        self.stack.push(Binding { name, hidden })?;
-        self.seen.insert(name, t)?;
-        Ok(())
+        if self.stack.push(Binding { name, hidden }).is_err() {
+            self.is_short = true;
+        }
+        self.set(name, t)
+    }
+
+    fn set(&mut self, name: &'a Name, t: usize) {
+        if self.seen.insert(name, t).is_err() {
+            self.is_short = true;
+        }
     }
 
     /// How many variables were bound.
@@ -81,35 +106,31 @@ impl<'a> Scope<'a> {
     }
 
     /// Forgets the variables behind a mark.
-    pub fn leave(&mut self, mark: usize) -> Result<(), NoMemory> {
+    pub fn leave(&mut self, mark: usize) {
         for _ in mark..self.stack.len() {
-            self.forget()?;
+            self.forget();
         }
-        Ok(())
     }
 
     // Forgets the newest variable.
-    fn forget(&mut self) -> Result<(), NoMemory> {
+    fn forget(&mut self) {
         if let Some(newest) = self.stack.pop() {
             let name = newest.name;
             match newest.hidden {
-                Some(t) => {
-                    self.seen.insert(name, t)?;
-                }
+                Some(t) => self.set(name, t),
                 None => {
                     self.seen.swap_remove(&name);
                 }
             }
         }
-        Ok(())
     }
 
     /// The names of the variables.
-    pub fn names(&self, alloc: Global) -> Result<Vec<&'a Name>, NoMemory> {
+    pub fn names(&self, alloc: Global, out: &mut Sheet) -> Vec<&'a Name> {
         let mut names = Vec::new(alloc);
         for it in self.stack.iter() {
-            names.push(it.name)?;
+            out.keep(&mut names, it.name);
         }
-        Ok(names)
+        names
     }
 }

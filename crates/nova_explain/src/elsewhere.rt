@@ -1,8 +1,7 @@
 //! Where else a name is declared.
 
-use crate::text::{part, push, push_line, push_number};
-use nv_ast::{Decl, Name, Program, Span};
-use nv_base::NoMemory;
+use crate::text::{Sheet, part};
+use nv_ast::{Decl, Fun, Name, Program, Span};
 use std::alloc::Global;
 use text_place::line_of;
 
@@ -24,70 +23,66 @@ const FUNCTIONS: u8 = 2;
 /// Appends where else a name is declared: for kind 2 before, and for kind 11 below.
 pub fn push_elsewhere(
     alloc: Global,
-    out: &mut Vec<u8>,
+    out: &mut Sheet,
     program: &Program,
     bytes: &[u8],
     kind: u8,
     span: Span,
-) -> Result<(), NoMemory> {
-    let listed = listed(alloc, program)?;
+) {
+    let listed = listed(alloc, out, program);
     match kind {
         2 => push_earlier(out, &listed, bytes, span),
         11 => push_later(out, &listed, bytes, span),
-        _ => Ok(()),
+        _ => {}
     }
 }
 
 // All declarations in order.
-fn listed<'a>(alloc: Global, program: &'a Program) -> Result<Vec<Declaration<'a>>, NoMemory> {
+fn listed<'a>(alloc: Global, out: &mut Sheet, program: &'a Program) -> Vec<Declaration<'a>> {
     let mut found = Vec::new(alloc);
     for decl in program.decls.iter() {
-        add(&mut found, decl)?;
+        add(out, &mut found, decl);
     }
-    Ok(found)
+    found
 }
 
-fn add<'a>(found: &mut Vec<Declaration<'a>>, decl: &'a Decl) -> Result<(), NoMemory> {
+fn add<'a>(out: &mut Sheet, found: &mut Vec<Declaration<'a>>, decl: &'a Decl) {
     match decl {
-        Decl::Layout(name, _, span) => found.push(Declaration {
-            space: LAYOUTS,
-            name,
-            span: *span,
-        })?,
-        Decl::Exception(name, _, span) => found.push(Declaration {
-            space: EXCEPTIONS,
-            name,
-            span: *span,
-        })?,
-        Decl::Group(funs) => {
-            for fun in funs.iter() {
-                found.push(Declaration {
-                    space: FUNCTIONS,
-                    name: &fun.name,
-                    span: fun.span,
-                })?;
-            }
+        Decl::Layout(name, _, span) => {
+            let space = LAYOUTS;
+            let span = *span;
+            out.keep(found, Declaration { space, name, span })
         }
+        Decl::Exception(name, _, span) => {
+            let space = EXCEPTIONS;
+            let span = *span;
+            out.keep(found, Declaration { space, name, span })
+        }
+        Decl::Group(funs) => add_functions(out, found, funs),
     }
-    Ok(())
+}
+
+fn add_functions<'a>(out: &mut Sheet, found: &mut Vec<Declaration<'a>>, funs: &'a [Fun]) {
+    for fun in funs {
+        let declared = Declaration {
+            space: FUNCTIONS,
+            name: &fun.name,
+            span: fun.span,
+        };
+        out.keep(found, declared);
+    }
 }
 
 // 2: the first declaration of the name that is declared again at a span.
-fn push_earlier(
-    out: &mut Vec<u8>,
-    listed: &[Declaration],
-    bytes: &[u8],
-    span: Span,
-) -> Result<(), NoMemory> {
+fn push_earlier(out: &mut Sheet, listed: &[Declaration], bytes: &[u8], span: Span) {
     let Some(again) = declared_at(listed, span) else {
-        return Ok(());
+        return;
     };
     for it in listed {
         if it.space == again.space && it.name == again.name {
             return push_where(out, "declared before", bytes, it.span);
         }
     }
-    Ok(())
 }
 
 // What is declared at a span.
@@ -101,19 +96,13 @@ fn declared_at<'a>(listed: &[Declaration<'a>], span: Span) -> Option<Declaration
 }
 
 // 11: a function of the name that is called at a span.
-fn push_later(
-    out: &mut Vec<u8>,
-    listed: &[Declaration],
-    bytes: &[u8],
-    span: Span,
-) -> Result<(), NoMemory> {
+fn push_later(out: &mut Sheet, listed: &[Declaration], bytes: &[u8], span: Span) {
     let call = part(bytes, span.first as usize, span.after as usize);
     for it in listed {
         if it.space == FUNCTIONS && is_call_of(call, it.name.bytes()) {
             return push_where(out, "declared below", bytes, it.span);
         }
     }
-    Ok(())
 }
 
 // Whether a call begins with a name and no longer one.
@@ -127,9 +116,9 @@ fn is_call_of(call: &[u8], name: &[u8]) -> bool {
     }
 }
 
-fn push_where(out: &mut Vec<u8>, text: &str, bytes: &[u8], span: Span) -> Result<(), NoMemory> {
-    push(out, text)?;
-    push(out, ": line ")?;
-    push_number(out, line_of(bytes, span.first as usize) as u64)?;
-    push_line(out, "")
+fn push_where(out: &mut Sheet, text: &str, bytes: &[u8], span: Span) {
+    out.put(text);
+    out.put(": line ");
+    out.number(line_of(bytes, span.first as usize) as u64);
+    out.line("")
 }

@@ -1,6 +1,6 @@
 //! Which tokens may stand at a place of a text.
 
-use crate::text::{part, push, push_line, push_quoted};
+use crate::text::{Sheet, part};
 use nv_base::NoMemory;
 use nv_text::{MOST_BYTES, Sort, TextError, Token, parse};
 use std::alloc::Global;
@@ -75,18 +75,15 @@ impl Expected {
     /// Those with which the text up to a place still begins a program. Each is tried by reading the text with it.
     pub fn at(
         alloc: Global,
+        out: &mut Sheet,
         bytes: &[u8],
         tokens: &[Token],
         at: usize,
-    ) -> Result<Expected, NoMemory> {
+    ) -> Expected {
         let front = part(bytes, declaration_before(tokens, at), at);
-        let mut fitting = Vec::new(alloc);
-        for token in TOKENS.iter() {
-            if begins_with(alloc, front, token)? {
-                fitting.push(*token)?;
-            }
+        Expected {
+            fitting: fitting(alloc, out, front, &TOKENS),
         }
-        Ok(Expected { fitting })
     }
 
     /// Whether a token of this kind may stand there.
@@ -100,25 +97,41 @@ impl Expected {
     }
 
     /// Appends `wanted: ` and the kinds of tokens.
-    pub fn push(&self, out: &mut Vec<u8>) -> Result<(), NoMemory> {
-        push(out, "wanted: ")?;
+    pub fn push(&self, out: &mut Sheet) {
+        out.put("wanted: ");
         if self.fitting.is_empty() {
-            push(out, "nothing")?;
+            out.put("nothing");
         }
         for (n, token) in self.fitting.iter().enumerate() {
-            push(out, if n == 0 { "" } else { ", " })?;
-            push_kind(out, token)?;
+            out.put(if n == 0 { "" } else { ", " });
+            push_kind(out, token);
         }
-        push_line(out, "")
+        out.line("")
     }
 }
 
+// Those of some tokens with which a text still begins a program.
+fn fitting(
+    alloc: Global,
+    out: &mut Sheet,
+    front: &[u8],
+    tokens: &[&'static str],
+) -> Vec<&'static str> {
+    let mut fitting = Vec::new(alloc);
+    for token in tokens {
+        if begins_with(alloc, out, front, token) {
+            out.keep(&mut fitting, *token);
+        }
+    }
+    fitting
+}
+
 // Appends a kind of tokens.
-fn push_kind(out: &mut Vec<u8>, token: &str) -> Result<(), NoMemory> {
+fn push_kind(out: &mut Sheet, token: &str) {
     match token.as_bytes() {
-        b"x" => push(out, "a name"),
-        b"1" => push(out, "a number"),
-        it => push_quoted(out, it),
+        b"x" => out.put("a name"),
+        b"1" => out.put("a number"),
+        it => out.quoted(it),
     }
 }
 
@@ -143,17 +156,39 @@ fn begins_declaration(sort: &Sort) -> bool {
 }
 
 // Whether a text and behind it a token begin a program.
-fn begins_with(alloc: Global, front: &[u8], token: &str) -> Result<bool, NoMemory> {
-    let mut text = front.to_vec(alloc)?;
-    push_line(&mut text, "")?;
-    push(&mut text, token)?;
-    if text.len() > MOST_BYTES {
-        return Ok(false);
+fn begins_with(alloc: Global, out: &mut Sheet, front: &[u8], token: &str) -> bool {
+    let mut text = Sheet::new(alloc);
+    text.bytes(front);
+    text.line("");
+    text.put(token);
+    match text.into_bytes() {
+        Ok(text) => begins(alloc, out, &text),
+        Err(NoMemory) => {
+            out.fail();
+            false
+        }
     }
-    match parse(alloc, &text) {
-        Ok(_) => Ok(true),
-        Err(TextError::NoMemory) => Err(NoMemory),
-        Err(TextError::Syntax(at)) => Ok(at as usize >= text.len()),
-        Err(_) => Ok(false),
+}
+
+// Whether a text begins a program.
+fn begins(alloc: Global, out: &mut Sheet, text: &[u8]) -> bool {
+    if text.len() > MOST_BYTES {
+        return false;
+    }
+    match parse(alloc, text) {
+        Ok(_) => true,
+        Err(fault) => is_behind(out, fault, text.len()),
+    }
+}
+
+// Whether a text's fault is that more is wanted behind it.
+fn is_behind(out: &mut Sheet, fault: TextError, length: usize) -> bool {
+    match fault {
+        TextError::Syntax(at) => at as usize >= length,
+        TextError::NoMemory => {
+            out.fail();
+            false
+        }
+        _ => false,
     }
 }

@@ -1,7 +1,6 @@
 //! Expressions in a walk.
 
 use crate::cost::Cost;
-use crate::stop::Stop;
 use crate::types::{BOOL, Part, WORD};
 use crate::walk::{Found, Function, Walk};
 use crate::wanted::{Wanted, Why};
@@ -10,48 +9,56 @@ use nv_base::Mem;
 
 impl<'a> Walk<'a> {
     /// The body of a function: its size and its need.
-    pub fn body(&mut self, fun: &'a Fun) -> Result<Cost, Stop> {
+    pub fn body(&mut self, fun: &'a Fun) -> Cost {
         let Some(function) = self.functions.get(&fun.name) else {
-            return Ok(Cost::NONE);
+            return Cost::NONE;
         };
         self.current = Some(&fun.name);
         self.written.clear();
         let mark = self.scope.mark();
-        for (n, param) in fun.params.iter().enumerate() {
-            let t = self.types.tuple_part(function.params, n).unwrap_or(WORD);
-            self.scope.bind(&param.0, t)?;
-        }
+        self.bind_parameters(fun, function.params);
         let wanted = Wanted::Typed(function.result, Why::Result(&fun.name));
-        let found = self.expr(wanted, &fun.body)?;
-        self.scope.leave(mark)?;
+        let found = self.expr(wanted, &fun.body);
+        self.scope.leave(mark);
         let words = self.types.words_of(function.params);
-        Ok(Cost {
+        Cost {
             words: 0,
             size: found.cost.size.saturating_add(words).saturating_add(1),
             need: found.cost.need.saturating_add(words),
-        })
+        }
+    }
+
+    // Binds parameters at the parts of the tuple of their types.
+    fn bind_parameters(&mut self, fun: &'a Fun, types: usize) {
+        for (n, param) in fun.params.iter().enumerate() {
+            let t = self.types.tuple_part(types, n).unwrap_or(WORD);
+            self.scope.bind(&param.0, t);
+        }
     }
 
     /// An expression, of which something is wanted: first its parts from left to right, then itself.
     #[cycle(walk)]
-    pub fn expr(&mut self, wanted: Wanted<'a>, e: &'a Expr) -> Result<Found, Stop> {
-        let found = self.inner(e.span, &e.kind)?;
-        if self.is_at(e.span) {
-            self.tell_value(wanted, found.value)?;
-            return Err(Stop::There);
+    pub fn expr(&mut self, wanted: Wanted<'a>, e: &'a Expr) -> Found {
+        if self.is_over {
+            return Found::NONE;
         }
-        Ok(found)
+        let found = self.inner(e.span, &e.kind);
+        if self.is_at(e.span) {
+            self.tell_value(wanted, found.value);
+            self.is_over = true;
+        }
+        found
     }
 
     #[cycle(walk)]
-    fn inner(&mut self, span: Span, kind: &'a Kind) -> Result<Found, Stop> {
+    fn inner(&mut self, span: Span, kind: &'a Kind) -> Found {
         match kind {
-            Kind::Number(_) => Ok(self.found(Some(WORD), Cost::NONE)),
-            Kind::Truth(_) => Ok(self.found(Some(BOOL), Cost::NONE)),
+            Kind::Number(_) => self.found(Some(WORD), Cost::NONE),
+            Kind::Truth(_) => self.found(Some(BOOL), Cost::NONE),
             Kind::Var(x) => self.variable(x),
             Kind::Paren(inner) => {
-                let part = self.expr(Wanted::Value, inner)?;
-                Ok(self.found(part.value, part.cost))
+                let part = self.expr(Wanted::Value, inner);
+                self.found(part.value, part.cost)
             }
             Kind::Tuple(es) => self.tuple(es),
             Kind::Fields(es) => self.fields(span, es),
@@ -60,7 +67,7 @@ impl<'a> Walk<'a> {
             Kind::Negate(inner) => self.unary(BOOL, inner),
             Kind::Binary(_, _, _) => self.binary(kind),
             Kind::Shift(_, inner, n) => {
-                self.tell_places(span, *n)?;
+                self.tell_places(span, *n);
                 self.unary(WORD, inner)
             }
             Kind::Call(f, es) => self.call(span, f, es),
@@ -86,212 +93,237 @@ impl<'a> Walk<'a> {
         }
     }
 
-    fn variable(&mut self, name: &'a Name) -> Result<Found, Stop> {
-        self.written.push(name)?;
+    // The walk is over: what is known of the fault is told.
+    fn over(&mut self) -> Found {
+        self.is_over = true;
+        Found::NONE
+    }
+
+    fn variable(&mut self, name: &'a Name) -> Found {
+        self.note.keep(&mut self.written, name);
         match self.scope.get(name) {
-            Some(t) => Ok(self.found(Some(t), Cost::NONE)),
+            Some(t) => self.found(Some(t), Cost::NONE),
             None => {
-                self.tell_variable(name)?;
-                Err(Stop::There)
+                self.tell_variable(name);
+                self.over()
             }
         }
     }
 
     #[cycle(walk)]
-    fn tuple(&mut self, es: &'a [Expr]) -> Result<Found, Stop> {
+    fn tuple(&mut self, es: &'a [Expr]) -> Found {
         let mut types = Vec::new(self.alloc);
         let mut parts = Cost::NONE;
         for e in es {
-            let part = self.expr(Wanted::Value, e)?;
-            types.push(Part {
-                name: None,
-                kind: part.value.unwrap_or(WORD),
-            })?;
+            let part = self.expr(Wanted::Value, e);
+            let kind = part.value.unwrap_or(WORD);
+            self.note.keep(&mut types, Part { name: None, kind });
             parts = parts.beside(part.cost);
         }
-        let t = self.types.tuple(&types)?;
-        Ok(self.found(Some(t), parts))
+        let t = self.types.tuple(&types);
+        self.found(Some(t), parts)
     }
 
     #[cycle(walk)]
-    fn fields(&mut self, span: Span, es: &'a [(Name, Expr)]) -> Result<Found, Stop> {
+    fn fields(&mut self, span: Span, es: &'a [(Name, Expr)]) -> Found {
         let mut types = Vec::new(self.alloc);
         let mut parts = Cost::NONE;
         for e in es {
-            let part = self.expr(Wanted::Value, &e.1)?;
-            types.push(Part {
-                name: Some(&e.0),
-                kind: part.value.unwrap_or(WORD),
-            })?;
+            let part = self.expr(Wanted::Value, &e.1);
+            let kind = part.value.unwrap_or(WORD);
+            self.note.keep(&mut types, Part::named(&e.0, kind));
             parts = parts.beside(part.cost);
         }
+        self.record(span, &types, parts)
+    }
+
+    // A record with these fields.
+    fn record(&mut self, span: Span, types: &[Part<'a>], parts: Cost) -> Found {
         if self.is_at(span) {
             self.inside = self.kind;
-            self.tell_twice(18, &types)?;
+            self.tell_twice(18, types);
         }
-        let t = self.types.record(&types)?;
-        Ok(self.found(Some(t), parts))
+        let t = self.types.record(types);
+        self.found(Some(t), parts)
     }
 
     #[cycle(walk)]
-    fn dot(&mut self, inner: &'a Expr, name: &'a Name) -> Result<Found, Stop> {
-        let part = self.expr(Wanted::Value, inner)?;
+    fn dot(&mut self, inner: &'a Expr, name: &'a Name) -> Found {
+        let part = self.expr(Wanted::Value, inner);
         let t = part.value.unwrap_or(WORD);
-        match self.types.field(self.alloc, t, name)? {
-            Some(field) => Ok(self.found(Some(field), part.cost)),
+        self.field(t, part.cost, name)
+    }
+
+    // A field of a value of this type and cost.
+    fn field(&mut self, t: usize, cost: Cost, name: &'a Name) -> Found {
+        match self.types.field(self.alloc, &mut self.note, t, name) {
+            Some(field) => self.found(Some(field), cost),
             None => {
-                self.tell_field(t, name)?;
-                Err(Stop::There)
+                self.tell_field(t, name);
+                self.over()
             }
         }
     }
 
     #[cycle(walk)]
-    fn unary(&mut self, t: usize, inner: &'a Expr) -> Result<Found, Stop> {
-        let part = self.expr(Wanted::Typed(t, Why::Operand), inner)?;
-        Ok(self.found(Some(t), part.cost))
+    fn unary(&mut self, t: usize, inner: &'a Expr) -> Found {
+        let part = self.expr(Wanted::Typed(t, Why::Operand), inner);
+        self.found(Some(t), part.cost)
     }
 
     #[cycle(walk)]
-    fn binary(&mut self, kind: &'a Kind) -> Result<Found, Stop> {
+    fn binary(&mut self, kind: &'a Kind) -> Found {
         let Kind::Binary(op, a, b) = kind else {
-            return Err(Stop::There);
+            return Found::NONE;
         };
-        let operand = match op {
-            Op::Both | Op::Either => BOOL,
-            _ => WORD,
-        };
-        let result = match op {
-            Op::Add | Op::Sub | Op::And | Op::Or | Op::Xor => WORD,
-            _ => BOOL,
-        };
-        let wanted = Wanted::Typed(operand, Why::Operand);
-        let left = self.expr(wanted, a)?;
-        let right = self.expr(wanted, b)?;
-        Ok(self.found(Some(result), left.cost.beside(right.cost)))
+        let wanted = Wanted::Typed(operand_of(*op), Why::Operand);
+        let left = self.expr(wanted, a);
+        let right = self.expr(wanted, b);
+        self.found(Some(result_of(*op)), left.cost.beside(right.cost))
     }
 
     // Arguments, of which the parts of a tuple are wanted in turn.
     #[cycle(walk)]
-    fn arguments(&mut self, types: usize, why: Why<'a>, es: &'a [Expr]) -> Result<Cost, Stop> {
+    fn arguments(&mut self, types: usize, why: Why<'a>, es: &'a [Expr]) -> Cost {
         let mut parts = Cost::NONE;
-        let as_many = self.types.tuple_length(types) == Some(es.len());
         for (n, e) in es.iter().enumerate() {
-            let wanted = match self.types.tuple_part(types, n) {
-                Some(t) if as_many => Wanted::Typed(t, why),
-                _ => Wanted::Value,
-            };
-            let part = self.expr(wanted, e)?;
+            let wanted = self.argument(types, why, es.len(), n);
+            let part = self.expr(wanted, e);
             parts = parts.beside(part.cost);
         }
-        Ok(parts)
+        parts
+    }
+
+    // What is wanted of one of so many arguments.
+    fn argument(&self, types: usize, why: Why<'a>, count: usize, n: usize) -> Wanted<'a> {
+        let as_many = self.types.tuple_length(types) == Some(count);
+        match self.types.tuple_part(types, n) {
+            Some(t) if as_many => Wanted::Typed(t, why),
+            _ => Wanted::Value,
+        }
     }
 
     #[cycle(walk)]
-    fn call(&mut self, span: Span, name: &'a Name, es: &'a [Expr]) -> Result<Found, Stop> {
+    fn call(&mut self, span: Span, name: &'a Name, es: &'a [Expr]) -> Found {
         let known = self.functions.get(name);
         let function = known.unwrap_or(Function {
             params: WORD,
             result: WORD,
         });
-        let parts = self.arguments(function.params, Why::Argument(name), es)?;
+        let parts = self.arguments(function.params, Why::Argument(name), es);
         if self.is_at(span) {
-            self.tell_call(name, function.params, es.len())?;
+            self.tell_call(name, function.params, es.len());
         }
         if known.is_none() {
-            return Err(Stop::There);
+            return self.over();
         }
         let behind = self.costs.get(name).unwrap_or(Cost::NONE);
-        Ok(self.found(Some(function.result), parts.beside(behind.called())))
+        self.found(Some(function.result), parts.beside(behind.called()))
     }
 
     #[cycle(walk)]
-    fn unpack(&mut self, layout: &'a Name, inner: &'a Expr) -> Result<Found, Stop> {
+    fn unpack(&mut self, layout: &'a Name, inner: &'a Expr) -> Found {
         let Some(shape) = self.layouts.get(layout) else {
-            self.expr(Wanted::Value, inner)?;
-            self.tell_unknown_layout(layout)?;
-            return Err(Stop::There);
+            self.expr(Wanted::Value, inner);
+            self.tell_unknown_layout(layout);
+            return self.over();
         };
-        let packed = self.types.of_words(shape.packed_words())?;
-        let part = self.expr(Wanted::Typed(packed, Why::Packed(layout)), inner)?;
-        Ok(self.found(
+        let packed = self.types.of_words(shape.packed_words());
+        let part = self.expr(Wanted::Typed(packed, Why::Packed(layout)), inner);
+        self.found(
             Some(shape.record),
             part.cost.beside(Cost::of_fields(shape.fields)),
-        ))
+        )
     }
 
     #[cycle(walk)]
-    fn pack(&mut self, layout: &'a Name, inner: &'a Expr) -> Result<Found, Stop> {
+    fn pack(&mut self, layout: &'a Name, inner: &'a Expr) -> Found {
         let Some(shape) = self.layouts.get(layout) else {
-            self.expr(Wanted::Value, inner)?;
-            self.tell_unknown_layout(layout)?;
-            return Err(Stop::There);
+            self.expr(Wanted::Value, inner);
+            self.tell_unknown_layout(layout);
+            return self.over();
         };
         let wanted = Wanted::Typed(shape.record, Why::Unpacked(layout));
-        let part = self.expr(wanted, inner)?;
-        let t = self.types.of_words(shape.packed_words())?;
-        Ok(self.found(Some(t), part.cost.beside(Cost::of_fields(shape.fields))))
+        let part = self.expr(wanted, inner);
+        let t = self.types.of_words(shape.packed_words());
+        self.found(Some(t), part.cost.beside(Cost::of_fields(shape.fields)))
     }
 
     #[cycle(walk)]
-    fn raise(&mut self, span: Span, name: &'a Name, es: &'a [Expr]) -> Result<Found, Stop> {
+    fn raise(&mut self, span: Span, name: &'a Name, es: &'a [Expr]) -> Found {
         let known = self.exceptions.get(name);
         let types = known.unwrap_or(WORD);
-        let parts = self.arguments(types, Why::Raised(name), es)?;
+        let parts = self.arguments(types, Why::Raised(name), es);
         if self.is_at(span) {
-            self.tell_raise(name, types, es.len())?;
+            self.tell_raise(name, types, es.len());
         }
         if known.is_none() {
-            return Err(Stop::There);
+            return self.over();
         }
-        Ok(self.found(None, parts))
+        self.found(None, parts)
     }
 
     #[cycle(walk)]
-    fn choice(&mut self, kind: &'a Kind) -> Result<Found, Stop> {
+    fn choice(&mut self, kind: &'a Kind) -> Found {
         let Kind::If(c, a, b) = kind else {
-            return Err(Stop::There);
+            return Found::NONE;
         };
-        let condition = self.expr(Wanted::Typed(BOOL, Why::Condition), c)?;
-        let first = self.expr(Wanted::Anything, a)?;
-        let second = self.expr(Wanted::same_as(first.value, Why::Arm), b)?;
+        let condition = self.expr(Wanted::Typed(BOOL, Why::Condition), c);
+        let first = self.expr(Wanted::Anything, a);
+        let second = self.expr(Wanted::same_as(first.value, Why::Arm), b);
         let parts = condition.cost.beside(first.cost.beside(second.cost));
-        Ok(self.found(first.value.or(second.value), parts))
+        self.found(first.value.or(second.value), parts)
     }
 
     #[cycle(walk)]
-    fn handled(&mut self, span: Span, kind: &'a Kind) -> Result<Found, Stop> {
+    fn handled(&mut self, span: Span, kind: &'a Kind) -> Found {
         let Kind::Try(body, exception, patterns, handler) = kind else {
-            return Err(Stop::There);
+            return Found::NONE;
         };
-        let tried = self.expr(Wanted::Anything, body)?;
+        let tried = self.expr(Wanted::Anything, body);
         let mark = self.scope.mark();
         let known = self.exceptions.get(exception);
         let types = known.unwrap_or(WORD);
         if self.is_at(span) {
-            self.tell_handler(exception, types, patterns)?;
+            self.tell_handler(exception, types, patterns);
         }
         if known.is_none() {
-            return Err(Stop::There);
+            return self.over();
         }
-        self.bind_all(patterns, types)?;
-        let caught = self.expr(Wanted::same_as(tried.value, Why::Handled), handler)?;
-        self.scope.leave(mark)?;
+        self.bind_all(patterns, types);
+        let caught = self.expr(Wanted::same_as(tried.value, Why::Handled), handler);
+        self.scope.leave(mark);
         let raised = Cost {
             words: self.types.words_of(types),
             ..Cost::NONE
         };
         let parts = raised.beside(tried.cost.beside(caught.cost));
-        Ok(self.found(tried.value.or(caught.value), parts))
+        self.found(tried.value.or(caught.value), parts)
     }
 
     #[cycle(walk)]
-    fn fetch(&mut self, span: Span, mem: Mem, n: u32, address: &'a Expr) -> Result<Found, Stop> {
-        let part = self.expr(Wanted::Typed(WORD, Why::Address), address)?;
+    fn fetch(&mut self, span: Span, mem: Mem, n: u32, address: &'a Expr) -> Found {
+        let part = self.expr(Wanted::Typed(WORD, Why::Address), address);
         if self.is_at(span) {
-            self.tell_access(mem, u64::from(n), address)?;
+            self.tell_access(mem, u64::from(n), address);
         }
-        let t = self.types.of_words(n)?;
-        Ok(self.found(Some(t), part.cost))
+        let t = self.types.of_words(n);
+        self.found(Some(t), part.cost)
+    }
+}
+
+// The type of an operator's operands.
+fn operand_of(op: Op) -> usize {
+    match op {
+        Op::Both | Op::Either => BOOL,
+        _ => WORD,
+    }
+}
+
+// The type of what an operator gives.
+fn result_of(op: Op) -> usize {
+    match op {
+        Op::Add | Op::Sub | Op::And | Op::Or | Op::Xor => WORD,
+        _ => BOOL,
     }
 }

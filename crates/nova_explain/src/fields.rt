@@ -1,30 +1,35 @@
 //! Where the fields of layouts stand.
 
 use crate::declared::Declared;
-use crate::text::{push, push_counted, push_line, push_number, push_quoted};
+use crate::text::{Sheet, part};
 use nv_ast::{FieldText, LayoutText, Name};
-use nv_base::NoMemory;
 use std::alloc::Global;
 
 // The most parts of layouts that are told of one program.
 const MOST_PARTS: u32 = 100_000;
 
-// A part of a layout that is still to be told: a layout or a field with the number of the names in front of it, or the
-// bit at which what follows begins.
+// A stretch of the names in front of fields, each with its dot.
+#[derive(Clone, Copy)]
+struct Front {
+    from: usize,
+    to: usize,
+}
+
+// A part of a layout that is still to be told: a layout or a field with the names in front of it, or the bit at which what
+// follows begins.
 #[derive(Clone, Copy)]
 enum Part<'a> {
-    Layout(&'a LayoutText, usize),
-    Field(&'a Name, &'a FieldText, usize),
+    Layout(&'a LayoutText, Front),
+    Field(&'a Name, &'a FieldText, Front),
     At(u64),
 }
 
 /// Tells layouts one after another. A later one may name those before it.
 #[derive(Drop)]
 pub struct FieldLister<'a> {
-    alloc: Global,
     known: Declared<'a, &'a LayoutText>,
-    // The names in front of fields, each with its dots.
-    fronts: Vec<Vec<u8>>,
+    // The names in front of fields of the layout that is told.
+    names: Vec<u8>,
     work: Vec<Part<'a>>,
     at: u64,
     left: u32,
@@ -32,163 +37,142 @@ pub struct FieldLister<'a> {
 
 impl<'a> FieldLister<'a> {
     /// Before the first layout.
-    pub fn new(alloc: Global) -> Result<FieldLister<'a>, NoMemory> {
-        Ok(FieldLister {
-            alloc,
+    pub fn new(alloc: Global) -> FieldLister<'a> {
+        FieldLister {
             known: Declared::new(alloc),
-            fronts: Vec::new(alloc),
+            names: Vec::new(alloc),
             work: Vec::new(alloc),
             at: 0,
             left: MOST_PARTS,
-        })
+        }
     }
 
     /// Appends a layout of so many bits: each field with its word, its first bit there and its bits.
     pub fn push_layout(
         &mut self,
-        out: &mut Vec<u8>,
+        out: &mut Sheet,
         name: &'a Name,
         text: &'a LayoutText,
         bits: u64,
-    ) -> Result<(), NoMemory> {
-        push_heading(out, name, bits)?;
-        self.begin(text)?;
-        self.push_parts(out)?;
-        self.known.add(name, text)
-    }
-
-    // A layout is to be told next.
-    fn begin(&mut self, text: &'a LayoutText) -> Result<(), NoMemory> {
-        self.fronts.clear();
-        self.fronts.push(Vec::new(self.alloc))?;
+    ) {
+        push_heading(out, name, bits);
+        self.names.clear();
         self.at = 0;
-        self.work.push(Part::Layout(text, 0))?;
-        Ok(())
+        let front = Front { from: 0, to: 0 };
+        out.keep(&mut self.work, Part::Layout(text, front));
+        self.push_parts(out);
+        self.known.add(name, text);
+        out.fail_if(self.known.is_short())
     }
 
-    fn push_parts(&mut self, out: &mut Vec<u8>) -> Result<(), NoMemory> {
+    fn push_parts(&mut self, out: &mut Sheet) {
         for _ in 0..self.left {
             let Some(part) = self.work.pop() else {
-                return Ok(());
+                return;
             };
             self.left = self.left.saturating_sub(1);
-            self.push_part(out, part)?;
+            self.push_part(out, part);
         }
         self.work.clear();
-        push_line(out, "    ..")
+        out.line("    ..")
     }
 
-    fn push_part(&mut self, out: &mut Vec<u8>, part: Part<'a>) -> Result<(), NoMemory> {
+    fn push_part(&mut self, out: &mut Sheet, part: Part<'a>) {
         match part {
-            Part::At(bit) => {
-                self.at = bit;
-                Ok(())
+            Part::At(bit) => self.at = bit,
+            Part::Layout(text, front) => self.queue_layout(out, text, front),
+            Part::Field(name, text, front) => self.push_field(out, name, text, front),
+        }
+    }
+
+    fn push_field(&mut self, out: &mut Sheet, name: &'a Name, text: &'a FieldText, front: Front) {
+        match text {
+            FieldText::Bits(n) => self.push_bits(out, name, *n, front),
+            FieldText::Inner(text) => {
+                let front = self.longer_front(out, front, name);
+                out.keep(&mut self.work, Part::Layout(text, front))
             }
-            Part::Layout(text, front) => self.queue_layout(text, front),
-            Part::Field(name, FieldText::Bits(n), front) => self.push_field(out, name, *n, front),
-            Part::Field(name, FieldText::Inner(text), front) => {
-                let front = self.longer_front(front, name)?;
-                self.work.push(Part::Layout(text, front))?;
-                Ok(())
-            }
-            Part::Field(name, FieldText::Overlay(fs), front) => {
-                let front = self.longer_front(front, name)?;
-                self.queue_alternatives(fs, front)
+            FieldText::Overlay(fs) => {
+                let front = self.longer_front(out, front, name);
+                self.queue_alternatives(out, fs, front)
             }
         }
     }
 
     // Appends a bit field, behind which the next part begins.
-    fn push_field(
-        &mut self,
-        out: &mut Vec<u8>,
-        name: &Name,
-        n: u32,
-        front: usize,
-    ) -> Result<(), NoMemory> {
-        push(out, "    ")?;
-        if let Some(names) = self.fronts.get(front) {
-            out.extend_from_slice(names)?;
-        }
-        out.extend_from_slice(name.bytes())?;
-        push(out, ": word ")?;
-        push_number(out, self.at / 32)?;
-        push(out, ", bit ")?;
-        push_number(out, self.at % 32)?;
-        push(out, ", ")?;
-        push_counted(out, u64::from(n), "bit")?;
-        push_line(out, "")?;
-        self.at = self.at.saturating_add(u64::from(n));
-        Ok(())
+    fn push_bits(&mut self, out: &mut Sheet, name: &Name, n: u32, front: Front) {
+        out.put("    ");
+        out.bytes(part(&self.names, front.from, front.to));
+        out.bytes(name.bytes());
+        out.put(": word ");
+        out.number(self.at / 32);
+        out.put(", bit ");
+        out.number(self.at % 32);
+        out.put(", ");
+        out.counted(u64::from(n), "bit");
+        out.line("");
+        self.at = self.at.saturating_add(u64::from(n))
     }
 
-    // The number of the names in front with one more.
-    fn longer_front(&mut self, front: usize, name: &Name) -> Result<usize, NoMemory> {
-        let mut names = Vec::new(self.alloc);
-        if let Some(it) = self.fronts.get(front) {
-            names.extend_from_slice(it)?;
+    // The names in front with one more, behind the names that are there.
+    fn longer_front(&mut self, out: &mut Sheet, front: Front, name: &Name) -> Front {
+        let from = self.names.len();
+        for n in front.from..front.to {
+            if let Some(byte) = self.names.get(n).copied() {
+                out.keep(&mut self.names, byte);
+            }
         }
-        names.extend_from_slice(name.bytes())?;
-        names.push(b'.')?;
-        let n = self.fronts.len();
-        self.fronts.push(names)?;
-        Ok(n)
+        for byte in name.bytes() {
+            out.keep(&mut self.names, *byte);
+        }
+        out.keep(&mut self.names, b'.');
+        let to = self.names.len();
+        Front { from, to }
     }
 
     // The parts of a layout are to be told next.
-    fn queue_layout(&mut self, text: &'a LayoutText, front: usize) -> Result<(), NoMemory> {
+    fn queue_layout(&mut self, out: &mut Sheet, text: &'a LayoutText, front: Front) {
         match text {
             LayoutText::Named(x) => {
                 if let Some(it) = self.known.get(x) {
-                    self.work.push(Part::Layout(it, front))?;
+                    out.keep(&mut self.work, Part::Layout(it, front));
                 }
-                Ok(())
             }
-            LayoutText::Gap(n) => {
-                self.at = self.at.saturating_add(u64::from(*n));
-                Ok(())
-            }
-            LayoutText::Parts(fs) => self.queue_fields(fs, front),
-            LayoutText::Joined(ls) => self.queue_joined(ls, front),
+            LayoutText::Gap(n) => self.at = self.at.saturating_add(u64::from(*n)),
+            LayoutText::Parts(fs) => self.queue_fields(out, fs, front),
+            LayoutText::Joined(ls) => self.queue_joined(out, ls, front),
         }
     }
 
-    fn queue_fields(&mut self, fs: &'a [(Name, FieldText)], front: usize) -> Result<(), NoMemory> {
+    fn queue_fields(&mut self, out: &mut Sheet, fs: &'a [(Name, FieldText)], front: Front) {
         for f in fs.iter().rev() {
-            self.work.push(Part::Field(&f.0, &f.1, front))?;
+            out.keep(&mut self.work, Part::Field(&f.0, &f.1, front));
         }
-        Ok(())
     }
 
-    fn queue_joined(&mut self, ls: &'a [LayoutText], front: usize) -> Result<(), NoMemory> {
+    fn queue_joined(&mut self, out: &mut Sheet, ls: &'a [LayoutText], front: Front) {
         for l in ls.iter().rev() {
-            self.work.push(Part::Layout(l, front))?;
+            out.keep(&mut self.work, Part::Layout(l, front));
         }
-        Ok(())
     }
 
     // The alternatives of an overlay, which all begin at the bit where the overlay begins.
-    fn queue_alternatives(
-        &mut self,
-        fs: &'a [(Name, FieldText)],
-        front: usize,
-    ) -> Result<(), NoMemory> {
+    fn queue_alternatives(&mut self, out: &mut Sheet, fs: &'a [(Name, FieldText)], front: Front) {
         let first = self.at;
         for f in fs.iter().rev() {
-            self.work.push(Part::Field(&f.0, &f.1, front))?;
-            self.work.push(Part::At(first))?;
+            out.keep(&mut self.work, Part::Field(&f.0, &f.1, front));
+            out.keep(&mut self.work, Part::At(first));
         }
-        Ok(())
     }
 }
 
 // The line above the fields of a layout.
-fn push_heading(out: &mut Vec<u8>, name: &Name, bits: u64) -> Result<(), NoMemory> {
-    push(out, "layout ")?;
-    push_quoted(out, name.bytes())?;
-    push(out, ": ")?;
-    push_counted(out, bits, "bit")?;
-    push(out, ", ")?;
-    push_counted(out, bits.div_ceil(32), "word")?;
-    push_line(out, "")
+fn push_heading(out: &mut Sheet, name: &Name, bits: u64) {
+    out.put("layout ");
+    out.quoted(name.bytes());
+    out.put(": ");
+    out.counted(bits, "bit");
+    out.put(", ");
+    out.counted(bits.div_ceil(32), "word");
+    out.line("")
 }

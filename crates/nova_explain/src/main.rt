@@ -23,7 +23,6 @@ mod sizes;
 mod slips;
 mod source;
 mod status;
-mod stop;
 mod tell;
 mod text;
 mod top;

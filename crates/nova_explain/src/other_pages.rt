@@ -1,12 +1,22 @@
 //! Pages of docs/FAULTS.md, written by tests/pages.py.
 
-use crate::pages::Page;
+use crate::pages::{Page, page_among};
 
-/// The text faults, the statuses and the other lines.
-pub const OTHER_PAGES: [Page; 34] = [
-    Page {
-        name: "syntax char",
-        text: r#"syntax char
+/// The page of this name among those of the text faults, the statuses and the other lines.
+pub fn other_page(name: &[u8]) -> Option<&'static str> {
+    other_page_0(name)
+        .or(other_page_1(name))
+        .or(other_page_2(name))
+        .or(other_page_3(name))
+        .or(other_page_4(name))
+}
+
+fn other_page_0(name: &[u8]) -> Option<&'static str> {
+    page_among(
+        &[
+            Page {
+                name: "syntax char",
+                text: r#"syntax char
 
 The byte begins no token. Printable bytes that begin none are `"`, `'`, `$`, `%`, `*`, `?`, `@`, `\`, the backquote, and `/` and `#` alone.
 No byte above 127 begins one.
@@ -20,10 +30,10 @@ No byte above 127 begins one.
 `ended 00000006`. A comment `/* .. */` is refused at its `/`, and a byte order mark at byte 0.
 Only `// ..` is a comment, and in it any byte but LF may stand.
 "#,
-    },
-    Page {
-        name: "syntax number",
-        text: r#"syntax number
+            },
+            Page {
+                name: "syntax number",
+                text: r#"syntax number
 
 The number is above 4,294,967,295.
 
@@ -35,10 +45,10 @@ The number is above 4,294,967,295.
 
 `ended ffffffff`.
 "#,
-    },
-    Page {
-        name: "syntax name",
-        text: r#"syntax name
+            },
+            Page {
+                name: "syntax name",
+                text: r#"syntax name
 
 The word has more than 64 bytes.
 
@@ -50,10 +60,10 @@ The word has more than 64 bytes.
 
 `ended 00000001`.
 "#,
-    },
-    Page {
-        name: "syntax syntax",
-        text: r#"syntax syntax
+            },
+            Page {
+                name: "syntax syntax",
+                text: r#"syntax syntax
 
 With the token at this byte the text begins no program. Where only more is missing, it is the text's length.
 
@@ -106,10 +116,10 @@ Corrected, in one:
 
 `ended 00000008`.
 "#,
-    },
-    Page {
-        name: "syntax deep",
-        text: r#"syntax deep
+            },
+            Page {
+                name: "syntax deep",
+                text: r#"syntax deep
 
 The tree of an expression, pattern, type or layout is certain to be higher than 100 at this byte. 100 brackets round a number are one too many:
 
@@ -121,10 +131,10 @@ The tree of an expression, pattern, type or layout is certain to be higher than 
 
 `ended 00000001`.
 "#,
-    },
-    Page {
-        name: "too large",
-        text: r#"too large: of a source
+            },
+            Page {
+                name: "too large",
+                text: r#"too large: of a source
 
 With status 8, `too large N` says one of four things (README.md). Of a source that is read and typed, N is its expanded size, which is at most 4,096.
 
@@ -141,10 +151,10 @@ With status 8, `too large N` says one of four things (README.md). Of a source th
 
 `ended 00000200`.
 "#,
-    },
-    Page {
-        name: "status 11",
-        text: r#"status 11, store
+            },
+            Page {
+                name: "status 11",
+                text: r#"status 11, store
 
 `store LENGTH` with status 11 is said by `compile`, and by `gen` of a made source.
 The code has LENGTH instructions, more than the N of `store=N`, or than 2,048.
@@ -157,10 +167,10 @@ The code has LENGTH instructions, more than the N of `store=N`, or than 2,048.
     saved o: %any
     saved r: %any
 "#,
-    },
-    Page {
-        name: "store",
-        text: r#"status 11, store
+            },
+            Page {
+                name: "store",
+                text: r#"status 11, store
 
 `store LENGTH` with status 11 is said by `compile`, and by `gen` of a made source.
 The code has LENGTH instructions, more than the N of `store=N`, or than 2,048.
@@ -173,10 +183,18 @@ The code has LENGTH instructions, more than the N of `store=N`, or than 2,048.
     saved o: %any
     saved r: %any
 "#,
-    },
-    Page {
-        name: "status 9",
-        text: r#"status 9, infeasible
+            },
+        ],
+        name,
+    )
+}
+
+fn other_page_1(name: &[u8]) -> Option<&'static str> {
+    page_among(
+        &[
+            Page {
+                name: "status 9",
+                text: r#"status 9, infeasible
 
 `infeasible` with status 9 is said by `compile`. No choice of banks is possible with so few slots: more values are held at once than registers and slots can
 have. It comes only where more than 15 values are held at once, and more than there are slots. REPORT alone is saved. It proves that, and `check` says so.
@@ -201,10 +219,10 @@ transfer register. Give it more slots, or use the words sooner:
     saved o: %any
     saved r: %any
 "#,
-    },
-    Page {
-        name: "infeasible",
-        text: r#"status 9, infeasible
+            },
+            Page {
+                name: "infeasible",
+                text: r#"status 9, infeasible
 
 `infeasible` with status 9 is said by `compile`. No choice of banks is possible with so few slots: more values are held at once than registers and slots can
 have. It comes only where more than 15 values are held at once, and more than there are slots. REPORT alone is saved. It proves that, and `check` says so.
@@ -229,28 +247,28 @@ transfer register. Give it more slots, or use the words sooner:
     saved o: %any
     saved r: %any
 "#,
-    },
-    Page {
-        name: "status 10",
-        text: r#"status 10, budget
+            },
+            Page {
+                name: "status 10",
+                text: r#"status 10, budget
 
 `budget N` with status 10 is said by `compile`. All N branches of the search were used before a choice of banks was found. One may be possible or not.
 It comes only where more than 15 values are held at once, and more than there are slots. REPORT alone is saved, and `check` says `spent` of it.
 The source above may end so with `slots=0 budget=1`, or with 9 where the search needs no second branch. Give it slots, or a greater budget.
 "#,
-    },
-    Page {
-        name: "budget",
-        text: r#"status 10, budget
+            },
+            Page {
+                name: "budget",
+                text: r#"status 10, budget
 
 `budget N` with status 10 is said by `compile`. All N branches of the search were used before a choice of banks was found. One may be possible or not.
 It comes only where more than 15 values are held at once, and more than there are slots. REPORT alone is saved, and `check` says `spent` of it.
 The source above may end so with `slots=0 budget=1`, or with 9 where the search needs no second branch. Give it slots, or a greater budget.
 "#,
-    },
-    Page {
-        name: "syntax text",
-        text: r#"syntax text, syntax label, unlawful
+            },
+            Page {
+                name: "syntax text",
+                text: r#"syntax text, syntax label, unlawful
 
 Of `asm`: the first line that isn't of the form; else a label that is missing or stands twice; else a line whose instruction breaks a rule of docs/MACHINE.md.
 
@@ -285,10 +303,10 @@ Of `asm`: the first line that isn't of the form; else a label that is missing or
     $ lint o
     0 lawful 4
 "#,
-    },
-    Page {
-        name: "syntax label",
-        text: r#"syntax text, syntax label, unlawful
+            },
+            Page {
+                name: "syntax label",
+                text: r#"syntax text, syntax label, unlawful
 
 Of `asm`: the first line that isn't of the form; else a label that is missing or stands twice; else a line whose instruction breaks a rule of docs/MACHINE.md.
 
@@ -323,10 +341,10 @@ Of `asm`: the first line that isn't of the form; else a label that is missing or
     $ lint o
     0 lawful 4
 "#,
-    },
-    Page {
-        name: "unlawful",
-        text: r#"syntax text, syntax label, unlawful
+            },
+            Page {
+                name: "unlawful",
+                text: r#"syntax text, syntax label, unlawful
 
 Of `asm`: the first line that isn't of the form; else a label that is missing or stands twice; else a line whose instruction breaks a rule of docs/MACHINE.md.
 
@@ -361,10 +379,10 @@ Of `asm`: the first line that isn't of the form; else a label that is missing or
     $ lint o
     0 lawful 4
 "#,
-    },
-    Page {
-        name: "object",
-        text: r#"object
+            },
+            Page {
+                name: "object",
+                text: r#"object
 
 The bytes are no object: the first byte that can't be there, or the file's length where it only ends too early.
 `lint` and `run` then answer 18 with a place where the code breaks a rule; `dis` lists such code.
@@ -387,10 +405,18 @@ The bytes are no object: the first byte that can't be there, or the file's lengt
     | alu A0 ADD A0 A1
     | halt 0 1
 "#,
-    },
-    Page {
-        name: "memory line",
-        text: r#"memory line
+            },
+        ],
+        name,
+    )
+}
+
+fn other_page_2(name: &[u8]) -> Option<&'static str> {
+    page_among(
+        &[
+            Page {
+                name: "memory line",
+                text: r#"memory line
 
 The first line of a memory text that isn't of its form. The form is in docs/MACHINE.md.
 
@@ -428,10 +454,10 @@ The first line of a memory text that isn't of its form. The form is in docs/MACH
 
 A size above 65,536 in the first line is `too large N` with status 8, whatever follows.
 "#,
-    },
-    Page {
-        name: "report line",
-        text: r#"report line, report refused
+            },
+            Page {
+                name: "report line",
+                text: r#"report line, report refused
 
 A report isn't of its form at a line, or is and doesn't hold. The form is in docs/CERTIFICATES.md.
 In the refused one below, the node leaves out a row, so its bound falls short.
@@ -477,10 +503,10 @@ In the refused one below, the node leaves out a row, so its bound falls short.
     $ check corrected
     0 optimal 2
 "#,
-    },
-    Page {
-        name: "report refused",
-        text: r#"report line, report refused
+            },
+            Page {
+                name: "report refused",
+                text: r#"report line, report refused
 
 A report isn't of its form at a line, or is and doesn't hold. The form is in docs/CERTIFICATES.md.
 In the refused one below, the node leaves out a row, so its bound falls short.
@@ -526,117 +552,136 @@ In the refused one below, the node leaves out a row, so its bound falls short.
     $ check corrected
     0 optimal 2
 "#,
-    },
-    Page {
-        name: "status 0",
-        text: r#"status 0: done
+            },
+            Page {
+                name: "status 0",
+                text: r#"status 0: done
 
 Of `run` the code ended, of `exec` the program, and of every other command what it is for is done.
 "#,
-    },
-    Page {
-        name: "status 2",
-        text: r#"status 2: usage
+            },
+            Page {
+                name: "status 2",
+                text: r#"status 2: usage
 
 `usage`: the words are no command. A number may be out of its range, an option out of its order, a file's name empty, or two names the same.
 "#,
-    },
-    Page {
-        name: "status 3",
-        text: r#"status 3: cannot read
+            },
+            Page {
+                name: "status 3",
+                text: r#"status 3: cannot read
 
 `cannot read NAME`: an input isn't there, or can't be read.
 The words are looked at first, then all files are loaded in the order of the words, then what they hold.
 So an absent memory text beside a faulty source is status 3.
 "#,
-    },
-    Page {
-        name: "status 4",
-        text: r#"status 4: cannot write
+            },
+            Page {
+                name: "status 4",
+                text: r#"status 4: cannot write
 
 `cannot write NAME`: an output can't be written. `compile` saves the object before the report, so where the report fails the object is there.
 Without a line the output itself failed. Then what was saved stays.
 "#,
-    },
-    Page {
-        name: "status 5",
-        text: r#"status 5: out of memory
+            },
+            Page {
+                name: "status 5",
+                text: r#"status 5: out of memory
 
 Nothing is printed, and no file was changed.
 "#,
-    },
-    Page {
-        name: "status 6",
-        text: r#"status 6: a text
+            },
+        ],
+        name,
+    )
+}
+
+fn other_page_3(name: &[u8]) -> Option<&'static str> {
+    page_among(
+        &[
+            Page {
+                name: "status 6",
+                text: r#"status 6: a text
 
 `syntax WORD at BYTE` is said of a source (`syntax char`, `syntax number`, `syntax name`, `syntax syntax`, `syntax deep`).
 `syntax text line N` and `syntax label line N` are said of an assembly text.
 "#,
-    },
-    Page {
-        name: "status 7",
-        text: r#"status 7: a fault of the types
+            },
+            Page {
+                name: "status 7",
+                text: r#"status 7: a fault of the types
 
 `type KIND at FIRST AFTER` is said of a source, with KIND from 1 to 24: see `type 1` to `type 24`.
 "#,
-    },
-    Page {
-        name: "status 8",
-        text: r#"status 8: a size
+            },
+            Page {
+                name: "status 8",
+                text: r#"status 8: a size
 
 `too large N` says one of four things: a file has more bytes than its limit N, a source has an expanded size N of more than 4,096,
 the 0-1 program of its banks has N columns, or else rows, more than 67,108,864,
 or a memory text asks for a memory of size N, more than 65,536.
 "#,
-    },
-    Page {
-        name: "status 12",
-        text: r#"status 12: no object
+            },
+            Page {
+                name: "status 12",
+                text: r#"status 12: no object
 
 `object BYTE`: the bytes are no object, from this one on.
 "#,
-    },
-    Page {
-        name: "status 13",
-        text: r#"status 13: no memory text
+            },
+            Page {
+                name: "status 13",
+                text: r#"status 13: no memory text
 
 `memory line N`: this line isn't of its form.
 "#,
-    },
-    Page {
-        name: "status 14",
-        text: r#"status 14: an exception
+            },
+            Page {
+                name: "status 14",
+                text: r#"status 14: an exception
 
 The outcome begins with `raised K` and the exception's words: no handler took it. Exceptions are numbered from 1 in the order of the declarations.
 "#,
-    },
-    Page {
-        name: "status 15",
-        text: r#"status 15: an address fault
+            },
+            Page {
+                name: "status 15",
+                text: r#"status 15: an address fault
 
 The outcome begins with `fault MEMORY ADDRESS`: an access reached past this memory, from this first address on.
 The memory's size stands in the first line of the memory text.
 "#,
-    },
-    Page {
-        name: "status 16",
-        text: r#"status 16: going
+            },
+            Page {
+                name: "status 16",
+                text: r#"status 16: going
 
 The outcome begins with `going`: all steps or calls were taken. Give more by `steps=N`, or see whether the loop ends.
 "#,
-    },
-    Page {
-        name: "status 17",
-        text: r#"status 17: no true report
+            },
+        ],
+        name,
+    )
+}
+
+fn other_page_4(name: &[u8]) -> Option<&'static str> {
+    page_among(
+        &[
+            Page {
+                name: "status 17",
+                text: r#"status 17: no true report
 
 `report line N` or `report refused`: the report isn't of its form, or doesn't hold.
 "#,
-    },
-    Page {
-        name: "status 18",
-        text: r#"status 18: code that breaks a rule
+            },
+            Page {
+                name: "status 18",
+                text: r#"status 18: code that breaks a rule
 
 `unlawful place P rule R` or `unlawful line N rule R`: docs/MACHINE.md has the rules by their numbers.
 "#,
-    },
-];
+            },
+        ],
+        name,
+    )
+}

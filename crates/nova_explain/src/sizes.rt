@@ -2,25 +2,19 @@
 
 use crate::cost::Cost;
 use crate::fields::FieldLister;
-use crate::text::{push, push_counted, push_line, push_number, push_quoted};
+use crate::text::Sheet;
 use crate::walk::Walk;
 use nv_ast::{Decl, Fun, LayoutText, Name, Program, Span, Typed};
-use nv_base::NoMemory;
 use std::alloc::Global;
 
 /// Appends the sizes of a program: of the whole, and of each declaration.
-pub fn push_sizes(
-    alloc: Global,
-    out: &mut Vec<u8>,
-    name: &str,
-    typed: &Typed,
-) -> Result<(), NoMemory> {
-    push(out, name)?;
-    push_line(out, ": a program without a fault")?;
-    push(out, "expanded size ")?;
-    push_number(out, u64::from(typed.expanded()))?;
-    push_line(out, " of at most 4096")?;
-    push_room(out, typed.room())?;
+pub fn push_sizes(alloc: Global, out: &mut Sheet, name: &str, typed: &Typed) {
+    out.put(name);
+    out.line(": a program without a fault");
+    out.put("expanded size ");
+    out.number(u64::from(typed.expanded()));
+    out.line(" of at most 4096");
+    push_room(out, typed.room());
     push_parts(
         alloc,
         out,
@@ -31,49 +25,52 @@ pub fn push_sizes(
 }
 
 // Appends the room, and whether the slots of compiled code are enough for it.
-fn push_room(out: &mut Vec<u8>, room: u32) -> Result<(), NoMemory> {
-    push(out, "room ")?;
-    push_number(out, u64::from(room))?;
-    push(out, ": at most so many words are wanted at once")?;
+fn push_room(out: &mut Sheet, room: u32) {
+    out.put("room ");
+    out.number(u64::from(room));
+    out.put(": at most so many words are wanted at once");
     if room <= 128 {
-        push_line(out, ", so the 128 slots of compiled code are enough")
+        out.line(", so the 128 slots of compiled code are enough")
     } else {
-        push_line(out, ", and the 128 slots of compiled code may be too few")
+        out.line(", and the 128 slots of compiled code may be too few")
     }
 }
 
 /// Appends the sizes of each declaration of a program of this expanded size and room.
 pub fn push_parts(
     alloc: Global,
-    out: &mut Vec<u8>,
+    out: &mut Sheet,
     program: &Program,
     expanded: u32,
     room: Option<u32>,
-) -> Result<(), NoMemory> {
+) {
     let nowhere = Span { first: 0, after: 0 };
-    let mut walk = Walk::new(alloc, 0, nowhere)?;
-    push_walked(alloc, out, &mut walk, program, expanded, room)
+    let mut walk = Walk::new(alloc, 0, nowhere);
+    push_walked(alloc, out, &mut walk, program, expanded, room);
+    drop(walk)
 }
 
 // The same, by a walk that is still to be made.
 fn push_walked<'a>(
     alloc: Global,
-    out: &mut Vec<u8>,
+    out: &mut Sheet,
     walk: &mut Walk<'a>,
     program: &'a Program,
     expanded: u32,
     room: Option<u32>,
-) -> Result<(), NoMemory> {
-    walk.program(program)?;
-    let fields = FieldLister::new(alloc)?;
+) {
+    walk.program(program);
+    out.fail_if(walk.is_short());
+    let has_costs = has_costs(walk, expanded, room);
     let mut teller = Teller {
         walk,
-        fields,
+        fields: FieldLister::new(alloc),
         exceptions: 0,
         groups: 0,
-        has_costs: has_costs(walk, expanded, room),
+        has_costs,
     };
-    teller.push_all(out, program)
+    teller.push_all(out, program);
+    drop(teller)
 }
 
 // Whether the walk found the sizes of the whole that `check` found.
@@ -109,23 +106,17 @@ struct Teller<'a, 'w> {
 }
 
 impl<'a, 'w> Teller<'a, 'w> {
-    fn push_all(&mut self, out: &mut Vec<u8>, program: &'a Program) -> Result<(), NoMemory> {
+    fn push_all(&mut self, out: &mut Sheet, program: &'a Program) {
         for decl in program.decls.iter() {
             match decl {
-                Decl::Layout(name, text, _) => self.push_layout(out, name, text)?,
-                Decl::Exception(name, _, _) => self.push_exception(out, name)?,
-                Decl::Group(funs) => self.push_group(out, funs)?,
+                Decl::Layout(name, text, _) => self.push_layout(out, name, text),
+                Decl::Exception(name, _, _) => self.push_exception(out, name),
+                Decl::Group(funs) => self.push_group(out, funs),
             }
         }
-        Ok(())
     }
 
-    fn push_layout(
-        &mut self,
-        out: &mut Vec<u8>,
-        name: &'a Name,
-        text: &'a LayoutText,
-    ) -> Result<(), NoMemory> {
+    fn push_layout(&mut self, out: &mut Sheet, name: &'a Name, text: &'a LayoutText) {
         let bits = match self.walk.layouts.get(name) {
             Some(shape) => shape.bits,
             None => 0,
@@ -134,43 +125,42 @@ impl<'a, 'w> Teller<'a, 'w> {
     }
 
     // An exception, with the number that an outcome has for it.
-    fn push_exception(&mut self, out: &mut Vec<u8>, name: &'a Name) -> Result<(), NoMemory> {
+    fn push_exception(&mut self, out: &mut Sheet, name: &'a Name) {
         self.exceptions = self.exceptions.saturating_add(1);
         let words = match self.walk.exceptions.get(name) {
             Some(t) => self.walk.types.words_of(t),
             None => 0,
         };
-        push(out, "exception ")?;
-        push_quoted(out, name.bytes())?;
-        push(out, ": `raised ")?;
-        push_number(out, self.exceptions)?;
-        push(out, "`, ")?;
-        push_counted(out, words, "word")?;
-        push_line(out, "")
+        out.put("exception ");
+        out.quoted(name.bytes());
+        out.put(": `raised ");
+        out.number(self.exceptions);
+        out.put("`, ");
+        out.counted(words, "word");
+        out.line("")
     }
 
-    fn push_group(&mut self, out: &mut Vec<u8>, funs: &'a [Fun]) -> Result<(), NoMemory> {
+    fn push_group(&mut self, out: &mut Sheet, funs: &'a [Fun]) {
         self.groups = self.groups.saturating_add(1);
         for fun in funs {
-            self.push_function(out, fun)?;
+            self.push_function(out, fun);
         }
-        Ok(())
     }
 
-    fn push_function(&mut self, out: &mut Vec<u8>, fun: &'a Fun) -> Result<(), NoMemory> {
-        push(out, "function ")?;
-        push_quoted(out, fun.name.bytes())?;
-        push(out, ": group ")?;
-        push_number(out, self.groups)?;
+    fn push_function(&mut self, out: &mut Sheet, fun: &'a Fun) {
+        out.put("function ");
+        out.quoted(fun.name.bytes());
+        out.put(": group ");
+        out.number(self.groups);
         if let (true, Some(cost)) = (self.has_costs, self.walk.own.get(&fun.name)) {
-            push(out, ", size ")?;
-            push_number(out, cost.size)?;
-            push(out, ", need ")?;
-            push_number(out, cost.need)?;
+            out.put(", size ");
+            out.number(cost.size);
+            out.put(", need ");
+            out.number(cost.need);
         }
-        push(out, ", ")?;
-        push_counted(out, self.words_of_parameters(fun), "word")?;
-        push_line(out, " of parameters")
+        out.put(", ");
+        out.counted(self.words_of_parameters(fun), "word");
+        out.line(" of parameters")
     }
 
     fn words_of_parameters(&self, fun: &'a Fun) -> u64 {

@@ -2,29 +2,30 @@
 
 use crate::refusal::{explain_text, explain_type};
 use crate::sizes::push_sizes;
-use nv_base::NoMemory;
-use nv_text::{MOST_BYTES, TextError, parse};
-use nv_types::{TypeError, check};
+use crate::text::Sheet;
+use nv_ast::Program;
+use nv_text::{MOST_BYTES, parse};
+use nv_types::check;
 use std::alloc::Global;
 
-/// The text on a source: its fault, or its sizes.
-pub fn explain_source(alloc: Global, name: &str, bytes: &[u8]) -> Result<Vec<u8>, NoMemory> {
-    let mut out = Vec::new(alloc);
+/// Appends the text on a source: its fault, or its sizes.
+pub fn explain_source(alloc: Global, out: &mut Sheet, name: &str, bytes: &[u8]) {
     if bytes.len() > MOST_BYTES {
-        return Ok(out);
+        return;
     }
-    let program = match parse(alloc, bytes) {
-        Ok(program) => program,
-        Err(TextError::NoMemory) => return Err(NoMemory),
-        Err(fault) => {
-            explain_text(alloc, &mut out, name, bytes, fault)?;
-            return Ok(out);
-        }
-    };
+    match parse(alloc, bytes) {
+        Ok(program) => explain_program(alloc, out, name, bytes, program),
+        Err(fault) => explain_text(alloc, out, name, bytes, fault),
+    }
+}
+
+// The same of a source that has a program.
+fn explain_program(alloc: Global, out: &mut Sheet, name: &str, bytes: &[u8], program: Program) {
     match check(alloc, program) {
-        Ok(typed) => push_sizes(alloc, &mut out, name, &typed)?,
-        Err(TypeError::NoMemory) => return Err(NoMemory),
-        Err(fault) => explain_type(alloc, &mut out, name, bytes, fault)?,
+        Ok(typed) => {
+            push_sizes(alloc, out, name, &typed);
+            drop(typed)
+        }
+        Err(fault) => explain_type(alloc, out, name, bytes, fault),
     }
-    Ok(out)
 }

@@ -3,18 +3,11 @@
 use crate::pages::page_of;
 use crate::source::explain_source;
 use crate::status::Status;
-use crate::text::{push, push_line};
+use crate::text::Sheet;
 use nv_base::NoMemory;
 use nv_outside::{Files, Loaded, Put, Sink};
 use nv_text::MOST_BYTES;
 use std::alloc::Global;
-
-// A status, and the text that is printed for it.
-#[derive(Drop)]
-struct Reply {
-    status: Status,
-    text: Vec<u8>,
-}
 
 /// Does what the words say.
 pub fn run<F: Files, K: Sink>(
@@ -23,95 +16,95 @@ pub fn run<F: Files, K: Sink>(
     files: &mut F,
     out: &mut K,
 ) -> Status {
-    match answer(alloc, words, files) {
-        Ok(reply) => match out.put(&reply.text) {
-            Put::Done => reply.status,
-            Put::Failed => Status::WriteFault,
-        },
+    let mut sheet = Sheet::new(alloc);
+    let status = answer(alloc, words, files, &mut sheet);
+    match sheet.into_bytes() {
+        Ok(text) => printed(status, &text, out),
         Err(NoMemory) => Status::NoMemory,
     }
 }
 
-// The status and the text of what the words say.
-fn answer<F: Files>(alloc: Global, words: &Vec<String>, files: &mut F) -> Result<Reply, NoMemory> {
-    if let Some(page) = page_of(&joined(alloc, words)?) {
-        let mut text = Vec::new(alloc);
-        push(&mut text, page)?;
-        return told(text);
+// Prints a text, and gives its status where that went well.
+fn printed<K: Sink>(status: Status, text: &[u8], out: &mut K) -> Status {
+    match out.put(text) {
+        Put::Done => status,
+        Put::Failed => Status::WriteFault,
+    }
+}
+
+// Appends the text of what the words say, and gives its status.
+fn answer<F: Files>(
+    alloc: Global,
+    words: &Vec<String>,
+    files: &mut F,
+    sheet: &mut Sheet,
+) -> Status {
+    if let Some(page) = page_of_words(alloc, words, sheet) {
+        sheet.put(page);
+        return Status::Told;
     }
     if words.len() == 1 {
-        source_reply(alloc, words[0].as_str(), files)
+        push_source(alloc, words[0].as_str(), files, sheet)
     } else {
-        usage(alloc)
+        push_usage(sheet, &USAGE)
     }
 }
 
-// The words with a blank between them.
-fn joined(alloc: Global, words: &Vec<String>) -> Result<Vec<u8>, NoMemory> {
-    let mut text = Vec::new(alloc);
-    for word in words.iter() {
-        if !text.is_empty() {
-            push(&mut text, " ")?;
+// The page whose name is the words.
+fn page_of_words(alloc: Global, words: &Vec<String>, sheet: &mut Sheet) -> Option<&'static str> {
+    let mut name = Sheet::new(alloc);
+    push_joined(&mut name, words);
+    match name.into_bytes() {
+        Ok(name) => page_of(&name),
+        Err(NoMemory) => {
+            sheet.fail();
+            None
         }
-        push(&mut text, word.as_str())?;
     }
-    Ok(text)
 }
 
-// What is said of a source.
-fn source_reply<F: Files>(alloc: Global, name: &str, files: &mut F) -> Result<Reply, NoMemory> {
+// Appends the words with a blank between them.
+fn push_joined(name: &mut Sheet, words: &Vec<String>) {
+    for word in words.iter() {
+        if !name.is_empty() {
+            name.put(" ");
+        }
+        name.put(word.as_str());
+    }
+}
+
+// Appends what is said of a source.
+fn push_source<F: Files>(alloc: Global, name: &str, files: &mut F, sheet: &mut Sheet) -> Status {
     let mut bytes = Vec::new(alloc);
     match files.load(name, MOST_BYTES as u64, &mut bytes) {
-        Loaded::Done => told(explain_source(alloc, name, &bytes)?),
-        Loaded::TooLong => told(too_long(alloc, name)?),
-        Loaded::Failed => unread(alloc, name),
-        Loaded::NoMemory => Err(NoMemory),
+        Loaded::Done => explain_source(alloc, sheet, name, &bytes),
+        Loaded::TooLong => push_too_long(sheet, name),
+        Loaded::Failed => return push_unread(sheet, name),
+        Loaded::NoMemory => sheet.fail(),
     }
+    Status::Told
 }
 
-fn told(text: Vec<u8>) -> Result<Reply, NoMemory> {
-    Ok(Reply {
-        status: Status::Told,
-        text,
-    })
+// Appends that a source has too many bytes.
+fn push_too_long(sheet: &mut Sheet, name: &str) {
+    sheet.put(name);
+    sheet.line(": the source has more than 262,144 bytes (too large 262144)");
+    sheet.line("Every name and blank counts. Take out what `main` doesn't need.")
 }
 
-// That a source has too many bytes.
-fn too_long(alloc: Global, name: &str) -> Result<Vec<u8>, NoMemory> {
-    let mut text = Vec::new(alloc);
-    push(&mut text, name)?;
-    push_line(
-        &mut text,
-        ": the source has more than 262,144 bytes (too large 262144)",
-    )?;
-    push_line(
-        &mut text,
-        "Every name and blank counts. Take out what `main` doesn't need.",
-    )?;
-    Ok(text)
+// Appends that a source can't be read.
+fn push_unread(sheet: &mut Sheet, name: &str) -> Status {
+    sheet.put("cannot read ");
+    sheet.line(name);
+    Status::ReadFault
 }
 
-// That a source can't be read.
-fn unread(alloc: Global, name: &str) -> Result<Reply, NoMemory> {
-    let mut text = Vec::new(alloc);
-    push(&mut text, "cannot read ")?;
-    push_line(&mut text, name)?;
-    Ok(Reply {
-        status: Status::ReadFault,
-        text,
-    })
-}
-
-// What the words can be, here and at `novac`.
-fn usage(alloc: Global) -> Result<Reply, NoMemory> {
-    let mut text = Vec::new(alloc);
-    for line in USAGE.iter() {
-        push_line(&mut text, line)?;
+// Appends what the words can be, here and at `novac`.
+fn push_usage(sheet: &mut Sheet, lines: &[&str]) -> Status {
+    for line in lines {
+        sheet.line(line);
     }
-    Ok(Reply {
-        status: Status::Usage,
-        text,
-    })
+    Status::Usage
 }
 
 const USAGE: [&str; 14] = [

@@ -1,12 +1,20 @@
 //! Pages of docs/FAULTS.md, written by tests/pages.py.
 
-use crate::pages::Page;
+use crate::pages::{Page, page_among};
 
-/// The kinds of type faults.
-pub const TYPE_PAGES: [Page; 24] = [
-    Page {
-        name: "type 1",
-        text: r#"type 1: no main
+/// The page of this name among those of the kinds of type faults.
+pub fn type_page(name: &[u8]) -> Option<&'static str> {
+    type_page_0(name)
+        .or(type_page_1(name))
+        .or(type_page_2(name))
+}
+
+fn type_page_0(name: &[u8]) -> Option<&'static str> {
+    page_among(
+        &[
+            Page {
+                name: "type 1",
+                text: r#"type 1: no main
 
 No function is called `main`. It is answered at the text's end, behind all other faults. The shortest source that has it is the empty text:
 
@@ -16,10 +24,10 @@ No function is called `main`. It is answered at the text's end, behind all other
 
 `ended`.
 "#,
-    },
-    Page {
-        name: "type 2",
-        text: r#"type 2: a name twice
+            },
+            Page {
+                name: "type 2",
+                text: r#"type 2: a name twice
 
 Something of that kind is declared before under this name. Layouts, exceptions and functions have separate name spaces.
 
@@ -31,10 +39,10 @@ Something of that kind is declared before under this name. Layouts, exceptions a
 
 `ended 00000001`. The second declaration's name comes before what it holds: `layout p = q;` behind another `p` is 2, and 3 where `p` is new.
 "#,
-    },
-    Page {
-        name: "type 3",
-        text: r#"type 3: an unknown layout
+            },
+            Page {
+                name: "type 3",
+                text: r#"type 3: an unknown layout
 
 It isn't declared above this place. A type that names it is kind 8.
 
@@ -46,10 +54,10 @@ It isn't declared above this place. A type that names it is kind 8.
 
 `ended 00000041`. The operand comes first: in `unpack[q](x)` with an unknown `x` it is 10.
 "#,
-    },
-    Page {
-        name: "type 4",
-        text: r#"type 4: a field of a wrong size
+            },
+            Page {
+                name: "type 4",
+                text: r#"type 4: a field of a wrong size
 
 A field has other than 1 to 32 bits, or a gap other than 1 to 1,024.
 
@@ -62,10 +70,10 @@ A field has other than 1 to 32 bits, or a gap other than 1 to 1,024.
 
 `ended 02005e10 00000001`. Parts come before the whole, so `{a: 33, a: 1}` is 4 and not 5.
 "#,
-    },
-    Page {
-        name: "type 5",
-        text: r#"type 5: a field twice in a layout
+            },
+            Page {
+                name: "type 5",
+                text: r#"type 5: a field twice in a layout
 
 Two fields of one record, two alternatives of one overlay, or two fields of joined layouts have one name.
 
@@ -77,10 +85,10 @@ Two fields of one record, two alternatives of one overlay, or two fields of join
 
 `ended 00000002`.
 "#,
-    },
-    Page {
-        name: "type 6",
-        text: r#"type 6: alternatives of different sizes
+            },
+            Page {
+                name: "type 6",
+                text: r#"type 6: alternatives of different sizes
 
 The alternatives of an overlay are views of the same bits, so they are equally long.
 
@@ -92,10 +100,10 @@ The alternatives of an overlay are views of the same bits, so they are equally l
 
 `ended 00000001`.
 "#,
-    },
-    Page {
-        name: "type 7",
-        text: r#"type 7: a layout without a field, or too large
+            },
+            Page {
+                name: "type 7",
+                text: r#"type 7: a layout without a field, or too large
 
 A declared layout, or one inside a field, has no field, more than 1,024 bits, or, names written out, a tree higher than 100.
 
@@ -107,10 +115,10 @@ A declared layout, or one inside a field, has no field, more than 1,024 bits, or
 
 `ended 00000042`.
 "#,
-    },
-    Page {
-        name: "type 8",
-        text: r#"type 8: a wrong type
+            },
+            Page {
+                name: "type 8",
+                text: r#"type 8: a wrong type
 
 A type names an unknown layout, is `word[n]` with n other than 1 to 1,024, or is a record type with a name twice.
 
@@ -123,10 +131,18 @@ A type names an unknown layout, is `word[n]` with n other than 1 to 1,024, or is
 `raised 1 00000007`. At one type 8 comes before 24.
 Of a function the types come before the names: `f[a: word[0], a: word]` is 8 and not 9.
 "#,
-    },
-    Page {
-        name: "type 9",
-        text: r#"type 9: a variable twice in one list
+            },
+        ],
+        name,
+    )
+}
+
+fn type_page_1(name: &[u8]) -> Option<&'static str> {
+    page_among(
+        &[
+            Page {
+                name: "type 9",
+                text: r#"type 9: a variable twice in one list
 
 One list of parameters, one pattern or one handler's list of patterns has a name twice. `_` may stand any number of times.
 
@@ -142,10 +158,10 @@ One list of parameters, one pattern or one handler's list of patterns has a name
 
 `ended 00000001`. In a `let` 9 comes before 16, and in a `try` before 13, 16 and 17.
 "#,
-    },
-    Page {
-        name: "type 10",
-        text: r#"type 10: an unknown variable
+            },
+            Page {
+                name: "type 10",
+                text: r#"type 10: an unknown variable
 
 No parameter or pattern of this name is in scope.
 
@@ -157,10 +173,10 @@ No parameter or pattern of this name is in scope.
 
 `ended 00000001`. It comes before every fault of what it is a part of: `f[x]` with nothing declared is 10 and not 11.
 "#,
-    },
-    Page {
-        name: "type 11",
-        text: r#"type 11: an unknown function
+            },
+            Page {
+                name: "type 11",
+                text: r#"type 11: an unknown function
 
 No function of this name is in an earlier group or the own one.
 
@@ -172,10 +188,10 @@ No function of this name is in an earlier group or the own one.
 
 `ended 00000001`.
 "#,
-    },
-    Page {
-        name: "type 12",
-        text: r#"type 12: a call of the own group that isn't last
+            },
+            Page {
+                name: "type 12",
+                text: r#"type 12: a call of the own group that isn't last
 
 A function calls one of its own group, maybe itself, and still has something to do afterwards. Such a call would want a stack, which the machine hasn't.
 
@@ -189,10 +205,10 @@ A function calls one of its own group, maybe itself, and still has something to 
 `ended 0000000a`. The body of a `try` isn't last, since its handler is still there; the handler's own body is.
 12 comes before 13: `~f[1, 2]` of an `f` with one parameter is 12. Its arguments come first: `~f[true]` of an `f` of a word is 14.
 "#,
-    },
-    Page {
-        name: "type 13",
-        text: r#"type 13: another number of arguments
+            },
+            Page {
+                name: "type 13",
+                text: r#"type 13: another number of arguments
 
 A call, a `raise` or a handler has more or fewer than are declared.
 
@@ -205,10 +221,10 @@ A call, a `raise` or a handler has more or fewer than are declared.
 `ended 00000001`. Each argument wants a value then, and no type.
 So `main[true]` of a `main` without parameters is 13 too.
 "#,
-    },
-    Page {
-        name: "type 14",
-        text: r#"type 14: another type than is wanted
+            },
+            Page {
+                name: "type 14",
+                text: r#"type 14: another type than is wanted
 
 docs/LANGUAGE.md lists what each place wants.
 
@@ -247,10 +263,10 @@ Corrected, in one:
 
 `type 19 at 27 37`.
 "#,
-    },
-    Page {
-        name: "type 15",
-        text: r#"type 15: no such field
+            },
+            Page {
+                name: "type 15",
+                text: r#"type 15: no such field
 
 The part before the dot is no record, or has no field of this name.
 
@@ -262,10 +278,10 @@ The part before the dot is no record, or has no field of this name.
 
 `ended 00000001`.
 "#,
-    },
-    Page {
-        name: "type 16",
-        text: r#"type 16: a pattern that doesn't fit
+            },
+            Page {
+                name: "type 16",
+                text: r#"type 16: a pattern that doesn't fit
 
 A pattern in round brackets wants a tuple of as many parts. A name and `_` fit everything.
 
@@ -277,10 +293,18 @@ A pattern in round brackets wants a tuple of as many parts. A name and `_` fit e
 
 `ended 00000002`. The value comes before the pattern: `let (a, b) = x;` with an unknown `x` is 10.
 "#,
-    },
-    Page {
-        name: "type 17",
-        text: r#"type 17: an unknown exception
+            },
+        ],
+        name,
+    )
+}
+
+fn type_page_2(name: &[u8]) -> Option<&'static str> {
+    page_among(
+        &[
+            Page {
+                name: "type 17",
+                text: r#"type 17: an unknown exception
 
 No exception of this name is declared above.
 
@@ -292,10 +316,10 @@ No exception of this name is declared above.
 
 `raised 1`. Arguments, and the body of a `try`, come before it; the handler's body comes behind it.
 "#,
-    },
-    Page {
-        name: "type 18",
-        text: r#"type 18: a field twice in a record
+            },
+            Page {
+                name: "type 18",
+                text: r#"type 18: a field twice in a record
 
     fun main[]: word { {a = 1, a = 2}.a }
 
@@ -305,10 +329,10 @@ No exception of this name is declared above.
 
 `ended 00000001`. The record is a part of the dot expression, so 18 comes before 15.
 "#,
-    },
-    Page {
-        name: "type 19",
-        text: r#"type 19: a number of words that no access has
+            },
+            Page {
+                name: "type 19",
+                text: r#"type 19: a number of words that no access has
 
 A fetch or store moves 1 to 8 words, in SDRAM 2, 4, 6 or 8.
 
@@ -324,10 +348,10 @@ A fetch or store moves 1 to 8 words, in SDRAM 2, 4, 6 or 8.
 
 `ended 00000002`. Address and value come first, and 14 of the same place comes before it (above).
 "#,
-    },
-    Page {
-        name: "type 20",
-        text: r#"type 20: a scratch address
+            },
+            Page {
+                name: "type 20",
+                text: r#"type 20: a scratch address
 
 A scratch address isn't a plain number, or the words from there on reach past word 511.
 
@@ -339,10 +363,10 @@ A scratch address isn't a plain number, or the words from there on reach past wo
 
 `ended 00000000`. A number in brackets is no plain number. 19 comes before it: `let _ = scratch[9](512);` is 19.
 "#,
-    },
-    Page {
-        name: "type 21",
-        text: r#"type 21: a shift by more than 31
+            },
+            Page {
+                name: "type 21",
+                text: r#"type 21: a shift by more than 31
 
     fun main[]: word { 1 << 32 }
 
@@ -352,10 +376,10 @@ A scratch address isn't a plain number, or the words from there on reach past wo
 
 `ended 80000000`. The operand's type comes first: `true << 32` is 14.
 "#,
-    },
-    Page {
-        name: "type 22",
-        text: r#"type 22: no value where one is wanted
+            },
+            Page {
+                name: "type 22",
+                text: r#"type 22: no value where one is wanted
 
 A `raise`, or an expression that always ends with one, stands where a value is used.
 
@@ -367,10 +391,10 @@ A `raise`, or an expression that always ends with one, stands where a value is u
 
 `ended 00000001`.
 "#,
-    },
-    Page {
-        name: "type 23",
-        text: r#"type 23: too many words for the outside
+            },
+            Page {
+                name: "type 23",
+                text: r#"type 23: too many words for the outside
 
 The parameters of `main` have more than 8 words or a bool, or its result or an exception has more than 8 words.
 
@@ -383,10 +407,10 @@ The parameters of `main` have more than 8 words or a bool, or its result or an e
 `raised 1 00000001 00000002 00000003 00000004 00000005 00000006 00000007 00000008`. 9 comes before it at one function.
 The bodies of the group come behind it.
 "#,
-    },
-    Page {
-        name: "type 24",
-        text: r#"type 24: a type that is too large
+            },
+            Page {
+                name: "type 24",
+                text: r#"type 24: a type that is too large
 
 A type has more than 1,024 words, or is a tree higher than 100.
 
@@ -400,5 +424,8 @@ A type has more than 1,024 words, or is a tree higher than 100.
 `ended 00000001`. At one type 8 comes before it. An exception's types come before the exception, so the first source is 24 and not 23.
 A list of parameters is no type, so each of them may have 1,024 words.
 "#,
-    },
-];
+            },
+        ],
+        name,
+    )
+}

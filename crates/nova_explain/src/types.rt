@@ -1,8 +1,7 @@
 //! Types by number, as far as they are told: what is found here serves the text that is printed, and nothing rests on it.
 
-use crate::text::{push, push_number};
+use crate::text::Sheet;
 use nv_ast::Name;
-use nv_base::NoMemory;
 use std::alloc::Global;
 
 /// A type. The parts of a tuple or a record are a stretch of a list.
@@ -22,27 +21,50 @@ pub struct Part<'a> {
     pub kind: usize,
 }
 
+impl<'a> Part<'a> {
+    /// A field.
+    pub fn named(name: &'a Name, kind: usize) -> Part<'a> {
+        Part {
+            name: Some(name),
+            kind,
+        }
+    }
+}
+
 /// The number of the type of words.
 pub const WORD: usize = 0;
 /// The number of the type of bools.
 pub const BOOL: usize = 1;
 
-/// The types that were met.
+/// The types that were met. Where memory runs out some are missing, and `is_short` tells.
 #[derive(Drop)]
 pub struct Types<'a> {
     cells: Vec<Cell>,
     words: Vec<u64>,
     parts: Vec<Part<'a>>,
+    is_short: bool,
 }
 
 impl<'a> Types<'a> {
-    /// Words and bools.
-    pub fn new(alloc: Global) -> Result<Types<'a>, NoMemory> {
-        Ok(Types {
-            cells: vec![in alloc; Cell::Word, Cell::Bool]?,
-            words: vec![in alloc; 1, 1]?,
+    /// No types, not yet those of words and bools.
+    pub fn new(alloc: Global) -> Types<'a> {
+        Types {
+            cells: Vec::new(alloc),
+            words: Vec::new(alloc),
             parts: Vec::new(alloc),
-        })
+            is_short: false,
+        }
+    }
+
+    /// Begins with words and bools.
+    pub fn begin(&mut self) {
+        self.add(Cell::Word, 1);
+        self.add(Cell::Bool, 1);
+    }
+
+    /// Whether memory ran out for a type.
+    pub fn is_short(&self) -> bool {
+        self.is_short
     }
 
     /// How many words a type has, up to the greatest number.
@@ -67,35 +89,39 @@ impl<'a> Types<'a> {
         }
     }
 
-    fn add(&mut self, cell: Cell, words: u64) -> Result<usize, NoMemory> {
+    fn add(&mut self, cell: Cell, words: u64) -> usize {
         let t = self.cells.len();
-        self.cells.push(cell)?;
-        self.words.push(words)?;
-        Ok(t)
+        if self.cells.push(cell).is_err() {
+            self.is_short = true;
+        }
+        if self.words.push(words).is_err() {
+            self.is_short = true;
+        }
+        t
     }
 
     /// The type of so many words.
-    pub fn of_words(&mut self, n: u32) -> Result<usize, NoMemory> {
+    pub fn of_words(&mut self, n: u32) -> usize {
         if n == 1 {
-            return Ok(WORD);
+            return WORD;
         }
         self.add(Cell::Words(n), u64::from(n))
     }
 
     /// The tuple of some parts.
-    pub fn tuple(&mut self, parts: &[Part<'a>]) -> Result<usize, NoMemory> {
+    pub fn tuple(&mut self, parts: &[Part<'a>]) -> usize {
         let words = self.words_in(parts);
         let from = self.parts.len();
-        self.add_parts(parts)?;
+        self.add_parts(parts);
         let to = self.parts.len();
         self.add(Cell::Tuple(from, to), words)
     }
 
     /// The record of some fields.
-    pub fn record(&mut self, fields: &[Part<'a>]) -> Result<usize, NoMemory> {
+    pub fn record(&mut self, fields: &[Part<'a>]) -> usize {
         let words = self.words_in(fields);
         let from = self.parts.len();
-        self.add_parts(fields)?;
+        self.add_parts(fields);
         let to = self.parts.len();
         self.add(Cell::Record(from, to), words)
     }
@@ -108,11 +134,10 @@ impl<'a> Types<'a> {
         words
     }
 
-    fn add_parts(&mut self, parts: &[Part<'a>]) -> Result<(), NoMemory> {
-        for it in parts {
-            self.parts.push(*it)?;
+    fn add_parts(&mut self, parts: &[Part<'a>]) {
+        if self.parts.extend_from_slice(parts).is_err() {
+            self.is_short = true;
         }
-        Ok(())
     }
 
     /// How many parts a tuple has.
@@ -144,150 +169,144 @@ impl<'a> Types<'a> {
     }
 
     /// The fields of a record, or none.
-    pub fn fields_of(&self, alloc: Global, t: usize) -> Result<Vec<Part<'a>>, NoMemory> {
+    pub fn fields_of(&self, alloc: Global, out: &mut Sheet, t: usize) -> Vec<Part<'a>> {
         let mut found = Vec::new(alloc);
-        let mut work = vec![in alloc; t]?;
-        for _ in 0..MOST_FIELDS {
-            let Some(record) = work.pop() else {
-                return Ok(found);
-            };
-            self.add_fields(record, &mut found, &mut work)?;
-        }
-        Ok(found)
+        let mut work = Vec::new(alloc);
+        out.keep(&mut work, t);
+        self.add_all_fields(out, &mut found, &mut work);
+        found
     }
 
-    // Adds the fields of a record up to one without a name, behind which the rest of the work stands.
-    fn add_fields(
-        &self,
-        record: usize,
-        found: &mut Vec<Part<'a>>,
-        work: &mut Vec<usize>,
-    ) -> Result<(), NoMemory> {
-        let Cell::Record(from, to) = self.cell(record) else {
-            return Ok(());
-        };
-        let mut last = to;
+    // Adds the fields of the records of the work.
+    fn add_all_fields(&self, out: &mut Sheet, found: &mut Vec<Part<'a>>, work: &mut Vec<usize>) {
+        for _ in 0..MOST_FIELDS {
+            let Some(record) = work.pop() else {
+                return;
+            };
+            if let Cell::Record(from, to) = self.cell(record) {
+                self.add_fields(out, found, from, to);
+                self.queue_records(out, work, from, to);
+            }
+        }
+    }
+
+    // Adds the fields with names in a stretch of parts.
+    fn add_fields(&self, out: &mut Sheet, found: &mut Vec<Part<'a>>, from: usize, to: usize) {
         for at in from..to {
             match self.part(at) {
-                Some(it) if it.name.is_some() => found.push(it)?,
+                Some(it) if it.name.is_some() => out.keep(found, it),
                 _ => {}
             }
         }
-        while last > from {
-            last -= 1;
-            match self.part(last) {
-                Some(it) if it.name.is_none() => work.push(it.kind)?,
+    }
+
+    // Puts the records without names in a stretch of parts upon the work, the first one on top.
+    fn queue_records(&self, out: &mut Sheet, work: &mut Vec<usize>, from: usize, to: usize) {
+        for at in (from..to).rev() {
+            match self.part(at) {
+                Some(it) if it.name.is_none() => out.keep(work, it.kind),
                 _ => {}
             }
         }
-        Ok(())
     }
 
     /// The type of a field.
-    pub fn field(&self, alloc: Global, t: usize, name: &Name) -> Result<Option<usize>, NoMemory> {
-        let fields = self.fields_of(alloc, t)?;
-        for it in fields.iter() {
-            if it.name.is_some_and(|x| x == name) {
-                return Ok(Some(it.kind));
-            }
-        }
-        Ok(None)
+    pub fn field(&self, alloc: Global, out: &mut Sheet, t: usize, name: &Name) -> Option<usize> {
+        let fields = self.fields_of(alloc, out, t);
+        kind_of(&fields, name)
     }
 
     /// Appends a type as a text spells it, of a long one the front.
-    pub fn push(&self, alloc: Global, out: &mut Vec<u8>, t: usize) -> Result<(), NoMemory> {
-        let mut work = vec![in alloc; Piece::Type(t)]?;
-        for _ in 0..MOST_PIECES {
-            let Some(piece) = work.pop() else {
-                return Ok(());
-            };
-            self.push_piece(out, &mut work, piece)?;
-        }
-        push(out, " ..")
+    pub fn push(&self, alloc: Global, out: &mut Sheet, t: usize) {
+        let mut work = Vec::new(alloc);
+        out.keep(&mut work, Piece::Type(t));
+        self.push_pieces(out, &mut work)
     }
 
-    fn push_piece(
-        &self,
-        out: &mut Vec<u8>,
-        work: &mut Vec<Piece<'a>>,
-        piece: Piece<'a>,
-    ) -> Result<(), NoMemory> {
+    fn push_pieces(&self, out: &mut Sheet, work: &mut Vec<Piece<'a>>) {
+        for _ in 0..MOST_PIECES {
+            let Some(piece) = work.pop() else {
+                return;
+            };
+            self.push_piece(out, work, piece);
+        }
+        out.put(" ..")
+    }
+
+    fn push_piece(&self, out: &mut Sheet, work: &mut Vec<Piece<'a>>, piece: Piece<'a>) {
         match piece {
-            Piece::Text(text) => push(out, text),
+            Piece::Text(text) => out.put(text),
             Piece::Named(name) => {
-                out.extend_from_slice(name.bytes())?;
-                push(out, ": ")
+                out.bytes(name.bytes());
+                out.put(": ")
             }
-            Piece::Fields(t) => self.queue_parts(work, t),
+            Piece::Fields(t) => self.queue_parts(out, work, t),
             Piece::Type(t) => self.push_type(out, work, t),
         }
     }
 
-    fn push_type(
-        &self,
-        out: &mut Vec<u8>,
-        work: &mut Vec<Piece<'a>>,
-        t: usize,
-    ) -> Result<(), NoMemory> {
+    fn push_type(&self, out: &mut Sheet, work: &mut Vec<Piece<'a>>, t: usize) {
         match self.cell(t) {
-            Cell::Word => push(out, "word"),
-            Cell::Bool => push(out, "bool"),
+            Cell::Word => out.put("word"),
+            Cell::Bool => out.put("bool"),
             Cell::Words(n) => {
-                push(out, "word[")?;
-                push_number(out, u64::from(n))?;
-                push(out, "]")
+                out.put("word[");
+                out.number(u64::from(n));
+                out.put("]")
             }
             Cell::Tuple(_, _) => {
-                push(out, "(")?;
-                work.push(Piece::Text(")"))?;
-                self.queue_parts(work, t)
+                out.put("(");
+                out.keep(work, Piece::Text(")"));
+                self.queue_parts(out, work, t)
             }
             Cell::Record(_, _) => {
-                push(out, "{ ")?;
-                work.push(Piece::Text(" }"))?;
-                self.queue_parts(work, t)
+                out.put("{ ");
+                out.keep(work, Piece::Text(" }"));
+                self.queue_parts(out, work, t)
             }
         }
     }
 
     // Puts the parts of a tuple or a record upon the work, the first one on top.
-    fn queue_parts(&self, work: &mut Vec<Piece<'a>>, t: usize) -> Result<(), NoMemory> {
+    fn queue_parts(&self, out: &mut Sheet, work: &mut Vec<Piece<'a>>, t: usize) {
         let (from, to) = match self.cell(t) {
             Cell::Tuple(from, to) | Cell::Record(from, to) => (from, to),
             _ => (0, 0),
         };
-        let mut last = to;
-        while last > from {
-            last -= 1;
-            if let Some(it) = self.part(last) {
-                self.queue_part(work, it, self.is_record(t))?;
+        let in_record = self.is_record(t);
+        for at in (from..to).rev() {
+            if let Some(it) = self.part(at) {
+                queue_part(out, work, it, in_record);
             }
-            if last > from {
-                work.push(Piece::Text(", "))?;
+            if at > from {
+                out.keep(work, Piece::Text(", "));
             }
         }
-        Ok(())
     }
 
     fn is_record(&self, t: usize) -> bool {
         matches!(self.cell(t), Cell::Record(_, _))
     }
+}
 
-    fn queue_part(
-        &self,
-        work: &mut Vec<Piece<'a>>,
-        it: Part<'a>,
-        in_record: bool,
-    ) -> Result<(), NoMemory> {
-        match it.name {
-            Some(name) => {
-                work.push(Piece::Type(it.kind))?;
-                work.push(Piece::Named(name))?;
-            }
-            None if in_record => work.push(Piece::Fields(it.kind))?,
-            None => work.push(Piece::Type(it.kind))?,
+// The type of a field among some.
+fn kind_of(fields: &[Part], name: &Name) -> Option<usize> {
+    for it in fields {
+        if it.name.is_some_and(|x| x == name) {
+            return Some(it.kind);
         }
-        Ok(())
+    }
+    None
+}
+
+fn queue_part<'a>(out: &mut Sheet, work: &mut Vec<Piece<'a>>, it: Part<'a>, in_record: bool) {
+    match it.name {
+        Some(name) => {
+            out.keep(work, Piece::Type(it.kind));
+            out.keep(work, Piece::Named(name))
+        }
+        None if in_record => out.keep(work, Piece::Fields(it.kind)),
+        None => out.keep(work, Piece::Type(it.kind)),
     }
 }
 

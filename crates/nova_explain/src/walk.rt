@@ -3,10 +3,9 @@
 
 use crate::cost::Cost;
 use crate::declared::{Declared, Scope};
-use crate::stop::Stop;
+use crate::text::Sheet;
 use crate::types::{BOOL, Part, Types};
 use nv_ast::{Decl, Fun, Name, Program, Span, TyText};
-use nv_base::NoMemory;
 use std::alloc::Global;
 
 /// A function: the tuple of its parameters' types, and its result's type.
@@ -38,6 +37,14 @@ pub struct Found {
     pub cost: Cost,
 }
 
+impl Found {
+    /// Nothing, where a walk is over.
+    pub const NONE: Found = Found {
+        value: None,
+        cost: Cost::NONE,
+    };
+}
+
 /// The state of a walk: what is declared so far, the fault that is looked for, and what is told of it.
 #[derive(Drop)]
 pub struct Walk<'a> {
@@ -59,17 +66,19 @@ pub struct Walk<'a> {
     pub span: Span,
     /// The kind while the declaration that has the fault is walked, else 0.
     pub inside: u8,
-    pub note: Vec<u8>,
+    /// Whether the fault is told, and nothing behind it is walked.
+    pub is_over: bool,
+    pub note: Sheet,
     /// What helps, where more is known than the kind.
     pub advice: Option<&'static str>,
 }
 
 impl<'a> Walk<'a> {
     /// At the start, with a fault that is looked for. Of kind 0 there is none.
-    pub fn new(alloc: Global, kind: u8, span: Span) -> Result<Walk<'a>, NoMemory> {
-        Ok(Walk {
+    pub fn new(alloc: Global, kind: u8, span: Span) -> Walk<'a> {
+        Walk {
             alloc,
-            types: Types::new(alloc)?,
+            types: Types::new(alloc),
             layouts: Declared::new(alloc),
             exceptions: Declared::new(alloc),
             functions: Declared::new(alloc),
@@ -81,33 +90,49 @@ impl<'a> Walk<'a> {
             kind,
             span,
             inside: 0,
-            note: Vec::new(alloc),
+            is_over: false,
+            note: Sheet::new(alloc),
             advice: None,
-        })
+        }
     }
 
     /// Goes over a program, up to the fault.
-    pub fn program(&mut self, program: &'a Program) -> Result<(), NoMemory> {
-        match self.declarations(&program.decls) {
-            Err(Stop::NoMemory) => Err(NoMemory),
-            Err(Stop::There) | Ok(()) => Ok(()),
-        }
-    }
-
-    fn declarations(&mut self, decls: &'a [Decl]) -> Result<(), Stop> {
-        for decl in decls {
-            match decl {
-                Decl::Layout(name, text, span) => self.layout(name, text, *span)?,
-                Decl::Exception(name, types, span) => self.exception(name, types, *span)?,
-                Decl::Group(funs) => self.group(funs)?,
+    pub fn program(&mut self, program: &'a Program) {
+        self.types.begin();
+        for decl in program.decls.iter() {
+            if self.is_over {
+                return;
             }
+            self.declaration(decl);
         }
-        Ok(())
     }
 
-    /// Whether the fault lies at a span.
+    fn declaration(&mut self, decl: &'a Decl) {
+        match decl {
+            Decl::Layout(name, text, span) => self.layout(name, text, *span),
+            Decl::Exception(name, types, span) => self.exception(name, types, *span),
+            Decl::Group(funs) => self.group(funs),
+        }
+    }
+
+    /// Whether memory ran out for anything that the walk keeps or tells.
+    pub fn is_short(&self) -> bool {
+        self.note.is_short()
+            || self.types.is_short()
+            || self.scope.is_short()
+            || self.layouts.is_short()
+            || self.exceptions.is_short()
+            || self.functions.is_short()
+            || self.costs.is_short()
+            || self.own.is_short()
+    }
+
+    /// Whether the fault lies at a span, and isn't told yet.
     pub fn is_at(&self, span: Span) -> bool {
-        self.kind != 0 && span.first == self.span.first && span.after == self.span.after
+        !self.is_over
+            && self.kind != 0
+            && span.first == self.span.first
+            && span.after == self.span.after
     }
 
     /// Begins a declaration, whose inner faults are told while it is walked.
@@ -116,129 +141,138 @@ impl<'a> Walk<'a> {
     }
 
     /// Ends a declaration: where it has the fault, nothing behind it is walked.
-    pub fn leave(&mut self, span: Span) -> Result<(), Stop> {
+    pub fn leave(&mut self, span: Span) {
         self.inside = 0;
         if self.is_at(span) {
-            return Err(Stop::There);
+            self.is_over = true;
         }
-        Ok(())
     }
 
-    fn exception(&mut self, name: &'a Name, types: &'a [TyText], span: Span) -> Result<(), Stop> {
+    fn exception(&mut self, name: &'a Name, types: &'a [TyText], span: Span) {
         self.enter(span);
-        let parts = self.texts(types)?;
-        let t = self.types.tuple(&parts)?;
-        self.tell_declaration(t)?;
-        self.leave(span)?;
-        self.exceptions.add(name, t)?;
-        Ok(())
+        let parts = self.texts(types);
+        let t = self.types.tuple(&parts);
+        self.tell_declaration(t);
+        self.leave(span);
+        self.exceptions.add(name, t)
     }
 
     // The functions of a group: first the types of all, then the bodies.
-    fn group(&mut self, funs: &'a [Fun]) -> Result<(), Stop> {
+    fn group(&mut self, funs: &'a [Fun]) {
         for fun in funs {
-            self.signature(fun)?;
+            if self.is_over {
+                return;
+            }
+            self.signature(fun);
         }
-        let mut whole = Cost::NONE;
+        let whole = self.bodies(funs);
+        if self.is_over {
+            return;
+        }
         for fun in funs {
-            let cost = self.body(fun)?;
-            self.own.add(&fun.name, cost)?;
-            whole = whole.beside(cost);
+            self.costs.add(&fun.name, whole);
         }
-        for fun in funs {
-            self.costs.add(&fun.name, whole)?;
-        }
-        Ok(())
     }
 
-    fn signature(&mut self, fun: &'a Fun) -> Result<(), Stop> {
-        self.enter(fun.span);
-        let mut params = Vec::new(self.alloc);
-        for param in fun.params.iter() {
-            let kind = self.text(&param.1)?;
-            params.push(Part { name: None, kind })?;
+    // What the bodies of a group cost.
+    fn bodies(&mut self, funs: &'a [Fun]) -> Cost {
+        let mut whole = Cost::NONE;
+        for fun in funs {
+            let cost = self.body(fun);
+            if self.is_over {
+                return whole;
+            }
+            self.own.add(&fun.name, cost);
+            whole = whole.beside(cost);
         }
-        let result = self.text(&fun.result)?;
-        let t = self.types.tuple(&params)?;
-        self.tell_function(fun, t, result)?;
-        self.leave(fun.span)?;
-        self.functions
-            .add(&fun.name, Function { params: t, result })?;
-        Ok(())
+        whole
+    }
+
+    fn signature(&mut self, fun: &'a Fun) {
+        self.enter(fun.span);
+        let params = self.parameters(&fun.params);
+        let result = self.text(&fun.result);
+        self.tell_function(fun, params, result);
+        self.leave(fun.span);
+        self.functions.add(&fun.name, Function { params, result })
+    }
+
+    // The tuple of the types of parameters.
+    fn parameters(&mut self, params: &'a [(Name, TyText)]) -> usize {
+        let mut parts = Vec::new(self.alloc);
+        for param in params {
+            let kind = self.text(&param.1);
+            self.note.keep(&mut parts, Part { name: None, kind });
+        }
+        self.types.tuple(&parts)
     }
 
     /// The types of some type texts.
     #[cycle(texts)]
-    pub fn texts(&mut self, texts: &'a [TyText]) -> Result<Vec<Part<'a>>, NoMemory> {
+    pub fn texts(&mut self, texts: &'a [TyText]) -> Vec<Part<'a>> {
         let mut parts = Vec::new(self.alloc);
         for text in texts {
-            let kind = self.text(text)?;
-            parts.push(Part { name: None, kind })?;
+            let kind = self.text(text);
+            self.note.keep(&mut parts, Part { name: None, kind });
         }
-        Ok(parts)
+        parts
     }
 
     // The types of some named type texts.
     #[cycle(texts)]
-    fn named_texts(&mut self, texts: &'a [(Name, TyText)]) -> Result<Vec<Part<'a>>, NoMemory> {
+    fn named_texts(&mut self, texts: &'a [(Name, TyText)]) -> Vec<Part<'a>> {
         let mut parts = Vec::new(self.alloc);
         for text in texts {
-            let kind = self.text(&text.1)?;
-            parts.push(Part {
-                name: Some(&text.0),
-                kind,
-            })?;
+            let kind = self.text(&text.1);
+            self.note.keep(&mut parts, Part::named(&text.0, kind));
         }
-        Ok(parts)
+        parts
     }
 
     /// The type of a type text.
     #[cycle(texts)]
-    pub fn text(&mut self, text: &'a TyText) -> Result<usize, NoMemory> {
-        let t = self.plain_text(text)?;
-        self.tell_large(t)?;
-        Ok(t)
+    pub fn text(&mut self, text: &'a TyText) -> usize {
+        let t = self.plain_text(text);
+        self.tell_large(t);
+        t
     }
 
     #[cycle(texts)]
-    fn plain_text(&mut self, text: &'a TyText) -> Result<usize, NoMemory> {
+    fn plain_text(&mut self, text: &'a TyText) -> usize {
         match text {
             TyText::Word(n) => {
-                self.tell_words(*n)?;
+                self.tell_words(*n);
                 self.types.of_words(*n)
             }
-            TyText::Bool => Ok(BOOL),
+            TyText::Bool => BOOL,
             TyText::Packed(x) => {
-                let shape = self.shape_of(x)?;
+                let shape = self.shape_of(x);
                 self.types.of_words(shape.packed_words())
             }
-            TyText::Unpacked(x) => {
-                let shape = self.shape_of(x)?;
-                Ok(shape.record)
-            }
+            TyText::Unpacked(x) => self.shape_of(x).record,
             TyText::Tuple(texts) => {
-                let parts = self.texts(texts)?;
+                let parts = self.texts(texts);
                 self.types.tuple(&parts)
             }
             TyText::Fields(texts) => {
-                let parts = self.named_texts(texts)?;
-                self.tell_twice(8, &parts)?;
+                let parts = self.named_texts(texts);
+                self.tell_twice(8, &parts);
                 self.types.record(&parts)
             }
         }
     }
 
     // The layout of a name in a type.
-    fn shape_of(&mut self, name: &'a Name) -> Result<Shape, NoMemory> {
+    fn shape_of(&mut self, name: &'a Name) -> Shape {
         match self.layouts.get(name) {
-            Some(shape) => Ok(shape),
+            Some(shape) => shape,
             None => {
-                self.tell_layout_name(8, name)?;
-                Ok(Shape {
+                self.tell_layout_name(8, name);
+                Shape {
                     bits: 32,
                     fields: 0,
                     record: 0,
-                })
+                }
             }
         }
     }

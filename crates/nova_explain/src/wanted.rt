@@ -1,8 +1,7 @@
 //! What is wanted of an expression.
 
-use crate::text::{push, push_line, push_quoted};
+use crate::text::Sheet;
 use nv_ast::Name;
-use nv_base::NoMemory;
 
 /// What is wanted of an expression: nothing, or a value of a right type.
 #[derive(Clone, Copy)]
@@ -64,14 +63,14 @@ impl<'a> Why<'a> {
     }
 
     /// Appends why a type is wanted, and ends the line.
-    pub fn push(self, out: &mut Vec<u8>) -> Result<(), NoMemory> {
-        push(out, ", ")?;
+    pub fn push(self, out: &mut Sheet) {
+        out.put(", ");
         match self {
-            Why::Operand => push_line(out, "as an operand"),
-            Why::Condition => push_line(out, "as a condition"),
-            Why::Address => push_line(out, "as an address"),
-            Why::Arm => push_line(out, "as the first arm gives"),
-            Why::Handled => push_line(out, "as the body of the `try` gives"),
+            Why::Operand => out.line("as an operand"),
+            Why::Condition => out.line("as a condition"),
+            Why::Address => out.line("as an address"),
+            Why::Arm => out.line("as the first arm gives"),
+            Why::Handled => out.line("as the body of the `try` gives"),
             Why::Argument(name) => push_named(out, "as an argument of", name),
             Why::Raised(name) => push_named(out, "as a value of the exception", name),
             Why::Result(name) => push_named(out, "as the result of", name),
@@ -85,9 +84,9 @@ impl<'a> Why<'a> {
     }
 }
 
-fn push_named(out: &mut Vec<u8>, text: &str, name: &Name) -> Result<(), NoMemory> {
-    push(out, text)?;
-    push(out, " ")?;
-    push_quoted(out, name.bytes())?;
-    push_line(out, "")
+fn push_named(out: &mut Sheet, text: &str, name: &Name) {
+    out.put(text);
+    out.put(" ");
+    out.quoted(name.bytes());
+    out.line("")
 }

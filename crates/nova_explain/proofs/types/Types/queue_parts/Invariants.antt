@@ -1,4 +1,0 @@
-use Rattle.nova_explain.proofs.types.Types.queue_parts.Given as goal
-
-abbrev pub decreases-loop-last : goal.decreases-loop-last
-decreases-loop-last l = l.last
