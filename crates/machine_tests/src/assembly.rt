@@ -49,26 +49,22 @@ fn error_of(alloc: Global, text: &[u8]) -> Option<AsmError> {
     if text.len() > 1000 {
         return None;
     }
-    match assemble(alloc, text) {
-        Err(error) => Some(error),
-        Ok(_) => None,
-    }
+    assemble(alloc, text).err()
 }
 
 #[test]
-fn each_error_names_its_line(rt: HostRuntime) -> Result<(), Fail> {
-    let alloc = rt.alloc();
-    assert_eq!(rt;
-        error_of(alloc, b"params 1\nbr Z far\nhalt\n"),
-        Some(AsmError::Syntax(3))
-    );
-    assert_eq!(rt;
-        error_of(alloc, b"params 2\nbr Z far\nhalt 0 1\n"),
-        Some(AsmError::Label(2))
-    );
-    assert_eq!(rt;
-        error_of(alloc, b"params 1\nbr NC j\nhalt 255 4\nj:\n"),
-        Some(AsmError::Unlawful(2, 5))
-    );
-    Ok(())
+fn each_error_names_its_line(rt: HostRuntime) {
+    for (text, error) in [
+        (
+            b"params 1\nbr Z far\nhalt\n".as_slice(),
+            AsmError::Syntax(3),
+        ),
+        (b"params 2\nbr Z far\nhalt 0 1\n", AsmError::Label(2)),
+        (
+            b"params 1\nbr NC j\nhalt 255 4\nj:\n",
+            AsmError::Unlawful(2, 5),
+        ),
+    ] {
+        assert_eq!(rt; error_of(rt.alloc(), text), Some(error));
+    }
 }

@@ -56,7 +56,7 @@ fn an_operation_sets_its_flags(rt: HostRuntime) -> Result<(), Fail> {
 }
 
 #[test]
-fn a_fault_and_a_halt_change_nothing(rt: HostRuntime) -> Result<(), Fail> {
+fn a_fault_changes_nothing(rt: HostRuntime) -> Result<(), Fail> {
     let mut p = Packet::new(rt.alloc(), 8, 3)?;
     let reads = Instr::Read {
         mem: Mem::Sram,
@@ -77,6 +77,12 @@ fn a_fault_and_a_halt_change_nothing(rt: HostRuntime) -> Result<(), Fail> {
             Engine::start(&[0xffff_ffff, 8], 512)
         ))
     );
+    Ok(())
+}
+
+#[test]
+fn a_halt_changes_nothing(rt: HostRuntime) -> Result<(), Fail> {
+    let mut p = Packet::new(rt.alloc(), 8, 3)?;
     let halts = Instr::Halt { k: 65_535, n: 2 };
     assert_eq!(rt;
         stepped(rt.alloc(), halts, Engine::start(&[7, 8, 9], 512), &mut p)?,

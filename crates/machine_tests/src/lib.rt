@@ -1,4 +1,5 @@
-//! Tests of the crates of the machine and of 0-1 programs: words and memories, the engine, objects, assembly, texts, certificates and the search.
+//! Tests of the crates of the machine and of 0-1 programs, and of files: words and memories, the engine, objects, assembly, texts, certificates,
+//! the search, the system's files.
 //! They stand here, over the built libraries, since a crate that holds tests is proved twice.
 #![tactic(auto)]
 
@@ -19,6 +20,8 @@ mod memory_texts;
 #[cfg(test)]
 mod objects;
 #[cfg(test)]
+mod outside;
+#[cfg(test)]
 mod programs;
 #[cfg(test)]
 mod programs_text;
@@ -26,3 +29,7 @@ mod programs_text;
 mod search;
 #[cfg(test)]
 mod simulator;
+#[cfg(test)]
+mod streams;
+#[cfg(test)]
+mod zero_one;

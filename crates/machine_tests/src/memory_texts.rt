@@ -1,16 +1,13 @@
-use nv_base::{Access, Mem, Outcome, Packet, Words, Write, WriteLog};
+use nv_base::{Access, Mem, NoMemory, Outcome, Packet, Words, Write, WriteLog};
 use nv_memtext::{Job, MemError, print_outcome, read_memory};
 use std::alloc::Global;
 use std::test::Fail;
 
-fn refusal(alloc: Global, text: &[u8], params: u8) -> Result<(), MemError> {
+fn refusal(alloc: Global, text: &[u8]) -> Option<MemError> {
     if text.len() > 1_000_000 {
-        return Err(MemError::NoMemory);
+        return None;
     }
-    let Job { packet, args } = read_memory(alloc, text, params)?;
-    let _ = packet;
-    let _ = args;
-    Ok(())
+    read_memory(alloc, text, 0).err()
 }
 
 #[test]
@@ -28,17 +25,28 @@ fn a_memory_text_fills_the_memories_in_order(rt: HostRuntime) -> Result<(), Fail
 }
 
 #[test]
-fn a_faulty_line_and_a_size_are_named(rt: HostRuntime) -> Result<(), Fail> {
-    let alloc = rt.alloc();
-    assert_eq!(rt;
-        refusal(alloc, b"memory 9 0\nargs\nsram 0 0000000g\n", 0),
-        Err(MemError::Bad(3))
-    );
-    assert_eq!(rt;
-        refusal(alloc, b"memory 1 65537\nargs\n", 0),
-        Err(MemError::TooLarge(65_537))
-    );
-    Ok(())
+fn a_faulty_line_and_a_size_are_named(rt: HostRuntime) {
+    for (text, error) in [
+        (
+            b"memory 9 0\nargs\nsram 0 0000000g\n".as_slice(),
+            MemError::Bad(3),
+        ),
+        (b"memory 1 65537\nargs\n", MemError::TooLarge(65_537)),
+    ] {
+        assert_eq!(rt; refusal(rt.alloc(), text), Some(error));
+    }
+}
+
+// The text of an exception of a word behind one write, with this packet.
+fn raised_with(alloc: Global, packet: &Packet) -> Result<Vec<u8>, NoMemory> {
+    let mut log = WriteLog::new(alloc, 64)?;
+    log.note(Write {
+        mem: Mem::Sram,
+        at: 8,
+        words: Words::of(&[10]),
+    });
+    let outcome = Outcome::Raised(3, Words::of(&[0xdead_beef]));
+    print_outcome(alloc, &outcome, packet, &log)
 }
 
 #[test]
@@ -46,16 +54,8 @@ fn an_outcome_text_shows_what_is_not_zero(rt: HostRuntime) -> Result<(), Fail> {
     let alloc = rt.alloc();
     let text =
         b"memory 9 5\nargs\nsram 8 0000000a\nsdram 4 00000001 00000002\nscratch 504 000000ff\n";
-    let Job { packet, args } = read_memory(alloc, text, 0)?;
-    let _ = args;
-    let mut log = WriteLog::new(alloc, 64).map_err(|_| "memory")?;
-    log.note(Write {
-        mem: Mem::Sram,
-        at: 8,
-        words: Words::of(&[10]),
-    });
-    let outcome = Outcome::Raised(3, Words::of(&[0xdead_beef]));
-    let shown = print_outcome(alloc, &outcome, &packet, &log).map_err(|_| "memory")?;
+    let job = read_memory(alloc, text, 0)?;
+    let shown = raised_with(alloc, &job.packet)?;
     let want =
         b"raised 3 deadbeef\nwrites 1\nwrite sram 8 0000000a\nmemory 9 5\nsram 8 0000000a\nsdram 4 00000001 00000002\nscratch 504 000000ff 00000000 00000000 00000000 00000000 00000000 00000000 00000000\n";
     assert!(rt; shown.as_slice() == want.as_slice());

@@ -1,26 +1,9 @@
-use std::alloc::{AllocError, Global};
-use zo_model::{Assignment, Row, ZeroOne, cost, feasible, is_valid};
-
-fn program(
-    alloc: Global,
-    costs: &[u32],
-    terms: &[(u32, i32)],
-    least: i32,
-) -> Result<ZeroOne, AllocError> {
-    let mut rows = Vec::new(alloc);
-    rows.push(Row {
-        terms: Vec::from_slice(alloc, terms)?,
-        least,
-    })?;
-    Ok(ZeroOne {
-        costs: Vec::from_slice(alloc, costs)?,
-        rows,
-    })
-}
+use crate::zero_one::program;
+use zo_model::{Assignment, cost, feasible, is_valid};
 
 #[test]
 fn a_cover_wants_one_of_two_columns(rt: HostRuntime) {
-    let z = program(rt.alloc(), &[3, 2], &[(0, 1), (1, 1)], 1).expect(&rt, "memory");
+    let z = program(rt.alloc(), &[3, 2], &[(&[(0, 1), (1, 1)], 1)]).expect(&rt, "memory");
     assert!(rt; is_valid(&z));
     for (x, y, want_cost, want_feasible) in [
         (false, false, 0, false),
@@ -48,7 +31,7 @@ fn the_limits_of_a_row_are_kept(rt: HostRuntime) {
         ([(0, 1), (2, 1)], 1, false),
         ([(0, 1), (1, 1)], 1073741825, false),
     ] {
-        let z = program(rt.alloc(), &[1048575, 0], &terms, least).expect(&rt, "memory");
+        let z = program(rt.alloc(), &[1048575, 0], &[(&terms, least)]).expect(&rt, "memory");
         assert_eq!(rt; is_valid(&z), want, "at least {least}");
     }
 }

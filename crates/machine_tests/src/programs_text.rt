@@ -15,20 +15,19 @@ fn read(alloc: Global, text: &[u8]) -> Result<ZeroOne, ZoError> {
 #[test]
 fn a_program_is_read_back_from_its_text(rt: HostRuntime) -> Result<(), Fail> {
     let alloc = rt.alloc();
-    let z = read(alloc, SIGNED).map_err(|_| "a program")?;
+    let z = read(alloc, SIGNED)?;
     assert!(rt; is_valid(&z));
-    let text = print_program(alloc, &z).map_err(|_| "memory")?;
+    let text = print_program(alloc, &z)?;
     assert!(rt; text.as_slice() == SIGNED);
-    let again = read_back(alloc, &z).map_err(|_| "the same")?;
+    let again = read_back(alloc, &z)?;
     assert_eq!(rt; again.rows.len(), 2);
     Ok(())
 }
 
 #[test]
-fn a_faulty_line_is_named(rt: HostRuntime) -> Result<(), Fail> {
+fn a_faulty_line_is_named(rt: HostRuntime) {
     match read(rt.alloc(), b"columns 1\nrows 1\nc 1\nr 0 1:1\n") {
         Ok(_) => assert!(rt; false),
         Err(error) => assert_eq!(rt; error, ZoError::Bad(4)),
     }
-    Ok(())
 }

@@ -1,27 +1,11 @@
 ghost use Rattle.std.specs.Prelude.{◌≡◌, length};
 ghost use Rattle.zo_model.specs.Program.{IsValid, columns};
 
+use crate::zero_one::{Terms, program, triangle};
 use std::alloc::{AllocError, Global};
 use zo_cert::{Cert, CertNode, Verdict};
-use zo_model::{Assignment, Row, ZeroOne, cost, is_valid};
+use zo_model::{Assignment, ZeroOne, cost, is_valid};
 use zo_solve::{Fixed, Order, Pick, Solved, Sums, first_choice, report_of, solve};
-
-type Terms<'a> = &'a [(u32, i32)];
-
-/// A program of these costs and rows.
-fn program(alloc: Global, costs: &[u32], rows: &[(Terms, i32)]) -> Result<ZeroOne, AllocError> {
-    let mut list = Vec::new(alloc);
-    for (terms, least) in rows {
-        list.push(Row {
-            terms: Vec::from_slice(alloc, terms)?,
-            least: *least,
-        })?;
-    }
-    Ok(ZeroOne {
-        costs: Vec::from_slice(alloc, costs)?,
-        rows: list,
-    })
-}
 
 /// Twice the sum of three columns is 3.
 fn odd_sum(alloc: Global) -> Result<ZeroOne, AllocError> {
@@ -74,16 +58,7 @@ fn an_odd_sum_is_refuted(rt: HostRuntime) {
 #[test]
 fn two_of_three_cover_a_triangle(rt: HostRuntime) {
     let alloc = rt.alloc();
-    let z = program(
-        alloc,
-        &[1, 1, 1],
-        &[
-            (&[(0, 1), (1, 1)], 1),
-            (&[(1, 1), (2, 1)], 1),
-            (&[(0, 1), (2, 1)], 1),
-        ],
-    )
-    .expect(&rt, "memory");
+    let z = triangle(alloc).expect(&rt, "memory");
     let start = Assignment {
         on: Vec::from_slice(alloc, &[true, true, true]).expect(&rt, "memory"),
     };

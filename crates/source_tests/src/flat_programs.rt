@@ -17,19 +17,19 @@ fn behind(t: Option<&Flat>) -> Option<&Flat> {
 
 // Two words are read from SRAM, added, bound and written.
 fn four_steps(alloc: Global) -> Result<Vec<Step>, AllocError> {
-    let mut steps = Vec::new(alloc);
     let read = Vars::from_slice(alloc, &[1, 2])?;
-    steps.push(Step::Fetch(Mem::Sram, read, Atom::Lit(5)))?;
-    let sum = Prim::Bin(Bin::Add, Atom::Var(1), Atom::Var(2));
-    steps.push(Step::Let(3, sum))?;
-    let mut bound = Vec::new(alloc);
-    bound.push(4)?;
-    let mut given = Vec::new(alloc);
-    given.push(Atom::Var(3))?;
-    steps.push(Step::Bind(bound, Flat::Give(given)))?;
+    let bound = vec![in alloc; 4]?;
+    let given = vec![in alloc; Atom::Var(3)]?;
     let written = Args::from_slice(alloc, &[Atom::Var(4)])?;
-    steps.push(Step::Store(Mem::Sram, Atom::Lit(0), written))?;
-    Ok(steps)
+    Ok(Vec::from_array(
+        alloc,
+        [
+            Step::Fetch(Mem::Sram, read, Atom::Lit(5)),
+            Step::Let(3, Prim::Bin(Bin::Add, Atom::Var(1), Atom::Var(2))),
+            Step::Bind(bound, Flat::Give(given)),
+            Step::Store(Mem::Sram, Atom::Lit(0), written),
+        ],
+    )?)
 }
 
 #[test]

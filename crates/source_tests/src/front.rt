@@ -1,17 +1,17 @@
 // Texts through the front end.
-use nova_front::{FrontError, front};
+use crate::sources::flat_of;
+use nova_front::FrontError;
 use nv_ast::Span;
 use nv_base::NoMemory;
-use nv_text::{MOST_BYTES, TextError};
+use nv_text::TextError;
 use std::alloc::Global;
 
 // What the front end says of a text: how many flat functions there are, or why it has none.
 fn answer(alloc: Global, text: &[u8]) -> Result<usize, FrontError> {
-    if text.len() > MOST_BYTES {
-        return Err(FrontError::NoMemory);
-    }
-    let (_typed, flat) = front(alloc, text)?;
-    Ok(flat.funs.len())
+    let flat = flat_of(alloc, text)?;
+    let count = flat.funs.len();
+    drop(flat);
+    Ok(count)
 }
 
 #[test]

@@ -25,6 +25,8 @@ mod rules;
 #[cfg(test)]
 mod single_use;
 #[cfg(test)]
+mod sources;
+#[cfg(test)]
 mod texts;
 #[cfg(test)]
 mod types;

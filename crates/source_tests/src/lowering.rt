@@ -1,8 +1,10 @@
 // The handlers that a call names, and the least program.
-use cps_ir::Term;
+use crate::sources::flat_of;
+use cps_ir::{Cps, Term};
 use cps_lower::lower;
 use flat_ir::{Flat, FlatFun, FlatProgram};
-use nova_front::{FrontError, front};
+use nova_front::FrontError;
+use std::alloc::Global;
 use std::test::Fail;
 
 // What a term does behind the labels that it makes.
@@ -24,17 +26,28 @@ fn handled(t: Option<&Term>, i: usize) -> Option<u16> {
     }
 }
 
+// The exceptions of the handlers of main's call, which stands behind three labels.
+fn handlers(program: &Cps) -> [Option<u16>; 3] {
+    let main = program.funs.get(0).map(|f| &f.body);
+    let call = around(around(around(main)));
+    [handled(call, 0), handled(call, 1), handled(call, 2)]
+}
+
+// The continuations of a text.
+fn lowered(alloc: Global, text: &[u8]) -> Result<Cps, FrontError> {
+    let flat = flat_of(alloc, text)?;
+    let made = lower(alloc, &flat);
+    drop(flat);
+    Ok(made?)
+}
+
 #[test]
 fn a_call_names_the_inner_handler_first(rt: HostRuntime) -> Result<(), FrontError> {
     let text =
         b"exception Low[word]; exception Odd[]; fun low[x: word]: word { if (x < 10) raise Low[x] else x } fun main[x: word]: word { try { try { low[x] + 1 } handle Odd[] { 7 } } handle Low[y] { y + 100 } }";
-    let (_typed, flat) = front(rt.alloc(), text)?;
-    let program = lower(rt.alloc(), &flat)?;
-    let main = program.funs.get(0).map(|f| &f.body);
-    let call = around(around(around(main)));
-    assert_eq!(rt; handled(call, 0), Some(2));
-    assert_eq!(rt; handled(call, 1), Some(1));
-    assert_eq!(rt; handled(call, 2), None);
+    let program = lowered(rt.alloc(), text)?;
+    assert!(rt; handlers(&program) == [Some(2), Some(1), None]);
+    drop(program);
     Ok(())
 }
 

@@ -1,6 +1,6 @@
 // The code of one source under three placements: its values in slots, and in registers of both banks.
-use nova_front::{FrontError, front};
-use nova_middle::middle;
+use crate::sources::single_of;
+use nova_front::FrontError;
 use nv_base::{NoMemory, Outcome, Packet, Words, WriteLog};
 use place_ir::{Home, Place, Placement, Serve, fits, spill_all};
 use ssu_ir::{Ssu, single, size};
@@ -114,16 +114,26 @@ fn in_slots(alloc: Global, s: &Ssu) -> Result<Placement, NoMemory> {
     }
 }
 
+// The outcome with the values of a placement in slots in the registers of a bank.
+fn in_bank(
+    alloc: Global,
+    bank: Bank,
+    s: &Ssu,
+    slots: &Placement,
+) -> Result<Option<Outcome>, NoMemory> {
+    let p = in_registers(alloc, bank, slots)?;
+    let found = outcome(alloc, s, &p);
+    drop(p);
+    found
+}
+
 #[test]
 fn three_placements_have_one_outcome(rt: HostRuntime) -> Result<(), FrontError> {
-    let (_typed, flat) = front(rt.alloc(), SPIN)?;
-    let s = middle(rt.alloc(), &flat)?;
-    let slots = in_slots(rt.alloc(), &s)?;
-    let a = in_registers(rt.alloc(), Bank::A, &slots)?;
-    let b = in_registers(rt.alloc(), Bank::B, &slots)?;
     let ended = Some(Outcome::Ended(Words::of(&[2, 1, 4, 3])));
-    assert_eq!(rt; outcome(rt.alloc(), &s, &slots)?, ended);
-    assert_eq!(rt; outcome(rt.alloc(), &s, &a)?, ended);
-    assert_eq!(rt; outcome(rt.alloc(), &s, &b)?, ended);
+    let s = single_of(rt.alloc(), SPIN)?;
+    let slots = in_slots(rt.alloc(), &s)?;
+    assert!(rt; outcome(rt.alloc(), &s, &slots)? == ended);
+    assert!(rt; in_bank(rt.alloc(), Bank::A, &s, &slots)? == ended);
+    assert!(rt; in_bank(rt.alloc(), Bank::B, &s, &slots)? == ended);
     Ok(())
 }

@@ -1,5 +1,28 @@
 // The tokens and the program of a short text, and each fault. Whole tables of texts are run on the built program.
-use nv_text::{Sort, TextError, Token, parse, tokens};
+use nv_text::{MOST_BYTES, Sort, TextError, Token, parse, tokens};
+use std::alloc::Global;
+
+// Why a text has no tokens; nothing where it has some.
+fn bad_token(alloc: Global, text: &[u8]) -> Option<TextError> {
+    if text.len() > MOST_BYTES {
+        return None;
+    }
+    tokens(alloc, text).err()
+}
+
+// Why a text is no program; nothing where it is one.
+fn bad_program(alloc: Global, text: &[u8]) -> Option<TextError> {
+    if text.len() > MOST_BYTES {
+        return None;
+    }
+    match parse(alloc, text) {
+        Ok(program) => {
+            drop(program);
+            None
+        }
+        Err(error) => Some(error),
+    }
+}
 
 #[test]
 fn tokens_of_a_call(rt: HostRuntime) {
@@ -24,36 +47,25 @@ fn program_of_an_exception(rt: HostRuntime) {
 }
 
 #[test]
-fn a_byte_that_begins_no_token(rt: HostRuntime) {
-    assert!(rt; matches!(tokens(rt.alloc(), b"a $"), Err(TextError::Char(2))));
+fn each_fault_of_a_token_is_told(rt: HostRuntime) {
+    let long = b"abcdefghijklmnopqrstuvwxyzABCDEFGHIJKLMNOPQRSTUVWXYZ0123456789_ab";
+    for (text, error) in [
+        (b"a $".as_slice(), TextError::Char(2)),
+        (b"4294967296", TextError::Number(0)),
+        (long, TextError::Name(0)),
+    ] {
+        assert_eq!(rt; bad_token(rt.alloc(), text), Some(error));
+    }
 }
 
 #[test]
-fn a_number_that_is_too_large(rt: HostRuntime) {
-    assert!(rt; matches!(tokens(rt.alloc(), b"4294967296"), Err(TextError::Number(0))));
-}
-
-#[test]
-fn a_word_that_is_too_long(rt: HostRuntime) {
-    assert!(rt;
-        matches!(
-            tokens(
-                rt.alloc(),
-                b"abcdefghijklmnopqrstuvwxyzABCDEFGHIJKLMNOPQRSTUVWXYZ0123456789_ab"
-            ),
-            Err(TextError::Name(0))
-        )
-    );
-}
-
-#[test]
-fn a_token_that_fits_no_program(rt: HostRuntime) {
-    assert!(rt; matches!(parse(rt.alloc(), b"fun fun"), Err(TextError::Syntax(4))));
-}
-
-#[test]
-fn an_expression_that_is_too_high(rt: HostRuntime) {
-    let text =
+fn each_fault_of_a_program_is_told(rt: HostRuntime) {
+    let high =
         b"fun f[]: word { ~~~~~~~~~~~~~~~~~~~~~~~~~~~~~~~~~~~~~~~~~~~~~~~~~~~~~~~~~~~~~~~~~~~~~~~~~~~~~~~~~~~~~~~~~~~~~~~~~~~~1 }";
-    assert!(rt; matches!(parse(rt.alloc(), text), Err(TextError::Deep(115))));
+    for (text, error) in [
+        (b"fun fun".as_slice(), TextError::Syntax(4)),
+        (high, TextError::Deep(115)),
+    ] {
+        assert_eq!(rt; bad_program(rt.alloc(), text), Some(error));
+    }
 }
