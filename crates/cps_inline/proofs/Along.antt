@@ -18,29 +18,29 @@ use Rattle.cps_inline.specs.declared.copying.Place as declared
 use Rattle.cps_inline.specs.inner.Inlined.{Adds, Counts, Entering, Place, moved, moved_atom, moved_atoms, is_one, is_copied, span, term_span, term_count, labels_count, copy_count, copies_count, group_count, copied, copied_labels, copies, entered, entering, counts, weight, labels_weight, weights, behind, labels_span, call_count, entered_call, moved_handlers, place_behind, place_view, copies_at, copy_at}
 use Rattle.cps_inline.proofs.Simulates.{group-less}
 
--- the steps and the copy of cur, with m as the next number, are the copy of t with n
-pub record On (funs : List Fun) (enter : Entering) (w : Counts) (p : Place) (b : ℕ) (t : Term) (n : ℕ) (ss : List Step) (cur : Term) (m : ℕ) : Type 0 where
-  pub term : put_all ss (copied funs enter w p b (term_view cur) m) ≡ copied funs enter w p b (term_view t) n
+-- the steps and the copy of cur, with m as the next number, are the old steps and the copy of t with n
+pub record On (funs : List Fun) (enter : Entering) (w : Counts) (p : Place) (b : ℕ) (t : Term) (n : ℕ) (old ss : List Step) (cur : Term) (m : ℕ) : Type 0 where
+  pub term : put_all ss (copied funs enter w p b (term_view cur) m) ≡ put_all old (copied funs enter w p b (term_view t) n)
   pub count : m + term_count funs w (term_view cur) ≡ n + term_count funs w (term_view t)
   pub size : weight (term_view cur) ≤ weight (term_view t)
 
-on_step : {funs : List Fun} {enter : Entering} {w : Counts} {p : Place} {b : ℕ} {t cur : Term} {n m : ℕ} {ss : List Step} (node : pure.Term → pure.Term) (ss' : List Step) (rest : Term) (m' : ℕ) → On funs enter w p b t n ss cur m → Adds ss ss' node → copied funs enter w p b (term_view cur) m ≡ node (copied funs enter w p b (term_view rest) m')
-    → m + term_count funs w (term_view cur) ≡ m' + term_count funs w (term_view rest) → weight (term_view rest) ≤ weight (term_view cur) → On funs enter w p b t n ss' rest m'
+on_step : {funs : List Fun} {enter : Entering} {w : Counts} {p : Place} {b : ℕ} {t cur : Term} {n m : ℕ} {old ss : List Step} (node : pure.Term → pure.Term) (ss' : List Step) (rest : Term) (m' : ℕ) → On funs enter w p b t n old ss cur m → Adds ss ss' node → copied funs enter w p b (term_view cur) m ≡ node (copied funs enter w p b (term_view rest) m')
+    → m + term_count funs w (term_view cur) ≡ m' + term_count funs w (term_view rest) → weight (term_view rest) ≤ weight (term_view cur) → On funs enter w p b t n old ss' rest m'
 on_step {funs = funs} {enter = enter} {w = w} {p = p} {b = b} {ss = ss} node ss' rest m' on adds term count size = record {
   term = adds (copied funs enter w p b (term_view rest) m') ∙ ap (put_all ss) (sym term) ∙ on.term;
   count = sym count ∙ on.count;
   size = let le = on.size in omega arith;
 }
 
-pub on_if : {funs : List Fun} {enter : Entering} {w : Counts} {p : Place} {b : ℕ} {t cur : Term} {n m : ℕ} {ss : List Step} (c : Cmp) (a d : Atom) (part rest : Term) (m' : ℕ) (ss' : List Step) → On funs enter w p b t n ss cur m → term_view cur ≡ If c a d (term_view part) (term_view rest) → Adds ss ss' (If c (moved_atom b a) (moved_atom b d) (copied funs enter w p b (term_view part) m))
-    → m' ≡ m + term_count funs w (term_view part) → On funs enter w p b t n ss' rest m'
+pub on_if : {funs : List Fun} {enter : Entering} {w : Counts} {p : Place} {b : ℕ} {t cur : Term} {n m : ℕ} {old ss : List Step} (c : Cmp) (a d : Atom) (part rest : Term) (m' : ℕ) (ss' : List Step) → On funs enter w p b t n old ss cur m → term_view cur ≡ If c a d (term_view part) (term_view rest) → Adds ss ss' (If c (moved_atom b a) (moved_atom b d) (copied funs enter w p b (term_view part) m))
+    → m' ≡ m + term_count funs w (term_view part) → On funs enter w p b t n old ss' rest m'
 on_if {funs = funs} {enter = enter} {w = w} {p = p} {b = b} {cur = cur} {m = m} c a d part rest m' ss' on view adds em =
     let counted : term_count funs w (term_view cur) ≡ term_count funs w (term_view part) + term_count funs w (term_view rest) = ap (term_count funs w) view in
     on_step (If c (moved_atom b a) (moved_atom b d) (copied funs enter w p b (term_view part) m)) ss' rest m' on adds
     (ap (λ v. copied funs enter w p b v m) view ∙ ap (λ k. If c (moved_atom b a) (moved_atom b d) (copied funs enter w p b (term_view part) m) (copied funs enter w p b (term_view rest) k)) (sym em)) (omega arith) (let light = ap weight view in omega arith)
 
-pub on_one : {funs : List Fun} {enter : Entering} {w : Counts} {p : Place} {b : ℕ} {t cur : Term} {n m : ℕ} {ss : List Step} (l : ℕ) (xs : List ℕ) (part rest : Term) (m' : ℕ) (ss' : List Step) → On funs enter w p b t n ss cur m → term_view cur ≡ Fix (label l xs (term_view rest) none) (term_view part) → Adds ss ss' (λ v. Fix (label (b + l) (moved b xs) v none) (copied funs enter w p b (term_view part) m))
-    → m' ≡ m + term_count funs w (term_view part) → On funs enter w p b t n ss' rest m'
+pub on_one : {funs : List Fun} {enter : Entering} {w : Counts} {p : Place} {b : ℕ} {t cur : Term} {n m : ℕ} {old ss : List Step} (l : ℕ) (xs : List ℕ) (part rest : Term) (m' : ℕ) (ss' : List Step) → On funs enter w p b t n old ss cur m → term_view cur ≡ Fix (label l xs (term_view rest) none) (term_view part) → Adds ss ss' (λ v. Fix (label (b + l) (moved b xs) v none) (copied funs enter w p b (term_view part) m))
+    → m' ≡ m + term_count funs w (term_view part) → On funs enter w p b t n old ss' rest m'
 on_one {funs = funs} {enter = enter} {w = w} {p = p} {b = b} {cur = cur} {m = m} l xs part rest m' ss' on view adds em =
     let counted : term_count funs w (term_view cur) ≡ term_count funs w (term_view part) + (term_count funs w (term_view rest) + 0) = ap (term_count funs w) view in
     on_step (λ v. Fix (label (b + l) (moved b xs) v none) (copied funs enter w p b (term_view part) m)) ss' rest m' on adds
@@ -51,12 +51,24 @@ several-copied : (funs : List Fun) (enter : Entering) (w : Counts) (p : Place) (
 several-copied funs enter w p b m false e ls t = refl
 several-copied funs enter w p b m true e ls t = cc
 
-pub on_several : {funs : List Fun} {enter : Entering} {w : Counts} {p : Place} {b : ℕ} {t cur : Term} {n m : ℕ} {ss : List Step} (ls : Labels) (rest : Term) (m' : ℕ) (ss' : List Step) → On funs enter w p b t n ss cur m → term_view cur ≡ Fix ls (term_view rest) → is_one ls ≡ false → Adds ss ss' (Fix (copied_labels funs enter w p b ls m))
-    → m' ≡ m + labels_count funs w ls → On funs enter w p b t n ss' rest m'
+pub on_several : {funs : List Fun} {enter : Entering} {w : Counts} {p : Place} {b : ℕ} {t cur : Term} {n m : ℕ} {old ss : List Step} (ls : Labels) (rest : Term) (m' : ℕ) (ss' : List Step) → On funs enter w p b t n old ss cur m → term_view cur ≡ Fix ls (term_view rest) → is_one ls ≡ false → Adds ss ss' (Fix (copied_labels funs enter w p b ls m))
+    → m' ≡ m + labels_count funs w ls → On funs enter w p b t n old ss' rest m'
 on_several {funs = funs} {enter = enter} {w = w} {p = p} {b = b} {cur = cur} {m = m} ls rest m' ss' on view many adds em =
     let counted : term_count funs w (term_view cur) ≡ term_count funs w (term_view rest) + labels_count funs w ls = ap (term_count funs w) view in
     on_step (Fix (copied_labels funs enter w p b ls m)) ss' rest m' on adds
     (ap (λ x. copied funs enter w p b x m) view ∙ several-copied funs enter w p b m (is_one ls) many ls (term_view rest) ∙ ap (λ k. Fix (copied_labels funs enter w p b ls m) (copied funs enter w p b (term_view rest) k)) (sym em)) (omega arith) (let light = ap weight view in omega arith)
+
+pub on_end : {funs : List Fun} {enter : Entering} {w : Counts} {p : Place} {b : ℕ} {t cur : Term} {n m : ℕ} {old ss : List Step} (x : pure.Term) (u : Term) → On funs enter w p b t n old ss cur m → term_view cur ≡ x → term_view u ≡ copied funs enter w p b x m → put_all ss (term_view u) ≡ put_all old (copied funs enter w p b (term_view t) n)
+on_end {funs = funs} {enter = enter} {w = w} {p = p} {b = b} {m = m} {ss = ss} x u on is e = ap (put_all ss) (e ∙ ap (λ v. copied funs enter w p b v m) (sym is)) ∙ on.term
+
+-- ---- places
+
+-- a place whose words go to a label
+abbrev pub place_to : ℕ → ℕ → List Handler → Place
+place_to first l hs = record { first = first; to = Some l; handlers = hs }
+
+pub same_place : (first l k : ℕ) (hs gs : List Handler) → l ≡ k → hs ≡ gs → place_to first l hs ≡ place_to first k gs
+same_place first l k hs gs e f = ap (λ i. place_to first i hs) e ∙ ap (place_to first k) f
 
 -- ---- spans
 

@@ -10,7 +10,8 @@ ghost use Rattle.cps_inline.specs.inner.Inlined as inner;
 use crate::moving::{handlers_behind, moved, moved_atoms, moved_handlers, moved_numbers};
 use crate::span::span;
 use crate::stepping::{
-    joined, land, landed, push_if, push_label, push_labels, push_let, push_read, push_write,
+    joined, land, push_if, push_label, push_labels, push_let, push_read, push_write, read,
+    round_jump,
 };
 use cps_ir::{Cont, CpsFun, Step, Term};
 use nv_base::{Atom, Cmp, NoMemory};
@@ -116,48 +117,73 @@ fn copy_term(alloc: Global, site: &Site<'_>, t: &Term, fresh: &mut u32) -> Resul
     ensures term { IfOk result (λ u. term_view u ≡ inner.copy_at site.now.funs.now site.now.place.now site.now.base (term_view t.now) fresh.old) }
 {
     let mut steps = Vec::new(alloc);
+    let end = read!(copy_steps(alloc, site, t, &mut steps, fresh), steps);
+    joined(alloc, steps, end)
+}
+
+// Adds the steps of the copy of a term, and answers with its end.
+#[cycle(copies)]
+fn copy_steps(
+    alloc: Global,
+    site: &Site<'_>,
+    t: &Term,
+    steps: &mut Vec<Step>,
+    fresh: &mut u32,
+) -> Result<Term, NoMemory>
+    ensures count { IfOk result (λ u. fresh.new ≡ fresh.old + inner.count_at site.now.funs.now site.now.place.now (term_view t.now)) }
+    ensures term { IfOk result (λ u. put_all steps.new.items (term_view u) ≡ put_all steps.old.items (inner.copy_at site.now.funs.now site.now.place.now site.now.base (term_view t.now) fresh.old)) }
+{
     let mut cur = t;
     'spine: loop {
         match cur {
             Term::Let(x, a, rest) => {
-                push_let(site.base, *x, *a, &mut steps)?;
+                push_let(site.base, *x, *a, steps)?;
                 cur = rest;
             }
             Term::Read(m, xs, a, rest) => {
-                push_read(alloc, site.base, *m, xs, *a, &mut steps)?;
+                push_read(alloc, site.base, *m, xs, *a, steps)?;
                 cur = rest;
             }
             Term::Write(m, a, bs, rest) => {
-                push_write(alloc, site.base, *m, *a, bs, &mut steps)?;
+                push_write(alloc, site.base, *m, *a, bs, steps)?;
                 cur = rest;
             }
             Term::If(c, a, b, first, second) => {
-                copy_first(alloc, site, (*c, *a, *b), first, &mut steps, fresh)?;
+                copy_first(alloc, site, (*c, *a, *b), first, steps, fresh)?;
                 cur = second;
             }
             Term::Fix(conts, rest) => match single(conts) {
                 Some(one) => {
-                    copy_around(alloc, site, one, rest, &mut steps, fresh)?;
+                    copy_around(alloc, site, one, rest, steps, fresh)?;
                     cur = &one.body;
                 }
                 None => {
-                    copy_several(alloc, site, conts, &mut steps, fresh)?;
+                    copy_several(alloc, site, conts, steps, fresh)?;
                     cur = rest;
                 }
             },
             Term::Call(f, bs, to, hs) => {
-                return copy_last(alloc, site, *f, bs, *to, hs, steps, fresh);
+                let end = copy_call(alloc, site, *f, bs, *to, hs, fresh)?;
+                return Ok(end);
             }
-            Term::Return(bs) => return landed(alloc, site.place.to, 0, site.base, bs, steps),
+            Term::Return(bs) => {
+                let end = land(alloc, site.place.to, 0, site.base, bs)?;
+                return Ok(end);
+            }
             Term::Throw(e, bs) => {
                 let to = find_handler(*e, &site.place.handlers);
-                return landed(alloc, to, *e, site.base, bs, steps);
+                let end = land(alloc, to, *e, site.base, bs)?;
+                return Ok(end);
             }
             Term::Jump(l, bs) => {
                 let to = Some(moved(site.base, *l)?);
-                return landed(alloc, to, 0, site.base, bs, steps);
+                let end = land(alloc, to, 0, site.base, bs)?;
+                return Ok(end);
             }
-            Term::Halt(e, bs) => return landed(alloc, None, *e, site.base, bs, steps),
+            Term::Halt(e, bs) => {
+                let end = land(alloc, None, *e, site.base, bs)?;
+                return Ok(end);
+            }
         }
     }
 }
@@ -225,26 +251,6 @@ fn copy_several(
 {
     let labels = copy_labels(alloc, site, conts, fresh)?;
     push_labels(labels, steps)
-}
-
-// A call behind the steps.
-#[cycle(copies)]
-#[inline(never)]
-fn copy_last(
-    alloc: Global,
-    site: &Site<'_>,
-    i: u32,
-    bs: &[Atom],
-    to: Option<u32>,
-    hs: &[(u16, u32)],
-    steps: Vec<Step>,
-    fresh: &mut u32,
-) -> Result<Term, NoMemory>
-    ensures count { IfOk result (λ u. fresh.new ≡ fresh.old + inner.count_at site.now.funs.now site.now.place.now (cps.Call i bs.now to hs.now)) }
-    ensures term { IfOk result (λ u. term_view u ≡ put_all steps.items (inner.copy_at site.now.funs.now site.now.place.now site.now.base (cps.Call i bs.now to hs.now) fresh.old)) }
-{
-    let end = copy_call(alloc, site, i, bs, to, hs, fresh)?;
-    joined(alloc, steps, end)
 }
 
 // The copies of labels.
@@ -333,7 +339,7 @@ pub fn enter(
 {
     let label = moved(take(fresh, number(funs.len())?)?, i)?;
     let labels = copy_group(alloc, funs, f, place, fresh)?;
-    Ok(Term::Fix(labels, Box::new(alloc, Term::Jump(label, words))?))
+    round_jump(alloc, labels, label, words)
 }
 
 // The labels of the copies for a callee.

@@ -1,7 +1,7 @@
 // Nodes of a copy, behind the steps so far. These calls stay out of line: so the frames of the recursion
 // over callees stay small, which goes as deep as a program has groups.
 
-ghost use Rattle.std.specs.Prelude.{◌≡◌, ◌+◌, IfOk};
+ghost use Rattle.std.specs.Prelude.{◌≡◌, ◌+◌, ◌++◌, ◌∷◌, [], IfOk};
 ghost use Rattle.cps_ir.specs.Spine.{put_all};
 ghost use Rattle.cps_ir.specs.Term as cps;
 ghost use Rattle.cps_ir.specs.View.{term_view, labels_view};
@@ -14,13 +14,36 @@ use cps_ir::{Cont, Step, Term, join};
 use nv_base::{Atom, Cmp, Mem, NoMemory, Prim};
 use std::alloc::Global;
 
+// What was found, or want of memory, after letting go of what is held.
+macro_rules! read {
+    ($found:expr $(, $held:expr)*) => {
+        match $found {
+            Ok(found) => found,
+            Err(failure) => {
+                $(drop($held);)*
+                return Err(failure);
+            }
+        }
+    };
+}
+
+pub(crate) use read;
+
+// One step more.
+#[inline(never)]
+fn push_step(steps: &mut Vec<Step>, step: Step) -> Result<(), NoMemory>
+    ensures { IfOk result (λ u. steps.new.items ≡ steps.old.items ++ step ∷ []) }
+{
+    steps.push(step)?;
+    Ok(())
+}
+
 /// A `Let`, moved up.
 #[inline(never)]
 pub fn push_let(base: u32, x: u32, a: Prim, steps: &mut Vec<Step>) -> Result<(), NoMemory>
     ensures { IfOk result (λ u. inner.Adds steps.old.items steps.new.items (cps.Let (base + x) (inner.moved_primitive base a))) }
 {
-    steps.push(Step::Let(moved(base, x)?, moved_primitive(base, a)?))?;
-    Ok(())
+    push_step(steps, Step::Let(moved(base, x)?, moved_primitive(base, a)?))
 }
 
 /// A `Read`, moved up.
@@ -35,9 +58,9 @@ pub fn push_read(
 ) -> Result<(), NoMemory>
     ensures { IfOk result (λ u. inner.Adds steps.old.items steps.new.items (cps.Read m (inner.moved base xs.now) (inner.moved_atom base a))) }
 {
+    let place = moved_atom(base, a)?;
     let vars = short_numbers(alloc, base, xs)?;
-    steps.push(Step::Read(m, vars, moved_atom(base, a)?))?;
-    Ok(())
+    push_step(steps, Step::Read(m, vars, place))
 }
 
 /// A `Write`, moved up.
@@ -52,9 +75,9 @@ pub fn push_write(
 ) -> Result<(), NoMemory>
     ensures { IfOk result (λ u. inner.Adds steps.old.items steps.new.items (cps.Write m (inner.moved_atom base a) (inner.moved_atoms base bs.now))) }
 {
+    let place = moved_atom(base, a)?;
     let words = short_atoms(alloc, base, bs)?;
-    steps.push(Step::Write(m, moved_atom(base, a)?, words))?;
-    Ok(())
+    push_step(steps, Step::Write(m, place, words))
 }
 
 /// An `If`, moved up, whose first part is here.
@@ -69,9 +92,9 @@ pub fn push_if(
 ) -> Result<(), NoMemory>
     ensures { IfOk result (λ u. inner.Adds steps.old.items steps.new.items (cps.If c (inner.moved_atom base a) (inner.moved_atom base b) (term_view first))) }
 {
-    let left = moved_atom(base, a)?;
-    steps.push(Step::If(c, left, moved_atom(base, b)?, first))?;
-    Ok(())
+    let left = read!(moved_atom(base, a), first);
+    let right = read!(moved_atom(base, b), first);
+    push_step(steps, Step::If(c, left, right, first))
 }
 
 /// A single label, moved up, whose body comes behind; the term round it is here.
@@ -85,9 +108,9 @@ pub fn push_label(
 ) -> Result<(), NoMemory>
     ensures { IfOk result (λ u. inner.Adds steps.old.items steps.new.items (λ t. cps.Fix (cps.label (base + one.now.label) (inner.moved base one.now.params.items) t cps.none) (term_view around))) }
 {
-    let params = moved_numbers(alloc, base, &one.params)?;
-    steps.push(Step::Label(moved(base, one.label)?, params, around))?;
-    Ok(())
+    let label = read!(moved(base, one.label), around);
+    let params = read!(moved_numbers(alloc, base, &one.params), around);
+    push_step(steps, Step::Label(label, params, around))
 }
 
 /// Labels that are copied already.
@@ -95,8 +118,26 @@ pub fn push_label(
 pub fn push_labels(labels: Vec<Cont>, steps: &mut Vec<Step>) -> Result<(), NoMemory>
     ensures { IfOk result (λ u. inner.Adds steps.old.items steps.new.items (cps.Fix (labels_view labels.items))) }
 {
-    steps.push(Step::Labels(labels))?;
-    Ok(())
+    push_step(steps, Step::Labels(labels))
+}
+
+/// Labels round a jump to one of them.
+#[inline(never)]
+pub fn round_jump(
+    alloc: Global,
+    labels: Vec<Cont>,
+    label: u32,
+    words: Vec<Atom>,
+) -> Result<Term, NoMemory>
+    ensures { IfOk result (λ u. term_view u ≡ cps.Fix (labels_view labels.items) (cps.Jump label words.items)) }
+{
+    match Box::new(alloc, Term::Jump(label, words)) {
+        Ok(jump) => Ok(Term::Fix(labels, jump)),
+        Err(failed) => {
+            drop(labels);
+            Err(failed.into())
+        }
+    }
 }
 
 /// The steps before a term.
@@ -122,20 +163,4 @@ pub fn land(
         Some(l) => Ok(Term::Jump(l, moved_atoms(alloc, base, bs)?)),
         None => Ok(Term::Halt(e, short_atoms(alloc, base, bs)?)),
     }
-}
-
-/// The steps, and then words to a label, or to the end of the run under a number.
-#[inline(never)]
-pub fn landed(
-    alloc: Global,
-    to: Option<u32>,
-    e: u16,
-    base: u32,
-    bs: &[Atom],
-    steps: Vec<Step>,
-) -> Result<Term, NoMemory>
-    ensures { IfOk result (λ u. term_view u ≡ put_all steps.items (inner.lands to e (inner.moved_atoms base bs.now))) }
-{
-    let end = land(alloc, to, e, base, bs)?;
-    joined(alloc, steps, end)
 }

@@ -1,9 +1,9 @@
 -- The body of a function behind the label that returns the words of its last calls.
-use Rattle.std.proofs.Common.{◌≡◌, ℕ, suc, ◌+◌, max, List, [], ◌∷◌, ◌++◌, refl, sym, ap, ◌∙◌, Vec, Box, arith, rules}
+use Rattle.std.proofs.Common.{◌≡◌, ℕ, suc, ◌+◌, max, List, [], ◌∷◌, ◌++◌, refl, sym, ap, ◌∙◌, Vec, Box, arith, rules, Option}
 use Rattle.std.specs.declared.alloc.Global.{Global}
 use Rattle.nv_base.specs.declared.term.Atom.{Atom}
 use Rattle.nv_base.specs.declared.term.Atom.TheVariants.{Var}
-use Rattle.cps_ir.specs.declared.term.Term.{Term, Fix, Return, the_lemmas}
+use Rattle.cps_ir.specs.declared.term.Term.{Term, Fix, Call, Return, the_lemmas}
 use Rattle.cps_ir.specs.declared.term.Cont.{Cont}
 use Rattle.cps_ir.specs.View.{Seen, labels_of, term_view, labels_view}
 use Rattle.cps_ir.specs.Term as pure
@@ -47,6 +47,9 @@ pub handing_view : (ls : Vec Cont Global) (t : Box Term Global) (c : Cont) (ys x
 handing_view ls t c ys xs u e el ex eb ey eu =
     view-Fix ls t ∙ ap (λ l. pure.Fix (labels_view l) (term_view t.value)) e ∙ ap (λ (s : Seen). pure.Fix (labels_of (s ∷ [])) (term_view t.value)) (view-Cont c)
     ∙ one_is c.label 0 c.params.items xs (term_view c.body) (pure.Return (operands xs)) (term_view t.value) u el (ex ∙ ey) (eb ∙ ap (λ l. pure.Return (operands l)) ey) eu
+
+pub view-Call : (f : ℕ) (bs : Vec Atom Global) (k : Option ℕ) (hs : _) → term_view (Call f bs k hs) ≡ pure.Call f bs.items k hs.items
+view-Call f bs k hs = search (rules, the_lemmas)
 
 view-Return : (bs : Vec Atom Global) → term_view (Return bs) ≡ pure.Return bs.items
 view-Return bs = search (rules, the_lemmas)

@@ -2,6 +2,7 @@
 
 ghost use Rattle.std.specs.Prelude.{◌≡◌, ◌+◌, ◌∷◌, ◌++◌, [], IfOk, slice_get};
 ghost use Rattle.cps_ir.specs.Meaning.{handler_of};
+ghost use Rattle.cps_ir.specs.Spine.{put_all};
 ghost use Rattle.cps_ir.specs.View.{term_view};
 ghost use Rattle.cps_lower.specs.inner.Lowered.{lowered, labels, give_term, raise_term, call_term};
 ghost use Rattle.cps_lower.specs.inner.Lowered as inner;
@@ -146,8 +147,24 @@ fn next_label(fresh: &mut u32) -> Result<u32, NoMemory>
     }
 }
 
+// One step more.
+fn push_step(steps: &mut Vec<Step>, step: Step) -> Result<(), NoMemory>
+    ensures { IfOk result (λ u. steps.new.items ≡ steps.old.items ++ step ∷ []) }
+{
+    steps.push(step)?;
+    Ok(())
+}
+
+// The steps before a term.
+fn joined(alloc: Global, steps: Vec<Step>, end: Term) -> Result<Term, NoMemory>
+    ensures { IfOk result (λ u. term_view u ≡ put_all steps.items (term_view end)) }
+{
+    Ok(join(alloc, steps, end)?)
+}
+
 /// The term of flat code in a function of a group, whose words go to a label or are the function's, under
 /// handlers; `fresh` is the next label.
+#[cycle(code)]
 pub fn lower_code(
     alloc: Global,
     funs: &[FlatFun],
@@ -161,50 +178,77 @@ pub fn lower_code(
     ensures term { IfOk result (λ u. term_view u ≡ lowered funs.now own t.now fresh.old to hs.now) }
 {
     let mut steps = Vec::new(alloc);
+    let end = match lower_steps(alloc, funs, own, t, to, hs, fresh, &mut steps) {
+        Ok(end) => end,
+        Err(failure) => {
+            drop(steps);
+            return Err(failure);
+        }
+    };
+    joined(alloc, steps, end)
+}
+
+// Adds the steps of flat code, and answers with its end.
+#[cycle(code)]
+fn lower_steps(
+    alloc: Global,
+    funs: &[FlatFun],
+    own: u32,
+    t: &Flat,
+    to: Option<u32>,
+    hs: &[(u16, u32)],
+    fresh: &mut u32,
+    steps: &mut Vec<Step>,
+) -> Result<Term, NoMemory>
+    ensures count { IfOk result (λ u. fresh.new ≡ fresh.old + labels t.now) }
+    ensures term { IfOk result (λ u. put_all steps.new.items (term_view u) ≡ put_all steps.old.items (lowered funs.now own t.now fresh.old to hs.now)) }
+{
     let mut cur = t;
     'spine: loop {
         match cur {
             Flat::Let(x, p, rest) => {
-                steps.push(Step::Let(*x, *p))?;
+                push_step(steps, Step::Let(*x, *p))?;
                 cur = rest;
             }
             Flat::Fetch(m, xs, a, rest) => {
-                steps.push(Step::Read(*m, short_numbers(alloc, xs)?, *a))?;
+                push_step(steps, Step::Read(*m, short_numbers(alloc, xs)?, *a))?;
                 cur = rest;
             }
             Flat::Store(m, a, bs, rest) => {
-                steps.push(Step::Write(*m, *a, short_atoms(alloc, bs)?))?;
+                push_step(steps, Step::Write(*m, *a, short_atoms(alloc, bs)?))?;
                 cur = rest;
             }
             Flat::If(c, a, b, first, second) => {
                 let u = lower_code(alloc, funs, own, first, to, hs, fresh)?;
-                steps.push(Step::If(*c, *a, *b, u))?;
+                push_step(steps, Step::If(*c, *a, *b, u))?;
                 cur = second;
             }
             Flat::Bind(xs, first, rest) => {
                 let label = next_label(fresh)?;
+                let params = numbers(alloc, xs)?;
                 let u = lower_code(alloc, funs, own, first, Some(label), hs, fresh)?;
-                steps.push(Step::Label(label, numbers(alloc, xs)?, u))?;
+                push_step(steps, Step::Label(label, params, u))?;
                 cur = rest;
             }
             Flat::Try(first, e, xs, handler) => {
                 let label = next_label(fresh)?;
+                let params = numbers(alloc, xs)?;
                 let inner = handler_before(alloc, *e, label, hs)?;
                 let u = lower_code(alloc, funs, own, first, to, &inner, fresh)?;
-                steps.push(Step::Label(label, numbers(alloc, xs)?, u))?;
+                push_step(steps, Step::Label(label, params, u))?;
                 cur = handler;
             }
             Flat::Call(f, bs) => {
                 let end = call(alloc, is_earlier(funs, own, *f), *f, bs, to, hs)?;
-                return Ok(join(alloc, steps, end)?);
+                return Ok(end);
             }
             Flat::Raise(e, bs) => {
                 let end = raise(alloc, *e, bs, hs)?;
-                return Ok(join(alloc, steps, end)?);
+                return Ok(end);
             }
             Flat::Give(bs) => {
                 let end = give(alloc, bs, to)?;
-                return Ok(join(alloc, steps, end)?);
+                return Ok(end);
             }
         }
     }

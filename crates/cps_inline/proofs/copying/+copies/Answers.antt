@@ -3,14 +3,21 @@ use Rattle.std.proofs.lemmas.List.{drop_all}
 use Rattle.std.proofs.lemmas.Option.{slice_get_read}
 use Rattle.std.proofs.lemmas.Result.{IfOk-weaker}
 use Rattle.cps_ir.proofs.Views.{view-Cont}
+use Rattle.cps_ir.specs.Meaning.{handler_of}
 use Rattle.cps_ir.specs.Spine.{put_all}
 use Rattle.cps_ir.specs.Term as cps
-use Rattle.cps_ir.specs.View.{labels_view, fun_view}
-use Rattle.cps_inline.specs.inner.Inlined.{moved, moved_atom, counts, group_count}
-use Rattle.cps_inline.proofs.Seen.{seen-If, seen-Fix, seen-one, many-labels}
-use Rattle.cps_inline.proofs.Along.{label-within, function-within, item_next, in_next, in_end, copies_take, copies_pass, copies_end, on_if, on_one, on_several, call-counted, call-entered, body-at}
+use Rattle.cps_ir.specs.View.{term_view, labels_view, fun_view}
+use Rattle.cps_inline.specs.inner.Inlined.{moved, moved_atom, moved_atoms, lands, copy_at, counts, group_count}
+use Rattle.cps_inline.proofs.Seen.{view-Throw, seen-If, seen-Fix, seen-one, many-labels}
+use Rattle.cps_inline.proofs.Along.{label-within, function-within, item_next, in_next, in_end, copies_take, copies_pass, copies_end, on_if, on_one, on_several, on_end, call-counted, call-entered, body-at}
 use Rattle.cps_inline.proofs.copying.+copies.Goals as goal
 use Rattle.cps_inline.proofs.copying.+copies.Goals.{copy_group-then-is_copied+in_ok-number+in_ok-copy_function+in_ok-push, copy_group-else-is_copied}
+
+pub copy_call-returns-in-None-clause-term : goal.copy_call-returns-in-None-clause-term
+copy_call-returns-in-None-clause-term t c =
+    IfOk-weaker c.land.result _ _
+    (λ u e. e ∙ ap (λ l. cps.Jump l (moved_atoms c.args.site.now.base c.args.bs.now)) c.in_ok-moved-in-None.ensures
+    ∙ ap (λ k. copy_at c.args.site.now.funs.now c.args.site.now.place.now c.args.site.now.base (cps.Call c.args.i c.args.bs.now k c.args.hs.now) c.args.fresh.now) (sym c.in-None.is)) c.land.ensures
 
 pub copy_call-returns-in_ok-words-in-Some-get-clause-count : goal.copy_call-returns-in_ok-words-in-Some-get-clause-count
 copy_call-returns-in_ok-words-in-Some-get-clause-count t c =
@@ -24,6 +31,9 @@ copy_call-returns-in_ok-words-in-Some-get-clause-term t c =
     let there = slice_get_read c.args.site.now.funs.now (length c.args.site.now.funs.now) c.args.i c.in-Some-get.f.now refl c.in-Some-get.ensures.lookup.3.0 c.in-Some-get.ensures.lookup.1 in
     let same = call-entered c.args.site.now.funs.now c.args.site.now.place.now c.in_ok-inner-in-Some-get.inner c.args.site.now.base c.args.i c.in-Some.k c.in-Some-get.f.now c.args.bs.now c.args.to c.args.hs.now c.in_ok-words-in-Some-get.words.items c.args.fresh.now there c.in-Some.is c.if-f-site.false c.in_ok-inner-in-Some-get.ensures.group c.in_ok-inner-in-Some-get.ensures.view c.in_ok-words-in-Some-get.ensures in
     IfOk-weaker c.enter.result _ _ (λ u e. e ∙ same) c.enter.ensures.term
+
+pub copy_function-returns-clause-count : goal.copy_function-returns-clause-count
+copy_function-returns-clause-count t c = omega (arith, c.in_ok-body.ensures.count, c.in_ok-base.ensures.next, c.in_ok-span.ensures)
 
 pub copy_function-returns-clause-body : goal.copy_function-returns-clause-body
 copy_function-returns-clause-body t c =
@@ -68,23 +78,34 @@ copy_around-returns-clause-step t c = IfOk-weaker c.push_label.result _ _ (λ u 
 pub copy_several-returns-clause-step : goal.copy_several-returns-clause-step
 copy_several-returns-clause-step t c = IfOk-weaker c.push_labels.result _ _ (λ u adds t'. adds t' ∙ ap (λ v. put_all c.args.steps.now.items (cps.Fix v t')) c.in_ok-labels.ensures.labels) c.push_labels.ensures
 
-pub copy_last-returns-clause-term : goal.copy_last-returns-clause-term
-copy_last-returns-clause-term t c = IfOk-weaker c.joined.result _ _ (λ u e. e ∙ ap (put_all c.args.steps.items) c.in_ok-end.ensures.term) c.joined.ensures
+pub copy_term-returns-clause-count : goal.copy_term-returns-clause-count
+copy_term-returns-clause-count t c = IfOk-weaker c.joined.result _ _ (λ u e. c.in-Ok.ensures.count) c.joined.ensures
 
-pub copy_term-spine-preserved-in-If : goal.copy_term-spine-preserved-in-If
-copy_term-spine-preserved-in-If t c =
+pub copy_term-returns-clause-term : goal.copy_term-returns-clause-term
+copy_term-returns-clause-term t c =
+    IfOk-weaker c.joined.result _ _
+    (λ u e. e ∙ c.in-Ok.ensures.term ∙ ap (λ l. put_all l (copy_at c.args.site.now.funs.now c.args.site.now.place.now c.args.site.now.base (term_view c.args.t.now) c.args.fresh.now)) c.new-steps.ensures.items) c.joined.ensures
+
+pub copy_steps-returns-in-Throw-clause-term : goal.copy_steps-returns-in-Throw-clause-term
+copy_steps-returns-in-Throw-clause-term t c =
+    on_end (cps.Throw c.in-Throw.e c.in-Throw.bs.items) c.in_ok-end-in-Throw.end c.spine.invariant (ap term_view c.in-Throw.is ∙ view-Throw c.in-Throw.e c.in-Throw.bs)
+    (c.in_ok-end-in-Throw.ensures ∙ ap (λ k. lands k c.in-Throw.e (moved_atoms c.args.site.now.base c.deref-in-Throw-2.result.now)) (c.find_handler-to.ensures ∙ ap (handler_of c.in-Throw.e) c.deref-in-Throw.ensures.value)
+    ∙ ap (λ l. lands (handler_of c.in-Throw.e c.args.site.now.place.now.handlers.items) c.in-Throw.e (moved_atoms c.args.site.now.base l)) c.deref-in-Throw-2.ensures)
+
+pub copy_steps-spine-preserved-in-If : goal.copy_steps-spine-preserved-in-If
+copy_steps-spine-preserved-in-If t c =
     on_if c.in-If.c c.in-If.a c.in-If.b c.deref-in-If.result.now c.deref-cur-in-If.result.now _ _ c.spine.invariant
     (seen-If c.spine.cur.now c.in-If.c c.in-If.a c.in-If.b c.in-If.first c.in-If.second c.deref-in-If.result.now c.deref-cur-in-If.result.now c.in-If.is c.deref-in-If.ensures c.deref-cur-in-If.ensures)
     c.in_ok-copy_first-in-If.ensures.step c.in_ok-copy_first-in-If.ensures.count
 
-pub copy_term-spine-preserved-in-Some : goal.copy_term-spine-preserved-in-Some
-copy_term-spine-preserved-in-Some t c =
+pub copy_steps-spine-preserved-in-Some : goal.copy_steps-spine-preserved-in-Some
+copy_steps-spine-preserved-in-Some t c =
     on_one c.in-Some.one.now.label c.in-Some.one.now.params.items c.deref-in-Some.result.now c.in-Some.one.now.body _ _ c.spine.invariant
     (seen-one c.spine.cur.now c.in-Fix.conts c.in-Fix.rest c.deref-in-Fix.result.now c.in-Some.one.now c.deref-in-Some.result.now c.in-Fix.is c.deref-in-Fix.ensures.value c.deref-in-Some.ensures c.in-Some.ensures)
     c.in_ok-copy_around-in-Some.ensures.step c.in_ok-copy_around-in-Some.ensures.count
 
-pub copy_term-spine-preserved : goal.copy_term-spine-preserved
-copy_term-spine-preserved t c =
+pub copy_steps-spine-preserved : goal.copy_steps-spine-preserved
+copy_steps-spine-preserved t c =
     let same : c.deref-in-None.result.now ≡ c.deref-in-Fix.result.now = c.deref-in-None.ensures.value ∙ sym c.deref-in-Fix.ensures.value in
     on_several (labels_view c.deref-in-None.result.now) c.deref-cur-in-None.result.now _ _ c.spine.invariant
     (seen-Fix c.spine.cur.now c.in-Fix.conts c.in-Fix.rest c.deref-in-None.result.now c.deref-cur-in-None.result.now c.in-Fix.is c.deref-in-None.ensures.value c.deref-cur-in-None.ensures)
