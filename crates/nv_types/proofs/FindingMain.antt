@@ -6,17 +6,17 @@ use Rattle.nv_ast.specs.Scope.{Signature, callable, plain_tys}
 use Rattle.nv_ast.specs.Faults.{main_name}
 use Rattle.nv_ast.specs.Sizes.{GroupNumbers, signature_words}
 use Rattle.nv_ast.proofs.TypeWords.{plain_words}
-use Rattle.nv_types.specs.declared.cost.Cost.{Cost}
-use Rattle.nv_types.specs.declared.table.Facts.{Facts}
-use Rattle.nv_types.specs.declared.functions.Function.{Function}
-use Rattle.nv_types.specs.declared.functions.Checker.{Checker}
-use Rattle.nv_types.specs.inner.Costs.{still}
-use Rattle.nv_types.specs.inner.Knowing.{AreKnown}
-use Rattle.nv_types.specs.inner.Store.{IsParts}
-use Rattle.nv_types.specs.inner.Standing.{Alike, IsFunction}
+use Rattle.type_rules.specs.declared.cost.Cost.{Cost}
+use Rattle.type_table.specs.declared.table.Facts.{Facts}
+use Rattle.type_steps.specs.declared.functions.Function.{Function}
+use Rattle.type_steps.specs.declared.functions.Checker.{Checker}
+use Rattle.type_table.specs.inner.Cells.{still}
+use Rattle.type_table.specs.inner.Knowing.{AreKnown}
+use Rattle.type_table.specs.inner.Store.{IsParts}
+use Rattle.type_steps.specs.inner.Standing.{Alike, IsFunction}
 use Rattle.nv_types.specs.inner.Measuring.{FindsMain}
-use Rattle.nv_types.proofs.Alikes.{Both, alike_at, among_look_up}
-use Rattle.nv_types.proofs.Groups.{known_names, own_none}
+use Rattle.type_steps.proofs.Alikes.{Both, alike_at, among_look_up}
+use Rattle.type_steps.proofs.Groups.{known_names, own_none}
 
 some_same : {A : Type 0} (x y : A) → Some x ≡ Some y → x ≡ y
 some_same x y q = cc

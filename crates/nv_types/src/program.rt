@@ -8,15 +8,16 @@ ghost use Rattle.nv_ast.specs.Faults.{IsTyped, IsFault, main_name, program_fault
 ghost use Rattle.nv_ast.specs.Sizes.{expanded_size, room as room_of};
 ghost use Rattle.nv_ast.specs.Accepted.{IsAccepted};
 ghost use Rattle.nv_types.specs.Refusals.{IsRefusal};
-ghost use Rattle.nv_types.specs.inner.Measuring.{IsSized, FindsMain};
-ghost use Rattle.nv_types.specs.inner.Faulty.{Judges};
+ghost use Rattle.nv_types.specs.inner.Measuring.{IsSized, FindsMain, Measures};
+ghost use Rattle.type_rules.specs.inner.Faulty.{Judges};
 
-use crate::declarations::MAIN;
-use crate::error::TypeError;
-use crate::functions::Checker;
+use crate::declarations::declarations;
 use crate::limits::LARGEST;
 use nv_ast::{Name, Program, Span, Typed};
 use std::alloc::Global;
+use type_rules::error::TypeError;
+use type_steps::functions::Checker;
+use type_steps::heads::MAIN;
 
 /// The program as a typed one, with its sizes.
 ///
@@ -55,29 +56,29 @@ fn measure<'a>(alloc: Global, p: &'a Program, main: &'a Name) -> Result<Sizes, T
     ensures sized { IfOk result (λ s. IsSized (program_of p.now) s) }
 {
     let mut checker = Checker::new(alloc)?;
-    let sizes = checker.sizes_of(p, main);
+    let sizes = sizes_of(&mut checker, p, main);
     checker.end();
     sizes
 }
 
-impl<'a> Checker<'a> {
-    ghost use Rattle.nv_types.specs.inner.Measuring.{Measures};
-
-    // From the start, the sizes of a program without a fault.
-    fn sizes_of(&mut self, p: &'a Program, main: &'a Name) -> Result<Sizes, TypeError>
-        requires { main.now ≡ main_name }
-        ensures { Measures self.old (program_of p.now) result }
-    {
-        self.declarations(&p.decls)?;
-        match sizes_of_main(self, main) {
-            Some(sizes) => Ok(sizes),
-            None => {
-                let end = Span {
-                    first: p.length,
-                    after: p.length,
-                };
-                Err(TypeError::Fault(1, end))
-            }
+// From the start, the sizes of a program without a fault.
+fn sizes_of<'a>(
+    checker: &mut Checker<'a>,
+    p: &'a Program,
+    main: &'a Name,
+) -> Result<Sizes, TypeError>
+    requires { main.now ≡ main_name }
+    ensures { Measures checker.old (program_of p.now) result }
+{
+    declarations(checker, &p.decls)?;
+    match sizes_of_main(checker, main) {
+        Some(sizes) => Ok(sizes),
+        None => {
+            let end = Span {
+                first: p.length,
+                after: p.length,
+            };
+            Err(TypeError::Fault(1, end))
         }
     }
 }

@@ -6,12 +6,12 @@ use Rattle.nv_ast.specs.Scope.{Known, nothing_known}
 use Rattle.nv_ast.specs.Faults.{main_name, program_faults}
 use Rattle.nv_ast.specs.Sizes.{GroupNumbers, needs_behind, expanded_size, signature_words, main_words}
 use Rattle.nv_types.specs.declared.program.Sizes.{Sizes}
-use Rattle.nv_types.specs.declared.functions.Checker.{Checker}
-use Rattle.nv_types.specs.declared.error.TypeError.{TypeError}
-use Rattle.nv_types.specs.inner.Costs.{still}
-use Rattle.nv_types.specs.inner.Faulty.{Judges}
-use Rattle.nv_types.specs.inner.Standing.{Counts}
-use Rattle.nv_types.specs.inner.Declarations.{Between, Started}
+use Rattle.type_steps.specs.declared.functions.Checker.{Checker}
+use Rattle.type_rules.specs.declared.error.TypeError.{TypeError}
+use Rattle.type_table.specs.inner.Cells.{still}
+use Rattle.type_rules.specs.inner.Faulty.{Judges}
+use Rattle.type_steps.specs.inner.Standing.{Counts}
+use Rattle.type_steps.specs.inner.Declarations.{Between, Started}
 
 -- the need of main's group
 abbrev pub main_need : ProgramTree → ℕ

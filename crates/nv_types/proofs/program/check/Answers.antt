@@ -2,7 +2,7 @@ use Rattle.std.proofs.Common.{◌+◌, ◌*◌, ◌≤◌, arith, sym, subst}
 use Rattle.std.proofs.lemmas.Result.{err_from_is_err_and}
 use Rattle.nv_ast.specs.ProgramView.{program_of}
 use Rattle.nv_ast.specs.Sizes.{expanded_size, room}
-use Rattle.nv_types.specs.declared.error.TypeError.TheVariants.{TooLarge}
+use Rattle.type_rules.specs.declared.error.TypeError.TheVariants.{TooLarge}
 use Rattle.nv_types.proofs.BoundedRoom.{need_fits, room_exact, refused, accepted, bounded}
 use Rattle.nv_types.proofs.OnlyRefusals.{accepted_fault, accepted_large, refused_accepted, refused_fault, refused_large}
 use Rattle.nv_types.proofs.program.check.Goals as goal

@@ -1,6 +1,0 @@
-use Rattle.std.proofs.Common.{◌≡◌, take}
-use Rattle.nv_types.proofs.Shaping.{form_entries}
-use Rattle.nv_types.proofs.functions.Checker.forms_of.Given as goal
-
-abbrev pub invariant-loop-m : goal.invariant-loop-m
-invariant-loop-m l = l.forms.items ≡ form_entries (take l.m-index l.members)

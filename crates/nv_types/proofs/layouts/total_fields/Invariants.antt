@@ -1,7 +1,0 @@
-use Rattle.std.proofs.Common.{◌≡◌, take}
-use Rattle.nv_types.specs.inner.Costs.{still}
-use Rattle.nv_types.proofs.Sums.{sum_of}
-use Rattle.nv_types.proofs.layouts.total_fields.Given as goal
-
-abbrev pub invariant-loop-m : goal.invariant-loop-m
-invariant-loop-m l = l.total ≡ still (sum_of (λ m. m.fields) (take l.m-index l.members))

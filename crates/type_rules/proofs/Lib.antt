@@ -1,0 +1,6 @@
+pub mod Firsts
+pub mod Entries
+pub mod Sums
+pub mod BlockNeeds
+pub mod BlockEnds
+pub mod PatternNames

@@ -1,0 +1,4 @@
+pub mod Faulty
+pub mod Costs
+pub mod Layouts
+pub mod Needs

@@ -1,0 +1,19 @@
+use Rattle.std.proofs.Common.{◌≡◌, ◌∙◌, ap, sym, subst, false, rules, List, Result, Ok, Err, true≢false}
+use Rattle.std.specs.Result.{OnOk, is_err}
+use Rattle.nv_ast.specs.Tests.{look_up}
+use Rattle.type_steps.specs.declared.scope.Binding.{Binding}
+use Rattle.type_steps.specs.inner.Stack.{IsScope}
+use Rattle.type_steps.proofs.Stacks.{IsScope-push}
+use Rattle.type_steps.proofs.scope.Scope.bind.Goals as goal
+
+was_ok : {T E : Type 0} (r : Result T E) (P : Type 0) → is_err r ≡ false → OnOk r P → P
+was_ok (Ok x) P e h = h
+was_ok (Err x) P e h = absurd (true≢false e)
+
+pub invariant_of-self-else-is_err : goal.invariant_of-self-else-is_err
+invariant_of-self-else-is_err c =
+    let stack = c.self.inside.stack.items in
+    let b : Binding = record { name = c.args.name; bound = c.args.t; hidden = c.look_up-hidden.result } in
+    let updates = was_ok c.insert.result _ (search rules) c.insert.ensures.updates in
+    subst (λ (l : List Binding). IsScope l c.insert.new.self.entries) (sym c.in_ok-push.ensures.items)
+    (IsScope-push stack c.self.inside.seen.entries c.insert.new.self.entries b c.self.invariant (c.look_up-hidden.ensures ∙ ap (look_up c.args.name.now) (sym c.self.view_is)) (λ x. updates.0 (record c.args.name { now = x })))

@@ -1,0 +1,18 @@
+use Rattle.std.proofs.Common.{◌≡◌, ◌∙◌, ap, sym, subst}
+use Rattle.type_table.specs.declared.table.Facts.{Facts}
+use Rattle.type_table.specs.inner.Cells.{fact_at}
+use Rattle.type_table.specs.inner.Named.{plain_names}
+use Rattle.type_table.specs.inner.Store.{Store, IsType, IsParts}
+use Rattle.type_table.specs.inner.Knowing.{IsKnown, AreKnown}
+use Rattle.type_table.proofs.KnownTypes.{known_type, known_parts}
+use Rattle.type_table.proofs.table.Table.known.Goals as goal
+
+pub returns-clause-of_type : goal.returns-clause-of_type
+returns-clause-of_type c = λ t h.
+    let at : c.fact_at.result ≡ fact_at c.self.inside.facts.items c.args.i = c.fact_at.ensures ∙ ap (λ fs. fact_at fs c.args.i) c.deref.ensures.value in
+    subst (λ (f : Facts). IsKnown f t) (sym at) (known_type (plain_names c.self.inside.names.keys) c.self.inside.cells.keys c.self.inside.facts.items c.self.invariant c.args.i t (subst (λ (s : Store). IsType s c.args.i t) (sym c.self.view_is) h))
+
+pub returns-clause-of_parts : goal.returns-clause-of_parts
+returns-clause-of_parts c = λ ts h.
+    let at : c.fact_at.result ≡ fact_at c.self.inside.facts.items c.args.i = c.fact_at.ensures ∙ ap (λ fs. fact_at fs c.args.i) c.deref.ensures.value in
+    subst (λ (f : Facts). AreKnown f ts) (sym at) (known_parts (plain_names c.self.inside.names.keys) c.self.inside.cells.keys c.self.inside.facts.items c.self.invariant c.args.i ts (subst (λ (s : Store). IsParts s c.args.i ts) (sym c.self.view_is) h))
