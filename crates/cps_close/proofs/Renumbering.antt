@@ -17,34 +17,34 @@ use Rattle.cps_close.specs.inner.Pruned.{goes_on, renumbered}
 
 -- ---- a tree with new numbers
 
-pub record Made (to : ℕ → ℕ) (t cur : Tree) (ss : List Step) : Type 0 where
-  pub tree : put_all ss (renumbered to (tree_view cur)) ≡ renumbered to (tree_view t)
+pub record Made (to : ℕ → ℕ) (t cur : Tree) (old ss : List Step) : Type 0 where
+  pub tree : put_all ss (renumbered to (tree_view cur)) ≡ put_all old (renumbered to (tree_view t))
   pub size : size-Tree cur ≤ size-Tree t
 
 smaller : (cur node rest part : Tree) → cur ≡ node → rest ≡ part → size-Tree part ≤ size-Tree node → size-Tree rest ≤ size-Tree cur
 smaller cur node rest part is e le = let a = ap size-Tree is in let b = ap size-Tree e in omega (arith, a, b, le)
 
-made-step : {to : ℕ → ℕ} {t cur : Tree} {ss : List Step} (s : Step) (ss' : List Step) (rest : Tree) → Made to t cur ss → ss' ≡ ss ++ s ∷ [] → renumbered to (tree_view cur) ≡ put s (renumbered to (tree_view rest)) → size-Tree rest ≤ size-Tree cur → Made to t rest ss'
+made-step : {to : ℕ → ℕ} {t cur : Tree} {old ss : List Step} (s : Step) (ss' : List Step) (rest : Tree) → Made to t cur old ss → ss' ≡ ss ++ s ∷ [] → renumbered to (tree_view cur) ≡ put s (renumbered to (tree_view rest)) → size-Tree rest ≤ size-Tree cur → Made to t rest old ss'
 made-step {ss = ss} s ss' rest on push tree size = record { tree = sym (put_last ss' ss s _ _ push tree) ∙ on.tree; size = let le = on.size in omega arith }
 
-pub made-let : {to : ℕ → ℕ} {t cur : Tree} {ss : List Step} (x : ℕ) (p : Primitive) (q : _) (r rest : Tree) (ss' : List Step) → Made to t cur ss → cur ≡ Let' x p q r → rest ≡ r → ss' ≡ ss ++ step.Let x p ∷ [] → Made to t rest ss'
+pub made-let : {to : ℕ → ℕ} {t cur : Tree} {old ss : List Step} (x : ℕ) (p : Primitive) (q : _) (r rest : Tree) (ss' : List Step) → Made to t cur old ss → cur ≡ Let' x p q r → rest ≡ r → ss' ≡ ss ++ step.Let x p ∷ [] → Made to t rest old ss'
 made-let {to = to} {cur = cur} x p q r rest ss' on is e push =
     made-step (step.Let x p) ss' rest on push (ap (λ u. renumbered to (tree_view u)) is ∙ ap (λ u. pure.Let x p (renumbered to (tree_view u))) (sym e))
     (smaller cur (Let' x p q r) rest r is e (omega (arith, deep-Let' x p q r)))
 
-pub made-read : {to : ℕ → ℕ} {t cur : Tree} {ss : List Step} (m : Mem) (xs : _) (ys : _) (a : Atom) (q : _) (r rest : Tree) (ss' : List Step) → Made to t cur ss → cur ≡ Read' m xs a q r → rest ≡ r → ss' ≡ ss ++ step.Read m ys a ∷ [] → ys.items ≡ xs.items → Made to t rest ss'
+pub made-read : {to : ℕ → ℕ} {t cur : Tree} {old ss : List Step} (m : Mem) (xs : _) (ys : _) (a : Atom) (q : _) (r rest : Tree) (ss' : List Step) → Made to t cur old ss → cur ≡ Read' m xs a q r → rest ≡ r → ss' ≡ ss ++ step.Read m ys a ∷ [] → ys.items ≡ xs.items → Made to t rest old ss'
 made-read {to = to} {cur = cur} m xs ys a q r rest ss' on is e push same =
     made-step (step.Read m ys a) ss' rest on push
     (ap (λ u. renumbered to (tree_view u)) is ∙ ap (λ u. pure.Read m xs.items a (renumbered to (tree_view u))) (sym e) ∙ ap (λ l. pure.Read m l a (renumbered to (tree_view rest))) (sym same))
     (smaller cur (Read' m xs a q r) rest r is e (omega (arith, deep-Read' m xs a q r)))
 
-pub made-write : {to : ℕ → ℕ} {t cur : Tree} {ss : List Step} (m : Mem) (a : Atom) (bs : _) (cs : _) (q : _) (r rest : Tree) (ss' : List Step) → Made to t cur ss → cur ≡ Write' m a bs q r → rest ≡ r → ss' ≡ ss ++ step.Write m a cs ∷ [] → cs.items ≡ bs.items → Made to t rest ss'
+pub made-write : {to : ℕ → ℕ} {t cur : Tree} {old ss : List Step} (m : Mem) (a : Atom) (bs : _) (cs : _) (q : _) (r rest : Tree) (ss' : List Step) → Made to t cur old ss → cur ≡ Write' m a bs q r → rest ≡ r → ss' ≡ ss ++ step.Write m a cs ∷ [] → cs.items ≡ bs.items → Made to t rest old ss'
 made-write {to = to} {cur = cur} m a bs cs q r rest ss' on is e push same =
     made-step (step.Write m a cs) ss' rest on push
     (ap (λ u. renumbered to (tree_view u)) is ∙ ap (λ u. pure.Write m a bs.items (renumbered to (tree_view u))) (sym e) ∙ ap (λ l. pure.Write m a l (renumbered to (tree_view rest))) (sym same))
     (smaller cur (Write' m a bs q r) rest r is e (omega (arith, deep-Write' m a bs q r)))
 
-pub made-if : {to : ℕ → ℕ} {t cur : Tree} {ss : List Step} (c : Cmp) (a b : Atom) (q q' : _) (f r part rest u : Tree) (ss' : List Step) → Made to t cur ss → cur ≡ If' c a b q f q' r → part ≡ f → rest ≡ r → tree_view u ≡ renumbered to (tree_view part) → ss' ≡ ss ++ step.If c a b u ∷ [] → Made to t rest ss'
+pub made-if : {to : ℕ → ℕ} {t cur : Tree} {old ss : List Step} (c : Cmp) (a b : Atom) (q q' : _) (f r part rest u : Tree) (ss' : List Step) → Made to t cur old ss → cur ≡ If' c a b q f q' r → part ≡ f → rest ≡ r → tree_view u ≡ renumbered to (tree_view part) → ss' ≡ ss ++ step.If c a b u ∷ [] → Made to t rest old ss'
 made-if {to = to} {cur = cur} c a b q q' f r part rest u ss' on is ef e made push =
     made-step (step.If c a b u) ss' rest on push
     (ap (λ v. renumbered to (tree_view v)) is ∙ ap (λ v. pure.If c a b (renumbered to (tree_view v)) (renumbered to (tree_view r))) (sym ef) ∙ ap (λ v. pure.If c a b (renumbered to (tree_view part)) (renumbered to (tree_view v))) (sym e)

@@ -2,11 +2,12 @@
 // end. They are left out, and the others are numbered anew.
 
 ghost use Rattle.std.specs.Prelude.{◌≡◌, ◌<◌, ℕ, suc, true, false, ◌||◌, if◌then◌else◌, IfOk, map, slice_index_or};
+ghost use Rattle.flow_ir.specs.Spine.{put_all};
 ghost use Rattle.flow_ir.specs.View.{tree_view, label_view};
 ghost use Rattle.cps_close.specs.inner.Pruned as inner;
 
-use crate::trees::{short_atoms, short_numbers};
-use flow_ir::{Label, Step, Tree, join};
+use crate::trees::{joined, push_step, read, short_atoms, short_numbers};
+use flow_ir::{Label, Step, Tree};
 use nv_base::{Atom, NoMemory};
 use std::alloc::Global;
 
@@ -192,38 +193,47 @@ fn atoms(alloc: Global, xs: &[Atom]) -> Result<Vec<Atom>, NoMemory>
 }
 
 // A tree that goes on to the new numbers.
+#[cycle(renumbering)]
 fn renumbered(alloc: Global, t: &Tree, to: &[u32]) -> Result<Tree, NoMemory>
     ensures { IfOk result (λ u. tree_view u ≡ inner.renumbered (λ l. slice_index_or to.now l 0) (tree_view t.now)) }
 {
     let mut steps = Vec::new(alloc);
+    let end = read!(renumbered_steps(alloc, t, to, &mut steps), steps);
+    joined(alloc, steps, end)
+}
+
+// Adds the steps of such a tree, and answers with its end.
+#[cycle(renumbering)]
+fn renumbered_steps(
+    alloc: Global,
+    t: &Tree,
+    to: &[u32],
+    steps: &mut Vec<Step>,
+) -> Result<Tree, NoMemory>
+    ensures { IfOk result (λ u. put_all steps.new.items (tree_view u) ≡ put_all steps.old.items (inner.renumbered (λ l. slice_index_or to.now l 0) (tree_view t.now))) }
+{
     let mut cur = t;
     'spine: loop {
         match cur {
             Tree::Let(x, p, rest) => {
-                steps.push(Step::Let(*x, *p))?;
+                push_step(steps, Step::Let(*x, *p))?;
                 cur = rest;
             }
             Tree::Read(m, xs, a, rest) => {
-                steps.push(Step::Read(*m, short_numbers(alloc, xs)?, *a))?;
+                push_step(steps, Step::Read(*m, short_numbers(alloc, xs)?, *a))?;
                 cur = rest;
             }
             Tree::Write(m, a, bs, rest) => {
-                steps.push(Step::Write(*m, *a, short_atoms(alloc, bs)?))?;
+                push_step(steps, Step::Write(*m, *a, short_atoms(alloc, bs)?))?;
                 cur = rest;
             }
             Tree::If(c, a, b, first, second) => {
                 let u = renumbered(alloc, first, to)?;
-                steps.push(Step::If(*c, *a, *b, u))?;
+                push_step(steps, Step::If(*c, *a, *b, u))?;
                 cur = second;
             }
-            Tree::Jump(l, bs) => {
-                let end = Tree::Jump(number(to, *l), atoms(alloc, bs)?);
-                return Ok(join(alloc, steps, end)?);
-            }
-            Tree::Halt(e, bs) => {
-                let end = Tree::Halt(*e, short_atoms(alloc, bs)?);
-                return Ok(join(alloc, steps, end)?);
-            }
+            Tree::Jump(l, bs) => return Ok(Tree::Jump(number(to, *l), atoms(alloc, bs)?)),
+            Tree::Halt(e, bs) => return Ok(Tree::Halt(*e, short_atoms(alloc, bs)?)),
         }
     }
 }
@@ -232,11 +242,9 @@ fn renumbered(alloc: Global, t: &Tree, to: &[u32]) -> Result<Tree, NoMemory>
 fn relabelled(alloc: Global, l: &Label, to: &[u32]) -> Result<Label, NoMemory>
     ensures { IfOk result (λ m. label_view m ≡ inner.relabelled (λ i. slice_index_or to.now i 0) (label_view l.now)) }
 {
+    let params = l.params.to_vec(alloc)?;
     let body = renumbered(alloc, &l.body, to)?;
-    Ok(Label {
-        params: l.params.to_vec(alloc)?,
-        body,
-    })
+    Ok(Label { params, body })
 }
 
 // What is left of the labels.

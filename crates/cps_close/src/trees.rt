@@ -1,6 +1,6 @@
 // Trees and labels of the flow.
 
-ghost use Rattle.std.specs.Prelude.{◌≡◌, ◌++◌, [], Some, IfOk, map};
+ghost use Rattle.std.specs.Prelude.{◌≡◌, ◌++◌, ◌∷◌, [], Some, IfOk, map};
 ghost use Rattle.cps_ir.specs.View.{term_view, label_view, fun_view};
 ghost use Rattle.flow_ir.specs.Tree as flow;
 ghost use Rattle.flow_ir.specs.Spine.{put_all};
@@ -14,6 +14,36 @@ use cps_ir::{Cont, CpsFun, Term};
 use flow_ir::{Label, Step, Tree, join};
 use nv_base::{Args, Atom, NoMemory, Vars};
 use std::alloc::Global;
+
+/// What was found, or want of memory, after letting go of what is held.
+macro_rules! read {
+    ($found:expr $(, $held:expr)*) => {
+        match $found {
+            Ok(found) => found,
+            Err(failure) => {
+                $(drop($held);)*
+                return Err(failure);
+            }
+        }
+    };
+}
+
+pub(crate) use read;
+
+/// One step more.
+pub fn push_step(steps: &mut Vec<Step>, step: Step) -> Result<(), NoMemory>
+    ensures { IfOk result (λ u. steps.new.items ≡ steps.old.items ++ step ∷ []) }
+{
+    steps.push(step)?;
+    Ok(())
+}
+
+/// The steps before a tree.
+pub fn joined(alloc: Global, steps: Vec<Step>, end: Tree) -> Result<Tree, NoMemory>
+    ensures { IfOk result (λ u. tree_view u ≡ put_all steps.items (tree_view end)) }
+{
+    Ok(join(alloc, steps, end)?)
+}
 
 /// The same operands in a short list.
 pub fn short_atoms(alloc: Global, xs: &[Atom]) -> Result<Args, NoMemory>
@@ -59,52 +89,72 @@ fn jump(alloc: Global, l: u32, bs: &[Atom], table: &Table) -> Result<Tree, NoMem
 }
 
 /// The tree of a term.
+#[cycle(trees)]
 pub fn tree_of(alloc: Global, t: &Term, table: &Table) -> Result<Tree, NoMemory>
     ensures { IfOk result (λ u. tree_view u ≡ inner.tree_of (table_view table.now) (term_view t.now)) }
 {
     let mut steps = Vec::new(alloc);
+    let end = read!(tree_steps(alloc, t, table, &mut steps), steps);
+    joined(alloc, steps, end)
+}
+
+// Adds the steps of a term's tree, and answers with its end.
+#[cycle(trees)]
+fn tree_steps(
+    alloc: Global,
+    t: &Term,
+    table: &Table,
+    steps: &mut Vec<Step>,
+) -> Result<Tree, NoMemory>
+    ensures { IfOk result (λ u. put_all steps.new.items (tree_view u) ≡ put_all steps.old.items (inner.tree_of (table_view table.now) (term_view t.now))) }
+{
     let mut cur = t;
     'spine: loop {
         match cur {
             Term::Let(x, p, rest) => {
-                steps.push(Step::Let(*x, *p))?;
+                push_step(steps, Step::Let(*x, *p))?;
                 cur = rest;
             }
             Term::Read(m, xs, a, rest) => {
-                steps.push(Step::Read(*m, short_numbers(alloc, xs)?, *a))?;
+                push_step(steps, Step::Read(*m, short_numbers(alloc, xs)?, *a))?;
                 cur = rest;
             }
             Term::Write(m, a, bs, rest) => {
-                steps.push(Step::Write(*m, *a, short_atoms(alloc, bs)?))?;
+                push_step(steps, Step::Write(*m, *a, short_atoms(alloc, bs)?))?;
                 cur = rest;
             }
             Term::If(c, a, b, first, second) => {
                 let u = tree_of(alloc, first, table)?;
-                steps.push(Step::If(*c, *a, *b, u))?;
+                push_step(steps, Step::If(*c, *a, *b, u))?;
                 cur = second;
             }
             Term::Fix(_, rest) => cur = rest,
-            Term::Call(_, _, _, _) => return ended(alloc, steps),
-            Term::Return(_) => return ended(alloc, steps),
-            Term::Throw(_, _) => return ended(alloc, steps),
+            Term::Call(_, _, _, _) => {
+                let end = ended(alloc)?;
+                return Ok(end);
+            }
+            Term::Return(_) => {
+                let end = ended(alloc)?;
+                return Ok(end);
+            }
+            Term::Throw(_, _) => {
+                let end = ended(alloc)?;
+                return Ok(end);
+            }
             Term::Jump(l, bs) => {
                 let end = jump(alloc, *l, bs, table)?;
-                return Ok(join(alloc, steps, end)?);
+                return Ok(end);
             }
-            Term::Halt(e, bs) => {
-                let end = Tree::Halt(*e, short_atoms(alloc, bs)?);
-                return Ok(join(alloc, steps, end)?);
-            }
+            Term::Halt(e, bs) => return Ok(Tree::Halt(*e, short_atoms(alloc, bs)?)),
         }
     }
 }
 
 // What stands for an end that no closed function has.
-fn ended(alloc: Global, steps: Vec<Step>) -> Result<Tree, NoMemory>
-    ensures { IfOk result (λ u. tree_view u ≡ put_all steps.items (flow.Halt 0 [])) }
+fn ended(alloc: Global) -> Result<Tree, NoMemory>
+    ensures { IfOk result (λ u. tree_view u ≡ flow.Halt 0 []) }
 {
-    let end = Tree::Halt(0, short_atoms(alloc, &[])?);
-    Ok(join(alloc, steps, end)?)
+    Ok(Tree::Halt(0, short_atoms(alloc, &[])?))
 }
 
 // A label with these behind its own parameters.
@@ -113,8 +163,8 @@ fn label(alloc: Global, params: &[u32], wanted: &[u32], body: Tree) -> Result<La
     ensures body { IfOk result (λ l. tree_view l.body ≡ tree_view body) }
 {
     let mut all = Vec::new(alloc);
-    push_all(&mut all, params)?;
-    push_all(&mut all, wanted)?;
+    read!(push_all(&mut all, params), body);
+    read!(push_all(&mut all, wanted), body);
     Ok(Label { params: all, body })
 }
 
