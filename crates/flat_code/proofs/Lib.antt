@@ -27,7 +27,6 @@ pub mod Writing
 pub mod Ways
 pub mod Naming
 pub mod Listing
-pub mod Sources
 pub mod Found
 pub mod PackedWords
 pub mod Within

@@ -2,7 +2,6 @@ pub mod Symbols
 pub mod View
 pub mod Runs
 pub mod Whole
-pub mod WholeView
 pub mod Soundness
 pub mod Code
 pub mod Simulation

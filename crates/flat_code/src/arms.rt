@@ -8,7 +8,7 @@ use nv_ast::{Expr, Kind, Name, Pat, ShiftOp, Stmt};
 use nv_base::{Bin, Cmp, Mem};
 
 /// How an expression has a value.
-#[derive(Drop)]
+#[derive(Clone, Copy)]
 pub enum ValueArm<'a> {
     Number(u32),
     Truth(bool),
@@ -31,7 +31,7 @@ pub enum ValueArm<'a> {
 }
 
 /// How an expression is a condition.
-#[derive(Drop)]
+#[derive(Clone, Copy)]
 pub enum TestArm<'a> {
     Paren(&'a Expr),
     Negate(&'a Expr),
@@ -42,7 +42,7 @@ pub enum TestArm<'a> {
 }
 
 /// How code ends with an expression.
-#[derive(Drop)]
+#[derive(Clone, Copy)]
 pub enum EndArm<'a> {
     Paren(&'a Expr),
     /// With the words that its steps give.

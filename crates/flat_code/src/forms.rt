@@ -12,6 +12,7 @@ ghost use Rattle.flat_code.specs.inner.Symbols.{fresh, all_fresh, named_fresh, n
 ghost use Rattle.flat_code.specs.inner.View.{view, list_symbols, list_named_symbols};
 
 use crate::symbol::{Field, Symbol, add_variable};
+use crate::want::{made, put};
 use nv_ast::{FieldText, LayoutText, Name, TyText};
 use nv_base::{Atom, NoMemory};
 use nv_meaning::Table;
@@ -57,7 +58,8 @@ pub fn of_types<'a>(
 {
     let mut symbols = Vec::with_capacity(alloc, tys.len())?;
     for ty in tys {
-        symbols.push(of_type(alloc, t, ty, next, made)?)?;
+        let symbol = made!(of_type(alloc, t, ty, next, made), symbols);
+        put!(symbols, symbol, symbols);
     }
     Ok(symbols)
 }
@@ -77,7 +79,8 @@ fn of_fields<'a>(
 {
     let mut fields = Vec::with_capacity(alloc, tys.len())?;
     for ty in tys {
-        fields.push((&ty.0, of_type(alloc, t, &ty.1, next, made)?))?;
+        let symbol = made!(of_type(alloc, t, &ty.1, next, made), fields);
+        put!(fields, (&ty.0, symbol), fields);
     }
     Ok(fields)
 }
@@ -133,7 +136,8 @@ fn tuple_of_words<'a>(
 {
     let mut symbols = Vec::new(alloc);
     for _ in 0..n {
-        symbols.push(Symbol::Word(Atom::Var(add_variable(next, made)?)))?;
+        let x = made!(add_variable(next, made), symbols);
+        put!(symbols, Symbol::Word(Atom::Var(x)), symbols);
     }
     Ok(symbols)
 }
@@ -172,7 +176,10 @@ fn layout_record<'a>(
     ensures later { next.old ≤ next.new }
 {
     let mut fields = Vec::new(alloc);
-    add_layout(alloc, t, l, limit, next, made, &mut fields)?;
+    made!(
+        add_layout(alloc, t, l, limit, next, made, &mut fields),
+        fields
+    );
     Ok(Symbol::Record(fields))
 }
 
@@ -241,7 +248,8 @@ fn add_parts<'a>(
     ensures later { next.old ≤ next.new }
 {
     for f in fs {
-        fields.push((&f.0, of_field(alloc, t, &f.1, limit, next, made)?))?;
+        let symbol = of_field(alloc, t, &f.1, limit, next, made)?;
+        put!(fields, (&f.0, symbol));
     }
     Ok(())
 }
@@ -264,12 +272,18 @@ fn of_field<'a>(
         FieldText::Bits(_) => Ok(Symbol::Word(Atom::Var(add_variable(next, made)?))),
         FieldText::Inner(l) => {
             let mut fields = Vec::new(alloc);
-            add_layout(alloc, t, l, limit, next, made, &mut fields)?;
+            made!(
+                add_layout(alloc, t, l, limit, next, made, &mut fields),
+                fields
+            );
             Ok(Symbol::Record(fields))
         }
         FieldText::Overlay(fs) => {
             let mut fields = Vec::new(alloc);
-            add_parts(alloc, t, fs, limit, next, made, &mut fields)?;
+            made!(
+                add_parts(alloc, t, fs, limit, next, made, &mut fields),
+                fields
+            );
             Ok(Symbol::Record(fields))
         }
     }

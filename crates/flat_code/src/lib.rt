@@ -8,6 +8,6 @@ pub mod names;
 pub mod pack;
 pub mod parts;
 pub mod scope;
-pub mod source;
 pub mod symbol;
 pub mod unpack;
+mod want;

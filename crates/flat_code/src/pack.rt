@@ -1,107 +1,32 @@
 // Packing: words out of the fields of a record, by shifts.
 
-ghost use Rattle.std.specs.Prelude.{◌≡◌, ◌≤◌, ◌+◌, ◌*◌, ◌/◌, ◌^◌, min, take, length, slice_index, replicate, bit_or, true, false, [], ◌∷◌, IfOk, OnOk, MatchOption};
+ghost use Rattle.std.specs.Prelude.{◌≡◌, ◌≤◌, ◌+◌, ◌*◌, ◌/◌, ◌^◌, take, length, slice_index, bit_or, true, false, [], ◌∷◌, IfOk, OnOk, MatchOption};
 ghost use Rattle.nv_base.specs.declared.term.Atom.TheVariants.{Lit};
 ghost use Rattle.nv_base.specs.Words.{Env};
 ghost use Rattle.nv_ast.specs.Bits.{bits as bits_in};
 ghost use Rattle.nv_ast.specs.LayoutView.{layout_tree, field_tree, list_fields, list_layouts};
 ghost use Rattle.nv_ast.specs.Outline.{outline, outlines, field_outline, field_outlines, size as bit_size, total_size, total_named_size, longest, IsSound, AllSound, AllNamedSound};
-ghost use Rattle.nv_ast.specs.Tree.{NamedLayout};
-ghost use Rattle.nv_ast.specs.Types.{packed_ty, can_pack, form_of};
 ghost use Rattle.nv_meaning.specs.Values.{word_of, fields_of as value_fields, field_named as value_named};
-ghost use Rattle.nv_meaning.specs.Packing.{packed_value, bits_of, parts_bits, chosen_bits, joined_bits};
+ghost use Rattle.nv_meaning.specs.Packing.{bits_of, parts_bits, chosen_bits, joined_bits};
 ghost use Rattle.nv_meaning.specs.inner.TableView.{declared_in};
-ghost use Rattle.flat_code.specs.inner.Code.{Computes};
-ghost use Rattle.flat_code.specs.inner.Reads.{Makes, Writes, Packs, has_symbol};
-ghost use Rattle.flat_code.specs.inner.Symbols.{Word, form, operands, value_in, Fits, AreOlder, fields_of, field_named};
+ghost use Rattle.flat_code.specs.inner.Reads.{Makes, Writes, has_symbol};
+ghost use Rattle.flat_code.specs.inner.Symbols.{Word, value_in, fields_of, field_named};
 ghost use Rattle.flat_code.specs.inner.View.{view, list_named_symbols};
-ghost use Rattle.flat_code.specs.inner.Well.{AreWellLets};
 ghost use Rattle.flat_code.specs.inner.Adds.{AddsLets, AddsWord, AddsWords};
-ghost use Rattle.flat_code.specs.inner.Narrow.{AreNarrowLets};
-ghost use Rattle.flat_code.specs.inner.Small.{PacksFew};
 ghost use Rattle.flat_code.specs.inner.Written.{packed_fields, packed_layout, packed_parts, packed_chosen, packed_joined, WritesFew};
 
 use crate::parts::{define, shifted};
-use crate::symbol::{Field, Symbol, Valued, symbol_of_words, word_in};
+use crate::symbol::{Field, Symbol, word_in};
 use crate::unpack::between;
 use flat_ir::Step;
 use nv_ast::{FieldText, LayoutText, Name, ShiftOp};
 use nv_base::{Atom, Bin, NoMemory, Prim};
 use nv_meaning::Table;
-use std::alloc::Global;
 
-// A layout of more bits has more words than memory holds.
-const MOST_BITS: u64 = 1 << 37;
-
-/// The steps that pack a record by a layout, and the packed words.
-pub fn packed<'a>(
-    alloc: Global,
-    t: &Table<'a>,
-    l: &'a Name,
-    s: &Symbol<'a>,
-    next: &mut u32,
-) -> Result<Valued<'a>, NoMemory>
-    ensures value { IfOk result (λ r. IsSound (outline (declared_in t.now).layouts (NamedLayout l.now)) → can_pack (form_of (outline (declared_in t.now).layouts (NamedLayout l.now))) (form (view s.now)) ≡ true → AreOlder next.old (operands (view s.now)) → (env : Env) → Fits env (view s.now) → Computes next.old r.steps.items env (λ new. (value_in new (view r.symbol) ≡ packed_value (outline (declared_in t.now).layouts (NamedLayout l.now)) (value_in env (view s.now))) × Fits new (view r.symbol))) }
-    ensures formed { IfOk result (λ r. form (view r.symbol) ≡ packed_ty (outline (declared_in t.now).layouts (NamedLayout l.now))) }
-    ensures older { IfOk result (λ r. AreOlder next.old (operands (view s.now)) → AreOlder next.new (operands (view r.symbol))) }
-    ensures well { IfOk result (λ r. IsSound (outline (declared_in t.now).layouts (NamedLayout l.now)) → can_pack (form_of (outline (declared_in t.now).layouts (NamedLayout l.now))) (form (view s.now)) ≡ true → AreWellLets next.old next.new (operands (view s.now)) r.steps.items (operands (view r.symbol))) }
-    ensures narrow { IfOk result (λ r. AreNarrowLets (operands (view s.now)) r.steps.items (operands (view r.symbol))) }
-    ensures small { IfOk result (λ r. IsSound (outline (declared_in t.now).layouts (NamedLayout l.now)) → can_pack (form_of (outline (declared_in t.now).layouts (NamedLayout l.now))) (form (view s.now)) ≡ true → PacksFew (outline (declared_in t.now).layouts (NamedLayout l.now)) (operands (view s.now)) r.steps.items) }
-    ensures later { next.old ≤ next.new }
-{
-    match t.layout(l, t.layouts.len()) {
-        Some((text, limit)) => {
-            let bits = t.size_of(l);
-            written(alloc, t, text, limit, bits, s, next)
-        }
-        None => {
-            let symbol = symbol_of_words(alloc, &[])?;
-            Ok(Valued {
-                steps: Vec::new(alloc),
-                symbol,
-            })
-        }
-    }
-}
-
-// The words of a layout of so many bits.
-fn written<'a>(
-    alloc: Global,
-    t: &Table<'a>,
-    l: &'a LayoutText,
-    limit: usize,
-    bits: u64,
-    s: &Symbol<'a>,
-    next: &mut u32,
-) -> Result<Valued<'a>, NoMemory>
-    requires { bits ≡ min (bit_size (outline (take limit (declared_in t.now).layouts) (layout_tree l.now))) u64.MAX }
-    ensures packs { IfOk result (λ r. Packs (outline (take limit (declared_in t.now).layouts) (layout_tree l.now)) next.old next.new (view s.now) r.steps.items (view r.symbol)) }
-    ensures well { IfOk result (λ r. AreWellLets next.old next.new (operands (view s.now)) r.steps.items (operands (view r.symbol))) }
-    ensures narrow { IfOk result (λ r. AreNarrowLets (operands (view s.now)) r.steps.items (operands (view r.symbol))) }
-    ensures small { IfOk result (λ r. IsSound (outline (take limit (declared_in t.now).layouts) (layout_tree l.now)) → can_pack (form_of (outline (take limit (declared_in t.now).layouts) (layout_tree l.now))) (form (view s.now)) ≡ true → PacksFew (outline (take limit (declared_in t.now).layouts) (layout_tree l.now)) (operands (view s.now)) r.steps.items) }
-    ensures later { next.old ≤ next.new }
-{
-    if bits > MOST_BITS {
-        return Err(NoMemory);
-    }
-    let mut words = zeros(alloc, (bits as usize + 31) / 32)?;
-    let mut steps = Vec::new(alloc);
-    write_layout(t, l, limit, s, &mut words, 0, &mut steps, next)?;
-    let symbol = symbol_of_words(alloc, &words)?;
-    Ok(Valued { steps, symbol })
-}
-
-// So many literals 0.
-fn zeros(alloc: Global, count: usize) -> Result<Vec<Atom>, NoMemory>
-    ensures { IfOk result (λ words. words.items ≡ replicate count (Lit 0)) }
-{
-    Ok(vec![in alloc; Atom::Lit(0); count]?)
-}
-
-// Writes the bits of a layout from a place on, and answers the place behind them. Gaps are zeros
-// already.
+/// Writes the bits of a layout from a place on, and answers the place behind them. Gaps are zeros
+/// already.
 #[cycle(write)]
-fn write_layout<'a>(
+pub fn write_layout<'a>(
     t: &Table<'a>,
     l: &'a LayoutText,
     limit: usize,

@@ -1,20 +1,14 @@
 // Small parts of flat code.
 
-ghost use Rattle.std.specs.Prelude.{◌≡◌, ◌<◌, ◌≤◌, ◌+◌, ◌∷◌, ◌++◌, [], ℕ, Some, true, false, if◌then◌else◌, IfOk, OnOk, not};
-ghost use Rattle.nv_base.specs.declared.term.Atom.TheVariants.{Var, Lit};
-ghost use Rattle.nv_base.specs.Words.{Env, compares};
-ghost use Rattle.flat_ir.specs.Meaning.{Calls, does};
-ghost use Rattle.nv_base.specs.Running.{Running};
-ghost use Rattle.flat_ir.specs.Running.{Gives};
-ghost use Rattle.flat_ir.specs.Spine.{steps_do};
+ghost use Rattle.std.specs.Prelude.{◌≡◌, ◌<◌, ◌≤◌, ◌+◌, ◌∷◌, ◌++◌, [], Some, true, false, IfOk, OnOk};
+ghost use Rattle.nv_base.specs.declared.term.Atom.TheVariants.{Var};
 ghost use Rattle.flat_ir.specs.declared.spine.Step.TheVariants.{Let};
-ghost use Rattle.flat_code.specs.inner.Code.{arithmetic_of, comparison_of, ends_of, shift_of, variables, chosen};
+ghost use Rattle.flat_code.specs.inner.Code.{arithmetic_of, comparison_of, ends_of, shift_of, variables};
 ghost use Rattle.flat_code.specs.inner.Symbols.{numbers_from};
 ghost use Rattle.flat_code.specs.inner.Simulation.{Extends};
-ghost use Rattle.flat_code.specs.inner.Well.{GivesLiteral, IsChoice};
 
 use crate::symbol::new_variable;
-use flat_ir::{Flat, Step, join};
+use flat_ir::Step;
 use nv_ast::{Op, ShiftOp};
 use nv_base::{Args, Atom, Bin, Cmp, NoMemory, Prim, Una, Vars};
 use std::alloc::Global;
@@ -28,15 +22,6 @@ pub enum Ends {
     Test,
     Both,
     Either,
-}
-
-/// Steps, and a comparison that behind them is a condition's truth.
-#[derive(Drop)]
-pub struct Test {
-    pub steps: Vec<Step>,
-    pub cmp: Cmp,
-    pub left: Atom,
-    pub right: Atom,
 }
 
 /// The operation of an operator on words.
@@ -77,18 +62,6 @@ pub fn ends_as(op: Op) -> Ends
         Op::Either => Ends::Either,
         Op::Eq | Op::Ne | Op::Lt | Op::Le | Op::Gt | Op::Ge => Ends::Test,
         Op::Add | Op::Sub | Op::And | Op::Or | Op::Xor => Ends::Value,
-    }
-}
-
-/// The comparison that holds where the other one doesn't.
-pub fn turned(cmp: Cmp) -> Cmp
-    ensures { (x y : ℕ) → compares result x y ≡ not (compares cmp x y) }
-{
-    match cmp {
-        Cmp::Eq => Cmp::Ne,
-        Cmp::Ne => Cmp::Eq,
-        Cmp::Lt => Cmp::Ge,
-        Cmp::Ge => Cmp::Lt,
     }
 }
 
@@ -186,28 +159,4 @@ pub fn short_vars(alloc: Global, vars: &[u32]) -> Result<Vars, NoMemory>
         list.push(*x)?;
     }
     Ok(list)
-}
-
-/// Code that gives a truth.
-pub fn give_truth(alloc: Global, b: bool) -> Result<Flat, NoMemory>
-    ensures gives { IfOk result (λ t. (call : Calls) (env : Env) (now : Running) → does call t env now ≡ Gives ((if b then 1 else 0) ∷ []) now) }
-    ensures literal { IfOk result (λ t. GivesLiteral t) }
-{
-    let mut words = Vec::new(alloc);
-    words.push(Atom::Lit(b as u32))?;
-    Ok(Flat::Give(words))
-}
-
-/// Code that does the first part where a test holds, else the second.
-pub fn branch(alloc: Global, test: Test, first: Flat, second: Flat) -> Result<Flat, NoMemory>
-    ensures chooses { IfOk result (λ t. (call : Calls) → does call t ≡ steps_do call test.steps.items (chosen test.cmp test.left test.right (does call first) (does call second))) }
-    ensures nodes { IfOk result (λ t. IsChoice test.steps.items test.cmp test.left test.right first second t) }
-{
-    let first = Box::new(alloc, first)?;
-    let second = Box::new(alloc, second)?;
-    Ok(join(
-        alloc,
-        test.steps,
-        Flat::If(test.cmp, test.left, test.right, first, second),
-    )?)
 }

@@ -7,6 +7,7 @@ ghost use Rattle.flat_code.specs.inner.View.{view, list_symbols, scope_of};
 ghost use Rattle.flat_code.specs.inner.Simulation.{Extends};
 
 use crate::symbol::{Symbol, copied};
+use crate::want::{made, put};
 use nv_ast::{Name, Pat};
 use nv_base::{Atom, NoMemory};
 use std::alloc::Global;
@@ -41,10 +42,13 @@ pub fn bind<'a>(p: &'a Pat, s: Symbol<'a>, scope: &mut Scope<'a>) -> Result<(), 
 {
     match p {
         Pat::Name(x) => {
-            scope.push((x, s))?;
+            put!(scope, (x, s));
             Ok(())
         }
-        Pat::Any => Ok(()),
+        Pat::Any => {
+            drop(s);
+            Ok(())
+        }
         Pat::Tuple(ps) => match s {
             Symbol::Tuple(parts) => bind_all(ps, parts, scope),
             _ => Ok(()),
@@ -65,9 +69,13 @@ pub fn bind_all<'a>(
     let mut symbols = ss.into_iter();
     for p in ps {
         match symbols.next() {
-            Some(s) => bind(p, s, scope)?,
-            None => return Ok(()),
+            Some(s) => made!(bind(p, s, scope), symbols),
+            None => {
+                drop(symbols);
+                return Ok(());
+            }
         }
     }
+    drop(symbols);
     Ok(())
 }

@@ -5,6 +5,7 @@ ghost use Rattle.nv_ast.specs.Types.{words, total_words, total_named_words};
 ghost use Rattle.flat_code.specs.inner.Symbols.{operands, all_operands, named_operands, form, forms, named_forms, fresh, all_fresh, named_fresh, numbers_from, words_symbol, word_symbols, word_operand, truth_operand, fields_of, field_named};
 ghost use Rattle.flat_code.specs.inner.View.{view, list_symbols, list_named_symbols};
 
+use crate::want::{made, put};
 use flat_ir::Step;
 use nv_ast::Name;
 use nv_base::{Atom, NoMemory};
@@ -247,7 +248,8 @@ fn renewed_all<'a>(
 {
     let mut new = Vec::with_capacity(alloc, ss.len())?;
     for s in ss {
-        new.push(renewed(alloc, s, next, made)?)?;
+        let one = made!(renewed(alloc, s, next, made), new);
+        put!(new, one, new);
     }
     Ok(new)
 }
@@ -266,7 +268,8 @@ fn renewed_fields<'a>(
 {
     let mut new = Vec::with_capacity(alloc, fields.len())?;
     for field in fields {
-        new.push((field.0, renewed(alloc, &field.1, next, made)?))?;
+        let one = made!(renewed(alloc, &field.1, next, made), new);
+        put!(new, (field.0, one), new);
     }
     Ok(new)
 }

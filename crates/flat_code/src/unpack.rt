@@ -1,93 +1,29 @@
 // Unpacking: the fields of packed words by shifts.
 
 ghost use Rattle.std.specs.Prelude.{◌≡◌, ◌≤◌, ◌+◌, ◌*◌, ◌^◌, min, take, length, slice_index, [], ◌∷◌, IfOk, OnOk};
-ghost use Rattle.nv_base.specs.Words.{Env, atom_words, shifted_left, shifted_right};
+ghost use Rattle.nv_base.specs.Words.{shifted_left, shifted_right};
 ghost use Rattle.nv_ast.specs.Bits.{number, slice, packed as packed_bits};
 ghost use Rattle.nv_ast.specs.LayoutView.{layout_tree, field_tree, list_fields, list_layouts};
-ghost use Rattle.nv_ast.specs.Outline.{outline, outlines, field_outline, field_outlines, size as bit_size, total_size, total_named_size, longest, bit_fields, part_fields, alternative_fields, joined_fields, IsSound};
-ghost use Rattle.nv_ast.specs.Tree.{NamedLayout};
-ghost use Rattle.nv_ast.specs.Types.{packed_words, unpacked_ty};
-ghost use Rattle.nv_meaning.specs.Packing.{value_at};
+ghost use Rattle.nv_ast.specs.Outline.{outline, outlines, field_outline, field_outlines, size as bit_size, total_size, total_named_size, longest, bit_fields, part_fields, alternative_fields, joined_fields};
 ghost use Rattle.nv_meaning.specs.inner.TableView.{declared_in};
-ghost use Rattle.flat_code.specs.inner.Code.{Computes};
-ghost use Rattle.flat_code.specs.inner.Reads.{Makes, ReadsRecord, ReadsJoined, ReadsParts, ReadsAlternatives, ReadsField, Unpacks};
-ghost use Rattle.flat_code.specs.inner.Soundness.{AreWords};
-ghost use Rattle.flat_code.specs.inner.Symbols.{form, operands, value_in, Fits, AreOlder};
-ghost use Rattle.flat_code.specs.inner.View.{view, list_named_symbols};
-ghost use Rattle.flat_code.specs.inner.Well.{AreWellLets};
+ghost use Rattle.flat_code.specs.inner.Reads.{Makes, ReadsRecord, ReadsJoined, ReadsParts, ReadsAlternatives, ReadsField};
+ghost use Rattle.flat_code.specs.inner.View.{list_named_symbols};
 ghost use Rattle.flat_code.specs.inner.Adds.{AddsLets, AddsFields, AddsWord};
 ghost use Rattle.flat_code.specs.inner.FewReads.{ReadsFew};
-ghost use Rattle.flat_code.specs.inner.Narrow.{AreNarrowLets};
-ghost use Rattle.flat_code.specs.inner.Small.{AreFewLets};
 
 use crate::parts::{define, shifted};
-use crate::symbol::{Field, Symbol, Valued};
+use crate::symbol::{Field, Symbol};
+use crate::want::{made, put};
 use flat_ir::Step;
 use nv_ast::{FieldText, LayoutText, Name, ShiftOp};
 use nv_base::{Atom, Bin, NoMemory, Prim};
 use nv_meaning::Table;
 use std::alloc::Global;
 
-// So many words that no number holds their bits are more than memory holds.
-const MOST_WORDS: usize = 1 << 32;
-
-/// The steps that unpack words by a layout, and the record of its fields.
-pub fn unpacked<'a>(
-    alloc: Global,
-    t: &Table<'a>,
-    l: &'a Name,
-    words: &[Atom],
-    next: &mut u32,
-) -> Result<Valued<'a>, NoMemory>
-    ensures value { IfOk result (λ r. IsSound (outline (declared_in t.now).layouts (NamedLayout l.now)) → length words.now ≡ packed_words (outline (declared_in t.now).layouts (NamedLayout l.now)) → AreOlder next.old words.now → (env : Env) → AreWords (atom_words env words.now) → Computes next.old r.steps.items env (λ new. (value_in new (view r.symbol) ≡ value_at (outline (declared_in t.now).layouts (NamedLayout l.now)) (packed_bits (atom_words env words.now))) × Fits new (view r.symbol))) }
-    ensures formed { IfOk result (λ r. form (view r.symbol) ≡ unpacked_ty (outline (declared_in t.now).layouts (NamedLayout l.now))) }
-    ensures older { IfOk result (λ r. AreOlder next.old words.now → AreOlder next.new (operands (view r.symbol))) }
-    ensures well { IfOk result (λ r. IsSound (outline (declared_in t.now).layouts (NamedLayout l.now)) → length words.now ≡ packed_words (outline (declared_in t.now).layouts (NamedLayout l.now)) → AreWellLets next.old next.new words.now r.steps.items (operands (view r.symbol))) }
-    ensures later { next.old ≤ next.new }
-    ensures narrow { IfOk result (λ r. AreNarrowLets words.now r.steps.items (operands (view r.symbol))) }
-    ensures small { IfOk result (λ r. AreFewLets r.steps.items (4 * length (bit_fields 0 (outline (declared_in t.now).layouts (NamedLayout l.now))))) }
-{
-    if words.len() > MOST_WORDS {
-        return Err(NoMemory);
-    }
-    match t.layout(l, t.layouts.len()) {
-        Some((text, limit)) => record(alloc, t, text, limit, words, next),
-        None => Ok(Valued {
-            steps: Vec::new(alloc),
-            symbol: Symbol::Record(Vec::new(alloc)),
-        }),
-    }
-}
-
-// The record of a layout.
-fn record<'a>(
-    alloc: Global,
-    t: &Table<'a>,
-    l: &'a LayoutText,
-    limit: usize,
-    words: &[Atom],
-    next: &mut u32,
-) -> Result<Valued<'a>, NoMemory>
-    requires { length words.now ≤ 2 ^ 32 }
-    ensures unpacks { IfOk result (λ r. Unpacks (outline (take limit (declared_in t.now).layouts) (layout_tree l.now)) next.old next.new words.now r.steps.items (view r.symbol)) }
-    ensures well { IfOk result (λ r. AreWellLets next.old next.new words.now r.steps.items (operands (view r.symbol))) }
-    ensures later { next.old ≤ next.new }
-    ensures narrow { IfOk result (λ r. AreNarrowLets words.now r.steps.items (operands (view r.symbol))) }
-    ensures small { IfOk result (λ r. AreFewLets r.steps.items (4 * length (bit_fields 0 (outline (take limit (declared_in t.now).layouts) (layout_tree l.now))))) }
-{
-    let mut steps = Vec::new(alloc);
-    let mut fields = Vec::new(alloc);
-    add_fields(alloc, t, l, limit, words, 0, &mut steps, next, &mut fields)?;
-    Ok(Valued {
-        steps,
-        symbol: Symbol::Record(fields),
-    })
-}
-
-// Adds the fields of a layout's record, whose bits begin at a place, and answers the place behind
-// them, or the greatest number.
+/// Adds the fields of a layout's record, whose bits begin at a place, and answers the place behind
+/// them, or the greatest number.
 #[cycle(unpack)]
-fn add_fields<'a>(
+pub fn add_fields<'a>(
     alloc: Global,
     t: &Table<'a>,
     l: &'a LayoutText,
@@ -220,19 +156,25 @@ fn add_field<'a>(
     match &f.1 {
         FieldText::Bits(n) => {
             let word = word_at(words, at, *n, steps, next)?;
-            fields.push((&f.0, Symbol::Word(word)))?;
+            put!(fields, (&f.0, Symbol::Word(word)));
             Ok(at.saturating_add(*n as u64))
         }
         FieldText::Inner(l) => {
             let mut inner = Vec::new(alloc);
-            let behind = add_fields(alloc, t, l, limit, words, at, steps, next, &mut inner)?;
-            fields.push((&f.0, Symbol::Record(inner)))?;
+            let behind = made!(
+                add_fields(alloc, t, l, limit, words, at, steps, next, &mut inner),
+                inner
+            );
+            put!(fields, (&f.0, Symbol::Record(inner)));
             Ok(behind)
         }
         FieldText::Overlay(fs) => {
             let mut inner = Vec::new(alloc);
-            let behind = add_alternatives(alloc, t, fs, limit, words, at, steps, next, &mut inner)?;
-            fields.push((&f.0, Symbol::Record(inner)))?;
+            let behind = made!(
+                add_alternatives(alloc, t, fs, limit, words, at, steps, next, &mut inner),
+                inner
+            );
+            put!(fields, (&f.0, Symbol::Record(inner)));
             Ok(behind)
         }
     }

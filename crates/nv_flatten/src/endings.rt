@@ -10,16 +10,17 @@ ghost use Rattle.flat_code.specs.inner.Code.{comparison_of, is_given, is_compari
 ghost use Rattle.nv_flatten.specs.inner.Flat.{IsFlatTest, IsFlatEnd};
 ghost use Rattle.flat_code.specs.inner.Simulation.{Extends};
 ghost use Rattle.flat_code.specs.inner.View.{view, scope_of};
-ghost use Rattle.flat_code.specs.inner.WholeView.{whole_in};
+ghost use Rattle.flat_parts.specs.inner.WholeView.{whole_in};
 
 use crate::values::{each, statements, value};
 use flat_code::arms::{EndArm, TestArm, end_arm, test_arm};
 use flat_code::names::Names;
-use flat_code::parts::{Test, add_steps, branch, give_truth, short, short_vars, turned};
+use flat_code::parts::{add_steps, short, short_vars};
 use flat_code::scope::{Scope, bind_all};
-use flat_code::source::Source;
 use flat_code::symbol::{Symbol, all_operands_in, operands_in, truth_in, word_in};
 use flat_ir::{Flat, Step, join};
+use flat_parts::branches::{Test, branch, give_truth, turned};
+use flat_parts::source::Source;
 use nv_ast::{Expr, Name, Op, Pat, Stmt};
 use nv_base::{Atom, Cmp, NoMemory};
 use std::alloc::Global;

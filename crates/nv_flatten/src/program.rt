@@ -23,14 +23,14 @@ ghost use Rattle.flat_code.specs.inner.Symbols.{named_fresh, numbers_from, param
 ghost use Rattle.flat_code.specs.inner.View.{scope_of};
 ghost use Rattle.flat_code.specs.inner.Well.{AreCalled};
 ghost use Rattle.flat_code.specs.inner.Whole.{group_of};
-ghost use Rattle.flat_code.specs.inner.WholeView.{whole_in};
+ghost use Rattle.flat_parts.specs.inner.WholeView.{whole_in};
 
 use crate::endings::ending;
 use flat_code::forms::of_type;
 use flat_code::names::Names;
 use flat_code::scope::Scope;
-use flat_code::source::Source;
 use flat_ir::{Flat, FlatFun, FlatProgram};
+use flat_parts::source::Source;
 use nv_ast::{Fun, Name, TyText, Typed};
 use nv_base::NoMemory;
 use std::alloc::Global;

@@ -12,20 +12,19 @@ ghost use Rattle.nv_flatten.specs.inner.Flat.{IsFlatValue, AreFlatValues, AreFla
 ghost use Rattle.flat_code.specs.inner.Simulation.{Extends};
 ghost use Rattle.flat_code.specs.inner.Symbols.{Word, Truth, fresh, numbers_from};
 ghost use Rattle.flat_code.specs.inner.View.{view, list_symbols, list_named_symbols, scope_of};
-ghost use Rattle.flat_code.specs.inner.WholeView.{whole_in};
+ghost use Rattle.flat_parts.specs.inner.WholeView.{whole_in};
 
 use crate::endings::ending;
 use flat_code::arms::{ValueArm, value_arm};
 use flat_code::names::Names;
-use flat_code::pack::packed;
 use flat_code::parts::{add_steps, define, new_variables, shifted, short};
 use flat_code::scope::{Scope, bind, variable};
-use flat_code::source::Source;
 use flat_code::symbol::{
     Field, Symbol, Valued, field_in, operands_in, renewed, symbol_of_words, truth_in, word_in,
 };
-use flat_code::unpack::unpacked;
 use flat_ir::Step;
+use flat_parts::layouts::{packed, unpacked};
+use flat_parts::source::Source;
 use nv_ast::{Expr, Name, Op, ShiftOp, Stmt};
 use nv_base::{Atom, Bin, Mem, NoMemory, Prim, Una};
 use std::alloc::Global;

@@ -15,7 +15,7 @@ use Rattle.flat_code.specs.inner.Symbols.{Word, Truth, word_operand, words_symbo
 use Rattle.flat_code.specs.inner.Simulation.{Extends}
 use Rattle.flat_code.specs.inner.View.{view, list_symbols, scope_of}
 use Rattle.flat_code.specs.inner.Whole.{raised_or_none}
-use Rattle.flat_code.specs.inner.WholeView.{whole_in}
+use Rattle.flat_parts.specs.inner.WholeView.{whole_in}
 use Rattle.flat_code.proofs.Keeping.{extends-itself, extends-then}
 use Rattle.flat_code.proofs.Rows.{tuple_view, record_view}
 use Rattle.nv_flatten.proofs.Ranks.{value_rank, value_rank-small, ending_rank, ending_rank-small, condition_rank, condition_rank-small, named-below, truth-below, given-below, decided-below}

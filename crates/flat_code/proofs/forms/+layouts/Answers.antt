@@ -88,36 +88,36 @@ pub add_parts-loop-f-preserved : goal.add_parts-loop-f-preserved
 add_parts-loop-f-preserved t c =
     let w : total_named_words (unpacked_all (forms_of (field_outlines (take c.args.limit (declared_in c.args.t.now).layouts) (list_fields (drop c.loop-f.f-index c.args.fs.now))))) ≡ words (unpacked (form_of (field_outline (take c.args.limit (declared_in c.args.t.now).layouts) (field_tree c.f-item.result.1)))) + total_named_words (unpacked_all (forms_of (field_outlines (take c.args.limit (declared_in c.args.t.now).layouts) (list_fields (drop (c.loop-f.f-index + 1) c.args.fs.now))))) = ap (λ fs. total_named_words (unpacked_all (forms_of (field_outlines (take c.args.limit (declared_in c.args.t.now).layouts) (list_fields fs))))) (next_item c.args.fs.now c.loop-f.f-index c.f-item.result c.loop-f-test.true c.f-item.is) in
     record {
-      fields = fields-turn c.loop-f.next c.of_field.new.next c.f-item.result.0 (unpacked (form_of (field_outline (take c.args.limit (declared_in c.args.t.now).layouts) (field_tree c.f-item.result.1)))) (unpacked_all (forms_of (field_outlines (take c.args.limit (declared_in c.args.t.now).layouts) (list_fields (drop (c.loop-f.f-index + 1) c.args.fs.now))))) (unpacked_all (forms_of (field_outlines (take c.args.limit (declared_in c.args.t.now).layouts) (list_fields (drop c.loop-f.f-index c.args.fs.now))))) c.loop-f.fields.items c.push.new.self.items _ _ (ap (λ fs. unpacked_all (forms_of (field_outlines (take c.args.limit (declared_in c.args.t.now).layouts) (list_fields fs)))) (next_item c.args.fs.now c.loop-f.f-index c.f-item.result c.loop-f-test.true c.f-item.is)) refl c.in_ok-of_field.ensures.symbol c.in_ok-of_field.ensures.next c.in_ok-push.ensures.items c.loop-f.invariant.fields;
-      next = omega (arith, c.in_ok-of_field.ensures.next, c.loop-f.invariant.next, w);
-      made = numbers-turn c.loop-f.made.items c.of_field.new.made.items _ c.loop-f.next c.of_field.new.next (words (unpacked (form_of (field_outline (take c.args.limit (declared_in c.args.t.now).layouts) (field_tree c.f-item.result.1))))) (total_named_words (unpacked_all (forms_of (field_outlines (take c.args.limit (declared_in c.args.t.now).layouts) (list_fields (drop (c.loop-f.f-index + 1) c.args.fs.now)))))) (total_named_words (unpacked_all (forms_of (field_outlines (take c.args.limit (declared_in c.args.t.now).layouts) (list_fields (drop c.loop-f.f-index c.args.fs.now)))))) c.in_ok-of_field.ensures.made c.in_ok-of_field.ensures.next w c.loop-f.invariant.made;
-      later = omega (arith, c.in_ok-of_field.ensures.later, c.loop-f.invariant.later);
+      fields = fields-turn c.loop-f.next c.of_field.new.next c.f-item.result.0 (unpacked (form_of (field_outline (take c.args.limit (declared_in c.args.t.now).layouts) (field_tree c.f-item.result.1)))) (unpacked_all (forms_of (field_outlines (take c.args.limit (declared_in c.args.t.now).layouts) (list_fields (drop (c.loop-f.f-index + 1) c.args.fs.now))))) (unpacked_all (forms_of (field_outlines (take c.args.limit (declared_in c.args.t.now).layouts) (list_fields (drop c.loop-f.f-index c.args.fs.now))))) c.loop-f.fields.items c.push.new.self.items _ _ (ap (λ fs. unpacked_all (forms_of (field_outlines (take c.args.limit (declared_in c.args.t.now).layouts) (list_fields fs)))) (next_item c.args.fs.now c.loop-f.f-index c.f-item.result c.loop-f-test.true c.f-item.is)) refl c.in_ok-symbol.ensures.symbol c.in_ok-symbol.ensures.next c.in-Ok.ensures.items c.loop-f.invariant.fields;
+      next = omega (arith, c.in_ok-symbol.ensures.next, c.loop-f.invariant.next, w);
+      made = numbers-turn c.loop-f.made.items c.of_field.new.made.items _ c.loop-f.next c.of_field.new.next (words (unpacked (form_of (field_outline (take c.args.limit (declared_in c.args.t.now).layouts) (field_tree c.f-item.result.1))))) (total_named_words (unpacked_all (forms_of (field_outlines (take c.args.limit (declared_in c.args.t.now).layouts) (list_fields (drop (c.loop-f.f-index + 1) c.args.fs.now)))))) (total_named_words (unpacked_all (forms_of (field_outlines (take c.args.limit (declared_in c.args.t.now).layouts) (list_fields (drop c.loop-f.f-index c.args.fs.now)))))) c.in_ok-symbol.ensures.made c.in_ok-symbol.ensures.next w c.loop-f.invariant.made;
+      later = omega (arith, c.in_ok-symbol.ensures.later, c.loop-f.invariant.later);
     }
 
 pub add_parts-returns-clause-fields : goal.add_parts-returns-clause-fields
 add_parts-returns-clause-fields t c =
     fields-done c.loop-f.next (unpacked_all (forms_of (field_outlines (take c.args.limit (declared_in c.args.t.now).layouts) (list_fields (drop c.loop-f.f-index c.args.fs.now))))) c.loop-f.fields.items _ (ap (λ fs. unpacked_all (forms_of (field_outlines (take c.args.limit (declared_in c.args.t.now).layouts) (list_fields fs)))) (dropped-all c.args.fs.now c.loop-f.f-index (omega arith))) c.loop-f.invariant.fields
 
-pub of_field-returns-in_ok-add_layout-in-Inner-clause-symbol : goal.of_field-returns-in_ok-add_layout-in-Inner-clause-symbol
-of_field-returns-in_ok-add_layout-in-Inner-clause-symbol t c =
-    record-view c.add_layout.new.fields ∙ ap (λ vs. Record vs) (c.in_ok-add_layout-in-Inner.ensures.fields ∙ ap (λ l. list_named_symbols l ++_symbols named_fresh c.args.next.now (unpacked_all (record_forms (outline (take c.args.limit (declared_in c.args.t.now).layouts) (layout_tree c.in-Inner.l))))) c.new-fields.ensures.items) ∙ sym (ap (λ f. fresh c.args.next.now (unpacked f)) (ap (λ k. form_of (field_outline (take c.args.limit (declared_in c.args.t.now).layouts) (field_tree k))) c.in-Inner.is ∙ layout-form (layout_pairs c.args.t.now.layouts.items) c.args.limit (layout_tree c.in-Inner.l)))
+pub of_field-returns-in-Ok-clause-symbol : goal.of_field-returns-in-Ok-clause-symbol
+of_field-returns-in-Ok-clause-symbol t c =
+    record-view c.add_layout.new.fields ∙ ap (λ vs. Record vs) (c.in-Ok.ensures.fields ∙ ap (λ l. list_named_symbols l ++_symbols named_fresh c.args.next.now (unpacked_all (record_forms (outline (take c.args.limit (declared_in c.args.t.now).layouts) (layout_tree c.in-Inner.l))))) c.new-fields.ensures.items) ∙ sym (ap (λ f. fresh c.args.next.now (unpacked f)) (ap (λ k. form_of (field_outline (take c.args.limit (declared_in c.args.t.now).layouts) (field_tree k))) c.in-Inner.is ∙ layout-form (layout_pairs c.args.t.now.layouts.items) c.args.limit (layout_tree c.in-Inner.l)))
 
-pub of_field-returns-in_ok-add_layout-in-Inner-clause-next : goal.of_field-returns-in_ok-add_layout-in-Inner-clause-next
-of_field-returns-in_ok-add_layout-in-Inner-clause-next t c =
-    c.in_ok-add_layout-in-Inner.ensures.next ∙ sym (ap (λ f. c.args.next.now + words (unpacked f)) (ap (λ k. form_of (field_outline (take c.args.limit (declared_in c.args.t.now).layouts) (field_tree k))) c.in-Inner.is ∙ layout-form (layout_pairs c.args.t.now.layouts.items) c.args.limit (layout_tree c.in-Inner.l)))
+pub of_field-returns-in-Ok-clause-next : goal.of_field-returns-in-Ok-clause-next
+of_field-returns-in-Ok-clause-next t c =
+    c.in-Ok.ensures.next ∙ sym (ap (λ f. c.args.next.now + words (unpacked f)) (ap (λ k. form_of (field_outline (take c.args.limit (declared_in c.args.t.now).layouts) (field_tree k))) c.in-Inner.is ∙ layout-form (layout_pairs c.args.t.now.layouts.items) c.args.limit (layout_tree c.in-Inner.l)))
 
-pub of_field-returns-in_ok-add_layout-in-Inner-clause-made : goal.of_field-returns-in_ok-add_layout-in-Inner-clause-made
-of_field-returns-in_ok-add_layout-in-Inner-clause-made t c =
-    c.in_ok-add_layout-in-Inner.ensures.made ∙ sym (ap (λ f. c.args.made.now.items ++ numbers_from c.args.next.now (words (unpacked f))) (ap (λ k. form_of (field_outline (take c.args.limit (declared_in c.args.t.now).layouts) (field_tree k))) c.in-Inner.is ∙ layout-form (layout_pairs c.args.t.now.layouts.items) c.args.limit (layout_tree c.in-Inner.l)))
+pub of_field-returns-in-Ok-clause-made : goal.of_field-returns-in-Ok-clause-made
+of_field-returns-in-Ok-clause-made t c =
+    c.in-Ok.ensures.made ∙ sym (ap (λ f. c.args.made.now.items ++ numbers_from c.args.next.now (words (unpacked f))) (ap (λ k. form_of (field_outline (take c.args.limit (declared_in c.args.t.now).layouts) (field_tree k))) c.in-Inner.is ∙ layout-form (layout_pairs c.args.t.now.layouts.items) c.args.limit (layout_tree c.in-Inner.l)))
 
-pub of_field-returns-in_ok-add_parts-in-Overlay-clause-symbol : goal.of_field-returns-in_ok-add_parts-in-Overlay-clause-symbol
-of_field-returns-in_ok-add_parts-in-Overlay-clause-symbol t c =
-    record-view c.add_parts.new.fields ∙ ap (λ vs. Record vs) (c.in_ok-add_parts-in-Overlay.ensures.fields ∙ ap (λ l. list_named_symbols l ++_symbols named_fresh c.args.next.now (unpacked_all (forms_of (field_outlines (take c.args.limit (declared_in c.args.t.now).layouts) (list_fields c.deref.result.now))))) c.new-fields-in-Overlay.ensures.items) ∙ sym (ap (λ f. fresh c.args.next.now (unpacked f)) (ap form_of (ap (field_outline (take c.args.limit (declared_in c.args.t.now).layouts)) (overlay_is c.args.f.now c.in-Overlay.fs c.in-Overlay.is) ∙ ap (λ k. OverlayOutline (field_outlines (take c.args.limit (declared_in c.args.t.now).layouts) (list_fields k))) (sym c.deref.ensures.value))))
+pub of_field-returns-in-Ok-add_parts-clause-symbol : goal.of_field-returns-in-Ok-add_parts-clause-symbol
+of_field-returns-in-Ok-add_parts-clause-symbol t c =
+    record-view c.add_parts.new.fields ∙ ap (λ vs. Record vs) (c.in-Ok-add_parts.ensures.fields ∙ ap (λ l. list_named_symbols l ++_symbols named_fresh c.args.next.now (unpacked_all (forms_of (field_outlines (take c.args.limit (declared_in c.args.t.now).layouts) (list_fields c.deref.result.now))))) c.new-fields-in-Overlay.ensures.items) ∙ sym (ap (λ f. fresh c.args.next.now (unpacked f)) (ap form_of (ap (field_outline (take c.args.limit (declared_in c.args.t.now).layouts)) (overlay_is c.args.f.now c.in-Overlay.fs c.in-Overlay.is) ∙ ap (λ k. OverlayOutline (field_outlines (take c.args.limit (declared_in c.args.t.now).layouts) (list_fields k))) (sym c.deref.ensures.value))))
 
-pub of_field-returns-in_ok-add_parts-in-Overlay-clause-next : goal.of_field-returns-in_ok-add_parts-in-Overlay-clause-next
-of_field-returns-in_ok-add_parts-in-Overlay-clause-next t c =
-    c.in_ok-add_parts-in-Overlay.ensures.next ∙ sym (ap (λ f. c.args.next.now + words (unpacked f)) (ap form_of (ap (field_outline (take c.args.limit (declared_in c.args.t.now).layouts)) (overlay_is c.args.f.now c.in-Overlay.fs c.in-Overlay.is) ∙ ap (λ k. OverlayOutline (field_outlines (take c.args.limit (declared_in c.args.t.now).layouts) (list_fields k))) (sym c.deref.ensures.value))))
+pub of_field-returns-in-Ok-add_parts-clause-next : goal.of_field-returns-in-Ok-add_parts-clause-next
+of_field-returns-in-Ok-add_parts-clause-next t c =
+    c.in-Ok-add_parts.ensures.next ∙ sym (ap (λ f. c.args.next.now + words (unpacked f)) (ap form_of (ap (field_outline (take c.args.limit (declared_in c.args.t.now).layouts)) (overlay_is c.args.f.now c.in-Overlay.fs c.in-Overlay.is) ∙ ap (λ k. OverlayOutline (field_outlines (take c.args.limit (declared_in c.args.t.now).layouts) (list_fields k))) (sym c.deref.ensures.value))))
 
-pub of_field-returns-in_ok-add_parts-in-Overlay-clause-made : goal.of_field-returns-in_ok-add_parts-in-Overlay-clause-made
-of_field-returns-in_ok-add_parts-in-Overlay-clause-made t c =
-    c.in_ok-add_parts-in-Overlay.ensures.made ∙ sym (ap (λ f. c.args.made.now.items ++ numbers_from c.args.next.now (words (unpacked f))) (ap form_of (ap (field_outline (take c.args.limit (declared_in c.args.t.now).layouts)) (overlay_is c.args.f.now c.in-Overlay.fs c.in-Overlay.is) ∙ ap (λ k. OverlayOutline (field_outlines (take c.args.limit (declared_in c.args.t.now).layouts) (list_fields k))) (sym c.deref.ensures.value))))
+pub of_field-returns-in-Ok-add_parts-clause-made : goal.of_field-returns-in-Ok-add_parts-clause-made
+of_field-returns-in-Ok-add_parts-clause-made t c =
+    c.in-Ok-add_parts.ensures.made ∙ sym (ap (λ f. c.args.made.now.items ++ numbers_from c.args.next.now (words (unpacked f))) (ap form_of (ap (field_outline (take c.args.limit (declared_in c.args.t.now).layouts)) (overlay_is c.args.f.now c.in-Overlay.fs c.in-Overlay.is) ∙ ap (λ k. OverlayOutline (field_outlines (take c.args.limit (declared_in c.args.t.now).layouts) (list_fields k))) (sym c.deref.ensures.value))))

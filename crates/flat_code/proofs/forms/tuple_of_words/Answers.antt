@@ -10,9 +10,9 @@ loop-preserved c =
     let left : c.args.n - c.loop.counter ≡ suc (c.args.n - (c.loop.counter + 1)) = omega arith in
     let more : c.args.n - c.loop.counter ≡ 1 + (c.args.n - (c.loop.counter + 1)) = omega arith in
     record {
-      symbols = symbols-turn c.loop.next c.add_variable.new.next WordTy (word_parts (c.args.n - (c.loop.counter + 1))) (word_parts (c.args.n - c.loop.counter)) c.loop.symbols.items c.push.new.self.items _ _ (ap word_parts left) (ap (λ x. Word (Var x)) c.in_ok-add_variable.ensures.number) c.in_ok-add_variable.ensures.next c.in_ok-push.ensures.items c.loop.invariant.symbols;
-      next = omega (arith, c.in_ok-add_variable.ensures.next, c.loop.invariant.next);
-      made = numbers-turn c.loop.made.items c.add_variable.new.made.items _ c.loop.next c.add_variable.new.next 1 (c.args.n - (c.loop.counter + 1)) (c.args.n - c.loop.counter) c.in_ok-add_variable.ensures.made c.in_ok-add_variable.ensures.next more c.loop.invariant.made;
+      symbols = symbols-turn c.loop.next c.add_variable.new.next WordTy (word_parts (c.args.n - (c.loop.counter + 1))) (word_parts (c.args.n - c.loop.counter)) c.loop.symbols.items c.push.new.self.items _ _ (ap word_parts left) (ap (λ x. Word (Var x)) c.in-Ok.ensures.number) c.in-Ok.ensures.next c.in-Ok-push.ensures.items c.loop.invariant.symbols;
+      next = omega (arith, c.in-Ok.ensures.next, c.loop.invariant.next);
+      made = numbers-turn c.loop.made.items c.add_variable.new.made.items _ c.loop.next c.add_variable.new.next 1 (c.args.n - (c.loop.counter + 1)) (c.args.n - c.loop.counter) c.in-Ok.ensures.made c.in-Ok.ensures.next more c.loop.invariant.made;
     }
 
 pub returns-clause-symbols : goal.returns-clause-symbols

@@ -86,40 +86,40 @@ pub add_fields-returns-in-Joined-clause-behind : goal.add_fields-returns-in-Join
 add_fields-returns-in-Joined-clause-behind t c =
     subst (λ (o : OutlineTree). IfOk c.add_joined.result (λ i. i ≡ min (c.args.at + size o) MAX)) (sym (ap (outline (take c.args.limit (declared_in c.args.t.now).layouts)) (joined_is c.args.l.now c.in-Joined.ls c.in-Joined.is) ∙ ap (λ k. JoinedOutline (outlines (take c.args.limit (declared_in c.args.t.now).layouts) (list_layouts k))) (sym c.deref-in-Joined.ensures.value))) c.add_joined.ensures.behind
 
-pub add_field-returns-in_ok-push-in-Bits-clause-reads : goal.add_field-returns-in_ok-push-in-Bits-clause-reads
-add_field-returns-in_ok-push-in-Bits-clause-reads t c =
+pub add_field-returns-in-Ok-clause-reads : goal.add_field-returns-in-Ok-clause-reads
+add_field-returns-in-Ok-clause-reads t c =
     subst (λ (o : OutlineTree). ReadsField c.args.f.now.0 o c.args.at c.args.next.now c.word_at.new.next c.args.words.now c.args.steps.now.items c.word_at.new.steps.items (list_named_symbols c.args.fields.now.items) (list_named_symbols c.push.new.self.items)) (sym (ap (λ k. field_outline (take c.args.limit (declared_in c.args.t.now).layouts) (field_tree k)) c.in-Bits.is))
     (reads-word (IsSound (BitsOutline c.in-Bits.n) × (c.args.at + c.in-Bits.n ≤ 32 * length c.args.words.now)) ((1 ≤ c.in-Bits.n) × (c.in-Bits.n ≤ 32) × (c.args.at + c.in-Bits.n ≤ 32 * length c.args.words.now)) c.args.next.now c.word_at.new.next c.args.words.now c.args.steps.now.items c.word_at.new.steps.items c.in_ok-word-in-Bits.word (λ xs. number (slice c.args.at c.in-Bits.n (packed xs))) c.args.f.now.0 (list_named_symbols c.args.fields.now.items) (list_named_symbols c.push.new.self.items)
     (λ xs. named_value_and c.args.f.now.0 (value_at (BitsOutline c.in-Bits.n) (drop c.args.at (packed xs))) no_named_values)
-    c.in_ok-word-in-Bits.ensures.makes (λ q. (q.0.0, q.0.1, q.1)) (ap list_named_symbols c.in_ok-push-in-Bits.ensures.items ∙ symbols-append c.args.fields.now.items _)
+    c.in_ok-word-in-Bits.ensures.makes (λ q. (q.0.0, q.0.1, q.1)) (ap list_named_symbols c.in-Ok.ensures.items ∙ symbols-append c.args.fields.now.items _)
     (λ xs q. ap (λ k. named_value_and c.args.f.now.0 (Word (number (take k (drop c.args.at (packed xs))))) no_named_values) (let s : min c.in-Bits.n 32 ≡ c.in-Bits.n = omega (arith, q.0.1) in s)))
 
-pub add_field-returns-in_ok-push-in-Inner-clause-reads : goal.add_field-returns-in_ok-push-in-Inner-clause-reads
-add_field-returns-in_ok-push-in-Inner-clause-reads t c =
+pub add_field-returns-in-Ok-push-clause-reads : goal.add_field-returns-in-Ok-push-clause-reads
+add_field-returns-in-Ok-push-clause-reads t c =
     let pairs = layout_pairs c.args.t.now.layouts.items in
     subst (λ (o : OutlineTree). ReadsField c.args.f.now.0 o c.args.at c.args.next.now c.add_fields.new.next c.args.words.now c.args.steps.now.items c.add_fields.new.steps.items (list_named_symbols c.args.fields.now.items) (list_named_symbols c.push-in-Inner.new.self.items)) (sym (ap (λ k. field_outline (take c.args.limit (declared_in c.args.t.now).layouts) (field_tree k)) c.in-Inner.is))
     (reads-record (IsSound (outline (take c.args.limit (declared_in c.args.t.now).layouts) (layout_tree c.in-Inner.l)) × (c.args.at + size (outline (take c.args.limit (declared_in c.args.t.now).layouts) (layout_tree c.in-Inner.l)) ≤ 32 * length c.args.words.now)) (IsSound (outline (take c.args.limit (declared_in c.args.t.now).layouts) (layout_tree c.in-Inner.l)) × (c.args.at + size (outline (take c.args.limit (declared_in c.args.t.now).layouts) (layout_tree c.in-Inner.l)) ≤ 32 * length c.args.words.now)) c.args.next.now c.add_fields.new.next c.args.words.now c.args.steps.now.items c.add_fields.new.steps.items c.args.f.now.0 (list_named_symbols c.add_fields.new.fields.items) (list_named_symbols c.args.fields.now.items) (list_named_symbols c.push-in-Inner.new.self.items)
     (form_of (outline (take c.args.limit (declared_in c.args.t.now).layouts) (layout_tree c.in-Inner.l))) (record_forms (outline (take c.args.limit (declared_in c.args.t.now).layouts) (layout_tree c.in-Inner.l))) (λ xs. fields_of (value_at (outline (take c.args.limit (declared_in c.args.t.now).layouts) (layout_tree c.in-Inner.l)) (drop c.args.at (packed xs)))) (λ xs. named_value_and c.args.f.now.0 (value_at (outline (take c.args.limit (declared_in c.args.t.now).layouts) (layout_tree c.in-Inner.l)) (drop c.args.at (packed xs))) no_named_values)
-    (subst (λ (b : NamedSymbols). ReadsRecord (outline (take c.args.limit (declared_in c.args.t.now).layouts) (layout_tree c.in-Inner.l)) c.args.at c.args.next.now c.add_fields.new.next c.args.words.now c.args.steps.now.items c.add_fields.new.steps.items b (list_named_symbols c.add_fields.new.fields.items)) (ap list_named_symbols c.new-inner.ensures.items) c.in_ok-behind-in-Inner.ensures.reads)
+    (subst (λ (b : NamedSymbols). ReadsRecord (outline (take c.args.limit (declared_in c.args.t.now).layouts) (layout_tree c.in-Inner.l)) c.args.at c.args.next.now c.add_fields.new.next c.args.words.now c.args.steps.now.items c.add_fields.new.steps.items b (list_named_symbols c.add_fields.new.fields.items)) (ap list_named_symbols c.new-inner.ensures.items) c.in-Ok-add_fields.ensures.reads)
     (λ q. q)
-    (ap list_named_symbols c.in_ok-push-in-Inner.ensures.items ∙ symbols-append c.args.fields.now.items _ ∙ ap (λ s. (list_named_symbols c.args.fields.now.items) ++_symbols named_symbol_and c.args.f.now.0 s no_named_symbols) (record_view c.add_fields.new.fields))
+    (ap list_named_symbols c.in-Ok-push.ensures.items ∙ symbols-append c.args.fields.now.items _ ∙ ap (λ s. (list_named_symbols c.args.fields.now.items) ++_symbols named_symbol_and c.args.f.now.0 s no_named_symbols) (record_view c.add_fields.new.fields))
     (layout-form pairs c.args.limit (layout_tree c.in-Inner.l))
     (λ xs. ap (λ v. named_value_and c.args.f.now.0 v no_named_values) (layout-record pairs c.args.limit (layout_tree c.in-Inner.l) (drop c.args.at (packed xs)))))
 
-pub add_field-returns-in_ok-push-in-Overlay-clause-reads : goal.add_field-returns-in_ok-push-in-Overlay-clause-reads
-add_field-returns-in_ok-push-in-Overlay-clause-reads t c =
+pub add_field-returns-in-Ok-push-2-clause-reads : goal.add_field-returns-in-Ok-push-2-clause-reads
+add_field-returns-in-Ok-push-2-clause-reads t c =
     subst (λ (o : OutlineTree). ReadsField c.args.f.now.0 o c.args.at c.args.next.now c.add_alternatives.new.next c.args.words.now c.args.steps.now.items c.add_alternatives.new.steps.items (list_named_symbols c.args.fields.now.items) (list_named_symbols c.push-in-Overlay.new.self.items)) (sym (ap (field_outline (take c.args.limit (declared_in c.args.t.now).layouts)) (overlay_is c.args.f.now.1 c.in-Overlay.fs c.in-Overlay.is) ∙ ap (λ k. OverlayOutline (field_outlines (take c.args.limit (declared_in c.args.t.now).layouts) (list_fields k))) (sym c.deref.ensures.value)))
     (reads-record (IsSound (OverlayOutline (field_outlines (take c.args.limit (declared_in c.args.t.now).layouts) (list_fields c.deref.result.now))) × (c.args.at + longest (field_outlines (take c.args.limit (declared_in c.args.t.now).layouts) (list_fields c.deref.result.now)) ≤ 32 * length c.args.words.now)) (AlternativesFit (take c.args.limit (declared_in c.args.t.now).layouts) c.deref.result.now c.args.at c.args.words.now) c.args.next.now c.add_alternatives.new.next c.args.words.now c.args.steps.now.items c.add_alternatives.new.steps.items c.args.f.now.0 (list_named_symbols c.add_alternatives.new.fields.items) (list_named_symbols c.args.fields.now.items) (list_named_symbols c.push-in-Overlay.new.self.items)
     (form_of (OverlayOutline (field_outlines (take c.args.limit (declared_in c.args.t.now).layouts) (list_fields c.deref.result.now)))) (forms_of (field_outlines (take c.args.limit (declared_in c.args.t.now).layouts) (list_fields c.deref.result.now))) (λ xs. alternatives_at (field_outlines (take c.args.limit (declared_in c.args.t.now).layouts) (list_fields c.deref.result.now)) (drop c.args.at (packed xs))) (λ xs. named_value_and c.args.f.now.0 (value_at (OverlayOutline (field_outlines (take c.args.limit (declared_in c.args.t.now).layouts) (list_fields c.deref.result.now))) (drop c.args.at (packed xs))) no_named_values)
-    (subst (λ (b : NamedSymbols). Reads (AlternativesFit (take c.args.limit (declared_in c.args.t.now).layouts) c.deref.result.now c.args.at c.args.words.now) c.args.next.now c.add_alternatives.new.next c.args.words.now c.args.steps.now.items c.add_alternatives.new.steps.items b (list_named_symbols c.add_alternatives.new.fields.items) (forms_of (field_outlines (take c.args.limit (declared_in c.args.t.now).layouts) (list_fields c.deref.result.now))) (λ xs. alternatives_at (field_outlines (take c.args.limit (declared_in c.args.t.now).layouts) (list_fields c.deref.result.now)) (drop c.args.at (packed xs)))) (ap list_named_symbols c.new-inner-in-Overlay.ensures.items) c.in_ok-behind-in-Overlay.ensures.reads)
+    (subst (λ (b : NamedSymbols). Reads (AlternativesFit (take c.args.limit (declared_in c.args.t.now).layouts) c.deref.result.now c.args.at c.args.words.now) c.args.next.now c.add_alternatives.new.next c.args.words.now c.args.steps.now.items c.add_alternatives.new.steps.items b (list_named_symbols c.add_alternatives.new.fields.items) (forms_of (field_outlines (take c.args.limit (declared_in c.args.t.now).layouts) (list_fields c.deref.result.now))) (λ xs. alternatives_at (field_outlines (take c.args.limit (declared_in c.args.t.now).layouts) (list_fields c.deref.result.now)) (drop c.args.at (packed xs)))) (ap list_named_symbols c.new-inner-in-Overlay.ensures.items) c.in-Ok-add_alternatives.ensures.reads)
     (λ q. (q.0.0, q.1))
-    (ap list_named_symbols c.in_ok-push-in-Overlay.ensures.items ∙ symbols-append c.args.fields.now.items _ ∙ ap (λ s. (list_named_symbols c.args.fields.now.items) ++_symbols named_symbol_and c.args.f.now.0 s no_named_symbols) (record_view c.add_alternatives.new.fields))
+    (ap list_named_symbols c.in-Ok-push-2.ensures.items ∙ symbols-append c.args.fields.now.items _ ∙ ap (λ s. (list_named_symbols c.args.fields.now.items) ++_symbols named_symbol_and c.args.f.now.0 s no_named_symbols) (record_view c.add_alternatives.new.fields))
     refl
     (λ xs. refl))
 
-pub add_field-returns-in_ok-push-in-Overlay-clause-behind : goal.add_field-returns-in_ok-push-in-Overlay-clause-behind
-add_field-returns-in_ok-push-in-Overlay-clause-behind t c =
-    c.in_ok-behind-in-Overlay.ensures.behind ∙ sym (ap (λ o. min (c.args.at + size o) MAX) (ap (field_outline (take c.args.limit (declared_in c.args.t.now).layouts)) (overlay_is c.args.f.now.1 c.in-Overlay.fs c.in-Overlay.is) ∙ ap (λ k. OverlayOutline (field_outlines (take c.args.limit (declared_in c.args.t.now).layouts) (list_fields k))) (sym c.deref.ensures.value)))
+pub add_field-returns-in-Ok-push-2-clause-behind : goal.add_field-returns-in-Ok-push-2-clause-behind
+add_field-returns-in-Ok-push-2-clause-behind t c =
+    c.in-Ok-add_alternatives.ensures.behind ∙ sym (ap (λ o. min (c.args.at + size o) MAX) (ap (field_outline (take c.args.limit (declared_in c.args.t.now).layouts)) (overlay_is c.args.f.now.1 c.in-Overlay.fs c.in-Overlay.is) ∙ ap (λ k. OverlayOutline (field_outlines (take c.args.limit (declared_in c.args.t.now).layouts) (list_fields k))) (sym c.deref.ensures.value)))
 
 pub add_joined-loop-l-init : goal.add_joined-loop-l-init
 add_joined-loop-l-init t c =
@@ -216,22 +216,22 @@ add_fields-returns-in-None-clause-well t c = fields-none c.args.next.now c.args.
 pub add_fields-returns-in-Gap-clause-well : goal.add_fields-returns-in-Gap-clause-well
 add_fields-returns-in-Gap-clause-well t c = fields-none c.args.next.now c.args.words.now c.args.steps.now.items (list_named_symbols c.args.fields.now.items)
 
-pub add_field-returns-in_ok-push-in-Bits-clause-well : goal.add_field-returns-in_ok-push-in-Bits-clause-well
-add_field-returns-in_ok-push-in-Bits-clause-well t c =
+pub add_field-returns-in-Ok-clause-well : goal.add_field-returns-in-Ok-clause-well
+add_field-returns-in-Ok-clause-well t c =
     adds-field c.args.next.now c.word_at.new.next c.args.words.now c.args.f.now.0 (symbols.Word c.in_ok-word-in-Bits.word) c.args.steps.now.items c.word_at.new.steps.items (list_named_symbols c.args.fields.now.items) (list_named_symbols c.push.new.self.items)
-    c.in_ok-word-in-Bits.ensures.well (ap list_named_symbols c.in_ok-push-in-Bits.ensures.items ∙ symbols-append c.args.fields.now.items _)
+    c.in_ok-word-in-Bits.ensures.well (ap list_named_symbols c.in-Ok.ensures.items ∙ symbols-append c.args.fields.now.items _)
 
-pub add_field-returns-in_ok-push-in-Inner-clause-well : goal.add_field-returns-in_ok-push-in-Inner-clause-well
-add_field-returns-in_ok-push-in-Inner-clause-well t c =
+pub add_field-returns-in-Ok-push-clause-well : goal.add_field-returns-in-Ok-push-clause-well
+add_field-returns-in-Ok-push-clause-well t c =
     adds-inner c.args.next.now c.add_fields.new.next c.args.words.now c.args.f.now.0 c.args.steps.now.items c.add_fields.new.steps.items (list_named_symbols c.new-inner.result.items) (list_named_symbols c.add_fields.new.fields.items) (list_named_symbols c.args.fields.now.items) (list_named_symbols c.push-in-Inner.new.self.items)
-    c.in_ok-behind-in-Inner.ensures.well (ap list_named_symbols c.new-inner.ensures.items)
-    (ap list_named_symbols c.in_ok-push-in-Inner.ensures.items ∙ symbols-append c.args.fields.now.items _ ∙ ap (λ s. (list_named_symbols c.args.fields.now.items) ++_symbols named_symbol_and c.args.f.now.0 s no_named_symbols) (record_view c.add_fields.new.fields))
+    c.in-Ok-add_fields.ensures.well (ap list_named_symbols c.new-inner.ensures.items)
+    (ap list_named_symbols c.in-Ok-push.ensures.items ∙ symbols-append c.args.fields.now.items _ ∙ ap (λ s. (list_named_symbols c.args.fields.now.items) ++_symbols named_symbol_and c.args.f.now.0 s no_named_symbols) (record_view c.add_fields.new.fields))
 
-pub add_field-returns-in_ok-push-in-Overlay-clause-well : goal.add_field-returns-in_ok-push-in-Overlay-clause-well
-add_field-returns-in_ok-push-in-Overlay-clause-well t c =
+pub add_field-returns-in-Ok-push-2-clause-well : goal.add_field-returns-in-Ok-push-2-clause-well
+add_field-returns-in-Ok-push-2-clause-well t c =
     adds-inner c.args.next.now c.add_alternatives.new.next c.args.words.now c.args.f.now.0 c.args.steps.now.items c.add_alternatives.new.steps.items (list_named_symbols c.new-inner-in-Overlay.result.items) (list_named_symbols c.add_alternatives.new.fields.items) (list_named_symbols c.args.fields.now.items) (list_named_symbols c.push-in-Overlay.new.self.items)
-    c.in_ok-behind-in-Overlay.ensures.well (ap list_named_symbols c.new-inner-in-Overlay.ensures.items)
-    (ap list_named_symbols c.in_ok-push-in-Overlay.ensures.items ∙ symbols-append c.args.fields.now.items _ ∙ ap (λ s. (list_named_symbols c.args.fields.now.items) ++_symbols named_symbol_and c.args.f.now.0 s no_named_symbols) (record_view c.add_alternatives.new.fields))
+    c.in-Ok-add_alternatives.ensures.well (ap list_named_symbols c.new-inner-in-Overlay.ensures.items)
+    (ap list_named_symbols c.in-Ok-push-2.ensures.items ∙ symbols-append c.args.fields.now.items _ ∙ ap (λ s. (list_named_symbols c.args.fields.now.items) ++_symbols named_symbol_and c.args.f.now.0 s no_named_symbols) (record_view c.add_alternatives.new.fields))
 
 pub add_joined-returns-clause-bounds : goal.add_joined-returns-clause-bounds
 add_joined-returns-clause-bounds t c =
@@ -268,27 +268,27 @@ add_fields-returns-in-Joined-clause-bounds t c =
     (sym (ap (outline (take c.args.limit (declared_in c.args.t.now).layouts)) (joined_is c.args.l.now c.in-Joined.ls c.in-Joined.is) ∙ ap (λ k. JoinedOutline (outlines (take c.args.limit (declared_in c.args.t.now).layouts) (list_layouts k))) (sym c.deref-in-Joined.ensures.value))) m)
     c.add_joined.ensures.bounds
 
-pub add_field-returns-in_ok-push-in-Bits-clause-bounds : goal.add_field-returns-in_ok-push-in-Bits-clause-bounds
-add_field-returns-in_ok-push-in-Bits-clause-bounds t c =
+pub add_field-returns-in-Ok-clause-bounds : goal.add_field-returns-in-Ok-clause-bounds
+add_field-returns-in-Ok-clause-bounds t c =
     subst (λ (o : OutlineTree). ReadsFew c.args.words.now c.args.steps.now.items c.word_at.new.steps.items (list_named_symbols c.args.fields.now.items) (list_named_symbols c.push.new.self.items) (length (bit_fields 0 o)))
     (sym (ap (λ k. field_outline (take c.args.limit (declared_in c.args.t.now).layouts) (field_tree k)) c.in-Bits.is))
     (reads-few-word c.args.words.now c.args.f.now.0 c.in_ok-word-in-Bits.word c.args.steps.now.items c.word_at.new.steps.items (list_named_symbols c.args.fields.now.items) (list_named_symbols c.push.new.self.items)
-    c.in_ok-word-in-Bits.ensures.bounds (ap list_named_symbols c.in_ok-push-in-Bits.ensures.items ∙ symbols-append c.args.fields.now.items _))
+    c.in_ok-word-in-Bits.ensures.bounds (ap list_named_symbols c.in-Ok.ensures.items ∙ symbols-append c.args.fields.now.items _))
 
-pub add_field-returns-in_ok-push-in-Inner-clause-bounds : goal.add_field-returns-in_ok-push-in-Inner-clause-bounds
-add_field-returns-in_ok-push-in-Inner-clause-bounds t c =
+pub add_field-returns-in-Ok-push-clause-bounds : goal.add_field-returns-in-Ok-push-clause-bounds
+add_field-returns-in-Ok-push-clause-bounds t c =
     subst (λ (o : OutlineTree). ReadsFew c.args.words.now c.args.steps.now.items c.add_fields.new.steps.items (list_named_symbols c.args.fields.now.items) (list_named_symbols c.push-in-Inner.new.self.items) (length (bit_fields 0 o)))
     (sym (ap (λ k. field_outline (take c.args.limit (declared_in c.args.t.now).layouts) (field_tree k)) c.in-Inner.is))
     (reads-few-inner c.args.words.now c.args.f.now.0 c.args.steps.now.items c.add_fields.new.steps.items (list_named_symbols c.new-inner.result.items) (list_named_symbols c.add_fields.new.fields.items) (list_named_symbols c.args.fields.now.items) (list_named_symbols c.push-in-Inner.new.self.items)
     (length (bit_fields 0 (outline (take c.args.limit (declared_in c.args.t.now).layouts) (layout_tree c.in-Inner.l))))
-    c.in_ok-behind-in-Inner.ensures.bounds (ap list_named_symbols c.new-inner.ensures.items)
-    (ap list_named_symbols c.in_ok-push-in-Inner.ensures.items ∙ symbols-append c.args.fields.now.items _ ∙ ap (λ s. (list_named_symbols c.args.fields.now.items) ++_symbols named_symbol_and c.args.f.now.0 s no_named_symbols) (record_view c.add_fields.new.fields)))
+    c.in-Ok-add_fields.ensures.bounds (ap list_named_symbols c.new-inner.ensures.items)
+    (ap list_named_symbols c.in-Ok-push.ensures.items ∙ symbols-append c.args.fields.now.items _ ∙ ap (λ s. (list_named_symbols c.args.fields.now.items) ++_symbols named_symbol_and c.args.f.now.0 s no_named_symbols) (record_view c.add_fields.new.fields)))
 
-pub add_field-returns-in_ok-push-in-Overlay-clause-bounds : goal.add_field-returns-in_ok-push-in-Overlay-clause-bounds
-add_field-returns-in_ok-push-in-Overlay-clause-bounds t c =
+pub add_field-returns-in-Ok-push-2-clause-bounds : goal.add_field-returns-in-Ok-push-2-clause-bounds
+add_field-returns-in-Ok-push-2-clause-bounds t c =
     subst (λ (o : OutlineTree). ReadsFew c.args.words.now c.args.steps.now.items c.add_alternatives.new.steps.items (list_named_symbols c.args.fields.now.items) (list_named_symbols c.push-in-Overlay.new.self.items) (length (bit_fields 0 o)))
     (sym (ap (field_outline (take c.args.limit (declared_in c.args.t.now).layouts)) (overlay_is c.args.f.now.1 c.in-Overlay.fs c.in-Overlay.is) ∙ ap (λ k. OverlayOutline (field_outlines (take c.args.limit (declared_in c.args.t.now).layouts) (list_fields k))) (sym c.deref.ensures.value)))
     (reads-few-inner c.args.words.now c.args.f.now.0 c.args.steps.now.items c.add_alternatives.new.steps.items (list_named_symbols c.new-inner-in-Overlay.result.items) (list_named_symbols c.add_alternatives.new.fields.items) (list_named_symbols c.args.fields.now.items) (list_named_symbols c.push-in-Overlay.new.self.items)
     (length (alternative_fields 0 (field_outlines (take c.args.limit (declared_in c.args.t.now).layouts) (list_fields c.deref.result.now))))
-    c.in_ok-behind-in-Overlay.ensures.bounds (ap list_named_symbols c.new-inner-in-Overlay.ensures.items)
-    (ap list_named_symbols c.in_ok-push-in-Overlay.ensures.items ∙ symbols-append c.args.fields.now.items _ ∙ ap (λ s. (list_named_symbols c.args.fields.now.items) ++_symbols named_symbol_and c.args.f.now.0 s no_named_symbols) (record_view c.add_alternatives.new.fields)))
+    c.in-Ok-add_alternatives.ensures.bounds (ap list_named_symbols c.new-inner-in-Overlay.ensures.items)
+    (ap list_named_symbols c.in-Ok-push-2.ensures.items ∙ symbols-append c.args.fields.now.items _ ∙ ap (λ s. (list_named_symbols c.args.fields.now.items) ++_symbols named_symbol_and c.args.f.now.0 s no_named_symbols) (record_view c.add_alternatives.new.fields)))

@@ -3,7 +3,7 @@ use Rattle.nv_ast.specs.Types.{type_of, named_types_of, words, total_named_words
 use Rattle.nv_ast.specs.TypeView.{type_tree, list_named_types}
 use Rattle.nv_meaning.proofs.Lists.{dropped-all}
 use Rattle.flat_code.specs.inner.View.{scope_of}
-use Rattle.flat_code.specs.inner.WholeView.{whole_in}
+use Rattle.flat_parts.specs.inner.WholeView.{whole_in}
 use Rattle.flat_code.proofs.Listing.{numbers-turn, params-turn, params-done}
 use Rattle.nv_flatten.proofs.program.entry.Goals as goal
 use Rattle.nv_ast.proofs.Items.{next_item}
