@@ -12,7 +12,7 @@ ghost use Rattle.flat_code.specs.inner.Symbols.{fresh, all_fresh, named_fresh, n
 ghost use Rattle.flat_code.specs.inner.View.{view, list_symbols, list_named_symbols};
 
 use crate::symbol::{Field, Symbol, add_variable};
-use crate::{made, put};
+use crate::want::{made, put};
 use nv_ast::{FieldText, LayoutText, Name, TyText};
 use nv_base::{Atom, NoMemory};
 use nv_meaning::Table;

@@ -7,7 +7,7 @@ ghost use Rattle.flat_code.specs.inner.View.{view, list_symbols, scope_of};
 ghost use Rattle.flat_code.specs.inner.Simulation.{Extends};
 
 use crate::symbol::{Symbol, copied};
-use crate::{made, put};
+use crate::want::{made, put};
 use nv_ast::{Name, Pat};
 use nv_base::{Atom, NoMemory};
 use std::alloc::Global;

@@ -5,7 +5,7 @@ ghost use Rattle.nv_ast.specs.Types.{words, total_words, total_named_words};
 ghost use Rattle.flat_code.specs.inner.Symbols.{operands, all_operands, named_operands, form, forms, named_forms, fresh, all_fresh, named_fresh, numbers_from, words_symbol, word_symbols, word_operand, truth_operand, fields_of, field_named};
 ghost use Rattle.flat_code.specs.inner.View.{view, list_symbols, list_named_symbols};
 
-use crate::{made, put};
+use crate::want::{made, put};
 use flat_ir::Step;
 use nv_ast::Name;
 use nv_base::{Atom, NoMemory};

@@ -13,7 +13,7 @@ ghost use Rattle.flat_code.specs.inner.FewReads.{ReadsFew};
 
 use crate::parts::{define, shifted};
 use crate::symbol::{Field, Symbol};
-use crate::{made, put};
+use crate::want::{made, put};
 use flat_ir::Step;
 use nv_ast::{FieldText, LayoutText, Name, ShiftOp};
 use nv_base::{Atom, Bin, NoMemory, Prim};

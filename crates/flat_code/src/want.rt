@@ -2,7 +2,6 @@
 
 /// What was made, or the want of memory handed on, once the values that are held go by a call: a value
 /// that goes by itself has all its variants in the proof of the function.
-#[macro_export]
 macro_rules! made {
     ($found:expr $(, $held:expr)*) => {
         match $found {
@@ -17,7 +16,6 @@ macro_rules! made {
 
 /// Puts an item at the end of a vector, or hands the want of memory on, once the item and the values
 /// that are held go by a call.
-#[macro_export]
 macro_rules! put {
     ($items:expr, $item:expr $(, $held:expr)*) => {
         match $items.push($item) {
@@ -30,3 +28,6 @@ macro_rules! put {
         }
     };
 }
+
+pub(crate) use made;
+pub(crate) use put;

@@ -19,7 +19,7 @@ ghost use Rattle.flat_code.specs.inner.Narrow.{AreNarrowLets};
 ghost use Rattle.flat_code.specs.inner.Small.{AreFewLets, PacksFew};
 ghost use Rattle.nv_base.specs.declared.term.Atom.TheVariants.{Lit};
 
-use flat_code::made;
+use crate::want::made;
 use flat_code::pack::write_layout;
 use flat_code::symbol::{Symbol, Valued, symbol_of_words};
 use flat_code::unpack::add_fields;

@@ -5,3 +5,4 @@
 pub mod branches;
 pub mod layouts;
 pub mod source;
+mod want;

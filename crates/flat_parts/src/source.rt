@@ -6,8 +6,8 @@ ghost use Rattle.nv_ast.specs.Tree.{DeclTree};
 ghost use Rattle.nv_ast.specs.TypeView.{list_types};
 ghost use Rattle.flat_code.specs.inner.Whole.{groups_from, raised_in};
 
+use crate::want::made;
 use flat_code::forms::{of_type, of_types};
-use flat_code::made;
 use flat_code::symbol::Symbol;
 use nv_ast::{Decl, Fun, Name, Program, TyText};
 use nv_base::NoMemory;

@@ -3,8 +3,8 @@ use Rattle.flat_code.specs.inner.View.{scope_of}
 use Rattle.flat_code.proofs.Bindings.{name-bound, tuple-bound, extends-more}
 use Rattle.flat_code.proofs.scope.+bind.Goals as goal
 
-pub bind-returns-in-Ok-clause-bound : goal.bind-returns-in-Ok-clause-bound
-bind-returns-in-Ok-clause-bound t c = name-bound c.args.p.now _ c.in-Name.x c.args.s c.args.scope.now.items c.push.new.self.items c.in-Name.is refl c.in-Ok.ensures.items
+pub bind-returns-in-Name-clause-bound : goal.bind-returns-in-Name-clause-bound
+bind-returns-in-Name-clause-bound t c = name-bound c.args.p.now _ c.in-Name.x c.args.s c.args.scope.now.items c.push.new.self.items c.in-Name.is refl c.in-Ok.ensures.items
 
 pub bind-returns-in-Tuple-s-clause-bound : goal.bind-returns-in-Tuple-s-clause-bound
 bind-returns-in-Tuple-s-clause-bound t c =
