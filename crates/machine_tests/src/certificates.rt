@@ -4,33 +4,11 @@ use zo_cert::{
     Assignment, Cert, CertNode, Claim, Report, Verdict, Work, check, check_report, is_valid_report,
     shaped,
 };
-use zo_model::{ZeroOne, is_valid};
+use zo_model::is_valid;
 
 /// A leaf closed by a bound.
 fn bound(alloc: Global, multipliers: &[(u32, u32)]) -> Result<CertNode, AllocError> {
     Ok(CertNode::Bound(1, Vec::from_slice(alloc, multipliers)?))
-}
-
-/// Whether a tree proves a claim on a program; nothing where the program isn't valid, or there is no memory.
-fn proves(alloc: Global, z: &ZeroOne, c: &Cert, claim: Claim) -> Option<bool> {
-    if !is_valid(z) {
-        return None;
-    }
-    match Work::new(alloc, z) {
-        Ok(mut w) => Some(check(z, c, &claim, &mut w)),
-        Err(_) => None,
-    }
-}
-
-/// How many branches a shaped tree has.
-fn branches(alloc: Global, z: &ZeroOne, c: &Cert) -> Option<u32> {
-    if !is_valid(z) || c.nodes.len() > 1000 {
-        return None;
-    }
-    match Work::new(alloc, z) {
-        Ok(mut w) => shaped(z, c, &mut w),
-        Err(_) => None,
-    }
 }
 
 /// The tree of one bound, which takes row 0 twice.
@@ -47,9 +25,11 @@ fn a_multiplier_of_two_proves_the_cover_costs_two(rt: HostRuntime) {
     // min 3x + 2y with x + y >= 1
     let z = program(alloc, &[3, 2], &[(&[(0, 1), (1, 1)], 1)]).expect(&rt, "memory");
     let c = doubled(alloc).expect(&rt, "memory");
-    assert!(rt; proves(alloc, &z, &c, Claim::Least(2)) == Some(true));
-    assert!(rt; proves(alloc, &z, &c, Claim::Least(3)) == Some(false));
-    assert!(rt; proves(alloc, &z, &c, Claim::Nothing) == Some(false));
+    assert!(rt; is_valid(&z));
+    let mut w = Work::new(alloc, &z).expect(&rt, "memory");
+    assert!(rt; check(&z, &c, &Claim::Least(2), &mut w));
+    assert!(rt; !check(&z, &c, &Claim::Least(3), &mut w));
+    assert!(rt; !check(&z, &c, &Claim::Nothing, &mut w));
 }
 
 /// A tree on the triangle: column 0 at 0 leaves both others, and at 1 one of them.
@@ -66,8 +46,10 @@ fn a_branch_splits_the_triangle(rt: HostRuntime) {
     let alloc = rt.alloc();
     let z = triangle(alloc).expect(&rt, "memory");
     let c = split(alloc).expect(&rt, "memory");
-    assert!(rt; proves(alloc, &z, &c, Claim::Least(2)) == Some(true));
-    assert!(rt; proves(alloc, &z, &c, Claim::Least(3)) == Some(false));
+    assert!(rt; is_valid(&z));
+    let mut w = Work::new(alloc, &z).expect(&rt, "memory");
+    assert!(rt; check(&z, &c, &Claim::Least(2), &mut w));
+    assert!(rt; !check(&z, &c, &Claim::Least(3), &mut w));
 }
 
 #[test]
@@ -75,9 +57,12 @@ fn a_tree_that_ends_early_has_no_shape(rt: HostRuntime) {
     let alloc = rt.alloc();
     let z = triangle(alloc).expect(&rt, "memory");
     let mut c = split(alloc).expect(&rt, "memory");
-    assert!(rt; branches(alloc, &z, &c) == Some(1));
+    assert!(rt; is_valid(&z) && c.nodes.len() == 3);
+    let mut w = Work::new(alloc, &z).expect(&rt, "memory");
+    assert_eq!(rt; shaped(&z, &c, &mut w), Some(1));
     let _ = c.nodes.pop();
-    assert!(rt; branches(alloc, &z, &c).is_none());
+    assert!(rt; c.nodes.len() == 2);
+    assert_eq!(rt; shaped(&z, &c, &mut w), None);
 }
 
 /// A report on the triangle whose budget is spent, by a tree of one branch.
@@ -99,21 +84,12 @@ fn spent(alloc: Global, budget: u32) -> Result<Report, AllocError> {
     })
 }
 
-/// Whether a report is true; nothing where it isn't valid, or there is no memory.
-fn is_true(alloc: Global, r: &Report) -> Option<bool> {
-    if !is_valid_report(r) {
-        return None;
-    }
-    match Work::new(alloc, &r.z) {
-        Ok(mut w) => Some(check_report(r, &mut w)),
-        Err(_) => None,
-    }
-}
-
 #[test]
 fn a_spent_report_has_its_budget_of_branches_and_a_left(rt: HostRuntime) {
     for (budget, want) in [(1, true), (2, false)] {
         let r = spent(rt.alloc(), budget).expect(&rt, "memory");
-        assert!(rt; is_true(rt.alloc(), &r) == Some(want));
+        assert!(rt; is_valid_report(&r));
+        let mut w = Work::new(rt.alloc(), &r.z).expect(&rt, "memory");
+        assert_eq!(rt; check_report(&r, &mut w), want);
     }
 }
