@@ -8,12 +8,12 @@ use Rattle.zo_cert.specs.declared.report.Verdict.TheVariants as verdict
 use Rattle.nova_back.specs.Causes.{report_cost}
 use Rattle.nova_commands.specs.Checking.{IsReportOf}
 use Rattle.nova_commands.specs.Headline.{CompiledMakes, WithoutMakes, CompileMakes}
-use Rattle.nova_commands.specs.Lines.{compiled_text, infeasible_text, spent_text}
+use Rattle.command_line.specs.Lines.{compiled_text, infeasible_text, spent_text}
 use Rattle.nova_commands.specs.Saving.{File, file}
 use Rattle.nova_commands.specs.inner.Found.{IsBuilt, IsWithoutBanks}
 use Rattle.nova_commands.specs.declared.build.Compiled.{Compiled}
-use Rattle.nova_commands.specs.declared.status.Status.{Status}
-use Rattle.nova_commands.specs.declared.status.Status.TheVariants as status
+use Rattle.command_line.specs.declared.status.Status.{Status}
+use Rattle.command_line.specs.declared.status.Status.TheVariants as status
 
 pub built-made : (text object_name report_name object report : List ℕ) (slots budget store : ℕ) (t : Compiled) (files : List File) (line : List ℕ) → IsBuilt text slots budget store t
     → IsObject object t.built.code → IsReportOf report t.built.report → files ≡ file object_name object ∷ file report_name report ∷ []

@@ -26,11 +26,11 @@ use Rattle.nova_commands.specs.Forms.{IsCodeFor}
 use Rattle.nova_back.specs.Causes.{report_cost}
 use Rattle.nova_commands.specs.Generating.{GenRefuses, IsGenerated, MeansWord, generated_text}
 use Rattle.nova_commands.specs.Headline.{CompileRefuses, IsUnfit}
-use Rattle.nova_commands.specs.Limits.{slots_limit, budget_default, store_limit}
-use Rattle.nova_commands.specs.Lines.{IsUncaused}
+use Rattle.command_line.specs.Limits.{slots_limit, budget_default, store_limit}
+use Rattle.command_line.specs.Lines.{IsUncaused}
 use Rattle.nova_commands.specs.Machine.{spill_base}
 use Rattle.nova_commands.specs.Reading.{HasTyped}
-use Rattle.nova_commands.specs.declared.refusal.Refusal.{Refusal}
+use Rattle.command_line.specs.declared.refusal.Refusal.{Refusal}
 use Rattle.nova_commands.specs.declared.build.Compiled.{Compiled}
 use Rattle.nova_commands.specs.inner.Found.{IsBuilt, IsWithoutBanks}
 use Rattle.nova_commands.specs.inner.Generated.{HasRoom, HasWord, AreWord}

@@ -1,5 +1,4 @@
 pub mod Errors
-pub mod Numbers
 pub mod Formed
 pub mod OneSource
 pub mod OneReport
@@ -7,5 +6,4 @@ pub mod OneAnswer
 pub mod Generated
 pub mod Loads
 pub mod Saves
-pub mod Names
 pub mod Found

@@ -4,11 +4,11 @@ use Rattle.std.specs.Prelude.{⊤}
 use Rattle.nv_outside.specs.Causes.{Rose}
 use Rattle.nv_outside.specs.Holding.{Holding, IsLonger}
 use Rattle.nova_commands.specs.Answers.{IsFree}
-use Rattle.nova_commands.specs.Lines.{IsUncaused, refusal_status}
+use Rattle.command_line.specs.Lines.{IsUncaused, refusal_status}
 use Rattle.nova_commands.specs.Loading.{Input, IsRead, AreRead, StopsAt, IsUnread}
 use Rattle.nova_commands.specs.inner.Contents.{AreShort}
-use Rattle.nova_commands.specs.declared.refusal.Refusal.{Refusal}
-use Rattle.nova_commands.specs.declared.refusal.Refusal.TheVariants.{ReadFault, TooLarge}
+use Rattle.command_line.specs.declared.refusal.Refusal.{Refusal}
+use Rattle.command_line.specs.declared.refusal.Refusal.TheVariants.{ReadFault, TooLarge}
 
 some-once : (x y : List ℕ) → Some x ≡ Some y → x ≡ y
 some-once x y e = cc

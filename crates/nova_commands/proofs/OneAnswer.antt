@@ -28,19 +28,19 @@ use Rattle.nv_ast.specs.Tree.{ProgramTree}
 use Rattle.nv_meaning.specs.Meaning.{source as meaning}
 use Rattle.nova_commands.specs.Answers.{Makes, Prints, CanMake, CanEnd, Refuses, MustRefuse}
 use Rattle.nova_commands.specs.Assembly.{AsmRefuses, IsListed}
-use Rattle.nova_commands.specs.Command.{Command, Compile, Run, Exec, Asm, Dis, Lint, Check, Gen}
+use Rattle.command_line.specs.Command.{Command, Compile, Run, Exec, Asm, Dis, Lint, Check, Gen}
 use Rattle.nova_commands.specs.Executing.{ExecRefuses, IsExecuted}
 use Rattle.nova_commands.specs.Forms.{form_bound}
 use Rattle.nova_commands.specs.Headline.{CompileMakes, IsUnfit, IsEndOf}
-use Rattle.nova_commands.specs.Lines.{counted, refusal_status}
+use Rattle.command_line.specs.Lines.{counted, refusal_status}
 use Rattle.nova_commands.specs.Machine.{IsBadObjectFor, IsUnlawfulFor, IsMemoryRefusedFor, LintRefuses, RunRefuses, IsLinted, IsRun, spill_base, full_text}
 use Rattle.nova_commands.specs.Saving.{File}
-use Rattle.nova_commands.specs.Status.{outcome_status, MaySave}
+use Rattle.command_line.specs.Status.{outcome_status, MaySave}
 use Rattle.nova_commands.specs.inner.Replies.{IsOutcome}
-use Rattle.nova_commands.specs.declared.refusal.Refusal.{Refusal}
-use Rattle.nova_commands.specs.declared.refusal.Refusal.TheVariants.{NoMemory, ReadFault, TooLarge, Syntax, Label, UnlawfulLine, BadObject, BadMemoryText, Unlawful, SourceLarge, StoreFull}
-use Rattle.nova_commands.specs.declared.status.Status.{Status}
-use Rattle.nova_commands.specs.declared.status.Status.TheVariants.{Done, Infeasible, BudgetSpent}
+use Rattle.command_line.specs.declared.refusal.Refusal.{Refusal}
+use Rattle.command_line.specs.declared.refusal.Refusal.TheVariants.{NoMemory, ReadFault, TooLarge, Syntax, Label, UnlawfulLine, BadObject, BadMemoryText, Unlawful, SourceLarge, StoreFull}
+use Rattle.command_line.specs.declared.status.Status.{Status}
+use Rattle.command_line.specs.declared.status.Status.TheVariants.{Done, Infeasible, BudgetSpent}
 use Rattle.nova_commands.proofs.OneReport.{check-one, check-good, checked-one}
 use Rattle.nova_commands.proofs.OneSource.{source-one, source-good}
 

@@ -13,10 +13,10 @@ use Rattle.zo_cert.proofs.ReportAnswers.{given_answer, bad_answer}
 use Rattle.zo_cert.proofs.SameReports.{truth_same}
 use Rattle.nova_back.specs.Causes.{report_cost}
 use Rattle.nova_commands.specs.Checking.{IsReportOf, IsChecked, CheckRefuses, Shown, verdict_text}
-use Rattle.nova_commands.specs.Lines.{IsUncaused}
-use Rattle.nova_commands.specs.declared.refusal.Refusal.{Refusal}
-use Rattle.nova_commands.specs.declared.refusal.Refusal.TheVariants.{BadReport, FalseReport}
-use Rattle.nova_commands.specs.declared.status.Status.{Status}
+use Rattle.command_line.specs.Lines.{IsUncaused}
+use Rattle.command_line.specs.declared.refusal.Refusal.{Refusal}
+use Rattle.command_line.specs.declared.refusal.Refusal.TheVariants.{BadReport, FalseReport}
+use Rattle.command_line.specs.declared.status.Status.{Status}
 
 reports-one : (b : List ℕ) (r r' : Report) → IsReportOf b r → IsReportOf b r' → report_contents r ≡ report_contents r'
 reports-one b r r' h k = given_answer b (Ok r) h.report h.spelled tt (report_contents r') k.report k.spelled

@@ -12,7 +12,7 @@ use Rattle.nova_front.proofs.OneSource.{source-program, cause-one, cause-none}
 use Rattle.zo_cert.specs.declared.report.Report.{Report}
 use Rattle.zo_cert.specs.declared.report.Verdict.TheVariants as verdict
 use Rattle.nova_commands.specs.Headline.{CompileRefuses}
-use Rattle.nova_commands.specs.Lines.{IsUncaused}
+use Rattle.command_line.specs.Lines.{IsUncaused}
 use Rattle.nova_commands.specs.Reading.{SourceRefuses}
 use Rattle.nova_commands.specs.Building.{IsTextCause, IsFormCause, IsCompileCause}
 use Rattle.nova_commands.specs.inner.Found.{IsFound, IsSortedAs, IsWithoutBanks}
@@ -21,8 +21,8 @@ use Rattle.nova_commands.specs.declared.build.CompileError.{CompileError}
 use Rattle.nova_commands.specs.declared.build.CompileError.TheVariants as compile
 use Rattle.nova_commands.specs.declared.compile.Found.{Found}
 use Rattle.nova_commands.specs.declared.compile.Found.TheVariants as found
-use Rattle.nova_commands.specs.declared.refusal.Refusal.{Refusal}
-use Rattle.nova_commands.specs.declared.refusal.Refusal.TheVariants.{NoMemory, SourceChar, SourceNumber, SourceName, SourceSyntax, SourceDeep, SourceType, SourceLarge, StoreFull}
+use Rattle.command_line.specs.declared.refusal.Refusal.{Refusal}
+use Rattle.command_line.specs.declared.refusal.Refusal.TheVariants.{NoMemory, SourceChar, SourceNumber, SourceName, SourceSyntax, SourceDeep, SourceType, SourceLarge, StoreFull}
 
 -- how a refusal of the front end is told
 refusal-of : TextError → Refusal

@@ -4,17 +4,17 @@ use Rattle.std.specs.Prelude.{Contains}
 use Rattle.nv_outside.specs.Causes.{Rose}
 use Rattle.nv_outside.specs.Holding.{Holding, Replaced, SameElsewhere}
 use Rattle.nova_commands.specs.Answers.{Makes, Refuses, IsCaused, IsDone, IsStopped}
-use Rattle.nova_commands.specs.Command.{Command, Compile, Run, Exec, Asm, Dis, Lint, Check, Gen, SomeFile, outputs_of}
+use Rattle.command_line.specs.Command.{Command, Compile, Run, Exec, Asm, Dis, Lint, Check, Gen, SomeFile, outputs_of}
 use Rattle.zo_cert.specs.declared.report.Verdict.{Verdict}
 use Rattle.zo_cert.specs.declared.report.Verdict.TheVariants as verdict
 use Rattle.nova_commands.specs.Headline.{CompiledMakes, WithoutMakes, CompileMakes, IsCompiled, IfWithout, IsReported}
-use Rattle.nova_commands.specs.Limits.{source_limit}
-use Rattle.nova_commands.specs.Lines.{IsUncaused, cannot_write}
+use Rattle.command_line.specs.Limits.{source_limit}
+use Rattle.command_line.specs.Lines.{IsUncaused, cannot_write}
 use Rattle.nova_commands.specs.Loading.{input, IsRead, AreRead, StopsAt, IsUnread, inputs_of}
 use Rattle.nova_commands.specs.Saving.{File, file, AreSaved, IsCut, IsSameBut}
-use Rattle.nova_commands.specs.declared.refusal.Refusal.{Refusal}
-use Rattle.nova_commands.specs.declared.status.Status.{Status}
-use Rattle.nova_commands.specs.declared.status.Status.TheVariants.{Done, WriteFault, Infeasible, BudgetSpent}
+use Rattle.command_line.specs.declared.refusal.Refusal.{Refusal}
+use Rattle.command_line.specs.declared.status.Status.{Status}
+use Rattle.command_line.specs.declared.status.Status.TheVariants.{Done, WriteFault, Infeasible, BudgetSpent}
 use Rattle.nova_commands.proofs.Loads.{rose-later}
 
 pub cut-map : (T : Type 0) (fs : List File) (old new : Holding) (P Q : List ℕ → Type 0) → ((name : List ℕ) → P name → Q name) → IsCut T fs old new P → IsCut T fs old new Q

@@ -4,12 +4,12 @@ use Rattle.uc_asm.specs.Labels.{IsCodeOf, IsLabelError, IsUnlawfulError}
 use Rattle.uc_asm.specs.Text.{IsSyntaxError, listing}
 use Rattle.uc_isa.specs.Code.{CodeView}
 use Rattle.uc_object.specs.Object.{IsObject}
-use Rattle.nova_commands.specs.Lines.{counted}
+use Rattle.command_line.specs.Lines.{counted}
 use Rattle.nova_commands.specs.Saving.{File, file}
-use Rattle.nova_commands.specs.declared.status.Status.{Status}
-use Rattle.nova_commands.specs.declared.status.Status.TheVariants.{Done}
-use Rattle.nova_commands.specs.declared.refusal.Refusal.{Refusal}
-use Rattle.nova_commands.specs.declared.refusal.Refusal.TheVariants.{Syntax, Label, UnlawfulLine}
+use Rattle.command_line.specs.declared.status.Status.{Status}
+use Rattle.command_line.specs.declared.status.Status.TheVariants.{Done}
+use Rattle.command_line.specs.declared.refusal.Refusal.{Refusal}
+use Rattle.command_line.specs.declared.refusal.Refusal.TheVariants.{Syntax, Label, UnlawfulLine}
 
 -- the text isn't of its form, or has a label declared twice or nowhere, or an instruction that breaks a rule
 abbrev pub AsmRefuses : List ℕ → Refusal → Type 0

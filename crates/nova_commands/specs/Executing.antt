@@ -8,9 +8,9 @@ use Rattle.nv_meaning.specs.Meaning.{source}
 use Rattle.nova_commands.specs.Machine.{IsMemoryRefusedFor, full_text}
 use Rattle.nova_front.specs.Sources.{IsTypedSource}
 use Rattle.nova_commands.specs.Reading.{HasTyped, SourceRefuses}
-use Rattle.nova_commands.specs.Status.{outcome_status}
-use Rattle.nova_commands.specs.declared.refusal.Refusal.{Refusal}
-use Rattle.nova_commands.specs.declared.status.Status.{Status}
+use Rattle.command_line.specs.Status.{outcome_status}
+use Rattle.command_line.specs.declared.refusal.Refusal.{Refusal}
+use Rattle.command_line.specs.declared.status.Status.{Status}
 
 -- the source is refused, or else the memory text, for as many words as main takes
 abbrev pub ExecRefuses : List ℕ → List ℕ → Refusal → Type 0

@@ -13,12 +13,12 @@ use Rattle.zo_cert.specs.declared.report.Verdict.{Verdict}
 use Rattle.nova_back.specs.Causes.{report_cost}
 use Rattle.nova_commands.specs.Forms.{IsCodeFor, HasBanks}
 use Rattle.nova_commands.specs.Headline.{IsUnfit}
-use Rattle.nova_commands.specs.Limits.{slots_limit, budget_default, store_limit}
-use Rattle.nova_commands.specs.Lines.{verdict_name, refusal_status, refusal_text}
+use Rattle.command_line.specs.Limits.{slots_limit, budget_default, store_limit}
+use Rattle.command_line.specs.Lines.{verdict_name, refusal_status, refusal_text}
 use Rattle.nova_commands.specs.Reading.{HasTyped}
-use Rattle.nova_commands.specs.declared.refusal.Refusal.{Refusal}
-use Rattle.nova_commands.specs.declared.status.Status.{Status}
-use Rattle.nova_commands.specs.declared.status.Status.TheVariants.{Done, WriteFault, NoMemory}
+use Rattle.command_line.specs.declared.refusal.Refusal.{Refusal}
+use Rattle.command_line.specs.declared.status.Status.{Status}
+use Rattle.command_line.specs.declared.status.Status.TheVariants.{Done, WriteFault, NoMemory}
 
 -- the program means this word on the arguments 1 and 2, whatever the memories and the number of calls
 abbrev pub MeansWord : ProgramTree → ℕ → Type 0

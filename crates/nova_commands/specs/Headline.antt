@@ -15,14 +15,14 @@ use Rattle.nova_back.specs.Causes.{report_cost}
 use Rattle.nova_front.specs.Sources.{IsTypedSource}
 use Rattle.nova_commands.specs.Checking.{IsReportOf}
 use Rattle.nova_commands.specs.Forms.{form_bound, HasBanks, HasLargeBanks, HasNoBanks, HasLongCode}
-use Rattle.nova_commands.specs.Lines.{compiled_text, infeasible_text, spent_text}
-use Rattle.nova_commands.specs.Limits.{source_limit}
+use Rattle.command_line.specs.Lines.{compiled_text, infeasible_text, spent_text}
+use Rattle.command_line.specs.Limits.{source_limit}
 use Rattle.nova_commands.specs.Reading.{HasTyped, SourceRefuses}
 use Rattle.nova_commands.specs.Saving.{File, file, IsSameBut}
-use Rattle.nova_commands.specs.declared.refusal.Refusal.{Refusal}
-use Rattle.nova_commands.specs.declared.refusal.Refusal.TheVariants.{SourceLarge, StoreFull}
-use Rattle.nova_commands.specs.declared.status.Status.{Status}
-use Rattle.nova_commands.specs.declared.status.Status.TheVariants as ends
+use Rattle.command_line.specs.declared.refusal.Refusal.{Refusal}
+use Rattle.command_line.specs.declared.refusal.Refusal.TheVariants.{SourceLarge, StoreFull}
+use Rattle.command_line.specs.declared.status.Status.{Status}
+use Rattle.command_line.specs.declared.status.Status.TheVariants as ends
 
 -- ---- what is compiled
 

@@ -1,7 +1,3 @@
-pub mod Status
-pub mod Lines
-pub mod Command
-pub mod Limits
 pub mod Loading
 pub mod Saving
 pub mod Reading

@@ -1,10 +1,10 @@
 -- What a command reads: its inputs, in the order of the words.
 use Rattle.std.specs.Prelude.{◌≡◌, ◌≤◌, ◌⊎◌, ℕ, List, [], ◌∷◌, Some, length, ⊤}
 use Rattle.nv_outside.specs.Holding.{Holding, IsLonger}
-use Rattle.nova_commands.specs.Command.{Command, Compile, Run, Exec, Asm, Dis, Lint, Check, Gen}
-use Rattle.nova_commands.specs.Limits.{source_limit, object_limit, memory_limit, assembly_limit, report_limit}
-use Rattle.nova_commands.specs.declared.refusal.Refusal.{Refusal}
-use Rattle.nova_commands.specs.declared.refusal.Refusal.TheVariants.{ReadFault, TooLarge}
+use Rattle.command_line.specs.Command.{Command, Compile, Run, Exec, Asm, Dis, Lint, Check, Gen}
+use Rattle.command_line.specs.Limits.{source_limit, object_limit, memory_limit, assembly_limit, report_limit}
+use Rattle.command_line.specs.declared.refusal.Refusal.{Refusal}
+use Rattle.command_line.specs.declared.refusal.Refusal.TheVariants.{ReadFault, TooLarge}
 
 -- a file that is read, and how many bytes it may have
 pub record Input : Type 0 where

@@ -10,12 +10,12 @@ use Rattle.uc_isa.specs.Engine.{engine}
 use Rattle.uc_isa.specs.Lawful.{IsLawful, IsFirstBroken}
 use Rattle.uc_isa.specs.declared.instruction.Instr.{Instr}
 use Rattle.uc_object.specs.Object.{IsObject, IsBadPlace}
-use Rattle.nova_commands.specs.Lines.{counted}
-use Rattle.nova_commands.specs.Status.{outcome_status}
-use Rattle.nova_commands.specs.declared.status.Status.{Status}
-use Rattle.nova_commands.specs.declared.status.Status.TheVariants.{Done}
-use Rattle.nova_commands.specs.declared.refusal.Refusal.{Refusal}
-use Rattle.nova_commands.specs.declared.refusal.Refusal.TheVariants.{TooLarge, BadObject, BadMemoryText, Unlawful}
+use Rattle.command_line.specs.Lines.{counted}
+use Rattle.command_line.specs.Status.{outcome_status}
+use Rattle.command_line.specs.declared.status.Status.{Status}
+use Rattle.command_line.specs.declared.status.Status.TheVariants.{Done}
+use Rattle.command_line.specs.declared.refusal.Refusal.{Refusal}
+use Rattle.command_line.specs.declared.refusal.Refusal.TheVariants.{TooLarge, BadObject, BadMemoryText, Unlawful}
 
 -- the bytes aren't an object, and the refusal has the place where they go wrong
 abbrev pub IsBadObjectFor : List ℕ → Refusal → Type 0

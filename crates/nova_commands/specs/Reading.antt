@@ -4,8 +4,8 @@ use Rattle.nv_ast.specs.Tree.{ProgramTree}
 use Rattle.nv_text.specs.Program.{FaultOf}
 use Rattle.nv_text.specs.declared.error.TextError.TheVariants.{Char, Number, Name, Syntax, Deep}
 use Rattle.nova_front.specs.Sources.{IsTypedSource, IsUntyped, IsLarge}
-use Rattle.nova_commands.specs.declared.refusal.Refusal.{Refusal}
-use Rattle.nova_commands.specs.declared.refusal.Refusal.TheVariants.{SourceChar, SourceNumber, SourceName, SourceSyntax, SourceDeep, SourceType, SourceLarge}
+use Rattle.command_line.specs.declared.refusal.Refusal.{Refusal}
+use Rattle.command_line.specs.declared.refusal.Refusal.TheVariants.{SourceChar, SourceNumber, SourceName, SourceSyntax, SourceDeep, SourceType, SourceLarge}
 
 -- the text has a fault at this place, or its program has a fault of its types or is too large
 abbrev pub SourceRefuses : List ℕ → Refusal → Type 0

@@ -1,12 +1,12 @@
 //! The command `asm`.
 ghost use Rattle.std.specs.Prelude.{◌≡◌, ◌⊎◌, ◌≤◌, length, IfOk, IfErr};
 ghost use Rattle.nova_commands.specs.Assembly.{AsmMakes, AsmRefuses, IsAssembledTo};
-ghost use Rattle.nova_commands.specs.Limits.{assembly_limit};
-ghost use Rattle.nova_commands.specs.Lines.{IsUncaused};
+ghost use Rattle.command_line.specs.Limits.{assembly_limit};
+ghost use Rattle.command_line.specs.Lines.{IsUncaused};
 ghost use Rattle.nova_commands.specs.inner.Contents.{files_of, AreTold};
 
-use crate::refusal::Refusal;
 use crate::save::{Made, Product};
+use command_line::Refusal;
 use std::alloc::Global;
 use uc_asm::{AsmError, assemble};
 use uc_object::encode;

@@ -3,16 +3,15 @@ ghost use Rattle.std.specs.Prelude.{◌≡◌, ◌≤◌, ◌⊎◌, length, IfO
 ghost use Rattle.nv_ast.specs.TypedView.{typed_program};
 ghost use Rattle.nv_meaning.specs.Meaning.{source as meaning};
 ghost use Rattle.nova_commands.specs.Executing.{ExecRefuses, IsExecuted};
-ghost use Rattle.nova_commands.specs.Limits.{source_limit, memory_limit};
-ghost use Rattle.nova_commands.specs.Lines.{IsUncaused};
+ghost use Rattle.command_line.specs.Limits.{source_limit, memory_limit};
+ghost use Rattle.command_line.specs.Lines.{IsUncaused};
 ghost use Rattle.nova_commands.specs.Machine.{full_text};
-ghost use Rattle.nova_commands.specs.Status.{outcome_status};
+ghost use Rattle.command_line.specs.Status.{outcome_status};
 ghost use Rattle.nova_commands.specs.inner.Replies.{IsOutcome};
 
-use crate::refusal::Refusal;
-use crate::reply::Reply;
 use crate::simulate::{SHOWN_WRITES, job_of, status_of};
 use crate::source::source_of;
+use command_line::{Refusal, Reply};
 use nv_ast::Typed;
 use nv_base::{NoMemory, WriteLog};
 use nv_meaning::exec;

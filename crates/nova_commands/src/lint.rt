@@ -1,14 +1,12 @@
 //! The command `lint`.
 ghost use Rattle.std.specs.Prelude.{◌≡◌, ◌≤◌, ◌⊎◌, length, IfOk, IfErr};
-ghost use Rattle.nova_commands.specs.Limits.{object_limit};
-ghost use Rattle.nova_commands.specs.Lines.{IsUncaused};
+ghost use Rattle.command_line.specs.Limits.{object_limit};
+ghost use Rattle.command_line.specs.Lines.{IsUncaused};
 ghost use Rattle.nova_commands.specs.Machine.{LintRefuses, IsLinted};
-ghost use Rattle.nova_commands.specs.declared.status.Status.{Status};
+ghost use Rattle.command_line.specs.declared.status.Status.{Status};
 
 use crate::object::{check_lawful, code_of};
-use crate::refusal::{Refusal, counted_line};
-use crate::reply::Reply;
-use crate::status::Status;
+use command_line::{Refusal, Reply, Status, counted_line};
 use std::alloc::Global;
 
 /// Tells whether the bytes are the object of lawful code.

@@ -1,15 +1,13 @@
 //! The command `dis`.
 ghost use Rattle.std.specs.Prelude.{◌≡◌, ◌⊎◌, ◌≤◌, length, IfOk, IfErr};
 ghost use Rattle.nova_commands.specs.Assembly.{IsListed};
-ghost use Rattle.nova_commands.specs.Limits.{object_limit};
-ghost use Rattle.nova_commands.specs.Lines.{IsUncaused};
+ghost use Rattle.command_line.specs.Limits.{object_limit};
+ghost use Rattle.command_line.specs.Lines.{IsUncaused};
 ghost use Rattle.nova_commands.specs.Machine.{IsBadObjectFor};
-ghost use Rattle.nova_commands.specs.declared.status.Status.{Status};
+ghost use Rattle.command_line.specs.declared.status.Status.{Status};
 
 use crate::object::code_of;
-use crate::refusal::Refusal;
-use crate::reply::Reply;
-use crate::status::Status;
+use command_line::{Refusal, Reply, Status};
 use std::alloc::Global;
 use uc_asm::print;
 

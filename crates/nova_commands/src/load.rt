@@ -1,15 +1,16 @@
 //! The inputs of a command, loaded.
 ghost use Rattle.std.specs.Prelude.{◌≡◌, ◌≤◌, ◌⊎◌, ◌∷◌, [], ℕ, List, IfOk, IfErr};
 ghost use Rattle.nv_outside.specs.Causes.{Rose};
-ghost use Rattle.nova_commands.specs.inner.Words.{command_as};
-ghost use Rattle.nova_commands.specs.Lines.{IsUncaused};
-ghost use Rattle.nova_commands.specs.Limits.{memory_limit};
+ghost use Rattle.command_line.specs.inner.Words.{command_as};
+ghost use Rattle.command_line.specs.Lines.{IsUncaused};
+ghost use Rattle.command_line.specs.Limits.{memory_limit};
 ghost use Rattle.nova_commands.specs.Loading.{input, inputs_of, IsRead, AreRead, StopsAt, IsUnread};
 ghost use Rattle.nova_commands.specs.inner.Contents.{contents_of, AreShort};
 
-use crate::command::Command;
-use crate::limits::{ASSEMBLY_LIMIT, MEMORY_LIMIT, OBJECT_LIMIT, REPORT_LIMIT, SOURCE_LIMIT};
-use crate::refusal::Refusal;
+use command_line::limits::{
+    ASSEMBLY_LIMIT, MEMORY_LIMIT, OBJECT_LIMIT, REPORT_LIMIT, SOURCE_LIMIT,
+};
+use command_line::{Command, Refusal};
 use nv_outside::{Files, Loaded};
 use std::alloc::Global;
 

@@ -2,10 +2,10 @@
 ghost use Rattle.std.specs.Prelude.{◌≡◌, ◌<◌, ◌^◌, ◌⊎◌, length, IfOk, IfErr, OnOk};
 ghost use Rattle.uc_isa.specs.Lawful.{IsLawful};
 ghost use Rattle.uc_object.specs.Object.{IsObject};
-ghost use Rattle.nova_commands.specs.Lines.{IsUncaused};
+ghost use Rattle.command_line.specs.Lines.{IsUncaused};
 ghost use Rattle.nova_commands.specs.Machine.{IsBadObjectFor, IsUnlawfulFor};
 
-use crate::refusal::Refusal;
+use command_line::Refusal;
 use std::alloc::Global;
 use uc_isa::{Code, lint};
 use uc_object::{ObjectError, decode};

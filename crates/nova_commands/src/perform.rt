@@ -1,25 +1,23 @@
 //! What a command makes of the contents of its inputs.
 ghost use Rattle.std.specs.Prelude.{◌≡◌, ◌⊎◌, IfOk, IfErr};
 ghost use Rattle.nova_commands.specs.Answers.{Makes, Refuses};
-ghost use Rattle.nova_commands.specs.inner.Words.{command_as, HasLimits};
-ghost use Rattle.nova_commands.specs.Lines.{IsUncaused};
+ghost use Rattle.command_line.specs.inner.Words.{command_as, HasLimits};
+ghost use Rattle.command_line.specs.Lines.{IsUncaused};
 ghost use Rattle.nova_commands.specs.Loading.{inputs_of};
 ghost use Rattle.nova_commands.specs.inner.Contents.{contents_of, files_of, AreShort, AreTold};
 ghost use Rattle.nova_commands.specs.inner.Replies.{IsOutcome, IsShown};
 
 use crate::assemble::assemble_bytes;
-use crate::command::Command;
 use crate::compile::compile_bytes;
 use crate::execute::exec_bytes;
 use crate::generate::generate;
 use crate::lint::lint_bytes;
 use crate::list::list_bytes;
 use crate::load::Inputs;
-use crate::refusal::Refusal;
-use crate::reply::Reply;
 use crate::report::check_bytes;
 use crate::save::{Made, Outputs};
 use crate::simulate::run_bytes;
+use command_line::{Command, Refusal, Reply};
 use std::alloc::Global;
 
 /// Does what a command is for, but for loading, saving and printing.

@@ -3,14 +3,12 @@ ghost use Rattle.std.specs.Prelude.{◌≡◌, ◌⊎◌, ◌≤◌, length, IfO
 ghost use Rattle.zo_cert.specs.Report.{IsValidReport, IsTrueReport};
 ghost use Rattle.nova_back.specs.Causes.{report_cost};
 ghost use Rattle.nova_commands.specs.Checking.{CheckRefuses, IsChecked, IsReportOf, Shown, verdict_text};
-ghost use Rattle.nova_commands.specs.Limits.{report_limit};
-ghost use Rattle.nova_commands.specs.Lines.{IsUncaused};
-ghost use Rattle.nova_commands.specs.declared.refusal.Refusal.{Refusal};
-ghost use Rattle.nova_commands.specs.declared.status.Status.{Status};
+ghost use Rattle.command_line.specs.Limits.{report_limit};
+ghost use Rattle.command_line.specs.Lines.{IsUncaused};
+ghost use Rattle.command_line.specs.declared.refusal.Refusal.{Refusal};
+ghost use Rattle.command_line.specs.declared.status.Status.{Status};
 
-use crate::refusal::{Refusal, counted_line, line};
-use crate::reply::Reply;
-use crate::status::Status;
+use command_line::{Refusal, Reply, Status, counted_line, line};
 use nv_base::NoMemory;
 use std::alloc::Global;
 use zo_cert::{Report, Verdict, Work, ZoError, check_report, read_report};

@@ -1,14 +1,12 @@
 //! What a command makes, saved.
 ghost use Rattle.std.specs.Prelude.{◌≡◌, ◌⊎◌, ◌≤◌, ◌∷◌, [], IfOk};
 ghost use Rattle.nv_outside.specs.Causes.{Rose};
-ghost use Rattle.nova_commands.specs.Lines.{counted, cannot_write};
+ghost use Rattle.command_line.specs.Lines.{counted, cannot_write};
 ghost use Rattle.nova_commands.specs.Saving.{file, AreSaved, IsCut};
 ghost use Rattle.nova_commands.specs.inner.Contents.{file_of, files_of, AreTold, IsTold};
-ghost use Rattle.nova_commands.specs.declared.status.Status.{Status};
+ghost use Rattle.command_line.specs.declared.status.Status.{Status};
 
-use crate::refusal::{counted_line, named_line};
-use crate::reply::Reply;
-use crate::status::Status;
+use command_line::{Reply, Status, counted_line, named_line};
 use nv_base::NoMemory;
 use nv_outside::{Files, Saved};
 use std::alloc::Global;

@@ -3,17 +3,15 @@ ghost use Rattle.std.specs.Prelude.{◌≡◌, ◌≤◌, ◌⊎◌, length, IfO
 ghost use Rattle.nv_memtext.specs.MemoryText.{Gives};
 ghost use Rattle.uc_isa.specs.Engine.{engine};
 ghost use Rattle.uc_isa.specs.Lawful.{IsLawful};
-ghost use Rattle.nova_commands.specs.Limits.{object_limit, memory_limit};
-ghost use Rattle.nova_commands.specs.Lines.{IsUncaused};
+ghost use Rattle.command_line.specs.Limits.{object_limit, memory_limit};
+ghost use Rattle.command_line.specs.Lines.{IsUncaused};
 ghost use Rattle.nova_commands.specs.Machine.{RunRefuses, IsMemoryRefusedFor, IsRun, spill_base, full_text};
-ghost use Rattle.nova_commands.specs.Status.{outcome_status};
+ghost use Rattle.command_line.specs.Status.{outcome_status};
 ghost use Rattle.nova_commands.specs.inner.Replies.{IsOutcome};
 
-use crate::limits::SPILL_BASE;
 use crate::object::{check_lawful, code_of};
-use crate::refusal::Refusal;
-use crate::reply::Reply;
-use crate::status::Status;
+use command_line::limits::SPILL_BASE;
+use command_line::{Refusal, Reply, Status};
 use nv_base::{NoMemory, Outcome, WriteLog};
 use nv_memtext::{Job, MemError, print_outcome, read_memory};
 use std::alloc::Global;

@@ -2,12 +2,12 @@
 ghost use Rattle.std.specs.Prelude.{◌≤◌, ◌⊎◌, length, IfOk, IfErr};
 ghost use Rattle.nv_ast.specs.TypedView.{typed_program};
 ghost use Rattle.nova_front.specs.Sources.{IsTypedSource};
-ghost use Rattle.nova_commands.specs.Limits.{source_limit};
-ghost use Rattle.nova_commands.specs.Lines.{IsUncaused};
+ghost use Rattle.command_line.specs.Limits.{source_limit};
+ghost use Rattle.command_line.specs.Lines.{IsUncaused};
 ghost use Rattle.nova_commands.specs.Reading.{SourceRefuses};
 ghost use Rattle.nova_commands.specs.inner.Telling.{IsSpelledAs, IsToldAs};
 
-use crate::refusal::Refusal;
+use command_line::Refusal;
 use nova_front::{FrontError, typed};
 use nv_ast::Typed;
 use nv_text::TextError;

@@ -4,19 +4,19 @@ use Rattle.std.specs.Prelude.{⊤}
 use Rattle.std.proofs.lemmas.List.{append-nil}
 use Rattle.nv_outside.specs.Holding.{Holding, AppendsFront}
 use Rattle.nova_commands.specs.Answers.{Makes, CanMake, CanEnd, Refuses, Shows, IsRefusable, IsCaused, IsDone, IsStopped, IsRefused, Ends, IsPrinted, IsBegun, IsFree, IsOnly}
-use Rattle.nova_commands.specs.Command.{Command, Compile, Run, Exec, Asm, Dis, Lint, Check, Gen, IfCommand, IfCompile, IfGen, ForCommand, SomeFile, outputs_of}
+use Rattle.command_line.specs.Command.{Command, Compile, Run, Exec, Asm, Dis, Lint, Check, Gen, IfCommand, IfCompile, IfGen, ForCommand, SomeFile, outputs_of}
 use Rattle.nova_commands.specs.Generating.{IsGenerated, GenRefuses, EndsGenerated}
 use Rattle.zo_cert.specs.declared.report.Verdict.{Verdict}
 use Rattle.nova_commands.specs.Headline.{IsCompiled, IfWithout, IsReported}
-use Rattle.nova_commands.specs.Lines.{IsUncaused, refusal_status, refusal_text, cannot_read, cannot_write}
+use Rattle.command_line.specs.Lines.{IsUncaused, refusal_status, refusal_text, cannot_read, cannot_write}
 use Rattle.nova_commands.specs.Loading.{AreRead, StopsAt, IsUnread, inputs_of}
 use Rattle.nova_commands.specs.Saving.{File, IsSameBut}
-use Rattle.nova_commands.specs.Status.{MaySave}
+use Rattle.command_line.specs.Status.{MaySave}
 use Rattle.nova_commands.specs.inner.Replies.{IsOutcome, HasEnded}
-use Rattle.nova_commands.specs.declared.refusal.Refusal.{Refusal}
-use Rattle.nova_commands.specs.declared.refusal.Refusal.TheVariants.{NoMemory, ReadFault, TooLarge, SourceChar, SourceNumber, SourceName, SourceSyntax, SourceDeep, SourceType, SourceLarge, Syntax, Label, BadObject, BadMemoryText, BadReport, FalseReport, Unlawful, UnlawfulLine, StoreFull}
-use Rattle.nova_commands.specs.declared.status.Status.{Status}
-use Rattle.nova_commands.specs.declared.status.Status.TheVariants as status
+use Rattle.command_line.specs.declared.refusal.Refusal.{Refusal}
+use Rattle.command_line.specs.declared.refusal.Refusal.TheVariants.{NoMemory, ReadFault, TooLarge, SourceChar, SourceNumber, SourceName, SourceSyntax, SourceDeep, SourceType, SourceLarge, Syntax, Label, BadObject, BadMemoryText, BadReport, FalseReport, Unlawful, UnlawfulLine, StoreFull}
+use Rattle.command_line.specs.declared.status.Status.{Status}
+use Rattle.command_line.specs.declared.status.Status.TheVariants as status
 use Rattle.nova_commands.proofs.Loads.{contents-one, stopped-read, stops-both, stops-map, unread-long, unread-one, none-long, Never}
 use Rattle.nova_commands.proofs.OneAnswer.{refusal-one, makes-good, prints-good, prints-one, made-end, refused-end, makes-outcome, makes-kept, refuses-unread}
 use Rattle.nova_commands.proofs.Saves.{cut-output, same-all, nothing-saved, saved-elsewhere, cut-elsewhere, done-compiled, done-reported}

@@ -3,19 +3,20 @@ ghost use Rattle.std.specs.Prelude.{◌≡◌, ◌≢◌, ◌⊎◌, ◌++◌, �
 ghost use Rattle.nv_outside.specs.Causes.{Rose};
 ghost use Rattle.nv_outside.specs.Holding.{AppendsFront};
 ghost use Rattle.nova_commands.specs.Answers.{Shows, Ends, IsCaused, IsDone, IsStopped, CanMake, CanEnd, IsRefusable, IsPrinted, IsBegun, IsFree, IsOnly};
-ghost use Rattle.nova_commands.specs.Command.{command_of, texts_of, outputs_of, SomeFile, IfCommand, IfCompile, IfGen, ForCommand};
+ghost use Rattle.command_line.specs.Command.{command_of, texts_of, outputs_of, SomeFile, IfCommand, IfCompile, IfGen, ForCommand};
 ghost use Rattle.nova_commands.specs.Generating.{EndsGenerated};
-ghost use Rattle.nova_commands.specs.inner.Words.{command_as, HasLimits};
+ghost use Rattle.command_line.specs.inner.Words.{command_as, HasLimits};
 ghost use Rattle.nova_commands.specs.Headline.{IsCompiled, IfWithout, IsReported};
-ghost use Rattle.nova_commands.specs.Lines.{IsUncaused, usage_text, cannot_read, cannot_write, refusal_status, refusal_text};
+ghost use Rattle.command_line.specs.Lines.{IsUncaused, usage_text, cannot_read, cannot_write, refusal_status, refusal_text};
 ghost use Rattle.nova_commands.specs.Loading.{AreRead, inputs_of, StopsAt};
 ghost use Rattle.nova_commands.specs.Saving.{IsSameBut};
-ghost use Rattle.nova_commands.specs.Status.{MaySave};
+ghost use Rattle.command_line.specs.Status.{MaySave};
 ghost use Rattle.nova_commands.specs.inner.Replies.{IsEnd, HasEnded};
-ghost use Rattle.nova_commands.specs.declared.refusal.Refusal.{Refusal};
-ghost use Rattle.nova_commands.specs.declared.status.Status.{Status};
+ghost use Rattle.command_line.specs.declared.refusal.Refusal.{Refusal};
+ghost use Rattle.command_line.specs.declared.status.Status.{Status};
 
-use nova_commands::{Command, Refusal, Reply, Status, line, load_inputs, work};
+use command_line::{Command, Refusal, Reply, Status, line};
+use nova_commands::{load_inputs, work};
 use nv_base::NoMemory;
 use nv_outside::{Files, Sink};
 use std::alloc::Global;

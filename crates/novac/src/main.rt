@@ -5,7 +5,8 @@
 #[cfg(test)]
 mod tests;
 
-pub use nova_commands::{CompileError, Compiled, Status, compile_text};
+pub use command_line::Status;
+pub use nova_commands::{CompileError, Compiled, compile_text};
 pub use nova_top::run;
 use nv_base::NoMemory;
 use nv_outside::{DiskFiles, StdSink};

@@ -1,7 +1,7 @@
 -- The contents of a command's inputs, and the files that it saves.
 use Rattle.std.specs.Prelude.{◌≡◌, ◌≤◌, ℕ, List, [], ◌∷◌, length, ⊤}
-use Rattle.nova_commands.specs.Command.{Command, Run, Exec, Gen}
-use Rattle.nova_commands.specs.Lines.{cannot_write}
+use Rattle.command_line.specs.Command.{Command, Run, Exec, Gen}
+use Rattle.command_line.specs.Lines.{cannot_write}
 use Rattle.nova_commands.specs.Loading.{Input}
 use Rattle.nova_commands.specs.Saving.{File, file}
 use Rattle.nova_commands.specs.declared.save.Output.{Output}

@@ -12,8 +12,8 @@ use Rattle.nova_commands.specs.declared.build.CompileError.{CompileError}
 use Rattle.nova_commands.specs.declared.build.CompileError.TheVariants as compile
 use Rattle.nova_commands.specs.declared.compile.Found.{Found}
 use Rattle.nova_commands.specs.declared.compile.Found.TheVariants as found
-use Rattle.nova_commands.specs.declared.refusal.Refusal.{Refusal}
-use Rattle.nova_commands.specs.declared.refusal.Refusal.TheVariants as refusal
+use Rattle.command_line.specs.declared.refusal.Refusal.{Refusal}
+use Rattle.command_line.specs.declared.refusal.Refusal.TheVariants as refusal
 use Rattle.nova_commands.specs.inner.Telling.{IsSpelledAs}
 
 -- the typed program of the text, its code, and the report on its banks

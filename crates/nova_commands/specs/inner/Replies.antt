@@ -2,13 +2,13 @@
 use Rattle.std.specs.Prelude.{◌≡◌, ◌⊎◌, ℕ, List, Result, Ok, Err}
 use Rattle.nv_outside.specs.Holding.{Holding}
 use Rattle.nova_commands.specs.Answers.{IsDone, IsStopped, IsRefused}
-use Rattle.nova_commands.specs.Command.{Command}
-use Rattle.nova_commands.specs.declared.refusal.Refusal.{Refusal}
-use Rattle.nova_commands.specs.declared.reply.Reply.{Reply}
+use Rattle.command_line.specs.Command.{Command}
+use Rattle.command_line.specs.declared.refusal.Refusal.{Refusal}
+use Rattle.command_line.specs.declared.reply.Reply.{Reply}
 use Rattle.nova_commands.specs.declared.save.Made.{Made}
 use Rattle.nova_commands.specs.declared.save.Outputs.TheVariants.{Nothing}
-use Rattle.nova_commands.specs.declared.status.Status.{Status}
-use Rattle.nova_commands.specs.declared.status.Status.TheVariants.{Done, WriteFault, Infeasible, BudgetSpent, Raised, Fault, StepsSpent}
+use Rattle.command_line.specs.declared.status.Status.{Status}
+use Rattle.command_line.specs.declared.status.Status.TheVariants.{Done, WriteFault, Infeasible, BudgetSpent, Raised, Fault, StepsSpent}
 
 -- a command that isn't refused, and no save of which fails, ends with one of these
 abbrev pub IsOutcome : Status → Type 0

@@ -8,8 +8,8 @@ use Rattle.nova_back.specs.declared.error.BackError.{BackError}
 use Rattle.nova_back.specs.declared.error.BackError.TheVariants as back
 use Rattle.nova_commands.specs.declared.build.CompileError.{CompileError}
 use Rattle.nova_commands.specs.declared.build.CompileError.TheVariants as compile
-use Rattle.nova_commands.specs.declared.refusal.Refusal.{Refusal}
-use Rattle.nova_commands.specs.declared.refusal.Refusal.TheVariants as refusal
+use Rattle.command_line.specs.declared.refusal.Refusal.{Refusal}
+use Rattle.command_line.specs.declared.refusal.Refusal.TheVariants as refusal
 
 -- how a refusal of the front end is passed on
 abbrev pub IsPassedAs : FrontError → CompileError → Type 0

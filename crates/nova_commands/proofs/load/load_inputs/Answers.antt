@@ -1,9 +1,9 @@
 use Rattle.std.proofs.Common.{◌⊎◌, List, IfErr, ap, sym, subst}
 use Rattle.nv_outside.specs.Causes.{Rose}
-use Rattle.nova_commands.specs.inner.Words.{command_as}
-use Rattle.nova_commands.specs.Lines.{IsUncaused}
+use Rattle.command_line.specs.inner.Words.{command_as}
+use Rattle.command_line.specs.Lines.{IsUncaused}
 use Rattle.nova_commands.specs.Loading.{Input, inputs_of, StopsAt, IsUnread}
-use Rattle.nova_commands.specs.declared.command.Command.{Command as Spoken}
+use Rattle.command_line.specs.declared.command.Command.{Command as Spoken}
 use Rattle.nova_commands.proofs.load.load_inputs.Goals as goal
 
 pub returns-in-Run-clause-unread : goal.returns-in-Run-clause-unread

@@ -1,5 +1,5 @@
 use Rattle.nova_commands.specs.Loading.{input}
-use Rattle.nova_commands.specs.Limits.{memory_limit}
+use Rattle.command_line.specs.Limits.{memory_limit}
 use Rattle.nova_commands.proofs.Loads.{unread-second}
 use Rattle.nova_commands.proofs.load.load_two.Goals as goal
 

@@ -1,11 +1,11 @@
 use Rattle.std.proofs.Common.{◌⊎◌, List, ℕ, IfErr, subst, sym}
 use Rattle.nova_commands.specs.Answers.{Refuses}
 use Rattle.nova_commands.specs.Checking.{CheckRefuses}
-use Rattle.nova_commands.specs.Lines.{IsUncaused}
+use Rattle.command_line.specs.Lines.{IsUncaused}
 use Rattle.nova_commands.specs.inner.Contents.{contents_of}
-use Rattle.nova_commands.specs.inner.Words.{command_as}
-use Rattle.nova_commands.specs.declared.command.Command.{Command as Spoken}
-use Rattle.nova_commands.specs.declared.refusal.Refusal.{Refusal}
+use Rattle.command_line.specs.inner.Words.{command_as}
+use Rattle.command_line.specs.declared.command.Command.{Command as Spoken}
+use Rattle.command_line.specs.declared.refusal.Refusal.{Refusal}
 use Rattle.nova_commands.proofs.Errors.{shown-refused}
 use Rattle.nova_commands.proofs.perform.work.Goals as goal
 

@@ -1,10 +1,10 @@
 use Rattle.std.proofs.Common.{◌≡◌, ℕ, List, ap, subst}
 use Rattle.nv_outside.specs.Causes.{Rose}
 use Rattle.nv_outside.specs.Holding.{AppendsFront}
-use Rattle.nova_commands.specs.Command.{command_of, texts_of}
-use Rattle.nova_commands.specs.Lines.{usage_text}
+use Rattle.command_line.specs.Command.{command_of, texts_of}
+use Rattle.command_line.specs.Lines.{usage_text}
 use Rattle.nova_top.proofs.Printing.{compiled, reported, generated, memory-generated, printed, begun, only-refused, only-shown, only-made, read-fault, write-fault, unchanged, elsewhere, all-same, memory-printed}
-use Rattle.nova_commands.proofs.Names.{words-apart}
+use Rattle.command_line.proofs.Names.{words-apart}
 use Rattle.nova_top.proofs.top.run.Goals as goal
 
 pub returns-in-Ok-clause-compiled : goal.returns-in-Ok-clause-compiled

@@ -2,8 +2,8 @@
 use Rattle.std.specs.Prelude.{ℕ}
 use Rattle.nv_base.specs.declared.outcome.Outcome.{Outcome}
 use Rattle.nv_base.specs.declared.outcome.Outcome.TheVariants as outcome
-use Rattle.nova_commands.specs.declared.status.Status.{Status}
-use Rattle.nova_commands.specs.declared.status.Status.TheVariants.{Done, Usage, ReadFault, WriteFault, NoMemory, Syntax, TypeFault, TooLarge, Infeasible, BudgetSpent, StoreFull, BadObject, BadMemoryText, Raised, Fault, StepsSpent, CertificateRefused, Unlawful}
+use Rattle.command_line.specs.declared.status.Status.{Status}
+use Rattle.command_line.specs.declared.status.Status.TheVariants.{Done, Usage, ReadFault, WriteFault, NoMemory, Syntax, TypeFault, TooLarge, Infeasible, BudgetSpent, StoreFull, BadObject, BadMemoryText, Raised, Fault, StepsSpent, CertificateRefused, Unlawful}
 
 -- the numbers of the statuses
 abbrev pub status_number : Status → ℕ

@@ -8,7 +8,7 @@ use Rattle.std.proofs.lemmas.Bool.Decides.{nat_tests}
 use Rattle.std.proofs.lemmas.Fmt.{decimal_is_IsNumeral}
 use Rattle.std.proofs.lemmas.List.{append_cancel_left}
 use Rattle.std.proofs.lemmas.Slice.Eq.{bytes_eq-Decides}
-use Rattle.nova_commands.specs.Command.{number_in, option_of}
+use Rattle.command_line.specs.Command.{number_in, option_of}
 
 bytes_eq-same : (x y : List ℕ) → x ≡ y → bytes_eq x y ≡ true
 bytes_eq-same x y e = (bytes_eq-Decides x y).1 e

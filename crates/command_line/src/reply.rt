@@ -2,7 +2,7 @@
 ghost use Rattle.std.specs.Prelude.{◌≡◌, ◌≢◌, ◌++◌, ◌⊎◌};
 ghost use Rattle.nv_outside.specs.Causes.{Rose};
 ghost use Rattle.nv_outside.specs.Holding.{AppendsFront};
-ghost use Rattle.nova_commands.specs.declared.status.Status.{Status};
+ghost use Rattle.command_line.specs.declared.status.Status.{Status};
 
 use crate::status::Status;
 use nv_outside::{Put, Sink};

@@ -1,7 +1,7 @@
 use Rattle.std.proofs.Common.{◌≡◌, None, arith}
-use Rattle.nova_commands.specs.Command.{option_of}
-use Rattle.nova_commands.proofs.Numbers.{option-found, option-below, option-none, key-spelled, if-none}
-use Rattle.nova_commands.proofs.command.option_in.Goals as goal
+use Rattle.command_line.specs.Command.{option_of}
+use Rattle.command_line.proofs.Numbers.{option-found, option-below, option-none, key-spelled, if-none}
+use Rattle.command_line.proofs.command.option_in.Goals as goal
 
 pub returns-then-n-least-clause-none : goal.returns-then-n-least-clause-none
 returns-then-n-least-clause-none c =

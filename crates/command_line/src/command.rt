@@ -1,8 +1,8 @@
 //! The words of a command line.
 ghost use Rattle.std.specs.Prelude.{◌≡◌, ◌≤◌, [], None, Some, IfSome, IfNone};
-ghost use Rattle.nova_commands.specs.Command.{command_of, command_of_two, command_of_three, command_of_four, command_of_more, compile_of, options_of, taken, gen_of, number_in, option_of, texts, texts_of};
-ghost use Rattle.nova_commands.specs.Command.{are_names as names_differ};
-ghost use Rattle.nova_commands.specs.inner.Words.{command_as, options_as, AreInLimits, HasLimits};
+ghost use Rattle.command_line.specs.Command.{command_of, command_of_two, command_of_three, command_of_four, command_of_more, compile_of, options_of, taken, gen_of, number_in, option_of, texts, texts_of};
+ghost use Rattle.command_line.specs.Command.{are_names as names_differ};
+ghost use Rattle.command_line.specs.inner.Words.{command_as, options_as, AreInLimits, HasLimits};
 
 use crate::limits::{DEFAULT_BUDGET, DEFAULT_STORE, MOST_BUDGET, MOST_SLOTS, MOST_STORE};
 use line_text::read_decimal;

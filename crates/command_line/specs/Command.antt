@@ -3,7 +3,7 @@ use Rattle.std.specs.Prelude.{ℕ, length, List, [], ◌∷◌, ◌++◌, Option
 use Rattle.std.specs.Global.{Global}
 use Rattle.std.specs.Str.{bytes_eq}
 use Rattle.std.specs.Str.Parse.{digits_value}
-use Rattle.nova_commands.specs.Limits.{slots_limit, budget_default, budget_limit, store_default, store_limit}
+use Rattle.command_line.specs.Limits.{slots_limit, budget_default, budget_limit, store_default, store_limit}
 
 -- a command with what its words name
 pub data Command : Type 0 where

@@ -1,6 +1,6 @@
 use Rattle.std.proofs.Common.{◌∙◌, sym, arith}
-use Rattle.nova_commands.proofs.Numbers.{number-within, number-below}
-use Rattle.nova_commands.proofs.command.number_in.Goals as goal
+use Rattle.command_line.proofs.Numbers.{number-within, number-below}
+use Rattle.command_line.proofs.command.number_in.Goals as goal
 
 pub returns-then-n-least-clause-none : goal.returns-then-n-least-clause-none
 returns-then-n-least-clause-none c =

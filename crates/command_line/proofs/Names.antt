@@ -4,8 +4,8 @@ use Rattle.std.specs.Global.{Global}
 use Rattle.std.specs.Prelude.{String, not, ◌==◌, option_map, if◌then◌else◌}
 use Rattle.std.specs.Str.{bytes_eq}
 use Rattle.std.proofs.lemmas.Slice.Eq.{bytes_eq-Decides}
-use Rattle.nova_commands.specs.Command.{Command, Run, Exec, Asm, Dis, Lint, Check, Options, IfCompile, is_name, are_names, number_in, steps_of, gen_with, gen_of, command_of_two, command_of_three, command_of_four, command_of_more, compile_with, compile_of, options_of, options_with, taken, texts, command_of}
-use Rattle.nova_commands.specs.Limits.{slots_limit, budget_default, budget_limit, store_default, store_limit}
+use Rattle.command_line.specs.Command.{Command, Run, Exec, Asm, Dis, Lint, Check, Options, IfCompile, is_name, are_names, number_in, steps_of, gen_with, gen_of, command_of_two, command_of_three, command_of_four, command_of_more, compile_with, compile_of, options_of, options_with, taken, texts, command_of}
+use Rattle.command_line.specs.Limits.{slots_limit, budget_default, budget_limit, store_default, store_limit}
 
 abbrev pub AreApart : Option Command → Type 0
 AreApart o = IfCompile o (λ source object report slots budget store. object ≡ report → ⊥)

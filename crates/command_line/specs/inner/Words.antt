@@ -1,9 +1,9 @@
 -- Commands as the code has them.
 use Rattle.std.specs.Prelude.{◌≤◌, ⊤}
-use Rattle.nova_commands.specs.Command.{Command, Compile, Run, Exec, Asm, Dis, Lint, Check, Gen, Options}
-use Rattle.nova_commands.specs.declared.command.Command.{Command as Spoken}
-use Rattle.nova_commands.specs.declared.command.Command.TheVariants as spoken
-use Rattle.nova_commands.specs.declared.command.Options.{Options as Chosen}
+use Rattle.command_line.specs.Command.{Command, Compile, Run, Exec, Asm, Dis, Lint, Check, Gen, Options}
+use Rattle.command_line.specs.declared.command.Command.{Command as Spoken}
+use Rattle.command_line.specs.declared.command.Command.TheVariants as spoken
+use Rattle.command_line.specs.declared.command.Options.{Options as Chosen}
 
 -- a command without where its names lie
 abbrev pub command_as : Spoken → Command

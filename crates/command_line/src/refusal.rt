@@ -1,7 +1,7 @@
 //! Why a command isn't done, and the line that says so.
 ghost use Rattle.std.specs.Prelude.{◌≡◌, ◌++◌, ◌∷◌, [], IfOk, OnOk};
-ghost use Rattle.nova_commands.specs.Lines.{refusal_text, refusal_status, counted, named, ruled, type_text, verdict_name, compiled_text};
-ghost use Rattle.nova_commands.specs.declared.refusal.Refusal.TheVariants.{NoMemory as WantOfMemory};
+ghost use Rattle.command_line.specs.Lines.{refusal_text, refusal_status, counted, named, ruled, type_text, verdict_name, compiled_text};
+ghost use Rattle.command_line.specs.declared.refusal.Refusal.TheVariants.{NoMemory as WantOfMemory};
 
 use crate::status::Status;
 use line_text::push_decimal;

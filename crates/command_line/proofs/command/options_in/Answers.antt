@@ -1,6 +1,6 @@
-use Rattle.nova_commands.specs.Command.{texts}
-use Rattle.nova_commands.proofs.Names.{options-none, words-left}
-use Rattle.nova_commands.proofs.command.options_in.Goals as goal
+use Rattle.command_line.specs.Command.{texts}
+use Rattle.command_line.proofs.Names.{options-none, words-left}
+use Rattle.command_line.proofs.command.options_in.Goals as goal
 
 pub returns-else-is_empty-clause-none : goal.returns-else-is_empty-clause-none
 returns-else-is_empty-clause-none c =

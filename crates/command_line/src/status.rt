@@ -1,6 +1,6 @@
 //! How a run of the program ended.
 ghost use Rattle.std.specs.Prelude.{◌≡◌};
-ghost use Rattle.nova_commands.specs.Status.{status_number};
+ghost use Rattle.command_line.specs.Status.{status_number};
 
 /// How a run of the program ended.
 #[derive(Clone, Copy, Debug, PartialEq, Eq)]

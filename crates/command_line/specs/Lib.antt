@@ -1,0 +1,5 @@
+pub mod Status
+pub mod Lines
+pub mod Command
+pub mod Limits
+pub mod inner

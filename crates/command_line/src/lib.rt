@@ -1,0 +1,13 @@
+//! What the words of a command line say, within which limits; and the status and the line with which a command ends or is refused.
+#![tactic(auto)]
+
+mod command;
+pub mod limits;
+mod refusal;
+mod reply;
+mod status;
+
+pub use command::{Command, Options};
+pub use refusal::{Refusal, compiled_line, counted_line, line, named_line, push_verdict};
+pub use reply::Reply;
+pub use status::Status;
