@@ -3,7 +3,7 @@
 /// Where a word is or is brought: a register of bank A or B, a slot (M), the read register into which a
 /// read value came (T), a read register through which a slot is read (L), the compiler's own register
 /// (A15), or the write register of a written word (W).
-#[derive(Clone, Copy, Debug, PartialEq, Eq, Hash)]
+#[derive(Clone, Copy, PartialEq, Eq, Hash)]
 pub enum Bank {
     A,
     B,
@@ -16,7 +16,7 @@ pub enum Bank {
 
 /// One choice. A value goes by its variable, an access and a pass by their point, a use by its point
 /// and the number of its operand.
-#[derive(Clone, Copy, Debug, PartialEq, Eq, Hash)]
+#[derive(Clone, Copy, PartialEq, Eq, Hash)]
 pub enum Column {
     /// The value is first put into this bank.
     Def(u32, Bank),
@@ -40,7 +40,7 @@ pub enum Column {
 }
 
 /// One way to serve a use: from this bank, in that, at this cost.
-#[derive(Clone, Copy, Debug, PartialEq, Eq)]
+#[derive(Clone, Copy)]
 pub struct Service {
     pub from: Bank,
     pub at: Bank,

@@ -15,7 +15,7 @@ use std::alloc::Global;
 use std::collections::HashMap;
 
 /// How a value comes: parameter i of label l, a result, or word i of a read.
-#[derive(Clone, Copy, Debug, PartialEq, Eq)]
+#[derive(Clone, Copy)]
 pub enum Sort {
     Parameter(u32, u32),
     Result,
@@ -37,7 +37,7 @@ impl Sort {
 
 /// What a use is: an operand, an address, word i of a write, the word for parameter i of label l, or
 /// word i of an end.
-#[derive(Clone, Copy, Debug, PartialEq, Eq)]
+#[derive(Clone, Copy)]
 pub enum Role {
     Operand,
     Address,
@@ -47,7 +47,7 @@ pub enum Role {
 }
 
 /// A value, by the point that defines it.
-#[derive(Clone, Copy, Debug, PartialEq, Eq)]
+#[derive(Clone, Copy)]
 pub struct Value {
     pub point: u32,
     pub var: u32,
@@ -55,7 +55,7 @@ pub struct Value {
 }
 
 /// A use of a value.
-#[derive(Clone, Copy, Debug, PartialEq, Eq)]
+#[derive(Clone, Copy)]
 pub struct Use {
     pub point: u32,
     pub operand: u32,
@@ -64,7 +64,7 @@ pub struct Use {
 }
 
 /// So many words of a memory are read or written at a point.
-#[derive(Clone, Copy, Debug, PartialEq, Eq)]
+#[derive(Clone, Copy)]
 pub struct Access {
     pub point: u32,
     pub mem: Mem,
@@ -72,7 +72,7 @@ pub struct Access {
 }
 
 /// A point: what it defines, uses, reads and writes.
-#[derive(Debug, Drop)]
+#[derive(Drop)]
 pub struct Stop {
     pub point: u32,
     /// How many words its access has.

@@ -7,7 +7,7 @@ use nv_base::NoMemory;
 use std::alloc::{AllocError, AllocFailed};
 
 /// Why there is no program.
-#[derive(Clone, Copy, Debug, PartialEq, Eq)]
+#[derive(Clone, Copy)]
 pub enum BankError {
     NoMemory,
     /// So many columns, or so many rows, are more than a program may have.

@@ -17,7 +17,7 @@ const MOST_SEED: u64 = 4_294_967_295;
 const MOST_LINES: u64 = 500;
 
 /// How a source is compiled: with so many slots, in a search of so many branches, to code of so many instructions.
-#[derive(Clone, Copy, Debug, PartialEq, Eq)]
+#[derive(Clone, Copy)]
 pub struct Options {
     pub slots: u32,
     pub budget: u32,
@@ -25,7 +25,7 @@ pub struct Options {
 }
 
 /// A command with what its words name.
-#[derive(Clone, Copy, Debug, PartialEq, Eq)]
+#[derive(Clone, Copy)]
 pub enum Command<'a> {
     /// Source, object, report.
     Compile(&'a str, &'a str, &'a str, Options),

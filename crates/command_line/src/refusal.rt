@@ -11,7 +11,7 @@ use std::alloc::{AllocError, Global};
 use zo_cert::Verdict;
 
 /// Why a command isn't done.
-#[derive(Clone, Copy, Debug, PartialEq, Eq)]
+#[derive(Clone, Copy)]
 pub enum Refusal<'a> {
     NoMemory,
     /// The file with this name couldn't be read.

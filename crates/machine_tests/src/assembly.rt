@@ -14,19 +14,20 @@ const SUM: &[u8] = b"params 2\n\
 fn a_text_gives_its_code(rt: HostRuntime) -> Result<(), Fail> {
     let code = assemble(rt.alloc(), SUM)?;
     assert_eq!(rt; code.params(), 2);
-    let list = Vec::from_array(
-        rt.alloc(),
-        [
-            Instr::Alu {
-                dst: Dst::A(RegA { number: 0 }),
-                op: Bin::Add,
-                x: Src::A(RegA { number: 0 }),
-                y: Src::B(RegB { number: 0 }),
-            },
-            Instr::Halt { k: 0, n: 1 },
-        ],
-    )?;
-    assert_eq!(rt; code.list(), list.as_slice());
+    assert!(rt;
+        matches!(
+            code.list(),
+            [
+                Instr::Alu {
+                    dst: Dst::A(RegA { number: 0 }),
+                    op: Bin::Add,
+                    x: Src::A(RegA { number: 0 }),
+                    y: Src::B(RegB { number: 0 }),
+                },
+                Instr::Halt { k: 0, n: 1 },
+            ]
+        )
+    );
     Ok(())
 }
 
@@ -40,7 +41,8 @@ fn a_listing_is_assembled_again(rt: HostRuntime) -> Result<(), Fail> {
     let listing = b"params 2\nalu A0 ADD A0 B0\nhalt 0 1\nbr ALWAYS @0\n";
     assert_eq!(rt; text.as_slice(), listing.as_slice());
     let again = assemble_printed(rt.alloc(), &code)?;
-    assert_eq!(rt; again.list(), code.list());
+    let text = print(rt.alloc(), &again)?;
+    assert_eq!(rt; text.as_slice(), listing.as_slice());
     Ok(())
 }
 

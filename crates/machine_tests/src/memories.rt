@@ -68,6 +68,6 @@ fn a_log_keeps_the_first_writes_and_counts_all(rt: HostRuntime) -> Result<(), Fa
     log.note(sram_write(1));
     log.note(sram_write(2));
     assert_eq!(rt; log.count(), 3);
-    assert_eq!(rt; log.kept(), [sram_write(0), sram_write(1)].as_slice());
+    assert!(rt; log.kept() == [sram_write(0), sram_write(1)].as_slice());
     Ok(())
 }

@@ -1,7 +1,7 @@
 //! How a run of the program ended.
 
 /// How a run of the program ended.
-#[derive(Clone, Copy, Debug, PartialEq, Eq)]
+#[derive(Clone, Copy)]
 pub enum Status {
     /// It was told.
     Told,

@@ -16,7 +16,7 @@ use nv_text::MOST_BYTES;
 use std::alloc::{AllocError, Global};
 
 /// Why nothing was printed.
-#[derive(Clone, Copy, Debug, PartialEq, Eq, Drop)]
+#[derive(Clone, Copy, Drop)]
 pub enum Failure {
     /// The words are no command.
     Words,
@@ -58,7 +58,7 @@ impl From<AllocError> for Failure {
 }
 
 /// Which forms are to be printed.
-#[derive(Clone, Copy, Debug, PartialEq, Eq, Drop)]
+#[derive(Clone, Copy, Drop)]
 pub enum Wanted {
     All,
     Flat,

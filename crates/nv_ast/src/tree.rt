@@ -106,7 +106,7 @@ pub enum Kind {
 }
 
 /// An operator of two operands. `Both` is `&&` and `Either` is `||`.
-#[derive(Clone, Copy, PartialEq, Eq, Debug)]
+#[derive(Clone, Copy)]
 pub enum Op {
     Add,
     Sub,
@@ -124,7 +124,7 @@ pub enum Op {
 }
 
 /// A shift by a number that stands in the text: `<<`, `>>`, and `<<<`, which rotates left.
-#[derive(Clone, Copy, PartialEq, Eq, Debug)]
+#[derive(Clone, Copy)]
 pub enum ShiftOp {
     Left,
     Right,

@@ -5,7 +5,7 @@ ghost use Rattle.nv_base.specs.declared.error.PacketError.TheVariants.{NoMemory 
 use std::alloc::{AllocError, AllocFailed};
 
 /// The allocator refused to give memory. This answer may come from every call that allocates.
-#[derive(Clone, Copy, Debug, PartialEq, Eq)]
+#[derive(Clone, Copy, Debug)]
 pub struct NoMemory;
 
 impl From<AllocError> for NoMemory {
@@ -21,7 +21,7 @@ impl<T: Drop> From<AllocFailed<T>> for NoMemory {
 }
 
 /// Why there is no new packet.
-#[derive(Clone, Copy, Debug, PartialEq, Eq)]
+#[derive(Clone, Copy, Debug)]
 pub enum PacketError {
     NoMemory,
     /// The first size above 65,536, that of SRAM before that of SDRAM.

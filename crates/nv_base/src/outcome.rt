@@ -3,7 +3,7 @@ use crate::term::Mem;
 use crate::words::Words;
 
 /// A write: the memory, the first address, and the words in order.
-#[derive(Clone, Copy, Debug, PartialEq, Eq)]
+#[derive(Clone, Copy, PartialEq, Eq)]
 pub struct Write {
     pub mem: Mem,
     pub at: u32,
@@ -11,7 +11,7 @@ pub struct Write {
 }
 
 /// How a run ended, or that it goes on.
-#[derive(Clone, Copy, Debug, PartialEq, Eq)]
+#[derive(Clone, Copy, PartialEq, Eq)]
 pub enum Outcome {
     /// The run gave these words.
     Ended(Words),

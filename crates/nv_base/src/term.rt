@@ -7,7 +7,7 @@ use smallvec::SmallVec;
 use std::alloc::Global;
 
 /// A kind of packet memory: SRAM and scratch are addressed in words, SDRAM in quadwords of two words.
-#[derive(Clone, Copy, Debug, PartialEq, Eq)]
+#[derive(Clone, Copy, PartialEq, Eq)]
 pub enum Mem {
     Sram,
     Sdram,
@@ -24,7 +24,7 @@ pub enum Access {
 }
 
 /// An operand: a variable by its number, or a literal.
-#[derive(Clone, Copy, Debug, PartialEq, Eq)]
+#[derive(Clone, Copy)]
 pub enum Atom {
     Var(u32),
     Lit(u32),
@@ -42,7 +42,7 @@ impl Default for Atom {
 }
 
 /// An operation on one word. A count of places is 1 to 31.
-#[derive(Clone, Copy, Debug, PartialEq, Eq)]
+#[derive(Clone, Copy)]
 pub enum Una {
     /// Each bit turned over.
     Not,
@@ -70,7 +70,7 @@ impl Una {
 }
 
 /// An operation on two words, modulo 2^32 or bit by bit.
-#[derive(Clone, Copy, Debug, PartialEq, Eq)]
+#[derive(Clone, Copy)]
 pub enum Bin {
     Add,
     Sub,
@@ -95,7 +95,7 @@ impl Bin {
 }
 
 /// What gives a variable its word: an operand as it is, or an operation on operands.
-#[derive(Clone, Copy, Debug, PartialEq, Eq)]
+#[derive(Clone, Copy)]
 pub enum Primitive {
     Same(Atom),
     Una(Una, Atom),
@@ -103,7 +103,7 @@ pub enum Primitive {
 }
 
 /// A comparison of unsigned words.
-#[derive(Clone, Copy, Debug, PartialEq, Eq)]
+#[derive(Clone, Copy)]
 pub enum Cmp {
     Eq,
     Ne,

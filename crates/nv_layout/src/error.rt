@@ -6,7 +6,7 @@ use nv_base::NoMemory;
 use std::alloc::{AllocError, AllocFailed};
 
 /// Why a layout text has no outline.
-#[derive(Clone, Copy, Debug, PartialEq, Eq)]
+#[derive(Clone, Copy, Debug)]
 pub enum LayoutError {
     NoMemory,
     /// The kind of the first fault: 3 an unknown layout, 4 a wrong number of bits, 5 a name twice in a

@@ -16,7 +16,7 @@ pub enum Outline {
 
 /// A field of 1 to 32 bits: its first bit, counted from the most significant one of word 0, and its
 /// number of bits.
-#[derive(Clone, Copy, PartialEq, Eq, Debug)]
+#[derive(Clone, Copy)]
 pub struct Field {
     pub first: u32,
     pub bits: u8,

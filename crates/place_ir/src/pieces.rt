@@ -18,7 +18,7 @@ pub enum Behind {
 
 /// What a use is: an operand, an address, a word of a write, the word for a parameter of a label, or a
 /// word of an end.
-#[derive(Clone, Copy, Debug, PartialEq, Eq)]
+#[derive(Clone, Copy)]
 pub enum Role {
     Operand,
     Address,

@@ -7,7 +7,7 @@ use nv_base::NoMemory;
 use std::alloc::{AllocError, AllocFailed};
 
 /// Where a word can stand: a register of a bank, by its number, or a slot, a scratch word of the compiler's.
-#[derive(Clone, Copy, Debug, PartialEq, Eq)]
+#[derive(Clone, Copy, PartialEq, Eq)]
 pub enum Place {
     /// A general register of the first bank.
     A(u8),
@@ -26,7 +26,7 @@ pub enum Place {
 }
 
 /// The places of one value: where it is first put, and where copies of it are put directly behind.
-#[derive(Debug, Drop)]
+#[derive(Drop)]
 pub struct Home {
     pub var: u32,
     pub defined: Place,
@@ -34,14 +34,14 @@ pub struct Home {
 }
 
 /// The first register of the access at a point.
-#[derive(Clone, Copy, Debug, PartialEq, Eq)]
+#[derive(Clone, Copy)]
 pub struct First {
     pub point: u32,
     pub first: u8,
 }
 
 /// How one use is served: the operand of this number, from this place, at that place.
-#[derive(Clone, Copy, Debug, PartialEq, Eq)]
+#[derive(Clone, Copy)]
 pub struct Serve {
     pub point: u32,
     pub operand: u8,
@@ -50,7 +50,7 @@ pub struct Serve {
 }
 
 /// Through which registers the code of a point reads slots and writes slots.
-#[derive(Clone, Copy, Debug, PartialEq, Eq)]
+#[derive(Clone, Copy)]
 pub struct Pass {
     pub point: u32,
     pub l: Option<u8>,
@@ -58,7 +58,7 @@ pub struct Pass {
 }
 
 /// Places for all values of a program, and how each use is served.
-#[derive(Debug, Drop)]
+#[derive(Drop)]
 pub struct Placement {
     /// So many slots may be used.
     pub slots: u32,
@@ -69,7 +69,7 @@ pub struct Placement {
 }
 
 /// Why there is no placement.
-#[derive(Clone, Copy, Debug, PartialEq, Eq)]
+#[derive(Clone, Copy, Debug)]
 pub enum PlaceError {
     NoMemory,
     /// So many slots are wanted.

@@ -14,7 +14,7 @@ use nv_base::Mem;
 
 /// Where a written word goes; the number may be past the last register. `Other` stands for a use that is
 /// no written word.
-#[derive(Clone, Copy, Debug, PartialEq, Eq)]
+#[derive(Clone, Copy)]
 pub enum Word {
     S(u32),
     SD(u32),

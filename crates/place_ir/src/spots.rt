@@ -14,7 +14,7 @@ use ssu_ir::{NodeId, Ssu, SsuNode};
 use std::alloc::Global;
 
 /// A point: the entry of a label, or a node.
-#[derive(Clone, Copy, Debug, PartialEq, Eq)]
+#[derive(Clone, Copy)]
 pub enum Spot {
     Entry(usize),
     Node(NodeId),

@@ -21,7 +21,7 @@ use nv_base::Mem;
 use ssu_ir::Ssu;
 
 /// A use: its point, the number of the operand, the value and what it is.
-#[derive(Clone, Copy, Debug, PartialEq, Eq)]
+#[derive(Clone, Copy)]
 pub struct Use {
     pub point: u32,
     pub operand: u8,

@@ -28,7 +28,7 @@ fn difference(alloc: Global) -> Result<Flow, NoMemory> {
 // Whether a tree ends at once with a literal.
 fn gives(t: &Tree, v: u32) -> bool {
     match t {
-        Tree::Halt(0, result) => result.get(0) == Some(&Atom::Lit(v)),
+        Tree::Halt(0, result) => matches!(result.get(0), Some(Atom::Lit(given)) if *given == v),
         _ => false,
     }
 }
@@ -71,7 +71,7 @@ fn a_rule_of_its_own_turns_the_bits_over(rt: HostRuntime) -> Result<(), Fail> {
     });
     let simple = simplify(alloc, turned(alloc)?, &rule)?;
     assert!(rt;
-        matches!(simple.labels.get(0), Some(l) if matches!(&l.body, Tree::Let(_, p, _) if *p == Prim::Una(Una::Not, Atom::Var(0))))
+        matches!(simple.labels.get(0), Some(l) if matches!(&l.body, Tree::Let(_, Prim::Una(Una::Not, Atom::Var(0)), _)))
     );
     Ok(())
 }

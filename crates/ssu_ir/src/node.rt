@@ -3,7 +3,7 @@
 use nv_base::{Bin, Cmp, Mem, Una, Vars};
 
 /// The number of a node.
-#[derive(Clone, Copy, Debug, PartialEq, Eq)]
+#[derive(Clone, Copy, PartialEq, Eq)]
 pub struct NodeId(pub usize);
 
 /// One node; the nodes behind it by their numbers.

@@ -12,6 +12,6 @@ fn two_registers_are_exchanged(rt: HostRuntime) -> Result<(), Fail> {
         (Place::A(1), Place::A(0)),
         (Place::A(15), Place::A(1)),
     ];
-    assert_eq!(rt; singles.as_slice(), expected.as_slice());
+    assert!(rt; singles.as_slice() == expected.as_slice());
     Ok(())
 }

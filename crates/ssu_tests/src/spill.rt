@@ -15,20 +15,26 @@ fn each_word_of_a_sum_has_a_slot(rt: HostRuntime) -> Result<(), Fail> {
     assert_eq!(rt; p.homes.len(), 3);
     assert_eq!(rt; p.firsts.len(), 0);
     assert_eq!(rt; p.serves.len(), 3);
-    let first = Serve {
-        point: 1,
-        operand: 0,
-        from: Place::Slot(0),
-        at: Place::L(0),
-    };
-    assert_eq!(rt; p.serves.first().copied(), Some(first));
-    assert_eq!(rt;
-        p.passes.last().copied(),
-        Some(Pass {
-            point: 2,
-            l: Some(0),
-            s: None
-        })
+    assert!(rt;
+        matches!(
+            p.serves.first(),
+            Some(Serve {
+                point: 1,
+                operand: 0,
+                from: Place::Slot(0),
+                at: Place::L(0),
+            })
+        )
+    );
+    assert!(rt;
+        matches!(
+            p.passes.last(),
+            Some(Pass {
+                point: 2,
+                l: Some(0),
+                s: None,
+            })
+        )
     );
     Ok(())
 }
@@ -40,6 +46,6 @@ fn two_words_want_two_slots(rt: HostRuntime) -> Result<(), Fail> {
     let Err(e) = spill_all(rt.alloc(), &s, 1) else {
         return Err(NoMemory)?;
     };
-    assert_eq!(rt; e, PlaceError::TooFew(2));
+    assert!(rt; matches!(e, PlaceError::TooFew(2)));
     Ok(())
 }

@@ -11,7 +11,7 @@ use crate::{Code, Cond, Dst, Gpr, Instr, Src, UnOp};
 use nv_base::{Access, Bin, Mem, Packet, Words, Write, word};
 
 /// The words of the six banks, the flags zero and carry, and the place of the next instruction.
-#[derive(Drop, Debug, PartialEq, Eq)]
+#[derive(Drop, PartialEq, Eq)]
 pub struct Engine {
     pub a: [u32; 16],
     pub b: [u32; 16],
@@ -25,7 +25,7 @@ pub struct Engine {
 }
 
 /// What a step was.
-#[derive(Drop, Debug, PartialEq, Eq)]
+#[derive(Drop, PartialEq, Eq)]
 pub enum Stepped {
     Went,
     Wrote(Write),

@@ -3,7 +3,7 @@ use crate::{RegA, RegB, RegL, RegLD, RegS, RegSD};
 use nv_base::{Bin, Mem};
 
 /// Where an operand comes from.
-#[derive(Clone, Copy, Debug, PartialEq, Eq)]
+#[derive(Clone, Copy)]
 pub enum Src {
     A(RegA),
     B(RegB),
@@ -12,7 +12,7 @@ pub enum Src {
 }
 
 /// Where a result goes.
-#[derive(Clone, Copy, Debug, PartialEq, Eq)]
+#[derive(Clone, Copy)]
 pub enum Dst {
     A(RegA),
     B(RegB),
@@ -23,14 +23,14 @@ pub enum Dst {
 }
 
 /// A register that can hold an address.
-#[derive(Clone, Copy, Debug, PartialEq, Eq)]
+#[derive(Clone, Copy)]
 pub enum Gpr {
     A(RegA),
     B(RegB),
 }
 
 /// An operation on one word; a shift or rotation holds its count.
-#[derive(Clone, Copy, Debug, PartialEq, Eq)]
+#[derive(Clone, Copy)]
 pub enum UnOp {
     Copy,
     Not,
@@ -40,7 +40,7 @@ pub enum UnOp {
 }
 
 /// When a branch is taken: always, or by the flags zero and carry.
-#[derive(Clone, Copy, Debug, PartialEq, Eq)]
+#[derive(Clone, Copy)]
 pub enum Cond {
     Always,
     Z,
@@ -51,7 +51,7 @@ pub enum Cond {
 
 /// One instruction. A memory instruction moves `n` words between its memory and the registers from number `r` on;
 /// its address is the word of `x` plus `off`.
-#[derive(Clone, Copy, Debug, PartialEq, Eq)]
+#[derive(Clone, Copy)]
 pub enum Instr {
     Alu {
         dst: Dst,

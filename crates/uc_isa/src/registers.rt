@@ -2,7 +2,7 @@
 use std::marker::Model;
 
 /// A general register of bank A: 0 to 15.
-#[derive(Clone, Copy, Debug, PartialEq, Eq)]
+#[derive(Clone, Copy)]
 pub struct RegA {
     pub number: u8,
 }
@@ -20,7 +20,7 @@ impl Model for RegA {
 }
 
 /// A general register of bank B: 0 to 15.
-#[derive(Clone, Copy, Debug, PartialEq, Eq)]
+#[derive(Clone, Copy)]
 pub struct RegB {
     pub number: u8,
 }
@@ -38,7 +38,7 @@ impl Model for RegB {
 }
 
 /// A read register for SRAM and scratch: 0 to 7.
-#[derive(Clone, Copy, Debug, PartialEq, Eq)]
+#[derive(Clone, Copy)]
 pub struct RegL {
     pub number: u8,
 }
@@ -56,7 +56,7 @@ impl Model for RegL {
 }
 
 /// A write register for SRAM and scratch: 0 to 7.
-#[derive(Clone, Copy, Debug, PartialEq, Eq)]
+#[derive(Clone, Copy)]
 pub struct RegS {
     pub number: u8,
 }
@@ -74,7 +74,7 @@ impl Model for RegS {
 }
 
 /// A read register for SDRAM: 0 to 7.
-#[derive(Clone, Copy, Debug, PartialEq, Eq)]
+#[derive(Clone, Copy)]
 pub struct RegLD {
     pub number: u8,
 }
@@ -92,7 +92,7 @@ impl Model for RegLD {
 }
 
 /// A write register for SDRAM: 0 to 7.
-#[derive(Clone, Copy, Debug, PartialEq, Eq)]
+#[derive(Clone, Copy)]
 pub struct RegSD {
     pub number: u8,
 }

@@ -21,7 +21,7 @@ const LIMIT: u64 = 1 << 26;
 const BUDGET: u32 = 2_000;
 
 /// Why no report was written.
-#[derive(Clone, Copy, Debug, PartialEq, Eq, Drop)]
+#[derive(Clone, Copy, Drop)]
 pub enum Failure {
     /// The words are no command.
     Words,

@@ -12,8 +12,5 @@ fn a_cover_of_a_triangle_costs_two(rt: HostRuntime) {
 
 #[test]
 fn another_text_is_refused(rt: HostRuntime) {
-    match solve_text(rt.alloc(), b"columns 3\n") {
-        Ok(_) => assert!(rt; false),
-        Err(failure) => assert_eq!(rt; failure, Failure::Text),
-    }
+    assert!(rt; matches!(solve_text(rt.alloc(), b"columns 3\n"), Err(Failure::Text)));
 }

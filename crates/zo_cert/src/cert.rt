@@ -13,7 +13,7 @@ use std::marker::Model;
 use zo_model::{NoMemory, ZeroOne};
 
 /// A node of a tree of branches. The rows of a leaf come with their multipliers.
-#[derive(Debug, Drop)]
+#[derive(Drop)]
 pub enum CertNode {
     /// Two subtrees follow: this column at 0, then at 1.
     Branch(u32),
@@ -26,13 +26,13 @@ pub enum CertNode {
 }
 
 /// A tree in preorder, the arm of value 0 first.
-#[derive(Debug, Drop)]
+#[derive(Drop)]
 pub struct Cert {
     pub nodes: Vec<CertNode>,
 }
 
 /// What a certificate may prove.
-#[derive(Clone, Copy, Debug, PartialEq, Eq, Drop)]
+#[derive(Clone, Copy, Drop)]
 pub enum Claim {
     /// Each vector that meets the rows costs at least this.
     Least(u64),

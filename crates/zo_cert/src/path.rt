@@ -10,7 +10,7 @@ use std::marker::Model;
 use zo_model::ZeroOne;
 
 /// Which columns are fixed, and at what: one place a column.
-#[derive(Debug, Drop)]
+#[derive(Drop)]
 pub struct Fixed {
     pub at: Vec<Option<bool>>,
 }

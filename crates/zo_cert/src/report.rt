@@ -25,7 +25,7 @@ pub enum Verdict {
 }
 
 /// A program, a verdict on it, and the evidence. Under a verdict without a cost, `x` is all false.
-#[derive(Debug, Drop)]
+#[derive(Drop)]
 pub struct Report {
     /// The words of scratch that a compiler had for values without a register: at most 128, and no check asks more of them.
     pub slots: u32,

@@ -14,21 +14,21 @@ pub(crate) const LEAST_LIMIT: i32 = 1 << 30;
 /// Demands that the coefficients of the columns that are 1 sum to at least `least`.
 ///
 /// A term is a column and its coefficient.
-#[derive(Debug, Drop)]
+#[derive(Drop)]
 pub struct Row {
     pub terms: Vec<(u32, i32)>,
     pub least: i32,
 }
 
 /// Minimise the sum of the costs of the columns that are 1, under the rows.
-#[derive(Debug, Drop)]
+#[derive(Drop)]
 pub struct ZeroOne {
     pub costs: Vec<u32>,
     pub rows: Vec<Row>,
 }
 
 /// Which columns are 1.
-#[derive(Debug, Drop)]
+#[derive(Drop)]
 pub struct Assignment {
     pub on: Vec<bool>,
 }

@@ -28,7 +28,7 @@ use zo_state::{Best, Pick, Sums};
 const WORK_LIMIT: u64 = 300_000_000;
 
 /// What a search found, with its tree.
-#[derive(Debug, Drop)]
+#[derive(Drop)]
 pub enum Solved {
     /// A vector, and a proof that none is cheaper.
     Optimal(Assignment, Cert),

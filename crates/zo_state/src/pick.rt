@@ -15,7 +15,7 @@ use zo_model::{Row, ZeroOne};
 ///
 /// Where a column is unfixed the choice names an unfixed one. A struct can't keep this fact about its closure, so the calls
 /// that take a pick ask for it again, as `Pick::new` gives it.
-#[derive(Clone, Copy, Debug, Drop)]
+#[derive(Clone, Copy, Drop)]
 pub struct Pick<F: Fn(&ZeroOne, &Fixed) -> u32> {
     pub choose: F,
 }
