@@ -10,8 +10,8 @@ use Rattle.std.proofs.lemmas.Option.{get_or_from_slice_get, slice_get_within}
 use mathlib.Core.Path.{fun_ext}
 use Rattle.zo_model.specs.Program.{AtMost, total, where_one, terms_sum}
 use Rattle.zo_model.proofs.Sums.{total-append, total-more}
-use Rattle.zo_cert.specs.Fixing.{is_one, ones}
-use Rattle.zo_cert.specs.Searched.{reach, reach_part}
+use Rattle.zo_leaf.specs.Fixing.{is_one, ones}
+use Rattle.zo_leaf.specs.Searched.{reach, reach_part}
 use Rattle.zo_state.specs.inner.Keeping.{along, moved, settled}
 
 pub along-none : (k : ℕ) (g : ℤ → ℤ) → along k g [] ≡ pos 0

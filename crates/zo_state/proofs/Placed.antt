@@ -11,9 +11,9 @@ use Rattle.zo_model.specs.Program.{AreSmallTerms, AtMost, IsRow, IsValid, column
 use Rattle.zo_model.specs.declared.program.Row.{Row}
 use Rattle.zo_model.specs.declared.program.ZeroOne.{ZeroOne}
 use Rattle.zo_model.proofs.Rows.{terms_small}
-use Rattle.zo_cert.specs.Certificate.{terms_of}
-use Rattle.zo_cert.specs.Fixing.{ones}
-use Rattle.zo_cert.specs.Searched.{reach}
+use Rattle.zo_leaf.specs.Certificate.{terms_of}
+use Rattle.zo_leaf.specs.Fixing.{ones}
+use Rattle.zo_leaf.specs.Searched.{reach}
 use Rattle.zo_state.specs.inner.Keeping.{AreEntries, IsTranspose, KeepsSums, along, entries_of, moved, settled}
 use Rattle.zo_state.proofs.Along.{reach_bounded, reach_set, sum_bounded, sum_set}
 

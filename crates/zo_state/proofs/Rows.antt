@@ -5,8 +5,8 @@ use Rattle.std.proofs.lemmas.List.{take_all}
 use mathlib.Core.Path.{fun_ext}
 use Rattle.zo_model.specs.Program.{vector}
 use Rattle.zo_model.proofs.Sums.{total-more}
-use Rattle.zo_cert.specs.Fixing.{is_one, ones}
-use Rattle.zo_cert.specs.Searched.{reach, reach_part}
+use Rattle.zo_leaf.specs.Fixing.{is_one, ones}
+use Rattle.zo_leaf.specs.Searched.{reach, reach_part}
 
 pub reach-none : (fixed : List (Option Bool)) → reach fixed [] ≡ pos 0
 unfolding reach

@@ -1,9 +1,8 @@
 -- how the rows of a program are put into the lists of its columns
-use Rattle.std.proofs.Common.{◌≡◌, ◌≢◌, ℕ, zero, suc, ◌+◌, ◌<◌, ◌≤◌, ◌^◌, List, [], ◌∷◌, ◌++◌, length, take, get_or, set, Bool, true, false, nat_eq, Some, None, slice_get, ℤ, pos, ◌+ℤ◌, refl, sym, ◌∙◌, ap, subst, inl, inr, arith, add-one}
+use Rattle.std.proofs.Common.{◌≡◌, ◌≢◌, ℕ, zero, suc, ◌+◌, ◌<◌, ◌≤◌, ◌^◌, List, [], ◌∷◌, ◌++◌, length, take, get_or, set, Bool, true, false, nat_eq, Some, None, slice_get, ℤ, pos, ◌+ℤ◌, refl, sym, ◌∙◌, ap, subst, inl, inr, arith, add-one, length-append}
 use Rattle.std.specs.List.{All}
 use Rattle.std.specs.Global.{Vec}
 use Rattle.std.proofs.lemmas.Int.{ints}
-use Rattle.std.proofs.Common.{length-append}
 use Rattle.std.proofs.lemmas.List.{get_or_append_left, get_or_push, length-take, take_all}
 use Rattle.std.proofs.lemmas.List.Elements.{All-get_or, All-head, All-nil, All-push, All-tail, All-weaker}
 use Rattle.std.proofs.lemmas.Option.{slice_get_past, slice_get_read}
@@ -11,8 +10,8 @@ use Rattle.zo_model.specs.Program.{AreSmallTerms, AtMost, IsRow, IsValid, column
 use Rattle.zo_model.specs.declared.program.ZeroOne.{ZeroOne}
 use Rattle.zo_model.proofs.Rows.{terms_small}
 use Rattle.zo_model.specs.declared.program.Row.{Row}
-use Rattle.zo_cert.specs.Certificate.{terms_of}
-use Rattle.zo_cert.proofs.Paths.{get_set}
+use Rattle.zo_leaf.specs.Certificate.{terms_of}
+use Rattle.zo_leaf.proofs.Paths.{get_set}
 use Rattle.zo_state.specs.inner.Keeping.{AreEntries, IsSpread, IsTranspose, along, entries_of}
 use Rattle.zo_state.proofs.Along.{along-more, along-none, along-push, eq_no, eq_yes, same_or}
 

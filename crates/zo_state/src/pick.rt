@@ -8,7 +8,7 @@ ghost use Rattle.zo_state.specs.inner.Least.{AnswersLeast, Either, IsFreeIn, IsW
 ghost use Rattle.zo_state.specs.Pick.{Answers, CanPick, HasFree};
 
 use crate::reach::is_row_met;
-use zo_cert::Fixed;
+use zo_leaf::Fixed;
 use zo_model::{Row, ZeroOne};
 
 /// A choice of the column to branch on.

@@ -3,10 +3,10 @@
 ghost use Rattle.std.specs.Prelude.{◌≡◌, length, IsTrue, ◌↔◌, IfOk, map};
 ghost use Rattle.zo_model.specs.Program.{AreSmallTerms, AreTerms, cost_of, columns};
 ghost use Rattle.zo_model.specs.Program as program;
-ghost use Rattle.zo_cert.specs.Fixing.{ones};
-ghost use Rattle.zo_cert.specs.Fixing as fixing;
-ghost use Rattle.zo_cert.specs.Searched.{IsMet};
-ghost use Rattle.zo_cert.specs.Searched as searched;
+ghost use Rattle.zo_leaf.specs.Fixing.{ones};
+ghost use Rattle.zo_leaf.specs.Fixing as fixing;
+ghost use Rattle.zo_leaf.specs.Searched.{IsMet};
+ghost use Rattle.zo_leaf.specs.Searched as searched;
 ghost use Rattle.zo_state.specs.Vector.{IsVector, cost_at};
 
 use std::alloc::{AllocError, Global};

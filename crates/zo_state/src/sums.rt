@@ -3,17 +3,17 @@
 ghost use Rattle.std.specs.Prelude.{◌≡◌, ℕ, ◌+◌, ◌<◌, ◌≤◌, ◌^◌, ◌↔◌, ◌<ℤ◌, [], length, pos, ℤ, ◌+ℤ◌, All, Option, None, Some, IfNone, IfOk, IfSome, IsTrue, slice_get, slice_set, slice_index_or};
 ghost use Rattle.std.specs.Global.{Vec as VecOf};
 ghost use Rattle.zo_model.specs.Program.{AreSmallTerms, AtMost, IsValid, columns, terms_sum};
-ghost use Rattle.zo_cert.specs.Certificate.{terms_of, unfixed};
-ghost use Rattle.zo_cert.specs.Fixing.{ones};
-ghost use Rattle.zo_cert.specs.Searched.{IsInReach, IsMet};
-ghost use Rattle.zo_cert.specs.Searched as searched;
-ghost use Rattle.zo_cert.specs.inner.Path.{IsFixed};
+ghost use Rattle.zo_leaf.specs.Certificate.{terms_of, unfixed};
+ghost use Rattle.zo_leaf.specs.Fixing.{ones};
+ghost use Rattle.zo_leaf.specs.Searched.{IsInReach, IsMet};
+ghost use Rattle.zo_leaf.specs.Searched as searched;
+ghost use Rattle.zo_leaf.specs.inner.Path.{IsFixed};
 ghost use Rattle.zo_state.specs.inner.Keeping.{AreEntries, IsSpread, IsTranspose, EachReaches, along, moved, settled};
 
 use crate::reach::{ones_total, reach, reach_part};
 use std::alloc::{AllocError, Global};
 use std::marker::Model;
-use zo_cert::Fixed;
+use zo_leaf::Fixed;
 use zo_model::{NoMemory, Row, ZeroOne};
 
 /// Which columns of a program are fixed, and the sums of all rows with them. Contracts see the program, and the columns' places.

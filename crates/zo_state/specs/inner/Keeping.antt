@@ -4,9 +4,9 @@ use Rattle.std.specs.Global.{Vec}
 use Rattle.zo_model.specs.Program.{AtMost, IsValid, columns, terms_sum, total, where_one}
 use Rattle.zo_model.specs.declared.program.Row.{Row}
 use Rattle.zo_model.specs.declared.program.ZeroOne.{ZeroOne}
-use Rattle.zo_cert.specs.Certificate.{terms_of}
-use Rattle.zo_cert.specs.Fixing.{ones}
-use Rattle.zo_cert.specs.Searched.{reach, reach_part}
+use Rattle.zo_leaf.specs.Certificate.{terms_of}
+use Rattle.zo_leaf.specs.Fixing.{ones}
+use Rattle.zo_leaf.specs.Searched.{reach, reach_part}
 
 -- an unfixed column counted as 0
 abbrev pub settled : Option Bool → Option Bool

@@ -3,7 +3,7 @@ use Rattle.std.proofs.lemmas.Int.{ints}
 use Rattle.std.proofs.lemmas.List.Elements.{All-get_or}
 use Rattle.zo_model.specs.Program.{AtMost, where_one}
 use Rattle.zo_model.proofs.Sums.{terms_sum-more, terms_sum-none}
-use Rattle.zo_cert.specs.Fixing.{ones}
+use Rattle.zo_leaf.specs.Fixing.{ones}
 use Rattle.zo_state.proofs.reach.ones_total.Goals as goal
 
 pub loop-j-init : goal.loop-j-init

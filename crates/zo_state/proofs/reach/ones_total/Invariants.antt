@@ -1,6 +1,6 @@
 use Rattle.std.proofs.Common.{◌≡◌, ◌*◌, ◌^◌, take, pos, neg_ℤ, ◌≤ℤ◌}
 use Rattle.zo_model.specs.Program.{terms_sum}
-use Rattle.zo_cert.specs.Fixing.{ones}
+use Rattle.zo_leaf.specs.Fixing.{ones}
 use Rattle.zo_state.proofs.reach.ones_total.Given as goal
 
 abbrev pub invariant-loop-j : goal.invariant-loop-j

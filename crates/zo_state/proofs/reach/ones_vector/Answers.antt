@@ -1,6 +1,6 @@
 use Rattle.std.proofs.Common.{◌≡◌, length, map, ◌∙◌, ap, sym, subst}
 use Rattle.zo_model.specs.Program.{vector, cost_of, Feasible}
-use Rattle.zo_cert.specs.Fixing.{is_one, ones}
+use Rattle.zo_leaf.specs.Fixing.{is_one, ones}
 use Rattle.zo_state.proofs.Rows.{vector_ones, length_ones}
 use Rattle.zo_state.proofs.reach.ones_vector.Goals as goal
 

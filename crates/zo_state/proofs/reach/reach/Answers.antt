@@ -2,7 +2,7 @@ use Rattle.std.proofs.Common.{◌≡◌, ℕ, ◌^◌, ◌∙◌, ap, get_or, No
 use Rattle.std.proofs.lemmas.Int.{ints}
 use Rattle.std.proofs.lemmas.List.Elements.{All-get_or}
 use Rattle.zo_model.specs.Program.{AtMost}
-use Rattle.zo_cert.specs.Searched.{reach_part}
+use Rattle.zo_leaf.specs.Searched.{reach_part}
 use Rattle.zo_state.proofs.Rows.{reach-more, reach-none}
 use Rattle.zo_state.proofs.reach.reach.Goals as goal
 

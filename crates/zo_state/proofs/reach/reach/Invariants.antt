@@ -1,5 +1,5 @@
 use Rattle.std.proofs.Common.{◌≡◌, ◌*◌, ◌^◌, take, pos, neg_ℤ, ◌≤ℤ◌}
-use Rattle.zo_cert.specs.Searched.{reach}
+use Rattle.zo_leaf.specs.Searched.{reach}
 use Rattle.zo_state.proofs.reach.reach.Given as goal
 
 abbrev pub invariant-loop-j : goal.invariant-loop-j

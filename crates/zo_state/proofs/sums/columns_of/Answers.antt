@@ -1,6 +1,6 @@
 use Rattle.std.proofs.Common.{◌≡◌, ◌+◌, ◌++◌, length, take, drop, sym, ◌∙◌, ap, subst, arith, rules}
 use Rattle.zo_model.specs.Program.{AreSmallTerms, columns}
-use Rattle.zo_cert.proofs.Paths.{whole_back}
+use Rattle.zo_leaf.proofs.Paths.{whole_back}
 use Rattle.zo_state.specs.inner.Keeping.{IsSpread}
 use Rattle.zo_state.proofs.Spread.{IsSoFar, row_at, so_far_more, so_far_none, so_far_whole}
 use Rattle.zo_state.proofs.sums.columns_of.Goals as goal

@@ -1,8 +1,8 @@
 use Rattle.std.proofs.Common.{◌≡◌, ℕ, length, slice_get, sym, ◌∙◌, ap, subst, arith}
 use Rattle.std.proofs.lemmas.Int.{ints}
 use Rattle.zo_model.specs.Program.{AreSmallTerms, terms_sum}
-use Rattle.zo_cert.specs.Certificate.{terms_of}
-use Rattle.zo_cert.specs.Fixing.{ones}
+use Rattle.zo_leaf.specs.Certificate.{terms_of}
+use Rattle.zo_leaf.specs.Fixing.{ones}
 use Rattle.zo_state.proofs.Spread.{pushed_each, pushed_length, row_at}
 use Rattle.zo_state.proofs.sums.ones_of.Goals as goal
 

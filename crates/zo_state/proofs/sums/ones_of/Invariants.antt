@@ -1,7 +1,7 @@
 use Rattle.std.proofs.Common.{◌≡◌, ℕ, ◌<◌, length, get_or, slice_get, pos}
 use Rattle.zo_model.specs.Program.{terms_sum}
-use Rattle.zo_cert.specs.Certificate.{terms_of}
-use Rattle.zo_cert.specs.Fixing.{ones}
+use Rattle.zo_leaf.specs.Certificate.{terms_of}
+use Rattle.zo_leaf.specs.Fixing.{ones}
 use Rattle.zo_state.proofs.sums.ones_of.Given as goal
 
 abbrev pub invariant-loop-i : goal.invariant-loop-i

@@ -1,8 +1,8 @@
 use Rattle.std.proofs.Common.{◌≡◌, ℕ, length, slice_get, sym, ◌∙◌, ap, subst, arith}
 use Rattle.std.proofs.lemmas.Int.{ints}
 use Rattle.zo_model.specs.Program.{AreSmallTerms}
-use Rattle.zo_cert.specs.Certificate.{terms_of}
-use Rattle.zo_cert.specs.Searched.{reach}
+use Rattle.zo_leaf.specs.Certificate.{terms_of}
+use Rattle.zo_leaf.specs.Searched.{reach}
 use Rattle.zo_state.proofs.Spread.{pushed_each, pushed_length, row_at}
 use Rattle.zo_state.proofs.sums.reaches_of.Goals as goal
 

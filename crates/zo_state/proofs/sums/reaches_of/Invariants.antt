@@ -1,6 +1,6 @@
 use Rattle.std.proofs.Common.{◌≡◌, ℕ, ◌<◌, length, get_or, slice_get, pos}
-use Rattle.zo_cert.specs.Certificate.{terms_of}
-use Rattle.zo_cert.specs.Searched.{reach}
+use Rattle.zo_leaf.specs.Certificate.{terms_of}
+use Rattle.zo_leaf.specs.Searched.{reach}
 use Rattle.zo_state.proofs.sums.reaches_of.Given as goal
 
 abbrev pub invariant-loop-i : goal.invariant-loop-i

@@ -1,0 +1,6 @@
+pub mod Drain
+pub mod Duality
+pub mod Leaves
+pub mod Nodes
+pub mod Paths
+pub mod Walk

@@ -1,0 +1,4 @@
+pub mod Certificate
+pub mod Fixing
+pub mod Searched
+pub mod inner

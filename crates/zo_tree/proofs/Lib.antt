@@ -1,0 +1,4 @@
+pub mod MultiplierLemmas
+pub mod NodeLineLemmas
+pub mod ReadMultipliers
+pub mod Written
