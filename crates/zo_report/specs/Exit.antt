@@ -1,7 +1,7 @@
 -- The exit codes of the program that don't say that it is done.
 use Rattle.std.specs.Prelude.{ℕ}
-use Rattle.zo_bench.specs.declared.solved.Failure.{Failure}
-use Rattle.zo_bench.specs.declared.solved.Failure.TheVariants.{Words, Read, Write, Memory, Text}
+use Rattle.zo_report.specs.declared.solved.Failure.{Failure}
+use Rattle.zo_report.specs.declared.solved.Failure.TheVariants.{Words, Read, Write, Memory, Text}
 
 abbrev pub exit_code : Failure → ℕ
 exit_code Words = 2

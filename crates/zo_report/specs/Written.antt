@@ -7,8 +7,8 @@ use Rattle.zo_cert.specs.Contents.{report_contents}
 use Rattle.zo_cert.specs.Report.{IsValidReport, IsTrueReport}
 use Rattle.zo_cert.specs.ReportText.{report_text}
 use Rattle.zo_cert.specs.declared.report.Report.{Report}
-use Rattle.zo_bench.specs.declared.solved.Failure.{Failure}
-use Rattle.zo_bench.specs.declared.solved.Failure.TheVariants.{Words, Read, Write, Memory, Text}
+use Rattle.zo_report.specs.declared.solved.Failure.{Failure}
+use Rattle.zo_report.specs.declared.solved.Failure.TheVariants.{Words, Read, Write, Memory, Text}
 
 -- the text of a valid and true report on this program
 pub record IsReportText (z : ZeroOne) (text : List ℕ) : Type 0 where

@@ -2,8 +2,8 @@ use Rattle.std.proofs.Common.{◌≡◌}
 use Rattle.std.proofs.lemmas.Result.{IfOk-weaker}
 use Rattle.zo_cert.specs.Contents.{report_contents}
 use Rattle.zo_cert.specs.ReportText.{report_text}
-use Rattle.zo_bench.specs.Written.{IsReportText}
-use Rattle.zo_bench.proofs.solved.report_on.Goals as goal
+use Rattle.zo_report.specs.Written.{IsReportText}
+use Rattle.zo_report.proofs.solved.report_on.Goals as goal
 
 pub returns : goal.returns
 returns c =

@@ -4,9 +4,9 @@ ghost use Rattle.std.specs.Prelude.{◌≡◌, ◌≢◌, ◌⊎◌, ◌^◌, �
 ghost use Rattle.nv_outside.specs.Causes.{Rose};
 ghost use Rattle.nv_outside.specs.Holding.{IsLonger, Replaced};
 ghost use Rattle.zo_model.specs.Program.{IsValid, columns};
-ghost use Rattle.zo_bench.specs.Exit.{exit_code};
-ghost use Rattle.zo_bench.specs.Written.{IsReportText, IsTextRefusal, IsTrueText};
-ghost use Rattle.zo_bench.specs.declared.solved.Failure.TheVariants.{Read, Text, Words, Write};
+ghost use Rattle.zo_report.specs.Exit.{exit_code};
+ghost use Rattle.zo_report.specs.Written.{IsReportText, IsTextRefusal, IsTrueText};
+ghost use Rattle.zo_report.specs.declared.solved.Failure.TheVariants.{Read, Text, Words, Write};
 
 use nv_outside::{Files, Loaded, Saved};
 use std::alloc::Global;

@@ -1,4 +1,4 @@
-use crate::solved::{Failure, solve_text};
+use zo_report::{Failure, solve_text};
 
 const COVER: &[u8] = b"columns 3\nrows 3\nc 1\nc 1\nc 1\nr 1 0:1 1:1\nr 1 1:1 2:1\nr 1 0:1 2:1\n";
 
