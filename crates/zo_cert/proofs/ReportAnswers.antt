@@ -14,7 +14,7 @@ use Rattle.zo_model.specs.declared.error.ZoError.{ZoError}
 use Rattle.zo_model.specs.declared.error.ZoError.TheVariants.{NoMemory, Bad}
 use Rattle.zo_model.proofs.ExactLemmas.{valid_from_contents}
 use Rattle.zo_cert.specs.Contents.{ReportContents, report_contents}
-use Rattle.zo_tree.specs.Node.{node_contents, IsNode, IsNodeText}
+use Rattle.zo_leaf.specs.Node.{node_contents, IsNode, IsNodeText}
 use Rattle.zo_cert.specs.Report.{IsBlank, IsValidReport}
 use Rattle.zo_cert.specs.ReportText.{verdict_lines, report_lines, report_text}
 use Rattle.zo_cert.specs.ReportFault.{IsReport, HasCost, front_lines, stated_lines, tree_lines, AreStatedLines, IsMisstated, IsFirstReportFault, wrong_cost, wrong_line}

@@ -16,7 +16,7 @@ use Rattle.zo_model.specs.declared.error.ZoError.TheVariants.{NoMemory, Bad}
 use Rattle.zo_model.proofs.ExactLemmas.{Rest, last, line_first, rest_of}
 use Rattle.zo_model.proofs.FaultLemmas.{spelled_more}
 use Rattle.zo_model.proofs.LineLemmas.{counted_one, no_line_weaker}
-use Rattle.zo_tree.specs.Node.{left_open, IsNodeText}
+use Rattle.zo_leaf.specs.Node.{left_open, IsNodeText}
 use Rattle.zo_cert.specs.Contents.{ReportContents}
 use Rattle.zo_cert.specs.Report.{IsBlank}
 use Rattle.zo_cert.specs.ReportText.{counted_line}

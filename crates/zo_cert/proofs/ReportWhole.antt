@@ -9,7 +9,7 @@ use Rattle.zo_model.specs.ProgramText.{program_lines, IsValidContents}
 use Rattle.zo_model.specs.declared.error.ZoError.{ZoError}
 use Rattle.zo_model.proofs.ExactLemmas.{contents_fit}
 use Rattle.zo_model.proofs.FaultLemmas.{spelled_more}
-use Rattle.zo_tree.specs.Node.{node_contents, node_line, IsNodeText}
+use Rattle.zo_leaf.specs.Node.{node_contents, node_line, IsNodeText}
 use Rattle.zo_cert.specs.Contents.{report_contents}
 use Rattle.zo_cert.specs.Report.{IsBlank, IsValidReport}
 use Rattle.zo_cert.specs.ReportText.{verdict_lines}

@@ -8,7 +8,7 @@ use Rattle.zo_model.specs.Program.{total, sum_below, vector, costs_of, cost_of, 
 use Rattle.zo_model.specs.declared.program.Row.{Row}
 use Rattle.zo_model.specs.declared.program.ZeroOne.{ZeroOne}
 use Rattle.zo_leaf.specs.Certificate.{Tree, leaf, branch, preorder, EachNode, OfLeaf, IsLeaf, Closes, Proves, IsShaped, IsWellNamed, NamesItsRows, NamesRows, IsTreeWith, branches, HasLeft, unfixed, terms_of, least_of, coefficient, weight, least_sum, least_part, bound}
-use Rattle.zo_tree.specs.Node.{Node, branch_on, bound_by, clash_of, left_open, node_contents}
+use Rattle.zo_leaf.specs.Node.{Node, branch_on, bound_by, clash_of, left_open, node_contents}
 use Rattle.zo_cert.specs.Contents.{ReportContents, report_contents}
 use Rattle.zo_tree.specs.Spent.{IsSpent}
 use Rattle.zo_cert.specs.Report.{VerdictHolds, IsTrueReport}

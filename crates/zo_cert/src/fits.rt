@@ -1,7 +1,7 @@
 //! The numbers of a valid report keep the limits of its text: those that no test of it asks for are limits of their types.
 
 ghost use Rattle.std.specs.Prelude.{◌<◌, ◌^◌, All, map};
-ghost use Rattle.zo_tree.specs.Node.{node_contents, IsNode, IsNodeText};
+ghost use Rattle.zo_leaf.specs.Node.{node_contents, IsNode, IsNodeText};
 
 use zo_leaf::CertNode;
 

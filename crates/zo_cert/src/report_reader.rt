@@ -7,7 +7,7 @@ ghost use Rattle.zo_model.specs.inner.LineFault.{IsLineFault};
 ghost use Rattle.zo_model.specs.declared.error.ZoError.{ZoError};
 ghost use Rattle.zo_model.specs.declared.error.ZoError.TheVariants.{Bad};
 ghost use Rattle.zo_cert.specs.Contents.{ReportContents, report_contents};
-ghost use Rattle.zo_tree.specs.Node.{node_contents, IsNodeText, node_line};
+ghost use Rattle.zo_leaf.specs.Node.{node_contents, IsNodeText, node_line};
 ghost use Rattle.zo_cert.specs.Report.{IsBlank, IsValidReport};
 ghost use Rattle.zo_cert.specs.ReportFault.{IsReport, IsFirstReportFault};
 ghost use Rattle.zo_cert.specs.inner.ReportPart.{AreFrontLines, AreTreeLines, IsStop, IsCostedFault, IsVerdictFault};

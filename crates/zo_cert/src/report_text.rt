@@ -4,7 +4,7 @@ ghost use Rattle.std.specs.Prelude.{◌≡◌, ◌++◌, ◌∷◌, [], map, len
 ghost use Rattle.std.specs.List.{flat_map};
 ghost use Rattle.line_text.specs.Line.{text_of};
 ghost use Rattle.zo_model.specs.Program.{IsValid, columns, cost_of, vector};
-ghost use Rattle.zo_tree.specs.Node.{node_contents, node_line};
+ghost use Rattle.zo_leaf.specs.Node.{node_contents, node_line};
 ghost use Rattle.zo_cert.specs.Contents.{report_contents};
 ghost use Rattle.zo_cert.specs.Report.{IsValidReport};
 ghost use Rattle.zo_cert.specs.ReportFault.{IsReport};
@@ -15,8 +15,9 @@ use crate::report::{Report, Verdict};
 use line_text::push_decimal;
 use std::alloc::{AllocError, Global};
 use zo_leaf::CertNode;
+use zo_leaf::multipliers::push_counted;
 use zo_model::{NoMemory, cost, push_program};
-use zo_tree::node_text::{push_counted, push_node};
+use zo_tree::node_text::push_node;
 
 /// Writes a line for each node.
 fn push_nodes(out: &mut Vec<u8>, nodes: &[CertNode]) -> Result<(), AllocError>

@@ -22,6 +22,13 @@ fn product(m: u32, a: i32) -> i128
     i128::from(m) * i128::from(a)
 }
 
+/// `d * (t - 1)`.
+pub fn target(d: u32, t: u64) -> i128
+    ensures { result ≡ pos d *ℤ (pos t -ℤ pos 1) }
+{
+    i128::from(d) * (i128::from(t) - 1)
+}
+
 /// `d * cost`.
 fn scaled(d: u32, cost: u64) -> i128
     requires { cost ≤ 2 ^ 46 }

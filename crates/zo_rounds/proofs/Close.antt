@@ -13,7 +13,7 @@ use Rattle.zo_model.proofs.Rows.{rise_below}
 use Rattle.zo_model.proofs.Sums.{sum_below-same, sum_below-add, sum_below-le}
 use Rattle.zo_leaf.specs.Certificate.{bound, column_part, least_part, least_sum, weight, coefficient, terms_of, least_of, Closes, unfixed}
 use Rattle.zo_leaf.specs.Fixing.{is_one, ones}
-use Rattle.zo_tree.specs.Node.{IsNode, AreMultipliers}
+use Rattle.zo_leaf.specs.Node.{IsNode, AreMultipliers}
 use Rattle.zo_leaf.specs.Searched.{reach, reach_part, IsInReach, IsOpen}
 use Rattle.zo_leaf.specs.declared.cert.CertNode.{CertNode}
 use Rattle.zo_leaf.specs.declared.cert.CertNode.TheVariants.{Branch, Bound, Clash, Left}

@@ -6,7 +6,7 @@ use Rattle.zo_model.specs.declared.program.ZeroOne.{ZeroOne}
 use Rattle.zo_leaf.specs.Certificate.{Closes, IsLeaf}
 use Rattle.zo_leaf.specs.Fixing.{ones}
 use Rattle.zo_leaf.specs.inner.Path.{Pending, current}
-use Rattle.zo_tree.specs.Node.{IsNode}
+use Rattle.zo_leaf.specs.Node.{IsNode}
 use Rattle.zo_leaf.specs.Searched.{IsMet, IsNoBetter, IsOpen}
 use Rattle.zo_leaf.specs.inner.Walk.{MayCome}
 use Rattle.zo_leaf.specs.declared.cert.CertNode.{CertNode}

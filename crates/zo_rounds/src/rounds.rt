@@ -10,13 +10,13 @@ ghost use Rattle.zo_model.specs.Program.{IsValid, columns};
 ghost use Rattle.zo_leaf.specs.Certificate.{Closes};
 ghost use Rattle.zo_leaf.specs.inner.Leaf.{IsClear};
 ghost use Rattle.zo_leaf.specs.inner.Path.{current};
-ghost use Rattle.zo_tree.specs.Node.{IsNode};
+ghost use Rattle.zo_leaf.specs.Node.{IsNode};
 
 use std::alloc::{AllocError, Global};
 use zo_leaf::path::Path;
-use zo_leaf::{CertNode, Claim};
+use zo_leaf::{CertNode, Claim, is_node};
 use zo_model::{Row, ZeroOne};
-use zo_tree::{closes, is_node};
+use zo_tree::closes;
 
 /// A whole column, and a multiplier of 1.
 const ONE: i64 = 1 << 16;

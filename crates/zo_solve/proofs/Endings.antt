@@ -6,7 +6,7 @@ use Rattle.zo_model.specs.Program.{columns}
 use Rattle.zo_model.specs.declared.program.Assignment.{Assignment}
 use Rattle.zo_model.specs.declared.program.ZeroOne.{ZeroOne}
 use Rattle.zo_leaf.specs.Certificate.{Closes, EachNode, HasLeft, IsShaped, IsTreeWith, IsWellNamed, OfLeaf, Proves, Tree, branch, branches, leaf, preorder, unfixed}
-use Rattle.zo_tree.specs.Node.{IsNode}
+use Rattle.zo_leaf.specs.Node.{IsNode}
 use Rattle.zo_leaf.specs.Searched.{IsClosed, IsNoBetter, IsOpenWhereOpen, IsSearched}
 use Rattle.zo_leaf.specs.declared.cert.CertNode.{CertNode}
 use Rattle.zo_leaf.specs.declared.cert.CertNode.TheVariants.{Branch, Bound, Clash, Left}

@@ -8,7 +8,7 @@ use Rattle.zo_model.specs.declared.program.Assignment.{Assignment}
 use Rattle.zo_model.specs.declared.program.ZeroOne.{ZeroOne}
 use Rattle.zo_leaf.specs.Certificate.{IsShaped, IsTreeWith, Tree, branch, leaf, preorder}
 use Rattle.zo_cert.specs.Report.{IsBlank, IsTrueReport, IsValidReport}
-use Rattle.zo_tree.specs.Node.{IsNode}
+use Rattle.zo_leaf.specs.Node.{IsNode}
 use Rattle.zo_leaf.specs.declared.cert.Cert.{Cert}
 use Rattle.zo_cert.specs.declared.report.Report.{Report}
 use Rattle.zo_cert.specs.declared.report.Verdict.{Verdict}

@@ -3,7 +3,7 @@
 ghost use Rattle.std.specs.Prelude.{◌≡◌, ◌+◌, ◌-◌, ◌*◌, ◌≤◌, ◌^◌, [], IfOk, IfSome, length, All};
 ghost use Rattle.zo_model.specs.Program.{IsValid, columns};
 ghost use Rattle.zo_leaf.specs.Certificate.{IsShaped, IsTreeWith, branches};
-ghost use Rattle.zo_tree.specs.Node.{IsNode};
+ghost use Rattle.zo_leaf.specs.Node.{IsNode};
 ghost use Rattle.zo_leaf.specs.inner.Leaf.{IsClear};
 ghost use Rattle.zo_leaf.specs.inner.Path.{begun};
 ghost use Rattle.zo_leaf.specs.Searched.{IsSearched};
@@ -16,13 +16,12 @@ ghost use Rattle.zo_state.specs.Vector.{IsVector, cost_at, start_cost};
 
 use std::alloc::{AllocError, Global};
 use zo_leaf::path::Path;
-use zo_leaf::{Cert, CertNode, Fixed};
+use zo_leaf::{Cert, CertNode, Fixed, has_left};
 use zo_model::{Assignment, NoMemory, ZeroOne};
 use zo_rounds::begin;
 use zo_rounds::node::step;
 use zo_rounds::rounds::Rounds;
 use zo_state::{Best, Pick, Sums};
-use zo_tree::has_left;
 
 /// So many terms of rows are visited in the rounds of one search; after that nodes are closed without multipliers.
 const WORK_LIMIT: u64 = 300_000_000;

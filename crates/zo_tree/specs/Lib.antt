@@ -1,3 +1,1 @@
-pub mod Node
 pub mod Spent
-pub mod inner

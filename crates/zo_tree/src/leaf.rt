@@ -1,22 +1,15 @@
 //! Whether a leaf closes a claim.
 
-ghost use Rattle.std.specs.Prelude.{◌≡◌, ◌≢◌, [], pos, ◌-ℤ◌, ◌*ℤ◌, IsTrue, ◌↔◌};
+ghost use Rattle.std.specs.Prelude.{◌≡◌, ◌≢◌, [], IsTrue, ◌↔◌};
 ghost use Rattle.zo_model.specs.Program.{IsValid, columns};
 ghost use Rattle.zo_leaf.specs.Certificate.{Closes};
 ghost use Rattle.zo_leaf.specs.inner.Leaf.{IsClear};
 ghost use Rattle.zo_leaf.specs.inner.Path.{current};
 
-use zo_leaf::leaf::{leaf_bound, names_rows};
+use zo_leaf::leaf::{leaf_bound, names_rows, target};
 use zo_leaf::path::Path;
 use zo_leaf::{CertNode, Claim};
 use zo_model::ZeroOne;
-
-/// `d * (t - 1)`.
-fn target(d: u32, t: u64) -> i128
-    ensures { result ≡ pos d *ℤ (pos t -ℤ pos 1) }
-{
-    i128::from(d) * (i128::from(t) - 1)
-}
 
 /// Whether the node is a leaf that closes the claim where the walk stands.
 ///

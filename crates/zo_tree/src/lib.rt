@@ -3,12 +3,10 @@
 
 pub mod cert;
 pub mod leaf;
-pub mod limits;
 pub mod node_reader;
 pub mod node_text;
 pub mod spent;
 
 pub use cert::{Work, check, shaped};
 pub use leaf::closes;
-pub use limits::is_node;
-pub use spent::{has_left, is_spent};
+pub use spent::is_spent;

@@ -1,53 +1,19 @@
 //! The line of a node in a text, read.
 
-ghost use Rattle.std.specs.Prelude.{◌≡◌, ◌++◌, ℕ, List, codes, IfSome, IfNone, IfOk};
-ghost use Rattle.zo_tree.specs.Node.{IsNodeText, node_contents, node_line};
-ghost use Rattle.zo_tree.specs.inner.NodeLine.{IsMultiplier, SpellMultipliers, IsNodeLine, IsClashLine};
+ghost use Rattle.std.specs.Prelude.{◌≡◌, ◌++◌, codes, IfSome, IfNone, IfOk};
+ghost use Rattle.zo_leaf.specs.Node.{IsNodeText, node_contents, node_line};
+ghost use Rattle.zo_leaf.specs.inner.NodeLine.{IsNodeLine, IsClashLine};
 
-use line_text::{Parts, read_decimal, split_once, strip};
+use line_text::{Parts, read_decimal, strip};
 use std::alloc::{AllocError, Global};
 use zo_leaf::CertNode;
+use zo_leaf::multipliers::multipliers_of;
 
-/// The columns and rows that a node names are below this.
+/// The columns that a node names are below this.
 const NAMES: u64 = 1 << 26;
 
-/// The greatest multiplier, and the greatest denominator.
+/// The greatest denominator.
 const MOST: u64 = u32::MAX as u64;
-
-/// The multiplier of a part, where its row is `low` at least.
-fn multiplier_of(part: &[u8], low: u64) -> Option<(u32, u32)>
-    ensures some { IfSome result (IsMultiplier low part.now) }
-    ensures none { IfNone result ((m : ℕ × ℕ) → ¬ IsMultiplier low part.now m) }
-{
-    let (row, multiplier) = split_once(part, b':')?;
-    let row = read_decimal(row, NAMES - 1)?;
-    let multiplier = read_decimal(multiplier, MOST)?;
-    if row < low {
-        return None;
-    }
-    if multiplier == 0 {
-        return None;
-    }
-    Some((row as u32, multiplier as u32))
-}
-
-/// The multipliers of these parts, or `None`; or want of memory.
-fn multipliers_of(alloc: Global, parts: Parts) -> Result<Option<Vec<(u32, u32)>>, AllocError>
-    ensures some { IfOk result (λ found. IfSome found (λ ms. SpellMultipliers parts.entry ms.items)) }
-    ensures none { IfOk result (λ found. IfNone found ((ms : List (ℕ × ℕ)) → ¬ SpellMultipliers parts.entry ms)) }
-{
-    let mut parts = parts;
-    let mut multipliers = Vec::new(alloc);
-    let mut low = 0;
-    while let Some(part) = parts.next_part() {
-        let Some((row, multiplier)) = multiplier_of(part, low) else {
-            return Ok(None);
-        };
-        low = u64::from(row) + 1;
-        multipliers.push((row, multiplier))?;
-    }
-    Ok(Some(multipliers))
-}
 
 /// The branch of which this is the column.
 fn branch_of(rest: &[u8]) -> Option<CertNode>

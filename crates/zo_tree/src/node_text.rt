@@ -2,43 +2,12 @@
 
 ghost use Rattle.std.specs.Prelude.{◌≡◌, ◌++◌, ◌∷◌, [], codes, decimal, OnOk};
 ghost use Rattle.std.specs.List.{flat_map};
-ghost use Rattle.zo_tree.specs.Node.{multiplier_text, node_contents, node_line};
+ghost use Rattle.zo_leaf.specs.Node.{multiplier_text, node_contents, node_line};
 
 use line_text::push_decimal;
 use std::alloc::AllocError;
 use zo_leaf::CertNode;
-
-/// Writes a line of this text and a number.
-pub fn push_counted(out: &mut Vec<u8>, text: &[u8], n: u64) -> Result<(), AllocError>
-    ensures { OnOk result (out.new.items ≡ out.old.items ++ (text.now ++ (decimal n ++ 10 ∷ []))) }
-{
-    out.extend_from_slice(text)?;
-    push_decimal(out, n)?;
-    out.push(b'\n')?;
-    Ok(())
-}
-
-/// Writes a multiplier behind a space.
-fn push_multiplier(out: &mut Vec<u8>, multiplier: &(u32, u32)) -> Result<(), AllocError>
-    ensures { OnOk result (out.new.items ≡ out.old.items ++ (32 ∷ multiplier_text multiplier.now)) }
-{
-    out.push(b' ')?;
-    push_decimal(out, u64::from(multiplier.0))?;
-    out.push(b':')?;
-    push_decimal(out, u64::from(multiplier.1))?;
-    Ok(())
-}
-
-/// Writes multipliers, each behind a space, and the line's end.
-fn push_multipliers(out: &mut Vec<u8>, multipliers: &[(u32, u32)]) -> Result<(), AllocError>
-    ensures { OnOk result (out.new.items ≡ out.old.items ++ (flat_map (λ m. 32 ∷ multiplier_text m) multipliers.now ++ 10 ∷ [])) }
-{
-    for multiplier in multipliers {
-        push_multiplier(out, multiplier)?;
-    }
-    out.push(b'\n')?;
-    Ok(())
-}
+use zo_leaf::multipliers::{push_counted, push_multipliers};
 
 /// Writes the line of a bound.
 fn push_bound(

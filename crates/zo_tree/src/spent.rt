@@ -2,24 +2,13 @@
 
 ghost use Rattle.std.specs.Prelude.{◌≡◌, ◌<◌, ◌^◌, IsTrue, ◌↔◌, length};
 ghost use Rattle.zo_model.specs.Program.{IsValid};
-ghost use Rattle.zo_leaf.specs.Certificate.{HasLeft, IsShaped, IsTreeWith};
+ghost use Rattle.zo_leaf.specs.Certificate.{IsShaped, IsTreeWith};
 ghost use Rattle.zo_tree.specs.Spent.{IsSpent};
 
 use crate::cert::{Work, shaped};
-use zo_leaf::{Cert, CertNode};
+use zo_leaf::Cert;
+use zo_leaf::limits::has_left;
 use zo_model::ZeroOne;
-
-/// Whether some node is left open.
-pub fn has_left(nodes: &[CertNode]) -> bool
-    ensures { IsTrue result ↔ HasLeft nodes.now }
-{
-    for node in nodes {
-        if let CertNode::Left = node {
-            return true;
-        }
-    }
-    false
-}
 
 /// Whether the tree is shaped, with as many branches as the budget allows and a node left open.
 pub fn is_spent(z: &ZeroOne, c: &Cert, budget: u32, w: &mut Work) -> bool

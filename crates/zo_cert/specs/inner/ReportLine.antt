@@ -4,8 +4,8 @@ use Rattle.line_text.specs.Line.{text_of}
 use Rattle.zo_model.specs.inner.LineFault.{NoLine}
 use Rattle.zo_model.specs.declared.error.ZoError.{ZoError}
 use Rattle.zo_model.specs.declared.error.ZoError.TheVariants.{NoMemory, Bad}
-use Rattle.zo_tree.specs.Node.{Node, IsNodeText, node_line}
-use Rattle.zo_tree.specs.inner.NodeLine.{IsNodeLine}
+use Rattle.zo_leaf.specs.Node.{Node, IsNodeText, node_line}
+use Rattle.zo_leaf.specs.inner.NodeLine.{IsNodeLine}
 use Rattle.zo_cert.specs.ReportText.{x_line}
 
 -- the columns of n that are 1

@@ -2,7 +2,7 @@
 use Rattle.std.specs.Prelude.{◌≡◌, ℕ, ◌+◌, List, [], ◌∷◌, ◌++◌, Bool, Option}
 use Rattle.zo_model.specs.declared.program.ZeroOne.{ZeroOne}
 use Rattle.zo_leaf.specs.inner.Path.{Pending}
-use Rattle.zo_tree.specs.Node.{IsNode}
+use Rattle.zo_leaf.specs.Node.{IsNode}
 use Rattle.zo_leaf.specs.Searched.{IsOpenWhereOpen, IsNoBetter, IsClosed}
 use Rattle.zo_leaf.specs.inner.Walk.{MayCome, after}
 use Rattle.zo_leaf.specs.declared.cert.CertNode.{CertNode}

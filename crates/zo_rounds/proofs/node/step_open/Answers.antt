@@ -5,7 +5,7 @@ use Rattle.zo_model.specs.Program.{cost_of, costs_of, columns}
 use Rattle.zo_leaf.specs.Certificate.{Closes}
 use Rattle.zo_leaf.specs.Fixing.{ones}
 use Rattle.zo_leaf.specs.inner.Path.{current}
-use Rattle.zo_tree.specs.Node.{IsNode}
+use Rattle.zo_leaf.specs.Node.{IsNode}
 use Rattle.zo_state.specs.Pick.{HasFree}
 use Rattle.zo_rounds.specs.Nodes.{CostsLess}
 use Rattle.zo_state.specs.inner.Better.{CostsAsMuch}

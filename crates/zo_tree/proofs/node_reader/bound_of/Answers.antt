@@ -1,8 +1,8 @@
 use Rattle.std.proofs.Common.{◌≡◌, ◌++◌, ◌∷◌, ◌∙◌, map, ap, codes, decimal, arith}
 use Rattle.line_text.specs.Line.{parts}
-use Rattle.zo_tree.specs.Node.{multiplier_text}
-use Rattle.zo_tree.proofs.ReadMultipliers.{line_of_parts}
-use Rattle.zo_tree.proofs.NodeLineLemmas.{no_bound}
+use Rattle.zo_leaf.specs.Node.{multiplier_text}
+use Rattle.zo_leaf.proofs.ReadMultipliers.{line_of_parts}
+use Rattle.zo_leaf.proofs.NodeLineLemmas.{no_bound}
 use Rattle.line_text.proofs.NumberLemmas.{decimal_one}
 use Rattle.zo_tree.proofs.node_reader.bound_of.Goals as goal
 

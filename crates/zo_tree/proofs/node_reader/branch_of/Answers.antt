@@ -1,5 +1,5 @@
 use Rattle.std.proofs.Common.{arith}
-use Rattle.zo_tree.proofs.NodeLineLemmas.{no_branch}
+use Rattle.zo_leaf.proofs.NodeLineLemmas.{no_branch}
 use Rattle.zo_tree.proofs.node_reader.branch_of.Goals as goal
 
 pub returns-in_err-column-clause-none : goal.returns-in_err-column-clause-none

@@ -1,8 +1,8 @@
 use Rattle.std.proofs.Common.{◌≡◌, ◌∷◌, ◌∙◌, sym, map, codes}
 use Rattle.line_text.specs.Line.{parts}
-use Rattle.zo_tree.specs.Node.{multiplier_text}
-use Rattle.zo_tree.proofs.ReadMultipliers.{line_of_parts}
-use Rattle.zo_tree.proofs.NodeLineLemmas.{clash_parts, no_clash}
+use Rattle.zo_leaf.specs.Node.{multiplier_text}
+use Rattle.zo_leaf.proofs.ReadMultipliers.{line_of_parts}
+use Rattle.zo_leaf.proofs.NodeLineLemmas.{clash_parts, no_clash}
 use Rattle.zo_tree.proofs.node_reader.clash_of.Goals as goal
 
 pub returns-in-Some-clause-some : goal.returns-in-Some-clause-some

@@ -1,8 +1,8 @@
 use Rattle.std.proofs.Common.{◌++◌, ◌∷◌, [], ap, ◌∙◌, codes, decimal}
 use Rattle.std.specs.List.{flat_map}
 use Rattle.zo_model.proofs.Pieces.{listed_pieces}
-use Rattle.zo_tree.specs.Node.{multiplier_text}
-use Rattle.zo_tree.proofs.Written.{piece_as}
+use Rattle.zo_leaf.specs.Node.{multiplier_text}
+use Rattle.zo_leaf.proofs.Written.{piece_as}
 use Rattle.zo_tree.proofs.node_text.push_node.Goals as goal
 
 pub returns-in-Bound : goal.returns-in-Bound

@@ -7,7 +7,7 @@ use Rattle.zo_model.specs.Program.{AtMost}
 use Rattle.zo_leaf.specs.Certificate.{terms_of}
 use Rattle.zo_leaf.specs.Searched.{reach}
 use Rattle.zo_state.specs.Sums.{SumsOf}
-use Rattle.zo_state.proofs.Placed.{of_terms, reach_small}
+use Rattle.zo_sums.proofs.Placed.{of_terms, reach_small}
 use Rattle.zo_state.proofs.sums.Sums.reach.Goals as goal
 
 pub overflow_cast-result : goal.overflow_cast-result

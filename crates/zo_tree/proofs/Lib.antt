@@ -1,4 +1,0 @@
-pub mod MultiplierLemmas
-pub mod NodeLineLemmas
-pub mod ReadMultipliers
-pub mod Written
