@@ -1,6 +1,6 @@
 //! For each row its sums by the places of its columns, and for each column its rows.
 
-ghost use Rattle.std.specs.Prelude.{◌≡◌, ℕ, ◌<◌, ◌+ℤ◌, [], length, pos, ℤ, All, Option, IfOk, slice_get, slice_index_or};
+ghost use Rattle.std.specs.Prelude.{◌≡◌, ℕ, ◌<◌, ◌^◌, ◌+ℤ◌, [], length, pos, ℤ, All, Option, IfOk, slice_get, slice_index_or};
 ghost use Rattle.std.specs.Global.{Vec as VecOf};
 ghost use Rattle.zo_model.specs.Program.{AreSmallTerms, AtMost, IsValid, columns, terms_sum};
 ghost use Rattle.zo_leaf.specs.Certificate.{terms_of};
