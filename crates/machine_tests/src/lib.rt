@@ -30,6 +30,8 @@ mod search;
 #[cfg(test)]
 mod simulator;
 #[cfg(test)]
+mod solved;
+#[cfg(test)]
 mod streams;
 #[cfg(test)]
 mod zero_one;

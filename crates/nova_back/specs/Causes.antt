@@ -11,8 +11,8 @@ use Rattle.zo_model.specs.Program.{columns, cost_of, vector}
 use Rattle.zo_cert.specs.Certificate.{IsTreeWith, branches}
 use Rattle.zo_cert.specs.Report.{IsValidReport, IsTrueReport}
 use Rattle.zo_cert.specs.Searched.{IsSearched}
-use Rattle.zo_cert.specs.declared.cert.Claim.{Claim}
-use Rattle.zo_cert.specs.declared.cert.Claim.TheVariants.{Least, Nothing}
+use Rattle.zo_leaf.specs.declared.cert.Claim.{Claim}
+use Rattle.zo_leaf.specs.declared.cert.Claim.TheVariants.{Least, Nothing}
 use Rattle.zo_cert.specs.declared.report.Report.{Report}
 use Rattle.zo_cert.specs.declared.report.Verdict.{Verdict}
 use Rattle.zo_cert.specs.declared.report.Verdict.TheVariants.{Optimal, Feasible, Infeasible, Spent}

@@ -4,14 +4,10 @@
 //! report can't be written, 5 for want of memory, 6 where the file isn't a program's text.
 #![tactic(auto)]
 
-mod solved;
-#[cfg(test)]
-mod tests;
-
 use nv_outside::DiskFiles;
-use solved::{Failure, solve_file};
 use std::env;
 use std::process::ExitCode;
+use zo_report::{Failure, solve_file};
 
 fn main(rt: HostRuntime) -> ExitCode {
     let words = match env::args(&rt) {

@@ -1,15 +1,7 @@
-pub mod Drain
-pub mod Duality
-pub mod Leaves
-pub mod Nodes
-pub mod Paths
-pub mod Walk
 pub mod ReportPieces
 pub mod ReadPieces
 pub mod NodePieces
 pub mod ReportLines
-pub mod MultiplierLemmas
-pub mod NodeLineLemmas
 pub mod OnesLemmas
 pub mod ReportPeel
 pub mod ReportFormat

@@ -5,9 +5,7 @@ use Rattle.std.proofs.lemmas.List.{length-append, map-append}
 use Rattle.std.proofs.lemmas.List.Elements.{All-push}
 use Rattle.line_text.specs.Line.{text_of}
 use Rattle.line_text.proofs.SplitLaws.{text_of-push}
-use Rattle.zo_cert.specs.Contents.{Node, branch_on, bound_by, clash_of, left_open}
-use Rattle.zo_cert.specs.ReportText.{node_line}
-use Rattle.zo_cert.specs.ReportFault.{IsNodeText}
+use Rattle.zo_leaf.specs.Node.{Node, branch_on, bound_by, clash_of, left_open, node_line, IsNodeText}
 
 -- so many nodes were read
 pub record HasNodes (bytes rest : List ℕ) (nodes : List Node) (first number : ℕ) : Type 0 where

@@ -13,13 +13,14 @@ use Rattle.zo_model.specs.ProgramText.{IsValidContents}
 use Rattle.zo_model.specs.declared.error.ZoError.{ZoError}
 use Rattle.zo_model.specs.declared.error.ZoError.TheVariants.{NoMemory, Bad}
 use Rattle.zo_model.proofs.ExactLemmas.{valid_from_contents}
-use Rattle.zo_cert.specs.Contents.{ReportContents, node_contents, report_contents}
-use Rattle.zo_cert.specs.Report.{IsBlank, IsNode, IsValidReport}
+use Rattle.zo_cert.specs.Contents.{ReportContents, report_contents}
+use Rattle.zo_leaf.specs.Node.{node_contents, IsNode, IsNodeText}
+use Rattle.zo_cert.specs.Report.{IsBlank, IsValidReport}
 use Rattle.zo_cert.specs.ReportText.{verdict_lines, report_lines, report_text}
-use Rattle.zo_cert.specs.ReportFault.{IsNodeText, IsReport, HasCost, front_lines, stated_lines, tree_lines, AreStatedLines, IsMisstated, IsFirstReportFault, wrong_cost, wrong_line}
+use Rattle.zo_cert.specs.ReportFault.{IsReport, HasCost, front_lines, stated_lines, tree_lines, AreStatedLines, IsMisstated, IsFirstReportFault, wrong_cost, wrong_line}
 use Rattle.zo_cert.specs.ReportAnswer.{IsTrueReportRefusal, AnswersReport, AnswersFault}
-use Rattle.zo_cert.specs.declared.cert.CertNode.{CertNode}
-use Rattle.zo_cert.specs.declared.cert.CertNode.TheVariants.{Branch, Bound, Clash, Left}
+use Rattle.zo_leaf.specs.declared.cert.CertNode.{CertNode}
+use Rattle.zo_leaf.specs.declared.cert.CertNode.TheVariants.{Branch, Bound, Clash, Left}
 use Rattle.zo_cert.specs.declared.report.Report.{Report}
 use Rattle.zo_cert.specs.declared.report.Verdict.{Verdict}
 use Rattle.zo_cert.specs.declared.report.Verdict.TheVariants as verdicts

@@ -9,7 +9,7 @@ use Rattle.zo_model.specs.declared.error.ZoError.{ZoError}
 use Rattle.zo_model.specs.declared.error.ZoError.TheVariants.{NoMemory, Bad}
 use Rattle.zo_model.proofs.FaultLemmas.{spelled_more}
 use Rattle.zo_model.proofs.LineLemmas.{no_line_weaker}
-use Rattle.zo_cert.specs.Contents.{left_open}
+use Rattle.zo_leaf.specs.Node.{left_open}
 use Rattle.zo_cert.specs.Report.{IsBlank}
 use Rattle.zo_cert.specs.ReportFault.{AreInLimits, HasCost, front_lines, stated_lines, tree_lines, AreStatedLines, IsMisstated, IsFirstReportFault, wrong_cost}
 use Rattle.zo_cert.specs.ReportAnswer.{IsTrueReportRefusal}

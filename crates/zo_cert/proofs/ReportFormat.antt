@@ -11,9 +11,10 @@ use Rattle.line_text.proofs.FormatLaws.{begins_format}
 use Rattle.zo_model.specs.Contents.{Contents}
 use Rattle.zo_model.specs.Program.{Rise}
 use Rattle.zo_model.proofs.ExactLemmas.{program_lack}
-use Rattle.zo_cert.specs.Contents.{Node, branch_on, bound_by, clash_of, left_open, ReportContents}
-use Rattle.zo_cert.specs.ReportText.{counted_line, ones_from, x_line, multiplier_text, node_line}
-use Rattle.zo_cert.specs.ReportFault.{IsNodeText, AreInLimits, IsReport, HasCost, front_lines, stated_lines, tree_lines, AreStatedLines}
+use Rattle.zo_leaf.specs.Node.{Node, branch_on, bound_by, clash_of, left_open, multiplier_text, node_line, IsNodeText}
+use Rattle.zo_cert.specs.Contents.{ReportContents}
+use Rattle.zo_cert.specs.ReportText.{counted_line, ones_from, x_line}
+use Rattle.zo_cert.specs.ReportFault.{AreInLimits, IsReport, HasCost, front_lines, stated_lines, tree_lines, AreStatedLines}
 use Rattle.zo_cert.specs.declared.report.Verdict.{Verdict}
 use Rattle.zo_cert.specs.declared.report.Verdict.TheVariants as verdicts
 use Rattle.zo_cert.proofs.ReadPieces.{Up}

@@ -1,6 +1,5 @@
 -- a report's text that is written piece by piece
 use Rattle.std.proofs.Common.{◌≡◌, ℕ, suc, ◌+◌, ◌<◌, ◌≤◌, List, [], ◌∷◌, ◌++◌, length, get_or, take, refl, sym, ap, ◌∙◌, append_assoc, codes, decimal, Bool, true, false, arith, zero-add, Result, Ok, Err, OnOk, is_ok, cond}
-use Rattle.std.proofs.lemmas.Result.{on_ok_weaker}
 use Rattle.std.proofs.lemmas.List.{append-nil, length-take-le, take_all}
 use Rattle.std.specs.List.{flat_map}
 use Rattle.line_text.specs.Line.{text_of}
@@ -47,9 +46,6 @@ report_pieces h s b p v t n i1 i2 i3 i4 i5 i6 i7 e1 e2 e3 e4 e5 e6 e7 =
     let t5 = text_more (h ∷ s ∷ b ∷ p) v i4 i5 t4 e5 in
     let t6 = text_line ((h ∷ s ∷ b ∷ p) ++ v) i5 i6 t t5 e6 in
     text_more (((h ∷ s ∷ b ∷ p) ++ v) ++ t ∷ []) n i6 i7 t6 e7 ∙ ap text_of (append_assoc ((h ∷ s ∷ b ∷ p) ++ v) (t ∷ []) n)
-
-pub piece_as : {E : Type 0} (r : Result (Unit {0}) E) (old new x y : List ℕ) → x ≡ y → OnOk r (new ≡ old ++ x) → OnOk r (new ≡ old ++ y)
-piece_as r old new x y e h = on_ok_weaker r (λ k. k ∙ ap (λ t. old ++ t) e) h
 
 pub pushed : {E : Type 0} (r : Result (Unit {0}) E) (old new x : List ℕ) → new ≡ cond (is_ok r) (old ++ x) old → OnOk r (new ≡ old ++ x)
 pushed (Ok u) old new x e = e

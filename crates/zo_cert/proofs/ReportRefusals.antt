@@ -16,10 +16,11 @@ use Rattle.zo_model.specs.declared.error.ZoError.TheVariants.{NoMemory, Bad}
 use Rattle.zo_model.proofs.ExactLemmas.{Rest, last, line_first, rest_of}
 use Rattle.zo_model.proofs.FaultLemmas.{spelled_more}
 use Rattle.zo_model.proofs.LineLemmas.{counted_one, no_line_weaker}
-use Rattle.zo_cert.specs.Contents.{left_open, ReportContents}
+use Rattle.zo_leaf.specs.Node.{left_open, IsNodeText}
+use Rattle.zo_cert.specs.Contents.{ReportContents}
 use Rattle.zo_cert.specs.Report.{IsBlank}
 use Rattle.zo_cert.specs.ReportText.{counted_line}
-use Rattle.zo_cert.specs.ReportFault.{IsNodeText, AreInLimits, IsReport, HasCost, front_lines, stated_lines, tree_lines, AreStatedLines, IsFirstReportFault, wrong_line}
+use Rattle.zo_cert.specs.ReportFault.{AreInLimits, IsReport, HasCost, front_lines, stated_lines, tree_lines, AreStatedLines, IsFirstReportFault, wrong_line}
 use Rattle.zo_cert.specs.ReportAnswer.{IsTrueReportRefusal}
 use Rattle.zo_cert.specs.inner.ReportPart.{AreFrontLines, StopsAt, IsStop}
 use Rattle.zo_cert.specs.declared.report.Verdict.{Verdict}

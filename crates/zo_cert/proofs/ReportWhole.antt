@@ -9,10 +9,11 @@ use Rattle.zo_model.specs.ProgramText.{program_lines, IsValidContents}
 use Rattle.zo_model.specs.declared.error.ZoError.{ZoError}
 use Rattle.zo_model.proofs.ExactLemmas.{contents_fit}
 use Rattle.zo_model.proofs.FaultLemmas.{spelled_more}
-use Rattle.zo_cert.specs.Contents.{node_contents, report_contents}
+use Rattle.zo_leaf.specs.Node.{node_contents, node_line, IsNodeText}
+use Rattle.zo_cert.specs.Contents.{report_contents}
 use Rattle.zo_cert.specs.Report.{IsBlank, IsValidReport}
-use Rattle.zo_cert.specs.ReportText.{verdict_lines, node_line}
-use Rattle.zo_cert.specs.ReportFault.{IsNodeText, AreInLimits, IsReport, front_lines, stated_lines, tree_lines, IsFirstReportFault}
+use Rattle.zo_cert.specs.ReportText.{verdict_lines}
+use Rattle.zo_cert.specs.ReportFault.{AreInLimits, IsReport, front_lines, stated_lines, tree_lines, IsFirstReportFault}
 use Rattle.zo_cert.specs.ReportAnswer.{IsTrueReportRefusal}
 use Rattle.zo_cert.specs.inner.ReportPart.{AreTreeLines, IsStop}
 use Rattle.zo_cert.specs.declared.report.Report.{Report}

@@ -11,10 +11,10 @@ use Rattle.zo_model.specs.declared.error.ZoError.TheVariants.{NoMemory, Bad}
 use Rattle.zo_model.proofs.LineLemmas.{counted_one, no_line_other, no_line_weaker}
 use Rattle.zo_model.proofs.FaultLemmas.{spelled_more, one_line_text}
 use Rattle.zo_model.proofs.TextLemmas.{at_map}
-use Rattle.zo_cert.specs.Contents.{Node, left_open}
-use Rattle.zo_cert.specs.ReportText.{counted_line, node_line}
-use Rattle.zo_cert.specs.ReportFault.{IsNodeText}
-use Rattle.zo_cert.specs.inner.ReportLine.{IsNodeLine, IsNodeFault}
+use Rattle.zo_leaf.specs.Node.{Node, left_open, node_line, IsNodeText}
+use Rattle.zo_cert.specs.ReportText.{counted_line}
+use Rattle.zo_leaf.specs.inner.NodeLine.{IsNodeLine}
+use Rattle.zo_cert.specs.inner.ReportLine.{IsNodeFault}
 use Rattle.zo_cert.specs.inner.ReportPart.{AreFrontLines, AreTreeLines, IsStop}
 use Rattle.zo_cert.proofs.ReportFormat.{counted_lacks}
 

@@ -1,9 +1,8 @@
-pub mod Certificate
-pub mod Fixing
+pub use Rattle.zo_leaf.specs.Certificate
+pub use Rattle.zo_leaf.specs.Searched
 pub mod Contents
 pub mod Laws
 pub mod Report
-pub mod Searched
 pub mod ReportText
 pub mod ReportFault
 pub mod ReportAnswer

@@ -1,28 +1,15 @@
 -- reports: which are valid, and which are true
-use Rattle.std.specs.Prelude.{◌≡◌, ℕ, ◌<◌, ◌≤◌, ◌^◌, List, length, Bool, false, All}
-use Rattle.zo_model.specs.Program.{columns, cost_of, vector, Feasible, IsValid, Rise}
-use Rattle.zo_cert.specs.Certificate.{IsTreeWith, IsShaped, Proves, branches, HasLeft}
-use Rattle.zo_cert.specs.declared.cert.Cert.{Cert}
-use Rattle.zo_cert.specs.declared.cert.CertNode.{CertNode}
-use Rattle.zo_cert.specs.declared.cert.CertNode.TheVariants.{Branch, Bound, Clash, Left}
-use Rattle.zo_cert.specs.declared.cert.Claim.TheVariants.{Least, Nothing}
+use Rattle.std.specs.Prelude.{◌≡◌, ◌<◌, ◌≤◌, ◌^◌, List, length, Bool, false, All}
+use Rattle.zo_model.specs.Program.{columns, cost_of, vector, Feasible, IsValid}
+use Rattle.zo_leaf.specs.Certificate.{IsTreeWith, IsShaped, Proves}
+use Rattle.zo_leaf.specs.declared.cert.Claim.TheVariants.{Least, Nothing}
+use Rattle.zo_leaf.specs.Node.{IsNode}
+use Rattle.zo_tree.specs.Spent.{IsSpent}
 use Rattle.zo_cert.specs.declared.report.Report.{Report}
 use Rattle.zo_cert.specs.declared.report.Verdict.{Verdict}
 use Rattle.zo_cert.specs.declared.report.Verdict.TheVariants as verdicts
 
 -- ---- valid reports
-
--- multipliers in a text: rows that rise, each with a multiplier of 1 at least
-pub record AreMultipliers (ms : List (ℕ × ℕ)) : Type 0 where
-  pub rise : Rise 0 (2 ^ 26) ms
-  pub not_zero : All (λ m. 1 ≤ m.1) ms
-
--- a node in a text
-abbrev pub IsNode : CertNode → Type 0
-IsNode (Branch j) = j < 2 ^ 26
-IsNode (Bound d ms) = (1 ≤ d) × AreMultipliers ms.items
-IsNode (Clash ms) = AreMultipliers ms.items
-IsNode Left = Unit {0}
 
 -- a verdict without a cost comes with an x that is all false
 abbrev pub IsBlank : Verdict → List Bool → Type 0
@@ -43,11 +30,6 @@ pub record IsValidReport (r : Report) : Type 0 where
   pub nodes_fit : All IsNode r.tree.nodes.items
 
 -- ---- true reports
-
--- the search used its whole budget and left a node open
-pub record IsSpent (budget : ℕ) (c : Cert) : Type 0 where
-  pub used : branches c.nodes.items ≡ budget
-  pub open_ : HasLeft c.nodes.items
 
 -- what the verdict says of the program, the vector, the tree and the budget
 abbrev pub VerdictHolds : Verdict → Report → Type 0

@@ -5,18 +5,12 @@ use Rattle.line_text.specs.Format.{Begins, FirstFault}
 use Rattle.zo_model.specs.Contents.{Contents}
 use Rattle.zo_model.specs.Program.{vector, costs_of}
 use Rattle.zo_model.specs.ProgramText.{program_lines, IsValidContents}
-use Rattle.zo_cert.specs.Contents.{Node, branch_on, bound_by, clash_of, left_open, ReportContents}
-use Rattle.zo_cert.specs.Report.{AreMultipliers, IsBlank}
-use Rattle.zo_cert.specs.ReportText.{counted_line, x_line, node_line}
+use Rattle.zo_leaf.specs.Node.{Node, IsNodeText, node_line}
+use Rattle.zo_cert.specs.Contents.{ReportContents}
+use Rattle.zo_cert.specs.Report.{IsBlank}
+use Rattle.zo_cert.specs.ReportText.{counted_line, x_line}
 use Rattle.zo_cert.specs.declared.report.Verdict.{Verdict}
 use Rattle.zo_cert.specs.declared.report.Verdict.TheVariants as verdicts
-
--- a node that keeps the limits
-abbrev pub IsNodeText : Node → Type 0
-IsNodeText (branch_on j) = j < 2 ^ 26
-IsNodeText (bound_by d ms) = (1 ≤ d) × (d < 2 ^ 32) × AreMultipliers ms × All (λ m. m.1 < 2 ^ 32) ms
-IsNodeText (clash_of ms) = AreMultipliers ms × All (λ m. m.1 < 2 ^ 32) ms
-IsNodeText left_open = Unit {0}
 
 -- slots, a budget and a program that keep the limits
 pub record AreInLimits (slots budget : ℕ) (p : Contents) : Type 0 where

@@ -3,7 +3,8 @@ use Rattle.std.specs.Prelude.{ℕ, suc, List, [], ◌∷◌, ◌++◌, length, m
 use Rattle.line_text.specs.Line.{text_of, parted}
 use Rattle.zo_model.specs.Program.{vector, costs_of}
 use Rattle.zo_model.specs.ProgramText.{program_lines}
-use Rattle.zo_cert.specs.Contents.{Node, branch_on, bound_by, clash_of, left_open, ReportContents}
+use Rattle.zo_cert.specs.Contents.{ReportContents}
+use Rattle.zo_leaf.specs.Node.{node_line}
 use Rattle.zo_cert.specs.declared.report.Verdict.{Verdict}
 use Rattle.zo_cert.specs.declared.report.Verdict.TheVariants as verdicts
 
@@ -27,18 +28,6 @@ verdict_lines verdicts.Optimal costs xs = parted (codes "verdict" ∷ codes "opt
 verdict_lines verdicts.Feasible costs xs = parted (codes "verdict" ∷ codes "feasible" ∷ decimal (costs_of costs (vector xs)) ∷ []) ∷ x_line xs ∷ []
 verdict_lines verdicts.Infeasible costs xs = codes "verdict infeasible" ∷ []
 verdict_lines verdicts.Spent costs xs = codes "verdict spent" ∷ []
-
--- a row, a colon, its multiplier
-abbrev pub multiplier_text : ℕ × ℕ → List ℕ
-multiplier_text m = decimal m.0 ++ 58 ∷ decimal m.1
-
--- a node: a branch and its column, a bound with its denominator and multipliers, a clash with its multipliers, or one
--- that is left
-abbrev pub node_line : Node → List ℕ
-node_line (branch_on j) = parted (codes "b" ∷ decimal j ∷ [])
-node_line (bound_by d ms) = parted (codes "d" ∷ decimal d ∷ map multiplier_text ms)
-node_line (clash_of ms) = parted (codes "k" ∷ map multiplier_text ms)
-node_line left_open = codes "o"
 
 -- the lines of a report
 abbrev pub report_lines : ReportContents → List (List ℕ)

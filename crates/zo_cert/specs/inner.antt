@@ -1,5 +1,2 @@
-pub mod Leaf
-pub mod Walk
 pub mod ReportLine
 pub mod ReportPart
-pub mod Path

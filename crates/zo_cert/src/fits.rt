@@ -1,11 +1,9 @@
 //! The numbers of a valid report keep the limits of its text: those that no test of it asks for are limits of their types.
 
 ghost use Rattle.std.specs.Prelude.{◌<◌, ◌^◌, All, map};
-ghost use Rattle.zo_cert.specs.Contents.{node_contents};
-ghost use Rattle.zo_cert.specs.Report.{IsNode};
-ghost use Rattle.zo_cert.specs.ReportFault.{IsNodeText};
+ghost use Rattle.zo_leaf.specs.Node.{node_contents, IsNode, IsNodeText};
 
-use crate::cert::CertNode;
+use zo_leaf::CertNode;
 
 /// A number keeps the limit of its type.
 fn fits(number: u32)

@@ -1,15 +1,16 @@
 //! Reports: a 0-1 program, a verdict on it, and the certificate of the verdict.
 
 ghost use Rattle.std.specs.Prelude.{◌≡◌, ◌<◌, ◌≤◌, ◌^◌, All, IsTrue, ◌↔◌, length};
-ghost use Rattle.zo_model.specs.Program.{IsValid, cost_of, columns, vector, Feasible};
-ghost use Rattle.zo_cert.specs.Certificate.{HasLeft, Holds, IsShaped, IsTreeWith};
-ghost use Rattle.zo_cert.specs.Report.{AreMultipliers, IsBlank, IsNode, IsSpent, IsTrueReport, IsValidReport};
-ghost use Rattle.zo_cert.specs.declared.cert.Claim.TheVariants.{Least, Nothing};
+ghost use Rattle.zo_model.specs.Program.{cost_of, columns, vector, Feasible};
+ghost use Rattle.zo_leaf.specs.Certificate.{Holds};
+ghost use Rattle.zo_leaf.specs.Node.{IsNode};
+ghost use Rattle.zo_cert.specs.Report.{IsBlank, IsTrueReport, IsValidReport};
+ghost use Rattle.zo_leaf.specs.declared.cert.Claim.TheVariants.{Least, Nothing};
 ghost use Rattle.zo_cert.specs.declared.report.Verdict.TheVariants as verdicts;
 
-use crate::cert::{Cert, CertNode, Claim, Work, check, shaped};
-use crate::leaf::rise;
+use zo_leaf::{Cert, CertNode, Claim, is_node};
 use zo_model::{Assignment, ZeroOne, cost, feasible, is_valid};
+use zo_tree::{Work, check, is_spent};
 
 /// What a search found.
 #[derive(Clone, Copy, Debug, PartialEq, Eq, Drop)]
@@ -34,28 +35,6 @@ pub struct Report {
     pub verdict: Verdict,
     pub x: Assignment,
     pub tree: Cert,
-}
-
-/// The columns and rows that a report names are below this.
-const NAME_LIMIT: u32 = 1 << 26;
-
-/// Whether the rows rise, each with a multiplier of 1 at least.
-fn are_multipliers(multipliers: &[(u32, u32)]) -> bool
-    ensures { IsTrue result ↔ AreMultipliers multipliers.now }
-{
-    rise(NAME_LIMIT as usize, multipliers) && multipliers.iter().all(|m| m.1 >= 1)
-}
-
-/// Whether the node's numbers keep their limits.
-pub fn is_node(node: &CertNode) -> bool
-    ensures { IsTrue result ↔ IsNode node.now }
-{
-    match node {
-        CertNode::Branch(j) => *j < NAME_LIMIT,
-        CertNode::Bound(d, multipliers) => *d >= 1 && are_multipliers(multipliers),
-        CertNode::Clash(multipliers) => are_multipliers(multipliers),
-        CertNode::Left => true,
-    }
 }
 
 /// Whether the vector is all false where the verdict has no cost.
@@ -88,32 +67,6 @@ fn has_limits(r: &Report) -> bool
     ensures { IsTrue result ↔ ((r.now.slots ≤ 128) × (1 ≤ r.now.budget) × (r.now.budget ≤ 1000000) × (length r.now.x.on.items ≡ columns r.now.z)) }
 {
     r.slots <= 128 && 1 <= r.budget && r.budget <= 1_000_000 && r.x.on.len() == r.z.costs.len()
-}
-
-/// Whether some node is left open.
-pub fn has_left(nodes: &[CertNode]) -> bool
-    ensures { IsTrue result ↔ HasLeft nodes.now }
-{
-    for node in nodes {
-        if let CertNode::Left = node {
-            return true;
-        }
-    }
-    false
-}
-
-/// Whether the tree is shaped, with as many branches as the budget allows and a node left open.
-fn is_spent(z: &ZeroOne, c: &Cert, budget: u32, w: &mut Work) -> bool
-    requires valid { IsValid z.now }
-    requires work { w.old ≡ z.now.costs.items }
-    requires few { length c.now.nodes.items < 2 ^ 32 }
-    ensures work { w.new ≡ w.old }
-    ensures exact { IsTrue result ↔ (IsTreeWith (IsShaped z.now) c.now × IsSpent budget c.now) }
-{
-    match shaped(z, c, w) {
-        Some(branches) => branches == budget && has_left(&c.nodes),
-        None => false,
-    }
 }
 
 /// Whether the report is true: its tree is shaped and its verdict holds.

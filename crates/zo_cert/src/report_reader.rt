@@ -1,126 +1,32 @@
 //! The text of a report, read.
 
-ghost use Rattle.std.specs.Prelude.{◌≡◌, ◌≢◌, ◌+◌, ◌*◌, ◌<◌, ◌≤◌, ◌^◌, ◌++◌, ◌∷◌, [], ℕ, List, All, false, replicate, map, length, codes, decimal, IfSome, IfNone, IfOk, IfErr, OnOk};
-ghost use Rattle.line_text.specs.Line.{Lacks, text_of, parts, parted};
-ghost use Rattle.zo_model.specs.Contents.{contents};
+ghost use Rattle.std.specs.Prelude.{◌≡◌, ◌≢◌, ◌+◌, ◌*◌, ◌<◌, ◌≤◌, ◌^◌, ◌++◌, ◌∷◌, [], ℕ, All, false, replicate, map, length, codes, decimal, IfSome, IfNone, IfOk, IfErr, OnOk};
+ghost use Rattle.line_text.specs.Line.{text_of, parts};
 ghost use Rattle.zo_model.specs.Program.{IsValid, columns, cost_of, vector};
-ghost use Rattle.zo_model.specs.ProgramText.{program_lines};
-ghost use Rattle.zo_model.specs.inner.LineFault.{IsCounted, NoLine, IsLineFault};
+ghost use Rattle.zo_model.specs.inner.LineFault.{IsLineFault};
 ghost use Rattle.zo_model.specs.declared.error.ZoError.{ZoError};
 ghost use Rattle.zo_model.specs.declared.error.ZoError.TheVariants.{Bad};
-ghost use Rattle.zo_cert.specs.Contents.{ReportContents, node_contents, report_contents};
-ghost use Rattle.zo_cert.specs.Report.{AreMultipliers, IsBlank, IsNode, IsValidReport};
-ghost use Rattle.zo_cert.specs.ReportFault.{IsNodeText, IsReport, IsFirstReportFault};
+ghost use Rattle.zo_cert.specs.Contents.{ReportContents, report_contents};
+ghost use Rattle.zo_leaf.specs.Node.{node_contents, IsNodeText, node_line};
+ghost use Rattle.zo_cert.specs.Report.{IsBlank, IsValidReport};
+ghost use Rattle.zo_cert.specs.ReportFault.{IsReport, IsFirstReportFault};
 ghost use Rattle.zo_cert.specs.inner.ReportPart.{AreFrontLines, AreTreeLines, IsStop, IsCostedFault, IsVerdictFault};
 ghost use Rattle.zo_cert.specs.ReportAnswer.{IsTrueReportRefusal, AnswersReport, AnswersFault};
-ghost use Rattle.zo_cert.specs.inner.ReportLine.{IsMultiplier, SpellMultipliers, IsNodeLine, IsClashLine, IsOnesLine, IsNodeFault};
-ghost use Rattle.zo_cert.specs.ReportText.{counted_line, x_line, verdict_lines, multiplier_text, node_line, report_text};
+ghost use Rattle.zo_cert.specs.inner.ReportLine.{IsOnesLine, IsNodeFault};
+ghost use Rattle.zo_cert.specs.ReportText.{counted_line, x_line, verdict_lines, report_text};
 
-use crate::cert::{Cert, CertNode};
 use crate::report::{Report, Verdict};
-use line_text::{Lines, Parts, read_decimal, split_once, strip};
+use line_text::{Lines, Parts, read_decimal, strip};
 use std::alloc::{AllocError, Global};
+use zo_leaf::{Cert, CertNode};
 use zo_model::{Assignment, Reader, ZeroOne, ZoError, cost, read_counted, read_program_lines};
+use zo_tree::node_reader::node_of;
 
-/// The columns and rows that a report names are below this.
+/// The columns that a report names are below this.
 const NAMES: u64 = 1 << 26;
 
-/// The greatest multiplier, and the greatest number of nodes.
+/// The greatest number of nodes.
 const MOST: u64 = u32::MAX as u64;
-
-/// The multiplier of a part, where its row is `low` at least.
-fn multiplier_of(part: &[u8], low: u64) -> Option<(u32, u32)>
-    ensures some { IfSome result (IsMultiplier low part.now) }
-    ensures none { IfNone result ((m : ℕ × ℕ) → ¬ IsMultiplier low part.now m) }
-{
-    let (row, multiplier) = split_once(part, b':')?;
-    let row = read_decimal(row, NAMES - 1)?;
-    let multiplier = read_decimal(multiplier, MOST)?;
-    if row < low {
-        return None;
-    }
-    if multiplier == 0 {
-        return None;
-    }
-    Some((row as u32, multiplier as u32))
-}
-
-/// The multipliers of these parts, or `None`; or want of memory.
-fn multipliers_of(alloc: Global, parts: Parts) -> Result<Option<Vec<(u32, u32)>>, AllocError>
-    ensures some { IfOk result (λ found. IfSome found (λ ms. SpellMultipliers parts.entry ms.items)) }
-    ensures none { IfOk result (λ found. IfNone found ((ms : List (ℕ × ℕ)) → ¬ SpellMultipliers parts.entry ms)) }
-{
-    let mut parts = parts;
-    let mut multipliers = Vec::new(alloc);
-    let mut low = 0;
-    while let Some(part) = parts.next_part() {
-        let Some((row, multiplier)) = multiplier_of(part, low) else {
-            return Ok(None);
-        };
-        low = u64::from(row) + 1;
-        multipliers.push((row, multiplier))?;
-    }
-    Ok(Some(multipliers))
-}
-
-/// The branch of which this is the column.
-fn branch_of(rest: &[u8]) -> Option<CertNode>
-    ensures some { IfSome result (λ node. IsNodeText (node_contents node) × (codes "b " ++ rest.now ≡ node_line (node_contents node))) }
-    ensures none { IfNone result (¬ IsNodeLine (codes "b " ++ rest.now)) }
-{
-    let column = read_decimal(rest, NAMES - 1)?;
-    Some(CertNode::Branch(column as u32))
-}
-
-/// The bound of which these are the numbers, or `None`; or want of memory.
-fn bound_of(alloc: Global, rest: &[u8]) -> Result<Option<CertNode>, AllocError>
-    ensures some { IfOk result (λ found. IfSome found (λ node. IsNodeText (node_contents node) × (codes "d " ++ rest.now ≡ node_line (node_contents node)))) }
-    ensures none { IfOk result (λ found. IfNone found (¬ IsNodeLine (codes "d " ++ rest.now))) }
-{
-    let mut parts = Parts::of(rest);
-    let Some(denominator) = parts.next_decimal(MOST) else {
-        return Ok(None);
-    };
-    if denominator == 0 {
-        return Ok(None);
-    }
-    match multipliers_of(alloc, parts)? {
-        Some(multipliers) => Ok(Some(CertNode::Bound(denominator as u32, multipliers))),
-        None => Ok(None),
-    }
-}
-
-/// The clash of a line, or `None`; or want of memory.
-fn clash_of(alloc: Global, line: &[u8]) -> Result<Option<CertNode>, AllocError>
-    ensures some { IfOk result (λ found. IfSome found (λ node. IsNodeText (node_contents node) × (line.now ≡ node_line (node_contents node)))) }
-    ensures none { IfOk result (λ found. IfNone found (¬ IsClashLine line.now)) }
-{
-    let mut parts = Parts::of(line);
-    if !parts.next_is(b"k") {
-        return Ok(None);
-    }
-    match multipliers_of(alloc, parts)? {
-        Some(multipliers) => Ok(Some(CertNode::Clash(multipliers))),
-        None => Ok(None),
-    }
-}
-
-/// The node of a line, or `None`; or want of memory.
-fn node_of(alloc: Global, line: &[u8]) -> Result<Option<CertNode>, AllocError>
-    ensures some { IfOk result (λ found. IfSome found (λ node. IsNodeText (node_contents node) × (line.now ≡ node_line (node_contents node)))) }
-    ensures none { IfOk result (λ found. IfNone found (¬ IsNodeLine line.now)) }
-{
-    if let Some(rest) = strip(line, b"b ") {
-        return Ok(branch_of(rest));
-    }
-    if let Some(rest) = strip(line, b"d ") {
-        return bound_of(alloc, rest);
-    }
-    if line == b"o".as_slice() {
-        return Ok(Some(CertNode::Left));
-    }
-    clash_of(alloc, line)
-}
 
 /// The column of a part, which is `low` at least and below `columns`.
 fn column_of(part: &[u8], low: usize, columns: usize) -> Option<usize>

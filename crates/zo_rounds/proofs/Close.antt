@@ -11,16 +11,16 @@ use Rattle.zo_model.specs.declared.program.Row.{Row}
 use Rattle.zo_model.specs.declared.program.ZeroOne.{ZeroOne}
 use Rattle.zo_model.proofs.Rows.{rise_below}
 use Rattle.zo_model.proofs.Sums.{sum_below-same, sum_below-add, sum_below-le}
-use Rattle.zo_cert.specs.Certificate.{bound, column_part, least_part, least_sum, weight, coefficient, terms_of, least_of, Closes, unfixed}
-use Rattle.zo_cert.specs.Fixing.{is_one, ones}
-use Rattle.zo_cert.specs.Report.{IsNode, AreMultipliers}
-use Rattle.zo_cert.specs.Searched.{reach, reach_part, IsInReach, IsOpen}
-use Rattle.zo_cert.specs.declared.cert.CertNode.{CertNode}
-use Rattle.zo_cert.specs.declared.cert.CertNode.TheVariants.{Branch, Bound, Clash, Left}
-use Rattle.zo_cert.specs.declared.cert.Claim.{Claim}
-use Rattle.zo_cert.specs.declared.cert.Claim.TheVariants.{Least, Nothing}
-use Rattle.zo_cert.proofs.Drain.{bound_is, changes_clear, sum_below-change}
-use Rattle.zo_cert.proofs.Duality.{sum_zero}
+use Rattle.zo_leaf.specs.Certificate.{bound, column_part, least_part, least_sum, weight, coefficient, terms_of, least_of, Closes, unfixed}
+use Rattle.zo_leaf.specs.Fixing.{is_one, ones}
+use Rattle.zo_leaf.specs.Node.{IsNode, AreMultipliers}
+use Rattle.zo_leaf.specs.Searched.{reach, reach_part, IsInReach, IsOpen}
+use Rattle.zo_leaf.specs.declared.cert.CertNode.{CertNode}
+use Rattle.zo_leaf.specs.declared.cert.CertNode.TheVariants.{Branch, Bound, Clash, Left}
+use Rattle.zo_leaf.specs.declared.cert.Claim.{Claim}
+use Rattle.zo_leaf.specs.declared.cert.Claim.TheVariants.{Least, Nothing}
+use Rattle.zo_leaf.proofs.Drain.{bound_is, changes_clear, sum_below-change}
+use Rattle.zo_leaf.proofs.Duality.{sum_zero}
 use Rattle.std.proofs.lemmas.Option.{get_or_from_slice_get}
 use Rattle.zo_state.specs.Pick.{HasFree}
 use Rattle.zo_state.specs.inner.Better.{CostsAsMuch}

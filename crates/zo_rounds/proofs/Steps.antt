@@ -3,17 +3,17 @@ use Rattle.std.proofs.Common.{◌≡◌, ◌≢◌, ℕ, ◌-◌, ◌<◌, ◌�
 use Rattle.std.specs.Borrow.{Bor}
 use Rattle.zo_model.specs.Program.{cost_of}
 use Rattle.zo_model.specs.declared.program.ZeroOne.{ZeroOne}
-use Rattle.zo_cert.specs.Certificate.{Closes, IsLeaf}
-use Rattle.zo_cert.specs.Fixing.{ones}
-use Rattle.zo_cert.specs.inner.Path.{Pending, current}
-use Rattle.zo_cert.specs.Report.{IsNode}
-use Rattle.zo_cert.specs.Searched.{IsMet, IsNoBetter, IsOpen}
-use Rattle.zo_cert.specs.inner.Walk.{MayCome}
-use Rattle.zo_cert.specs.declared.cert.CertNode.{CertNode}
-use Rattle.zo_cert.specs.declared.cert.CertNode.TheVariants.{Branch, Bound, Clash, Left}
-use Rattle.zo_cert.specs.declared.cert.Claim.{Claim}
-use Rattle.zo_cert.specs.declared.cert.Claim.TheVariants.{Least, Nothing}
-use Rattle.zo_cert.specs.declared.path.Fixed.{Fixed}
+use Rattle.zo_leaf.specs.Certificate.{Closes, IsLeaf}
+use Rattle.zo_leaf.specs.Fixing.{ones}
+use Rattle.zo_leaf.specs.inner.Path.{Pending, current}
+use Rattle.zo_leaf.specs.Node.{IsNode}
+use Rattle.zo_leaf.specs.Searched.{IsMet, IsNoBetter, IsOpen}
+use Rattle.zo_leaf.specs.inner.Walk.{MayCome}
+use Rattle.zo_leaf.specs.declared.cert.CertNode.{CertNode}
+use Rattle.zo_leaf.specs.declared.cert.CertNode.TheVariants.{Branch, Bound, Clash, Left}
+use Rattle.zo_leaf.specs.declared.cert.Claim.{Claim}
+use Rattle.zo_leaf.specs.declared.cert.Claim.TheVariants.{Least, Nothing}
+use Rattle.zo_leaf.specs.declared.path.Fixed.{Fixed}
 use Rattle.zo_state.specs.Pick.{Answers}
 use Rattle.zo_state.specs.inner.Better.{CostsAsMuch, IsAtMostStart}
 use Rattle.zo_rounds.specs.Nodes.{CostsLess}

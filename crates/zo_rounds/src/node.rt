@@ -2,19 +2,19 @@
 
 ghost use Rattle.std.specs.Prelude.{◌≡◌, ◌≢◌, [], Some, None, IfOk, length, slice_get};
 ghost use Rattle.zo_model.specs.Program.{IsValid, columns};
-ghost use Rattle.zo_cert.specs.Certificate.{IsLeaf};
-ghost use Rattle.zo_cert.specs.inner.Leaf.{IsClear};
-ghost use Rattle.zo_cert.specs.inner.Path.{current};
-ghost use Rattle.zo_cert.specs.Searched.{IsOpen};
-ghost use Rattle.zo_cert.specs.declared.cert.CertNode.TheVariants as certs;
+ghost use Rattle.zo_leaf.specs.Certificate.{IsLeaf};
+ghost use Rattle.zo_leaf.specs.inner.Leaf.{IsClear};
+ghost use Rattle.zo_leaf.specs.inner.Path.{current};
+ghost use Rattle.zo_leaf.specs.Searched.{IsOpen};
+ghost use Rattle.zo_leaf.specs.declared.cert.CertNode.TheVariants as certs;
 ghost use Rattle.zo_state.specs.Pick.{Answers, CanPick};
 ghost use Rattle.zo_state.specs.inner.Better.{IsBest, IsWeaker};
 ghost use Rattle.zo_rounds.specs.inner.Node.{IsClashOf, IsGood, IsPlainBound, Puts, Steps};
 
 use crate::rounds::Rounds;
 use std::alloc::{AllocError, Global};
-use zo_cert::path::Path;
-use zo_cert::{CertNode, Fixed};
+use zo_leaf::path::Path;
+use zo_leaf::{CertNode, Fixed};
 use zo_model::ZeroOne;
 use zo_state::{Best, Pick, Sums, costs_as_much};
 

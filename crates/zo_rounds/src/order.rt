@@ -7,7 +7,7 @@ ghost use Rattle.zo_state.specs.Pick.{HasFree};
 use crate::rounds::Rounds;
 use std::alloc::{AllocError, Global};
 use std::cell::RefCell;
-use zo_cert::Fixed;
+use zo_leaf::Fixed;
 use zo_model::{NoMemory, ZeroOne};
 use zo_state::is_row_met;
 use zo_state::pick::least_free;

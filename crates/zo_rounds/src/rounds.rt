@@ -7,17 +7,16 @@
 
 ghost use Rattle.std.specs.Prelude.{◌≡◌, ◌≢◌, [], IfOk, IfSome};
 ghost use Rattle.zo_model.specs.Program.{IsValid, columns};
-ghost use Rattle.zo_cert.specs.Certificate.{Closes};
-ghost use Rattle.zo_cert.specs.inner.Leaf.{IsClear};
-ghost use Rattle.zo_cert.specs.inner.Path.{current};
-ghost use Rattle.zo_cert.specs.Report.{IsNode};
+ghost use Rattle.zo_leaf.specs.Certificate.{Closes};
+ghost use Rattle.zo_leaf.specs.inner.Leaf.{IsClear};
+ghost use Rattle.zo_leaf.specs.inner.Path.{current};
+ghost use Rattle.zo_leaf.specs.Node.{IsNode};
 
 use std::alloc::{AllocError, Global};
-use zo_cert::leaf::closes;
-use zo_cert::path::Path;
-use zo_cert::report::is_node;
-use zo_cert::{CertNode, Claim};
+use zo_leaf::path::Path;
+use zo_leaf::{CertNode, Claim, is_node};
 use zo_model::{Row, ZeroOne};
+use zo_tree::closes;
 
 /// A whole column, and a multiplier of 1.
 const ONE: i64 = 1 << 16;

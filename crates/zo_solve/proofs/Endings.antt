@@ -5,14 +5,14 @@ use Rattle.std.proofs.lemmas.List.Elements.{All-nil, All-cons, All-append}
 use Rattle.zo_model.specs.Program.{columns}
 use Rattle.zo_model.specs.declared.program.Assignment.{Assignment}
 use Rattle.zo_model.specs.declared.program.ZeroOne.{ZeroOne}
-use Rattle.zo_cert.specs.Certificate.{Closes, EachNode, HasLeft, IsShaped, IsTreeWith, IsWellNamed, OfLeaf, Proves, Tree, branch, branches, leaf, preorder, unfixed}
-use Rattle.zo_cert.specs.Report.{IsNode}
-use Rattle.zo_cert.specs.Searched.{IsClosed, IsNoBetter, IsOpenWhereOpen, IsSearched}
-use Rattle.zo_cert.specs.declared.cert.CertNode.{CertNode}
-use Rattle.zo_cert.specs.declared.cert.CertNode.TheVariants.{Branch, Bound, Clash, Left}
-use Rattle.zo_cert.specs.declared.cert.Claim.{Claim}
-use Rattle.zo_cert.specs.declared.cert.Claim.TheVariants as claims
-use Rattle.zo_cert.proofs.Walk.{each_weaker}
+use Rattle.zo_leaf.specs.Certificate.{Closes, EachNode, HasLeft, IsShaped, IsTreeWith, IsWellNamed, OfLeaf, Proves, Tree, branch, branches, leaf, preorder, unfixed}
+use Rattle.zo_leaf.specs.Node.{IsNode}
+use Rattle.zo_leaf.specs.Searched.{IsClosed, IsNoBetter, IsOpenWhereOpen, IsSearched}
+use Rattle.zo_leaf.specs.declared.cert.CertNode.{CertNode}
+use Rattle.zo_leaf.specs.declared.cert.CertNode.TheVariants.{Branch, Bound, Clash, Left}
+use Rattle.zo_leaf.specs.declared.cert.Claim.{Claim}
+use Rattle.zo_leaf.specs.declared.cert.Claim.TheVariants as claims
+use Rattle.zo_leaf.proofs.Walk.{each_weaker}
 use Rattle.zo_rounds.specs.Nodes.{IsBelow, IsPicked}
 use Rattle.zo_state.specs.inner.Better.{IsAtMostStart, IsClaimOf}
 use Rattle.zo_rounds.specs.inner.Node.{IsGood}

@@ -3,13 +3,13 @@ use Rattle.std.proofs.Common.{◌≡◌, ℕ, ◌+◌, ◌≤◌, List, [], ◌�
 use Rattle.std.proofs.lemmas.Int.{ints}
 use Rattle.zo_model.specs.declared.program.ZeroOne.{ZeroOne}
 use Rattle.zo_model.proofs.Scale.{scale-le}
-use Rattle.zo_cert.specs.Certificate.{Closes, branches, HasLeft, unfixed}
-use Rattle.zo_cert.specs.Searched.{IsClosed, IsNoBetter}
-use Rattle.zo_cert.specs.inner.Walk.{MayCome, Walks}
-use Rattle.zo_cert.specs.declared.cert.CertNode.{CertNode}
-use Rattle.zo_cert.specs.declared.cert.CertNode.TheVariants.{Branch, Bound, Clash, Left}
-use Rattle.zo_cert.specs.declared.cert.Claim.{Claim}
-use Rattle.zo_cert.specs.declared.cert.Claim.TheVariants.{Least, Nothing}
+use Rattle.zo_leaf.specs.Certificate.{Closes, branches, HasLeft, unfixed}
+use Rattle.zo_leaf.specs.Searched.{IsClosed, IsNoBetter}
+use Rattle.zo_leaf.specs.inner.Walk.{MayCome, Walks}
+use Rattle.zo_leaf.specs.declared.cert.CertNode.{CertNode}
+use Rattle.zo_leaf.specs.declared.cert.CertNode.TheVariants.{Branch, Bound, Clash, Left}
+use Rattle.zo_leaf.specs.declared.cert.Claim.{Claim}
+use Rattle.zo_leaf.specs.declared.cert.Claim.TheVariants.{Least, Nothing}
 use Rattle.zo_state.specs.declared.best.Best.{Best}
 use Rattle.zo_state.specs.inner.Better.{IsBest, IsWeaker}
 use Rattle.zo_rounds.specs.inner.Node.{IsGood, Steps}

@@ -6,6 +6,6 @@ pub mod search;
 
 pub use reported::report_of;
 pub use search::{Solved, solve};
-pub use zo_cert::Fixed;
+pub use zo_leaf::Fixed;
 pub use zo_rounds::Order;
 pub use zo_state::{Pick, Sums, first_choice};

@@ -2,8 +2,9 @@
 
 ghost use Rattle.std.specs.Prelude.{◌≡◌, ◌<◌, ◌≤◌, ◌^◌, All, IfOk, false, length, replicate};
 ghost use Rattle.zo_model.specs.Program.{IsValid};
-ghost use Rattle.zo_cert.specs.Certificate.{IsShaped, IsTreeWith};
-ghost use Rattle.zo_cert.specs.Report.{IsNode, IsTrueReport, IsValidReport};
+ghost use Rattle.zo_leaf.specs.Certificate.{IsShaped, IsTreeWith};
+ghost use Rattle.zo_leaf.specs.Node.{IsNode};
+ghost use Rattle.zo_cert.specs.Report.{IsTrueReport, IsValidReport};
 ghost use Rattle.zo_solve.specs.Reported.{IsReportOf};
 ghost use Rattle.zo_solve.specs.Solved.{IsCutOff, IsProved, OfVector, tree_of};
 ghost use Rattle.zo_state.specs.Vector.{IsVector};

@@ -2,11 +2,11 @@
 
 ghost use Rattle.std.specs.Prelude.{◌≡◌, ◌+◌, ◌-◌, ◌*◌, ◌≤◌, ◌^◌, [], IfOk, IfSome, length, All};
 ghost use Rattle.zo_model.specs.Program.{IsValid, columns};
-ghost use Rattle.zo_cert.specs.Certificate.{IsShaped, IsTreeWith, branches};
-ghost use Rattle.zo_cert.specs.Report.{IsNode};
-ghost use Rattle.zo_cert.specs.inner.Leaf.{IsClear};
-ghost use Rattle.zo_cert.specs.inner.Path.{begun};
-ghost use Rattle.zo_cert.specs.Searched.{IsSearched};
+ghost use Rattle.zo_leaf.specs.Certificate.{IsShaped, IsTreeWith, branches};
+ghost use Rattle.zo_leaf.specs.Node.{IsNode};
+ghost use Rattle.zo_leaf.specs.inner.Leaf.{IsClear};
+ghost use Rattle.zo_leaf.specs.inner.Path.{begun};
+ghost use Rattle.zo_leaf.specs.Searched.{IsSearched};
 ghost use Rattle.zo_state.specs.Pick.{Answers, CanPick};
 ghost use Rattle.zo_rounds.specs.Nodes.{IsBelow, IsPicked};
 ghost use Rattle.zo_state.specs.inner.Better.{IsBest};
@@ -15,9 +15,8 @@ ghost use Rattle.zo_solve.specs.Solved.{CostsAtMost, EachIn, HadNoStart, IsCutOf
 ghost use Rattle.zo_state.specs.Vector.{IsVector, cost_at, start_cost};
 
 use std::alloc::{AllocError, Global};
-use zo_cert::path::Path;
-use zo_cert::report::has_left;
-use zo_cert::{Cert, CertNode, Fixed};
+use zo_leaf::path::Path;
+use zo_leaf::{Cert, CertNode, Fixed, has_left};
 use zo_model::{Assignment, NoMemory, ZeroOne};
 use zo_rounds::begin;
 use zo_rounds::node::step;

@@ -5,7 +5,7 @@ use Rattle.std.proofs.lemmas.Bool.{cases_lt}
 use Rattle.std.proofs.lemmas.List.{take_all}
 use Rattle.zo_model.specs.Program.{Meets, Rise}
 use Rattle.zo_model.specs.declared.program.Row.{Row}
-use Rattle.zo_cert.specs.Fixing.{ones}
+use Rattle.zo_leaf.specs.Fixing.{ones}
 use Rattle.zo_state.specs.Choice.{HasColumn, IsFree, IsLeast, IsWanted, Lacks, SomeLacks}
 use Rattle.zo_state.specs.inner.Least.{AnswersLeast, Either, IsFreeIn, IsWantedBy}
 

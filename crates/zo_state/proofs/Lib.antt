@@ -1,5 +1,1 @@
-pub mod Along
 pub mod Choice
-pub mod Placed
-pub mod Rows
-pub mod Spread

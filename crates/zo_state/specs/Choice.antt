@@ -3,7 +3,7 @@ use Rattle.std.specs.Prelude.{◌≡◌, ℕ, ◌≤◌, List, [], ◌∷◌, Bo
 use Rattle.zo_model.specs.Program.{Meets}
 use Rattle.zo_model.specs.declared.program.Row.{Row}
 use Rattle.zo_model.specs.declared.program.ZeroOne.{ZeroOne}
-use Rattle.zo_cert.specs.Fixing.{ones}
+use Rattle.zo_leaf.specs.Fixing.{ones}
 
 -- the column is there and unfixed
 abbrev pub IsFree : List (Option Bool) → ℕ → Type 0

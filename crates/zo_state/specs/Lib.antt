@@ -1,5 +1,5 @@
+pub use Rattle.zo_sums.specs.Vector
 pub mod Choice
 pub mod Pick
 pub mod Sums
-pub mod Vector
 pub mod inner

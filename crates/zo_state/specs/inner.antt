@@ -1,3 +1,2 @@
 pub mod Better
-pub mod Keeping
 pub mod Least

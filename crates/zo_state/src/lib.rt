@@ -4,10 +4,9 @@
 
 pub mod best;
 pub mod pick;
-mod reach;
 pub mod sums;
 
 pub use best::{Best, costs_as_much};
 pub use pick::{Pick, first_choice};
-pub use reach::is_row_met;
 pub use sums::Sums;
+pub use zo_sums::is_row_met;

@@ -7,9 +7,9 @@ ghost use Rattle.zo_state.specs.Choice.{IsFirstChoice, IsFree, IsLeast, IsWanted
 ghost use Rattle.zo_state.specs.inner.Least.{AnswersLeast, Either, IsFreeIn, IsWantedBy};
 ghost use Rattle.zo_state.specs.Pick.{Answers, CanPick, HasFree};
 
-use crate::reach::is_row_met;
-use zo_cert::Fixed;
+use zo_leaf::Fixed;
 use zo_model::{Row, ZeroOne};
+use zo_sums::is_row_met;
 
 /// A choice of the column to branch on.
 ///

@@ -1,20 +1,19 @@
 //! Running sums of the rows while columns are fixed and unfixed.
 
-ghost use Rattle.std.specs.Prelude.{◌≡◌, ℕ, ◌+◌, ◌<◌, ◌≤◌, ◌^◌, ◌↔◌, ◌<ℤ◌, [], length, pos, ℤ, ◌+ℤ◌, All, Option, None, Some, IfNone, IfOk, IfSome, IsTrue, slice_get, slice_set, slice_index_or};
-ghost use Rattle.std.specs.Global.{Vec as VecOf};
-ghost use Rattle.zo_model.specs.Program.{AreSmallTerms, AtMost, IsValid, columns, terms_sum};
-ghost use Rattle.zo_cert.specs.Certificate.{terms_of, unfixed};
-ghost use Rattle.zo_cert.specs.Fixing.{ones};
-ghost use Rattle.zo_cert.specs.Searched.{IsInReach, IsMet};
-ghost use Rattle.zo_cert.specs.Searched as searched;
-ghost use Rattle.zo_cert.specs.inner.Path.{IsFixed};
-ghost use Rattle.zo_state.specs.inner.Keeping.{AreEntries, IsSpread, IsTranspose, EachReaches, along, moved, settled};
+ghost use Rattle.std.specs.Prelude.{◌≡◌, ◌<◌, ◌≤◌, ◌^◌, ◌↔◌, ◌<ℤ◌, length, pos, All, Option, None, Some, IfNone, IfOk, IfSome, IsTrue, slice_get, slice_set, slice_index_or};
+ghost use Rattle.zo_model.specs.Program.{IsValid, columns};
+ghost use Rattle.zo_leaf.specs.Certificate.{unfixed};
+ghost use Rattle.zo_leaf.specs.Fixing.{ones};
+ghost use Rattle.zo_leaf.specs.Searched.{IsInReach, IsMet};
+ghost use Rattle.zo_leaf.specs.Searched as searched;
+ghost use Rattle.zo_leaf.specs.inner.Path.{IsFixed};
+ghost use Rattle.zo_sums.specs.inner.Keeping.{EachReaches};
 
-use crate::reach::{ones_total, reach, reach_part};
-use std::alloc::{AllocError, Global};
+use std::alloc::Global;
 use std::marker::Model;
-use zo_cert::Fixed;
+use zo_leaf::Fixed;
 use zo_model::{NoMemory, Row, ZeroOne};
+use zo_sums::tables::{columns_of, move_sums, ones_of, reaches_of, settled};
 
 /// Which columns of a program are fixed, and the sums of all rows with them. Contracts see the program, and the columns' places.
 #[derive(Drop)]
@@ -31,42 +30,13 @@ pub struct Sums<'a> {
 
 impl<'a> Model for Sums<'a> {
     ghost use Rattle.zo_state.specs.Sums.{SumsOf};
-    ghost use Rattle.zo_state.specs.inner.Keeping.{KeepsSums};
+    ghost use Rattle.zo_sums.specs.inner.Keeping.{KeepsSums};
 
     ghost Value = { SumsOf };
 
     ghost view = { λ s. record { program = s.z.now; fixed = s.fixed.at.items } };
 
     ghost invariant = { λ s. KeepsSums s.z.now s.columns.items s.fixed.at.items s.reaches.items s.ones.items };
-}
-
-/// An unfixed column counted as 0.
-fn settled(place: Option<bool>) -> Option<bool>
-    ensures { result ≡ settled place }
-{
-    match place {
-        Some(v) => Some(v),
-        None => Some(false),
-    }
-}
-
-/// By how much a row's sum changes where a column of this coefficient goes from one place to another.
-fn moved(old: Option<bool>, new: Option<bool>, a: i32) -> i128
-    requires { AtMost (2 ^ 15) a }
-    ensures { result ≡ moved old new a }
-{
-    i128::from(reach_part(new, a)) - i128::from(reach_part(old, a))
-}
-
-/// Moves the sums of a column's rows where it goes from one place to another.
-fn move_sums(sums: &mut [i128], entries: &[(u32, i32)], old: Option<bool>, new: Option<bool>)
-    requires entries { AreEntries (length sums.old) entries.now }
-    requires small { (i : ℕ) → i < length sums.old → AtMost (2 ^ 42) (slice_index_or sums.old i (pos 0)) }
-    ensures { (i : ℕ) → i < length sums.old → slice_index_or sums.new i (pos 0) ≡ slice_index_or sums.old i (pos 0) +ℤ along i (moved old new) entries.now }
-{
-    for (i, a) in entries {
-        sums[*i as usize] += moved(old, new, *a);
-    }
 }
 
 /// The first row whose sum is below its least, if there is one.
@@ -83,69 +53,6 @@ fn first_below(rows: &[Row], sums: &[i128]) -> Option<u32>
         }
     }
     None
-}
-
-/// So many empty lists.
-fn empty_columns(alloc: Global, count: usize) -> Result<Vec<Vec<(u32, i32)>>, AllocError>
-    ensures many { IfOk result (λ cs. length cs.items ≡ count) }
-    ensures empty { IfOk result (λ cs. All (λ (c : VecOf (ℕ × ℤ)). c.items ≡ []) cs.items) }
-{
-    let mut columns = Vec::new(alloc);
-    for _ in 0..count {
-        columns.push(Vec::new(alloc))?;
-    }
-    Ok(columns)
-}
-
-/// Puts each term of a row into its column's list.
-fn spread(columns: &mut [Vec<(u32, i32)>], row: u32, terms: &[(u32, i32)]) -> Result<(), AllocError>
-    requires terms { AreSmallTerms (length columns.old) terms.now }
-    ensures { IfOk result (λ _. IsSpread row terms.now columns.old columns.new) }
-{
-    for (j, a) in terms {
-        columns[*j as usize].push((row, *a))?;
-    }
-    Ok(())
-}
-
-/// For each column its rows, each with the coefficient there.
-fn columns_of(alloc: Global, z: &ZeroOne) -> Result<Vec<Vec<(u32, i32)>>, AllocError>
-    requires valid { IsValid z.now }
-    ensures { IfOk result (λ cs. IsTranspose z.now cs.items) }
-{
-    let mut columns = empty_columns(alloc, z.costs.len())?;
-    for i in 0..z.rows.len() {
-        spread(&mut columns, i as u32, &z.rows[i].terms)?;
-    }
-    Ok(columns)
-}
-
-/// Of each row the most that its sum can still be.
-fn reaches_of(alloc: Global, z: &ZeroOne, fixed: &[Option<bool>]) -> Result<Vec<i128>, AllocError>
-    requires valid { IsValid z.now }
-    requires places { length fixed.now ≡ columns z.now }
-    ensures many { IfOk result (λ sums. length sums.items ≡ length z.now.rows.items) }
-    ensures each { IfOk result (λ sums. (i : ℕ) → i < length z.now.rows.items → slice_index_or sums.items i (pos 0) ≡ searched.reach fixed.now (terms_of (slice_get z.now.rows.items i))) }
-{
-    let mut sums = Vec::new(alloc);
-    for i in 0..z.rows.len() {
-        sums.push(i128::from(reach(&z.rows[i].terms, fixed)))?;
-    }
-    Ok(sums)
-}
-
-/// Of each row its sum with 0 for all unfixed columns.
-fn ones_of(alloc: Global, z: &ZeroOne, fixed: &[Option<bool>]) -> Result<Vec<i128>, AllocError>
-    requires valid { IsValid z.now }
-    requires places { length fixed.now ≡ columns z.now }
-    ensures many { IfOk result (λ sums. length sums.items ≡ length z.now.rows.items) }
-    ensures each { IfOk result (λ sums. (i : ℕ) → i < length z.now.rows.items → slice_index_or sums.items i (pos 0) ≡ terms_sum (terms_of (slice_get z.now.rows.items i)) (ones fixed.now)) }
-{
-    let mut sums = Vec::new(alloc);
-    for i in 0..z.rows.len() {
-        sums.push(i128::from(ones_total(&z.rows[i].terms, fixed)))?;
-    }
-    Ok(sums)
 }
 
 impl<'a> Sums<'a> {

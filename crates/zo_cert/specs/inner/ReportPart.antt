@@ -6,10 +6,10 @@ use Rattle.zo_model.specs.inner.LineFault.{NoLine}
 use Rattle.zo_model.specs.Program.{vector, costs_of}
 use Rattle.zo_model.specs.declared.error.ZoError.{ZoError}
 use Rattle.zo_model.specs.declared.error.ZoError.TheVariants.{NoMemory, Bad}
-use Rattle.zo_cert.specs.Contents.{Node}
+use Rattle.zo_leaf.specs.Node.{Node, IsNodeText}
 use Rattle.zo_cert.specs.Report.{IsBlank}
 use Rattle.zo_cert.specs.ReportText.{counted_line, x_line}
-use Rattle.zo_cert.specs.ReportFault.{IsNodeText, HasCost, stated_lines, tree_lines}
+use Rattle.zo_cert.specs.ReportFault.{HasCost, stated_lines, tree_lines}
 use Rattle.zo_cert.specs.inner.ReportLine.{IsOnesLine}
 use Rattle.zo_cert.specs.declared.report.Verdict.{Verdict}
 

@@ -1,13 +1,13 @@
 -- what each node of a searched tree keeps
 use Rattle.std.specs.Prelude.{◌≡◌, ℕ, ◌+◌, List, [], ◌∷◌, ◌++◌, Bool, Option}
 use Rattle.zo_model.specs.declared.program.ZeroOne.{ZeroOne}
-use Rattle.zo_cert.specs.inner.Path.{Pending}
-use Rattle.zo_cert.specs.Report.{IsNode}
-use Rattle.zo_cert.specs.Searched.{IsOpenWhereOpen, IsNoBetter, IsClosed}
-use Rattle.zo_cert.specs.inner.Walk.{MayCome, after}
-use Rattle.zo_cert.specs.declared.cert.CertNode.{CertNode}
-use Rattle.zo_cert.specs.declared.cert.CertNode.TheVariants.{Branch, Bound, Clash, Left}
-use Rattle.zo_cert.specs.declared.cert.Claim.{Claim}
+use Rattle.zo_leaf.specs.inner.Path.{Pending}
+use Rattle.zo_leaf.specs.Node.{IsNode}
+use Rattle.zo_leaf.specs.Searched.{IsOpenWhereOpen, IsNoBetter, IsClosed}
+use Rattle.zo_leaf.specs.inner.Walk.{MayCome, after}
+use Rattle.zo_leaf.specs.declared.cert.CertNode.{CertNode}
+use Rattle.zo_leaf.specs.declared.cert.CertNode.TheVariants.{Branch, Bound, Clash, Left}
+use Rattle.zo_leaf.specs.declared.cert.Claim.{Claim}
 use Rattle.zo_rounds.specs.Nodes.{IsPicked, IsBelow}
 
 -- all that a node of a searched tree keeps

@@ -4,8 +4,8 @@ use Rattle.std.proofs.lemmas.Result.{err_from_is_err_and}
 use Rattle.zo_model.specs.Contents.{contents}
 use Rattle.zo_model.specs.ProgramText.{program_lines}
 use Rattle.zo_model.proofs.ExactLemmas.{valid_from_contents}
-use Rattle.zo_cert.specs.Contents.{node_contents}
-use Rattle.zo_cert.specs.ReportText.{report_text, counted_line, verdict_lines, node_line}
+use Rattle.zo_leaf.specs.Node.{node_contents, node_line}
+use Rattle.zo_cert.specs.ReportText.{report_text, counted_line, verdict_lines}
 use Rattle.zo_cert.proofs.ReportLines.{report_spelled}
 use Rattle.zo_cert.proofs.ReportRefusals.{front_refusal, program_refusal}
 use Rattle.zo_cert.proofs.ReportEndings.{verdict_refusal}

@@ -1,7 +1,6 @@
 use Rattle.std.proofs.Common.{map, subst}
 use Rattle.std.specs.List.{All}
-use Rattle.zo_cert.specs.Contents.{node_contents}
-use Rattle.zo_cert.specs.ReportFault.{IsNodeText}
+use Rattle.zo_leaf.specs.Node.{node_contents, IsNodeText}
 use Rattle.zo_cert.proofs.ReportWhole.{report_fits}
 use Rattle.zo_cert.proofs.report_text.print_report.Goals as goal
 

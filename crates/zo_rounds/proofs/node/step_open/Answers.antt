@@ -2,10 +2,10 @@ use Rattle.std.proofs.Common.{◌≡◌, ◌∙◌, ◌<◌, ap, sym, subst, fal
 use Rattle.std.specs.Prelude.{IfSome, IsTrue}
 use Rattle.std.proofs.lemmas.Option.{slice_get_within}
 use Rattle.zo_model.specs.Program.{cost_of, costs_of, columns}
-use Rattle.zo_cert.specs.Certificate.{Closes}
-use Rattle.zo_cert.specs.Fixing.{ones}
-use Rattle.zo_cert.specs.inner.Path.{current}
-use Rattle.zo_cert.specs.Report.{IsNode}
+use Rattle.zo_leaf.specs.Certificate.{Closes}
+use Rattle.zo_leaf.specs.Fixing.{ones}
+use Rattle.zo_leaf.specs.inner.Path.{current}
+use Rattle.zo_leaf.specs.Node.{IsNode}
 use Rattle.zo_state.specs.Pick.{HasFree}
 use Rattle.zo_rounds.specs.Nodes.{CostsLess}
 use Rattle.zo_state.specs.inner.Better.{CostsAsMuch}

@@ -1,0 +1,10 @@
+pub mod Drain
+pub mod Duality
+pub mod Leaves
+pub mod MultiplierLemmas
+pub mod NodeLineLemmas
+pub mod Nodes
+pub mod Paths
+pub mod ReadMultipliers
+pub mod Walk
+pub mod Written

@@ -1,0 +1,5 @@
+pub mod Certificate
+pub mod Fixing
+pub mod Node
+pub mod Searched
+pub mod inner

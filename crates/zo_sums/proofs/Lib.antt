@@ -1,0 +1,4 @@
+pub mod Along
+pub mod Placed
+pub mod Rows
+pub mod Spread
