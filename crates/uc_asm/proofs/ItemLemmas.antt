@@ -4,7 +4,7 @@ use Rattle.line_text.specs.Line.{parts}
 use Rattle.uc_isa.specs.declared.instruction.Cond.{Cond}
 use Rattle.uc_isa.specs.declared.instruction.Instr.{Instr}
 use Rattle.uc_isa.specs.declared.instruction.Instr.TheVariants.{Br}
-use Rattle.uc_asm.specs.Words.{operands, words, condition_name, InRange}
+use Rattle.asm_parts.specs.Words.{operands, words, condition_name, InRange}
 use Rattle.uc_asm.specs.Text.{Item as TheItem, IsName, IsItem, item_line}
 use Rattle.uc_asm.specs.inner.Seen.{seen, IsBranch}
 use Rattle.uc_asm.specs.declared.line.Item.{Item}

@@ -2,7 +2,6 @@ pub mod LineLemmas
 pub mod ItemLemmas
 pub mod LineFeeds
 pub mod TextLemmas
-pub mod Undo
 pub mod OneReading
 pub mod LabelLemmas
 pub mod StandLemmas

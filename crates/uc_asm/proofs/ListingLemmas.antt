@@ -9,7 +9,7 @@ use Rattle.line_text.specs.Line.{text_of}
 use Rattle.uc_isa.specs.Code.{CodeView, IsCode}
 use Rattle.uc_isa.specs.Lawful.{IsLawful}
 use Rattle.uc_isa.specs.declared.instruction.Instr.{Instr}
-use Rattle.uc_asm.specs.Words.{InRange}
+use Rattle.asm_parts.specs.Words.{InRange}
 use Rattle.uc_asm.specs.Text.{Item, plain, AreItems, Reads, count, item_line, instruction_line, params_line, listing}
 use Rattle.uc_asm.specs.Labels.{Stands, Misnames, AreNamed, AreResolved, IsCodeOf}
 use Rattle.uc_asm.proofs.StandLemmas.{none-stands}

@@ -5,7 +5,7 @@ use Rattle.line_text.specs.Format.{Begins, FirstFault}
 use Rattle.uc_isa.specs.Code.{CodeView}
 use Rattle.uc_isa.specs.declared.instruction.Cond.{Cond}
 use Rattle.uc_isa.specs.declared.instruction.Instr.{Instr}
-use Rattle.uc_asm.specs.Words.{words, InRange, condition_name}
+use Rattle.asm_parts.specs.Words.{words, InRange, condition_name}
 
 -- what a line behind the first is: a label, an instruction whose target is a place, or a branch to a label
 pub data Item : Type 0 where

@@ -1,6 +1,6 @@
 -- The items that the reader makes, as the definitions see them.
 use Rattle.std.specs.Prelude.{◌≡◌, ℕ, List, [], ◌∷◌, codes, map}
-use Rattle.uc_asm.specs.Words.{words, condition_name}
+use Rattle.asm_parts.specs.Words.{words, condition_name}
 use Rattle.uc_asm.specs.Text.{Item as TheItem, label, plain, jump, IsItem}
 use Rattle.uc_asm.specs.declared.line.Item.{Item}
 use Rattle.uc_asm.specs.declared.line.Item.TheVariants.{Label, Plain, Jump}

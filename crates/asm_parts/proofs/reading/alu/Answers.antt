@@ -1,6 +1,6 @@
 use Rattle.std.proofs.Common.{[], ◌∷◌}
-use Rattle.uc_asm.specs.Words.{source_name}
-use Rattle.uc_asm.proofs.line.alu.Goals as goal
+use Rattle.asm_parts.specs.Words.{source_name}
+use Rattle.asm_parts.proofs.reading.alu.Goals as goal
 
 pub returns-in_err-x-clause-none : goal.returns-in_err-x-clause-none
 returns-in_err-x-clause-none c =

@@ -1,7 +1,7 @@
 use Rattle.std.proofs.Common.{[], ◌∷◌}
-use Rattle.uc_asm.specs.Words.{source_name}
-use Rattle.uc_asm.proofs.LineLemmas.{unary-tail}
-use Rattle.uc_asm.proofs.line.un.Goals as goal
+use Rattle.asm_parts.specs.Words.{source_name}
+use Rattle.asm_parts.proofs.WordLemmas.{unary-tail}
+use Rattle.asm_parts.proofs.reading.un.Goals as goal
 
 pub returns-in_err-x-clause-none : goal.returns-in_err-x-clause-none
 returns-in_err-x-clause-none c =

@@ -1,17 +1,16 @@
 //! The parts of a line that name something.
-ghost use Rattle.std.specs.Prelude.{◌≡◌, ◌≢◌, ◌<◌, ℕ, List, ◌∷◌, ◌++◌, decimal, IfSome, IfNone, MatchOption};
-ghost use Rattle.uc_asm.specs.Words.{source_name, target_name, address_name, binary_name, unary_words, condition_name, memory_name, IsSource, IsTarget, IsAddress, IsUnary};
+ghost use Rattle.std.specs.Prelude.{◌≡◌, ◌≢◌, ◌<◌, ℕ, List, [], ◌∷◌, ◌++◌, decimal, IfSome, IfNone, MatchOption};
+ghost use Rattle.asm_parts.specs.Words.{source_name, target_name, address_name, binary_name, unary_words, memory_name, IsSource, IsTarget, IsAddress, IsUnary};
 ghost use Rattle.nv_base.specs.declared.term.Bin.{Bin};
 ghost use Rattle.nv_base.specs.declared.term.Mem.{Mem};
 ghost use Rattle.uc_isa.specs.declared.instruction.Src.{Src};
 ghost use Rattle.uc_isa.specs.declared.instruction.Dst.{Dst};
 ghost use Rattle.uc_isa.specs.declared.instruction.Gpr.{Gpr};
 ghost use Rattle.uc_isa.specs.declared.instruction.UnOp.{UnOp};
-ghost use Rattle.uc_isa.specs.declared.instruction.Cond.{Cond};
 
 use line_text::{Parts, read_decimal, strip};
 use nv_base::{Bin, Mem};
-use uc_isa::{Cond, Dst, Gpr, RegA, RegB, RegL, RegLD, RegS, RegSD, Src, UnOp};
+use uc_isa::{Dst, Gpr, RegA, RegB, RegL, RegLD, RegS, RegSD, Src, UnOp};
 
 // The number below `count` that a register of a bank has.
 fn register(name: &[u8], bank: &[u8], count: u8) -> Option<u8>
@@ -83,19 +82,6 @@ fn binary_of(name: &[u8]) -> Option<Bin>
     }
 }
 
-fn condition_of(name: &[u8]) -> Option<Cond>
-    ensures { MatchOption result ((cond : Cond) → name.now ≢ condition_name cond) (λ cond. name.now ≡ condition_name cond) }
-{
-    match name {
-        b"ALWAYS" => Some(Cond::Always),
-        b"Z" => Some(Cond::Z),
-        b"NZ" => Some(Cond::NZ),
-        b"C" => Some(Cond::C),
-        b"NC" => Some(Cond::NC),
-        _ => None,
-    }
-}
-
 fn memory_of(name: &[u8]) -> Option<Mem>
     ensures { MatchOption result ((m : Mem) → name.now ≢ memory_name m) (λ m. name.now ≡ memory_name m) }
 {
@@ -135,13 +121,6 @@ pub fn next_binary(parts: &mut Parts) -> Option<Bin>
     binary_of(parts.next_part()?)
 }
 
-/// Takes the next part, a condition.
-pub fn next_condition(parts: &mut Parts) -> Option<Cond>
-    ensures { MatchOption result ((cond : Cond) (ps : List (List ℕ)) → parts.old ≢ condition_name cond ∷ ps) (λ cond. parts.old ≡ condition_name cond ∷ parts.new) }
-{
-    condition_of(parts.next_part()?)
-}
-
 /// Takes the next part, a memory.
 pub fn next_memory(parts: &mut Parts) -> Option<Mem>
     ensures { MatchOption result ((m : Mem) (ps : List (List ℕ)) → parts.old ≢ memory_name m ∷ ps) (λ m. parts.old ≡ memory_name m ∷ parts.new) }
@@ -149,16 +128,37 @@ pub fn next_memory(parts: &mut Parts) -> Option<Mem>
     memory_of(parts.next_part()?)
 }
 
+// The shift of this name and count.
+fn shift_of(name: &[u8], k: u8) -> Option<UnOp>
+    ensures { MatchOption result ((op : UnOp) → unary_words op ≢ name.now ∷ decimal k ∷ []) (λ op. IsUnary op × (unary_words op ≡ name.now ∷ decimal k ∷ [])) }
+{
+    match name {
+        b"SHL" => Some(UnOp::Shl(k)),
+        b"SHR" => Some(UnOp::Shr(k)),
+        b"ROL" => Some(UnOp::Rol(k)),
+        _ => None,
+    }
+}
+
+// The operation of this name that has no count.
+fn countless_of(name: &[u8]) -> Option<UnOp>
+    ensures { MatchOption result ((op : UnOp) → unary_words op ≢ name.now ∷ []) (λ op. IsUnary op × (unary_words op ≡ name.now ∷ [])) }
+{
+    match name {
+        b"COPY" => Some(UnOp::Copy),
+        b"NOT" => Some(UnOp::Not),
+        _ => None,
+    }
+}
+
 /// Takes the next parts, an operation on one word and the count of a shift.
 pub fn next_unary(parts: &mut Parts) -> Option<UnOp>
     ensures { MatchOption result ((op : UnOp) (ps : List (List ℕ)) → IsUnary op → parts.old ≢ unary_words op ++ ps) (λ op. IsUnary op × (parts.old ≡ unary_words op ++ parts.new)) }
 {
-    match parts.next_part()? {
-        b"COPY" => Some(UnOp::Copy),
-        b"NOT" => Some(UnOp::Not),
-        b"SHL" => Some(UnOp::Shl(parts.next_decimal(255)? as u8)),
-        b"SHR" => Some(UnOp::Shr(parts.next_decimal(255)? as u8)),
-        b"ROL" => Some(UnOp::Rol(parts.next_decimal(255)? as u8)),
-        _ => None,
+    let name = parts.next_part()?;
+    if let Some(op) = countless_of(name) {
+        return Some(op);
     }
+    let k = parts.next_decimal(255)?;
+    shift_of(name, k as u8)
 }

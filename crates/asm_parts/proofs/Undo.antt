@@ -22,7 +22,7 @@ use Rattle.uc_isa.specs.declared.instruction.Cond.{Cond}
 use Rattle.uc_isa.specs.declared.instruction.Cond.TheVariants.{Always, Z, NZ, C, NC}
 use Rattle.uc_isa.specs.declared.instruction.Instr.{Instr}
 use Rattle.uc_isa.specs.declared.instruction.Instr.TheVariants.{Alu, Un, Immed, Br, Read, Write, Halt}
-use Rattle.uc_asm.specs.Words.{source_name, target_name, address_name, binary_name, unary_words, condition_name, memory_name, place_name, words, IsSource, IsTarget, IsAddress, IsUnary, InRange}
+use Rattle.asm_parts.specs.Words.{source_name, target_name, address_name, binary_name, unary_words, condition_name, memory_name, place_name, words, IsSource, IsTarget, IsAddress, IsUnary, InRange}
 
 abbrev number_at : List ℕ → ℕ
 number_at ds = digits_value 10 ds

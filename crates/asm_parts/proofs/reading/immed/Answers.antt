@@ -1,5 +1,5 @@
 use Rattle.std.proofs.Common.{[], ◌∷◌, decimal, arith}
-use Rattle.uc_asm.proofs.line.immed.Goals as goal
+use Rattle.asm_parts.proofs.reading.immed.Goals as goal
 
 pub returns-in_err-v-clause-none : goal.returns-in_err-v-clause-none
 returns-in_err-v-clause-none c =

@@ -1,6 +1,6 @@
 use Rattle.std.proofs.Common.{[], ◌∷◌, decimal, arith}
-use Rattle.uc_asm.specs.Words.{address_name}
-use Rattle.uc_asm.proofs.line.operands_of.Goals as goal
+use Rattle.asm_parts.specs.Words.{address_name}
+use Rattle.asm_parts.proofs.reading.operands_of.Goals as goal
 
 pub returns-in_err-n-clause-none : goal.returns-in_err-n-clause-none
 returns-in_err-n-clause-none c =
