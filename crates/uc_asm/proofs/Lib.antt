@@ -3,9 +3,6 @@ pub mod ItemLemmas
 pub mod LineFeeds
 pub mod TextLemmas
 pub mod OneReading
-pub mod LabelLemmas
-pub mod StandLemmas
-pub mod FirstLemmas
 pub mod MeaningLemmas
 pub mod Exact
 pub mod ListingLemmas

@@ -8,7 +8,8 @@ use Rattle.line_text.proofs.FormatLaws.{begins_format, no_text, one_fault}
 use Rattle.uc_isa.specs.declared.instruction.Cond.{Cond}
 use Rattle.uc_isa.specs.declared.instruction.Instr.{Instr}
 use Rattle.asm_parts.specs.Words.{words, place_name, InRange, condition_name}
-use Rattle.uc_asm.specs.Text.{Item, label, plain, jump, IsName, IsNameByte, BeginsWithLetter, IsItem, AreItems, IsAssembly, IsWhole, IsSyntaxError, Reads, item_line, params_line}
+use Rattle.asm_items.specs.Items.{Item, label, plain, jump, IsName, IsNameByte, BeginsWithLetter, IsItem, item_line, params_line}
+use Rattle.uc_asm.specs.Text.{AreItems, IsAssembly, IsWhole, IsSyntaxError, Reads}
 use Rattle.uc_asm.proofs.LineLemmas.{name-lacks, jump-parts, params_parts}
 use Rattle.asm_parts.proofs.WordLemmas.{instruction-parts}
 use Rattle.uc_asm.proofs.LineFeeds.{items-lack, params-lacks}

@@ -1,34 +1,15 @@
 //! The lines of an assembly text, each by itself.
-ghost use Rattle.std.specs.Prelude.{◌≡◌, ◌≢◌, ◌<◌, ◌≤◌, ◌^◌, ◌↔◌, ℕ, List, [], ◌∷◌, ◌++◌, codes, IsTrue, IfSome, IfNone, MatchOption};
+ghost use Rattle.std.specs.Prelude.{◌≡◌, ◌≢◌, ◌<◌, ◌≤◌, ◌^◌, ℕ, List, [], ◌∷◌, ◌++◌, codes, IfSome, IfNone, MatchOption};
 ghost use Rattle.asm_parts.specs.Words.{condition_name, operands};
-ghost use Rattle.uc_asm.specs.Text.{IsItem, IsLetter, IsName, IsNameByte, item_line, params_line, Item as TheItem};
-ghost use Rattle.uc_asm.specs.Labels.{IsInstruction};
-ghost use Rattle.uc_asm.specs.inner.Seen.{IsBranch, seen};
+ghost use Rattle.asm_items.specs.Items.{IsItem, IsName, item_line, params_line, Item as TheItem};
+ghost use Rattle.asm_items.specs.inner.Seen.{IsBranch, seen};
 ghost use Rattle.uc_isa.specs.declared.instruction.Cond.{Cond};
 ghost use Rattle.uc_isa.specs.declared.instruction.Instr.{Instr};
 
+use asm_items::{Item, condition_of, is_name};
 use asm_parts::read_instruction;
 use line_text::{Parts, read_decimal, split_once, strip};
 use uc_isa::{Cond, Instr};
-
-/// What a line behind the first is.
-#[derive(Clone, Copy)]
-pub enum Item<'a> {
-    Label(&'a [u8]),
-    Plain(Instr),
-    /// A branch to a label.
-    Jump(Cond, &'a [u8]),
-}
-
-/// Whether the item isn't a label.
-pub fn is_instruction(item: &Item) -> bool
-    ensures { IsTrue result ↔ IsInstruction (seen item.now) }
-{
-    match item {
-        Item::Label(_) => false,
-        Item::Plain(_) | Item::Jump(_, _) => true,
-    }
-}
 
 /// The number of parameters of a first line.
 pub fn params_of(line: &[u8]) -> Option<u8>
@@ -78,42 +59,6 @@ fn label_of(line: &[u8]) -> Option<&[u8]>
         return None;
     }
     Some(name)
-}
-
-// Whether a label can have this name.
-fn is_name(name: &[u8]) -> bool
-    ensures { IsTrue result ↔ IsName name.now }
-{
-    let Some(first) = name.first() else {
-        return false;
-    };
-    is_letter(*first) && name.len() <= 64 && name.iter().all(|byte| is_name_byte(*byte))
-}
-
-fn is_letter(byte: u8) -> bool
-    ensures { IsTrue result ↔ IsLetter byte }
-{
-    matches!(byte, b'A'..=b'Z' | b'a'..=b'z')
-}
-
-fn is_name_byte(byte: u8) -> bool
-    ensures { IsTrue result ↔ IsNameByte byte }
-{
-    is_letter(byte) || matches!(byte, b'0'..=b'9' | b'_')
-}
-
-// The condition of this name.
-fn condition_of(name: &[u8]) -> Option<Cond>
-    ensures { MatchOption result ((cond : Cond) → name.now ≢ condition_name cond) (λ cond. name.now ≡ condition_name cond) }
-{
-    match name {
-        b"ALWAYS" => Some(Cond::Always),
-        b"Z" => Some(Cond::Z),
-        b"NZ" => Some(Cond::NZ),
-        b"C" => Some(Cond::C),
-        b"NC" => Some(Cond::NC),
-        _ => None,
-    }
 }
 
 // Takes the next part, a condition.

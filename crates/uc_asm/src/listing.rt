@@ -3,11 +3,11 @@ ghost use Rattle.std.specs.Prelude.{◌≡◌, ◌++◌, ◌∷◌, [], IfOk, On
 ghost use Rattle.uc_isa.specs.Lawful.{IsLawful};
 ghost use Rattle.uc_asm.specs.Labels.{IsCodeOf};
 ghost use Rattle.asm_parts.specs.Words.{InRange};
-ghost use Rattle.uc_asm.specs.Text.{listing, instruction_line, params_line};
+ghost use Rattle.asm_items.specs.Items.{instruction_line, params_line};
+ghost use Rattle.uc_asm.specs.Text.{listing};
 
-use asm_parts::{
-    push_access, push_alu, push_branch, push_halt, push_immed, push_number, push_un,
-};
+use asm_items::push_words;
+use asm_parts::push_number;
 use nv_base::NoMemory;
 use std::alloc::{AllocError, Global};
 use uc_isa::{Code, Instr};
@@ -43,19 +43,4 @@ fn push_instruction(out: &mut Vec<u8>, i: Instr) -> Result<(), AllocError>
     push_words(out, i)?;
     out.push(b'\n')?;
     Ok(())
-}
-
-// The words of an instruction.
-fn push_words(out: &mut Vec<u8>, i: Instr) -> Result<(), AllocError>
-    ensures { OnOk result (out.new.items ≡ out.old.items ++ instruction_line i) }
-{
-    match i {
-        Instr::Alu { dst, op, x, y } => push_alu(out, dst, op, x, y),
-        Instr::Un { dst, op, x } => push_un(out, dst, op, x),
-        Instr::Immed { dst, v, s } => push_immed(out, dst, v, s),
-        Instr::Br { cond, target } => push_branch(out, cond, target),
-        Instr::Read { mem, r, n, x, off } => push_access(out, b"read", mem, r, n, x, off),
-        Instr::Write { mem, r, n, x, off } => push_access(out, b"write", mem, r, n, x, off),
-        Instr::Halt { k, n } => push_halt(out, k, n),
-    }
 }

@@ -1,7 +1,7 @@
 use Rattle.std.proofs.Common.{◌≡◌, drop}
-use Rattle.uc_asm.specs.Text.{count}
-use Rattle.uc_asm.specs.inner.Seen.{all_seen}
-use Rattle.uc_asm.proofs.assembler.has_instruction.Given as goal
+use Rattle.asm_items.specs.Items.{count}
+use Rattle.asm_items.specs.inner.Seen.{all_seen}
+use Rattle.asm_items.proofs.item.has_instruction.Given as goal
 
 -- the items so far are labels
 abbrev pub invariant-loop-item : goal.invariant-loop-item

@@ -3,8 +3,8 @@ use Rattle.std.specs.Prelude.{◌≡◌, ℕ, ◌+◌, List, [], ◌∷◌, Opti
 use Rattle.std.specs.Borrow.{Bor}
 use Rattle.indexmap.specs.IndexMap.{IndexMap, get_by}
 use Rattle.std.specs.Cmp.Lexicographic.{pointwise}
-use Rattle.uc_asm.specs.Text.{Item, label, plain, jump}
-use Rattle.uc_asm.specs.declared.labels.Declared.{Declared}
+use Rattle.asm_items.specs.Items.{Item, label, plain, jump}
+use Rattle.asm_items.specs.declared.given.Declared.{Declared}
 
 -- the first of the two that is there
 abbrev pub or_else : {A : Type 0} → Option A → Option A → Option A

@@ -1,9 +1,9 @@
 -- The items that the reader makes, as the definitions see them.
 use Rattle.std.specs.Prelude.{◌≡◌, ℕ, List, [], ◌∷◌, codes, map}
 use Rattle.asm_parts.specs.Words.{words, condition_name}
-use Rattle.uc_asm.specs.Text.{Item as TheItem, label, plain, jump, IsItem}
-use Rattle.uc_asm.specs.declared.line.Item.{Item}
-use Rattle.uc_asm.specs.declared.line.Item.TheVariants.{Label, Plain, Jump}
+use Rattle.asm_items.specs.Items.{Item as TheItem, label, plain, jump, IsItem}
+use Rattle.asm_items.specs.declared.item.Item.{Item}
+use Rattle.asm_items.specs.declared.item.Item.TheVariants.{Label, Plain, Jump}
 
 -- without where its name lies
 abbrev pub seen : Item → TheItem

@@ -1,14 +1,13 @@
 -- The first declaration of a name, and what each item gives by it.
 use Rattle.std.proofs.Common.{◌≡◌, ◌≢◌, ℕ, ◌+◌, ◌<◌, ◌⊎◌, inl, inr, Bool, true, false, cond, if◌then◌else◌, List, [], ◌∷◌, length, get_or, drop, Option, None, Some, nat_eq, refl, sym, ap, ◌∙◌, subst, arith}
 use Rattle.std.specs.Cmp.Lexicographic.{pointwise}
-use Rattle.uc_asm.specs.Text.{Item, label, plain, jump, count}
-use Rattle.uc_asm.specs.Labels.{Stands, IsAt, IsDeclared, IsInstruction}
-use Rattle.uc_asm.specs.inner.First.{first_declared, or_else}
-use Rattle.uc_asm.specs.inner.Seen.{seen, all_seen}
-use Rattle.uc_asm.specs.declared.labels.Declared.{Declared}
-use Rattle.uc_asm.specs.declared.line.Item.{Item as ReadItem}
-use Rattle.uc_asm.proofs.LabelLemmas.{bytes-tell, or_else-assoc}
-use Rattle.uc_asm.proofs.StandLemmas.{none-stands, stands-alike, stands-before, stands-cons, declared-here, declared-cons, drop-more-seen}
+use Rattle.asm_items.specs.Items.{Item, label, plain, jump, count, Stands, IsAt, IsDeclared, IsInstruction}
+use Rattle.asm_items.specs.inner.First.{first_declared, or_else}
+use Rattle.asm_items.specs.inner.Seen.{seen, all_seen}
+use Rattle.asm_items.specs.declared.given.Declared.{Declared}
+use Rattle.asm_items.specs.declared.item.Item.{Item as ReadItem}
+use Rattle.asm_items.proofs.LabelLemmas.{bytes-tell, or_else-assoc}
+use Rattle.asm_items.proofs.StandLemmas.{none-stands, stands-alike, stands-before, stands-cons, declared-here, declared-cons, drop-more-seen}
 
 -- an item declares the name, and none before it
 pub record IsFirst (items : List Item) (index place : ℕ) (name : List ℕ) (d : Declared) : Type 0 where

@@ -1,10 +1,8 @@
 -- Where items stand among others.
 use Rattle.std.proofs.Common.{◌≡◌, ℕ, zero, suc, ◌+◌, ◌<◌, ◌≤◌, ◌⊎◌, inl, inr, List, [], ◌∷◌, ◌++◌, length, get_or, take, drop, refl, sym, ap, ◌∙◌, arith, length-append, add-one, length-take}
-use Rattle.uc_asm.specs.Text.{Item as TheItem, label, plain, jump, count}
-use Rattle.uc_asm.specs.Labels.{Stands, IsDeclared, IsInstruction}
-use Rattle.uc_asm.specs.inner.Resolving.{IsLineOf}
-use Rattle.uc_asm.specs.inner.Seen.{seen, all_seen}
-use Rattle.uc_asm.specs.declared.line.Item.{Item}
+use Rattle.asm_items.specs.Items.{Item as TheItem, label, plain, jump, count, Stands, IsDeclared, IsInstruction}
+use Rattle.asm_items.specs.inner.Seen.{seen, all_seen}
+use Rattle.asm_items.specs.declared.item.Item.{Item}
 
 pub none-stands : (front back : List TheItem) (item : TheItem) → ¬ Stands [] front item back
 none-stands front back item s = omega (arith, ap length s.whole, length-append front (item ∷ back))
@@ -106,16 +104,3 @@ drop-seen (y ∷ items) (suc k) x l e = drop-seen items k x (omega arith) e
 
 pub drop-more-seen : (items : List Item) (k : ℕ) (x : Item) → k < length items → x ≡ get_or items k x → all_seen (drop k items) ≡ seen x ∷ all_seen (drop (k + 1) items)
 drop-more-seen items k x l e = rw add-one (drop-seen items k x l e)
-
--- the instruction at a place is found
-pub line-found : (items : List Item) (k place left n : ℕ) (x : Item) → k < length items → x ≡ get_or items k x → IsInstruction (seen x) → count (all_seen (take k items)) + left ≡ place → left ≡ 0 → n ≡ k + 2 → IsLineOf (all_seen items) place n
-line-found items k place left n x l e i c z m =
-    record {
-      front = all_seen (take k items);
-      item = seen x;
-      back = all_seen (drop (suc k) items);
-      stands = stands-at items k x l e;
-      instruction = i;
-      before = omega arith;
-      line = let f = length-front items k (omega arith) in omega arith;
-    }

@@ -6,7 +6,7 @@ use Rattle.std.specs.Cmp.Lexicographic.{pointwise}
 use Rattle.std.proofs.lemmas.Bool.{false≢true}
 use Rattle.std.proofs.lemmas.Cmp.{nat_list_eq_equiv}
 use Rattle.std.specs.Cmp.Lexicographic.{bytes_decides}
-use Rattle.uc_asm.specs.inner.First.{or_else}
+use Rattle.asm_items.specs.inner.First.{or_else}
 
 pub or_else-none : {A : Type 0} (a : Option A) → or_else a None ≡ a
 or_else-none None = refl

@@ -1,13 +1,13 @@
 use Rattle.std.proofs.Common.{◌≡◌, ◌≢◌, length, sym, ◌∙◌, subst, refl, arith}
 use Rattle.uc_isa.specs.declared.instruction.Instr.TheVariants.{Br}
-use Rattle.uc_asm.specs.Labels.{Stands, Misnames}
-use Rattle.uc_asm.specs.inner.Resolving.{Gives}
-use Rattle.uc_asm.specs.inner.Seen.{seen}
-use Rattle.uc_asm.specs.declared.line.Item.{Item}
-use Rattle.uc_asm.specs.declared.resolve.Resolved.TheVariants.{Instruction, Nothing}
-use Rattle.uc_asm.proofs.FirstLemmas.{label-nothing, label-again, label-found, target-at, target-not}
-use Rattle.uc_asm.proofs.resolve.resolved_item.Goals as goal
-use Rattle.uc_asm.proofs.resolve.resolved_item.Goals.{in_default-via-in-Some+else-first-index, in_default-via-in_default}
+use Rattle.asm_items.specs.Items.{Stands, Misnames}
+use Rattle.asm_items.specs.inner.Gives.{Gives}
+use Rattle.asm_items.specs.inner.Seen.{seen}
+use Rattle.asm_items.specs.declared.item.Item.{Item}
+use Rattle.asm_items.specs.declared.given.Resolved.TheVariants.{Instruction, Nothing}
+use Rattle.asm_items.proofs.FirstLemmas.{label-nothing, label-again, label-found, target-at, target-not}
+use Rattle.asm_items.proofs.given.resolved_item.Goals as goal
+use Rattle.asm_items.proofs.given.resolved_item.Goals.{in_default-via-in-Some+else-first-index, in_default-via-in_default}
 
 pub returns-in-Some : goal.returns-in-Some
 returns-in-Some c = λ all front back labels s l.
