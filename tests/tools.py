@@ -134,7 +134,7 @@ def words_of(top, path, line):
 
 def highlighting(top):
     """Each keyword, sign, instruction and operation of the tables is coloured by both files."""
-    tables, assembly = "crates/nv_text/specs/Tables.antt", "crates/uc_asm/specs/Words.antt"
+    tables, assembly = "crates/nv_text/specs/Tables.antt", "crates/asm_parts/specs/Words.antt"
     words = words_of(top, tables, "keywords =")
     words += words_of(top, assembly, "kind_name|binary_name|unary_words|condition_name|memory_name")
     signs = [it for it in words_of(top, tables, "signs =") if not re.fullmatch(r"[][(){},;.:]", it)]

@@ -2,11 +2,7 @@ pub mod LineLemmas
 pub mod ItemLemmas
 pub mod LineFeeds
 pub mod TextLemmas
-pub mod Undo
 pub mod OneReading
-pub mod LabelLemmas
-pub mod StandLemmas
-pub mod FirstLemmas
 pub mod MeaningLemmas
 pub mod Exact
 pub mod ListingLemmas

@@ -2,13 +2,14 @@
 use Rattle.std.proofs.Common.{◌≡◌, ℕ, ◌+◌, ◌<◌, ◌≤◌, ◌⊎◌, inl, inr, List, [], ◌∷◌, ◌++◌, suc, length, take, drop, get_or, refl, sym, ap, ◌∙◌, subst, arith, length-append}
 use Rattle.uc_isa.specs.declared.instruction.Instr.{Instr}
 use Rattle.uc_isa.specs.declared.instruction.Instr.TheVariants.{Br}
-use Rattle.uc_asm.specs.Text.{Item, label, plain, jump, count}
-use Rattle.uc_asm.specs.Labels.{Stands, IsAt, Misnames, AreNamed, FirstMisnamed, AreResolved, IsInstruction}
-use Rattle.uc_asm.specs.inner.Resolving.{Gives, IsLineOf}
-use Rattle.uc_asm.specs.declared.resolve.Resolved.TheVariants.{Instruction, Nothing}
-use Rattle.uc_asm.specs.inner.Seen.{seen, all_seen}
-use Rattle.uc_asm.specs.declared.line.Item.{Item as ReadItem}
-use Rattle.uc_asm.proofs.StandLemmas.{stands-alike, stands-before, declared-here, count-append, count-instruction, stands-at, length-front, take-more-seen}
+use Rattle.asm_items.specs.Items.{Item, label, plain, jump, count, Stands, IsAt, Misnames, IsInstruction}
+use Rattle.uc_asm.specs.Labels.{AreNamed, FirstMisnamed, AreResolved}
+use Rattle.asm_items.specs.inner.Gives.{Gives}
+use Rattle.uc_asm.specs.inner.Resolving.{IsLineOf}
+use Rattle.asm_items.specs.declared.given.Resolved.TheVariants.{Instruction, Nothing}
+use Rattle.asm_items.specs.inner.Seen.{seen, all_seen}
+use Rattle.asm_items.specs.declared.item.Item.{Item as ReadItem}
+use Rattle.asm_items.proofs.StandLemmas.{stands-alike, stands-before, declared-here, count-append, count-instruction, stands-at, length-front, take-more-seen}
 
 same-number : (m n : ℕ) → (m < n → ⊥) → (n < m → ⊥) → m ≡ n
 same-number m n f g = omega arith
@@ -154,3 +155,16 @@ below-more items k x list i l e h g = (
   good-more items k x l e h.0 (gives-instruction-good (all_seen items) (all_seen (take k items)) (seen x) i g),
   subst (λ (is : List Item). AreResolved (all_seen items) is (list ++ i ∷ [])) (sym (take-more-seen items k x l e)) (resolved-more (all_seen items) (all_seen (take k items)) (all_seen (take k items)) (seen x) list i h.1 g),
 )
+
+-- the instruction at a place is found
+pub line-found : (items : List ReadItem) (k place left n : ℕ) (x : ReadItem) → k < length items → x ≡ get_or items k x → IsInstruction (seen x) → count (all_seen (take k items)) + left ≡ place → left ≡ 0 → n ≡ k + 2 → IsLineOf (all_seen items) place n
+line-found items k place left n x l e i c z m =
+    record {
+      front = all_seen (take k items);
+      item = seen x;
+      back = all_seen (drop (suc k) items);
+      stands = stands-at items k x l e;
+      instruction = i;
+      before = omega arith;
+      line = let f = length-front items k (omega arith) in omega arith;
+    }

@@ -8,12 +8,14 @@ use Rattle.line_text.proofs.SplitLaws.{text_of-append, lacks_not, lines_one, Lac
 use Rattle.uc_isa.specs.declared.instruction.Cond.{Cond}
 use Rattle.uc_isa.specs.declared.instruction.Instr.{Instr}
 use Rattle.uc_isa.specs.declared.instruction.Instr.TheVariants.{Alu, Un, Immed, Br, Read, Write, Halt}
-use Rattle.uc_asm.specs.Words.{words, InRange, condition_name}
-use Rattle.uc_asm.specs.Text.{Item, label, plain, jump, IsName, IsItem, AreItems, IsWhole, IsSyntaxError, Reads, item_line, params_line, count}
+use Rattle.asm_parts.specs.Words.{words, InRange, condition_name}
+use Rattle.asm_items.specs.Items.{Item, label, plain, jump, IsName, IsItem, item_line, params_line, count}
+use Rattle.uc_asm.specs.Text.{AreItems, IsWhole, IsSyntaxError, Reads}
 use Rattle.uc_asm.specs.inner.Reading.{HasItems}
-use Rattle.uc_asm.specs.inner.Seen.{seen, all_seen}
-use Rattle.uc_asm.specs.declared.line.Item.{Item as ReadItem}
-use Rattle.uc_asm.proofs.LineLemmas.{name-lacks, no-space, instruction-parts, jump-parts}
+use Rattle.asm_items.specs.inner.Seen.{seen, all_seen}
+use Rattle.asm_items.specs.declared.item.Item.{Item as ReadItem}
+use Rattle.uc_asm.proofs.LineLemmas.{name-lacks, no-space, jump-parts}
+use Rattle.asm_parts.proofs.WordLemmas.{instruction-parts}
 use Rattle.uc_asm.proofs.LineFeeds.{items-lack, params-lacks}
 
 -- lines that are those of items begin a text

@@ -1,27 +1,11 @@
 -- Labels: where they are declared, and what a text means by them.
-use Rattle.std.specs.Prelude.{◌≡◌, ℕ, ◌+◌, ◌<◌, List, [], ◌∷◌, ◌++◌, length}
+use Rattle.std.specs.Prelude.{◌≡◌, ℕ, ◌+◌, ◌<◌, List, [], ◌∷◌, length}
 use Rattle.uc_isa.specs.Code.{CodeView}
 use Rattle.uc_isa.specs.Lawful.{IsLawful, IsFirstBroken}
 use Rattle.uc_isa.specs.declared.instruction.Instr.{Instr}
 use Rattle.uc_isa.specs.declared.instruction.Instr.TheVariants.{Br}
-use Rattle.uc_asm.specs.Text.{Item, label, plain, jump, count, Reads}
-
--- an item with those before it and those behind it
-pub record Stands (items front : List Item) (item : Item) (back : List Item) : Type 0 where
-  pub whole : items ≡ front ++ item ∷ back
-
--- a label is among the items; its place is the number of instructions before it
-abbrev pub IsAt : List Item → List ℕ → ℕ → Type 0
-IsAt items name place = (front back : List Item) × Stands items front (label name) back × (place ≡ count front)
-
-abbrev pub IsDeclared : List Item → List ℕ → Type 0
-IsDeclared items name = (place : ℕ) × IsAt items name place
-
--- a label that is declared before, or a target that isn't declared
-abbrev pub Misnames : List Item → List Item → Item → Type 0
-Misnames items front (label name) = IsDeclared front name
-Misnames items front (plain i) = ⊥
-Misnames items front (jump cond name) = ¬ IsDeclared items name
+use Rattle.asm_items.specs.Items.{Item, label, plain, jump, count, Stands, IsAt, Misnames, IsInstruction}
+use Rattle.uc_asm.specs.Text.{Reads}
 
 -- no name is declared twice, and each target is declared
 abbrev pub AreNamed : List Item → Type 0
@@ -62,11 +46,6 @@ pub record IsLabelError (bytes : List ℕ) (n : ℕ) : Type 0 where
   pub reads : Reads bytes params items
   pub first : FirstMisnamed items front
   pub line : n ≡ length front + 2
-
-abbrev pub IsInstruction : Item → Type 0
-IsInstruction (label name) = ⊥
-IsInstruction (plain i) = Unit {0}
-IsInstruction (jump cond name) = Unit {0}
 
 -- line n is that of the first instruction that breaks a rule, and this is the least that it breaks
 pub record IsUnlawfulError (bytes : List ℕ) (n rule : ℕ) : Type 0 where

@@ -1,4 +1,3 @@
-pub mod Words
 pub mod Text
 pub mod Labels
 pub mod Answer

@@ -1,5 +1,5 @@
 -- The listings of short code.
-use Rattle.std.specs.Prelude.{◌≡◌, List, [], ◌∷◌, codes}
+use Rattle.std.specs.Prelude.{◌≡◌, [], ◌∷◌, codes}
 use Rattle.line_text.specs.Line.{text_of}
 use Rattle.uc_isa.specs.Worked.{sum_code, moving_code}
 use Rattle.uc_asm.specs.Text.{listing}

@@ -1,4 +1,2 @@
-pub mod First
-pub mod Seen
 pub mod Resolving
 pub mod Reading

@@ -1,17 +1,18 @@
 //! Text as code.
-ghost use Rattle.std.specs.Prelude.{◌≡◌, ◌<◌, ◌≤◌, ◌^◌, ℕ, [], length, true, false, Ok, Err, IfOk, IfErr};
+ghost use Rattle.std.specs.Prelude.{◌<◌, ◌^◌, ℕ, [], length, true, Ok, Err, IfOk, IfErr};
 ghost use Rattle.uc_isa.specs.Code.{CodeView};
 ghost use Rattle.uc_asm.specs.Answer.{Answers, IsTrueError};
 ghost use Rattle.uc_asm.specs.Labels.{AreNamed, AreResolved, IsCodeOf, IsLabelError, IsUnlawfulError};
 ghost use Rattle.uc_asm.specs.inner.Reading.{HasItems};
 ghost use Rattle.uc_asm.specs.inner.Resolving.{IsNameError};
-ghost use Rattle.uc_asm.specs.inner.Seen.{all_seen};
-ghost use Rattle.uc_asm.specs.Text.{IsSyntaxError, Reads, count};
+ghost use Rattle.asm_items.specs.inner.Seen.{all_seen};
+ghost use Rattle.uc_asm.specs.Text.{IsSyntaxError, Reads};
 
 use crate::AsmError;
 use crate::labels::declarations;
-use crate::line::{Item, is_instruction, item_of, params_of};
+use crate::line::{item_of, params_of};
 use crate::resolve::{instructions, line_at, line_of};
+use asm_items::{Item, has_instruction};
 use line_text::Lines;
 use std::alloc::Global;
 use uc_isa::{Code, Dst, Gpr, Instr, Src, lint};
@@ -106,16 +107,4 @@ fn read_text<'a>(alloc: Global, text: &'a [u8]) -> Result<Text<'a>, AsmError>
         return Err(AsmError::Syntax(line_at(items.len())));
     }
     Ok(Text { params, items })
-}
-
-fn has_instruction(items: &[Item]) -> bool
-    ensures some { result ≡ true → 1 ≤ count (all_seen items.now) }
-    ensures none { result ≡ false → count (all_seen items.now) ≡ 0 }
-{
-    for item in items {
-        if is_instruction(item) {
-            return true;
-        }
-    }
-    false
 }

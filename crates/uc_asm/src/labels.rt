@@ -1,22 +1,13 @@
 //! Where the labels of a text are declared.
 ghost use Rattle.std.specs.Prelude.{◌≡◌, ◌<◌, ◌^◌, ℕ, List, length, nat_eq, IfOk, OnOk, None, Some, if◌then◌else◌};
 ghost use Rattle.std.specs.Cmp.Lexicographic.{pointwise};
-ghost use Rattle.uc_asm.specs.inner.First.{NotesFirst, noted, or_else};
-ghost use Rattle.uc_asm.specs.inner.Seen.{all_seen};
+ghost use Rattle.asm_items.specs.inner.First.{NotesFirst, noted, or_else};
+ghost use Rattle.asm_items.specs.inner.Seen.{all_seen};
 
-use crate::line::Item;
+use asm_items::{Declared, Item, Labels};
 use indexmap::IndexMap;
 use nv_base::NoMemory;
 use std::alloc::Global;
-
-/// The item that declares a label, as an index among the items, and the label's place.
-#[derive(Clone, Copy)]
-pub struct Declared {
-    pub index: usize,
-    pub place: u32,
-}
-
-pub type Labels<'a> = IndexMap<&'a [u8], Declared>;
 
 /// The first declaration of each label.
 pub fn declarations<'a>(alloc: Global, items: &[Item<'a>]) -> Result<Labels<'a>, NoMemory>
@@ -42,11 +33,4 @@ fn declare<'a>(labels: &mut Labels<'a>, name: &'a [u8], declared: Declared) -> R
         labels.insert(name, declared)?;
     }
     Ok(())
-}
-
-/// The declaration of this name.
-pub fn find(labels: &Labels, name: &[u8]) -> Option<Declared>
-    ensures { result ≡ noted labels.now name.now }
-{
-    labels.get(&name).copied()
 }

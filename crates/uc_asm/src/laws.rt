@@ -5,7 +5,7 @@ ghost use Rattle.uc_isa.specs.Lawful.{IsLawful};
 ghost use Rattle.uc_asm.specs.Answer.{Answers, IsTrueError};
 ghost use Rattle.uc_asm.specs.Labels.{IsCodeOf};
 ghost use Rattle.uc_asm.specs.Text.{listing};
-ghost use Rattle.uc_asm.specs.Words.{InRange};
+ghost use Rattle.asm_parts.specs.Words.{InRange};
 ghost use Rattle.uc_asm.specs.Worked.{MovingListing, SumListing};
 ghost use Rattle.uc_asm.specs.declared.error.AsmError.{AsmError};
 

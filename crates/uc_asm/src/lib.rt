@@ -7,7 +7,6 @@ mod labels;
 pub mod laws;
 mod line;
 mod listing;
-mod part;
 mod resolve;
 
 pub use assembler::assemble;

@@ -1,14 +1,13 @@
 //! The instructions of items, each label in its place.
-ghost use Rattle.std.specs.Prelude.{◌≡◌, ◌+◌, ◌<◌, ◌^◌, List, length, IfOk, IfErr};
-ghost use Rattle.uc_asm.specs.inner.First.{NotesFirst};
-ghost use Rattle.uc_asm.specs.Labels.{AreNamed, AreResolved, Stands};
-ghost use Rattle.uc_asm.specs.inner.Resolving.{Gives, IsNameError, IsLineOf};
-ghost use Rattle.uc_asm.specs.inner.Seen.{all_seen, seen};
-ghost use Rattle.uc_asm.specs.Text.{Item as TheItem, count};
+ghost use Rattle.std.specs.Prelude.{◌≡◌, ◌+◌, ◌<◌, ◌^◌, length, IfOk, IfErr};
+ghost use Rattle.asm_items.specs.inner.First.{NotesFirst};
+ghost use Rattle.asm_items.specs.Items.{count};
+ghost use Rattle.uc_asm.specs.Labels.{AreNamed, AreResolved};
+ghost use Rattle.uc_asm.specs.inner.Resolving.{IsNameError, IsLineOf};
+ghost use Rattle.asm_items.specs.inner.Seen.{all_seen};
 
 use crate::AsmError;
-use crate::labels::{Labels, find};
-use crate::line::{Item, is_instruction};
+use asm_items::{Item, Labels, Resolved, is_instruction, resolved_item};
 use std::alloc::Global;
 use uc_isa::{Dst, Gpr, Instr, Src};
 
@@ -39,36 +38,6 @@ pub fn instructions(alloc: Global, items: &[Item], labels: &Labels) -> Result<Ve
         }
     }
     Ok(list)
-}
-
-/// What an item gives.
-#[derive(Clone, Copy)]
-pub enum Resolved {
-    Instruction(Instr),
-    /// A label that is declared here first.
-    Nothing,
-    /// A label that is declared before, or a target that isn't declared.
-    Misnamed,
-}
-
-// What the item with this index gives.
-fn resolved_item(item: &Item, index: usize, labels: &Labels) -> Resolved
-    ensures { (all front back : List TheItem) → NotesFirst labels.now all → Stands all front (seen item.now) back → length front ≡ index → Gives all front (seen item.now) result }
-{
-    match item {
-        Item::Label(name) => match find(labels, name) {
-            Some(first) if first.index == index => Resolved::Nothing,
-            _ => Resolved::Misnamed,
-        },
-        Item::Plain(i) => Resolved::Instruction(*i),
-        Item::Jump(cond, name) => match find(labels, name) {
-            Some(first) => Resolved::Instruction(Instr::Br {
-                cond: *cond,
-                target: first.place,
-            }),
-            None => Resolved::Misnamed,
-        },
-    }
 }
 
 /// The line of the instruction at a place.

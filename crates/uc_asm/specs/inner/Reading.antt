@@ -1,7 +1,8 @@
 -- What the reader of a text has read, and what is left.
 use Rattle.std.specs.Prelude.{◌≡◌, ℕ, ◌+◌, ◌*◌, ◌≤◌, List, ◌∷◌, ◌++◌, length, map}
 use Rattle.line_text.specs.Line.{text_of}
-use Rattle.uc_asm.specs.Text.{Item, AreItems, item_line, params_line}
+use Rattle.asm_items.specs.Items.{Item, item_line, params_line}
+use Rattle.uc_asm.specs.Text.{AreItems}
 
 -- the first line and these items
 pub record HasItems (text : List ℕ) (params : ℕ) (items : List Item) (rest : List ℕ) : Type 0 where

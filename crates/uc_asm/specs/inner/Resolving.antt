@@ -1,22 +1,9 @@
 -- What the assembler makes of the items, by the first declaration of each name.
 use Rattle.std.specs.Prelude.{◌≡◌, ℕ, ◌+◌, List, length}
-use Rattle.uc_isa.specs.declared.instruction.Instr.TheVariants.{Br}
-use Rattle.uc_asm.specs.Text.{Item, label, plain, jump, count}
-use Rattle.uc_asm.specs.Labels.{Stands, IsAt, IsDeclared, Misnames, FirstMisnamed, IsInstruction}
+use Rattle.asm_items.specs.Items.{Item, count, Stands, IsInstruction}
+use Rattle.uc_asm.specs.Labels.{FirstMisnamed}
 use Rattle.uc_asm.specs.declared.error.AsmError.{AsmError}
 use Rattle.uc_asm.specs.declared.error.AsmError.TheVariants.{NoMemory, Syntax, Label, Unlawful}
-use Rattle.uc_asm.specs.declared.resolve.Resolved.{Resolved}
-use Rattle.uc_asm.specs.declared.resolve.Resolved.TheVariants.{Instruction, Nothing, Misnamed}
-
--- what an item behind `front` gives: an instruction with its target in place, nothing for a label, or a name's fault
-abbrev pub Gives : List Item → List Item → Item → Resolved → Type 0
-Gives items front item Misnamed = Misnames items front item
-Gives items front (label name) Nothing = ¬ IsDeclared front name
-Gives items front (label name) (Instruction i) = ⊥
-Gives items front (plain j) Nothing = ⊥
-Gives items front (plain j) (Instruction i) = i ≡ j
-Gives items front (jump cond name) Nothing = ⊥
-Gives items front (jump cond name) (Instruction i) = (place : ℕ) × IsAt items name place × (i ≡ Br cond place)
 
 -- want of memory, or the line of the first item with a name's fault
 abbrev pub IsNameError : List Item → AsmError → Type 0

@@ -1,6 +1,6 @@
 use Rattle.std.proofs.Common.{◌≡◌, ◌≢◌, sym, ◌∙◌, ap, List, ℕ, ◌∷◌, codes, arith}
 use Rattle.std.specs.Cmp.Lexicographic.{bytes_decides}
-use Rattle.uc_asm.specs.Words.{words}
+use Rattle.asm_parts.specs.Words.{words}
 use Rattle.uc_asm.proofs.LineLemmas.{from_parts}
 use Rattle.uc_asm.proofs.ItemLemmas.{branch-some, branch-none, other-none}
 use Rattle.uc_asm.proofs.line.item_of.Goals as goal
@@ -16,10 +16,10 @@ returns-then-eq-clause-none c =
     branch-none c.branch-parts.result c.args.line.now c.next_part.new.self (sym c.of-parts.ensures ∙ c.in_ok-kind.ensures ∙ ap (λ (k : List ℕ). k ∷ c.next_part.new.self) kind)
     c.in_default.ensures.none c.branch-parts.ensures.place c.branch-parts.ensures.name
 
-pub returns-in-Some-instruction-clause-some : goal.returns-in-Some-instruction-clause-some
-returns-in-Some-instruction-clause-some c =
-    let i = c.in-Some-instruction.i in
-    (c.in-Some-instruction.ensures.some.0, from_parts c.args.line.now (words i) (sym c.of-parts.ensures ∙ c.in_ok-kind.ensures ∙ c.in-Some-instruction.ensures.some.1))
+pub returns-in-Some-read_instruction-clause-some : goal.returns-in-Some-read_instruction-clause-some
+returns-in-Some-read_instruction-clause-some c =
+    let i = c.in-Some-read_instruction.i in
+    (c.in-Some-read_instruction.ensures.some.0, from_parts c.args.line.now (words i) (sym c.of-parts.ensures ∙ c.in_ok-kind.ensures ∙ c.in-Some-read_instruction.ensures.some.1))
 
 pub returns-in-None-clause-none : goal.returns-in-None-clause-none
 returns-in-None-clause-none c =
