@@ -1,11 +1,11 @@
 -- The room of a program without a fault whose expanded size is at most 4,096.
-use Rattle.std.proofs.Common.{◌≡◌, ◌∙◌, ap, sym, subst, ℕ, ◌+◌, ◌*◌, ◌≤◌, arith}
+use Rattle.std.proofs.Common.{◌≡◌, ◌∙◌, ap, sym, subst, ℕ, ◌+◌, ◌*◌, ◌≤◌, ◌<◌, arith}
 use Rattle.nv_ast.specs.Tree.{ProgramTree}
 use Rattle.nv_ast.specs.Faults.{IsTyped, program_faults}
 use Rattle.nv_ast.specs.Sizes.{expanded_size, room}
 use Rattle.nv_ast.specs.Accepted.{IsAccepted}
 use Rattle.nv_ast.proofs.RoomInSize.{room_bounded}
-use Rattle.nv_types.specs.declared.program.Sizes.{Sizes}
+use Rattle.type_order.specs.declared.main_sizes.Sizes.{Sizes}
 use Rattle.type_table.specs.inner.Cells.{still}
 use Rattle.type_rules.specs.declared.error.TypeError.{TypeError}
 use Rattle.type_rules.specs.declared.error.TypeError.TheVariants.{NoMemory, Fault, TooLarge}
@@ -40,3 +40,7 @@ pub refused : (p : ProgramTree) (e : TypeError) → IsFirstOf (program_faults p)
 refused p NoMemory h = tt
 refused p (Fault kind s) h = record { later = h.0; first = h.1 }
 refused p (TooLarge n) h = absurd h
+
+-- so is that its expanded size is over 4,096
+pub too_large : (p : ProgramTree) (s : Sizes) (e : TypeError) → IsTyped p → IsSized p s → (e ≡ TooLarge s.expanded) × (4096 < s.expanded) → IsRefusal p e
+too_large p s e typed is large = subst (λ (w : TypeError). IsRefusal p w) (sym large.0) (typed, is.of_expanded, large.1)

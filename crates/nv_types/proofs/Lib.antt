@@ -1,4 +1,3 @@
 pub mod BoundedRoom
-pub mod FindingMain
 pub mod Measured
 pub mod OnlyRefusals

@@ -1,5 +1,6 @@
 -- The walk over declarations.
-use Rattle.std.proofs.Common.{◌≡◌, ◌∙◌, refl, ap, sym, subst, ℕ, ◌≤◌, min, true, false, List, [], ◌∷◌, ◌++◌, arith, None, Some, Ok, Err, not}
+use Rattle.std.specs.Prelude.{MatchResult}
+use Rattle.std.proofs.Common.{◌≡◌, ◌∙◌, refl, ap, sym, subst, ℕ, ◌≤◌, min, true, false, List, [], ◌∷◌, ◌++◌, arith, None, Some, Result, Ok, Err, not}
 use Rattle.nv_ast.specs.Tree.{DeclTree, LayoutDecl, ExceptionDecl, GroupDecl, ProgramTree}
 use Rattle.nv_ast.specs.Tests.{is_among, names_of, where_true}
 use Rattle.nv_ast.specs.Scope.{Known, nothing_known, known_after, in_group}
@@ -8,13 +9,14 @@ use Rattle.nv_ast.specs.Sizes.{GroupNumbers, numbered, group_size, group_need, s
 use Rattle.type_rules.specs.declared.error.TypeError.{TypeError}
 use Rattle.type_rules.specs.declared.error.TypeError.TheVariants.{Fault}
 use Rattle.type_steps.specs.declared.functions.Checker.{Checker}
-use Rattle.nv_types.specs.declared.program.Sizes.{Sizes}
+use Rattle.type_order.specs.declared.main_sizes.Sizes.{Sizes}
 use Rattle.type_rules.specs.inner.Faulty.{IsFirstOf}
 use Rattle.type_table.specs.inner.Cells.{still}
 use Rattle.type_rules.specs.declared.cost.Cost.{Cost}
 use Rattle.type_steps.specs.inner.Standing.{IsFunction, Counts}
 use Rattle.type_steps.specs.inner.Declarations.{Between, Started, ChecksDecl, ChecksDecls}
-use Rattle.nv_types.specs.inner.Measuring.{IsSized, FindsMain, Measures}
+use Rattle.type_order.specs.inner.Finding.{FindsMain}
+use Rattle.nv_types.specs.inner.Measuring.{IsSized, Measures}
 use Rattle.type_steps.proofs.Alikes.{alike_nothing}
 use Rattle.type_steps.proofs.Standings.{nothing_seen}
 use Rattle.type_rules.proofs.Firsts.{first_append}
@@ -135,8 +137,13 @@ sized c p r s h =
 pub measures_fault : {T : Type 0} (c now : Checker) (p : ProgramTree) (e : TypeError) → ChecksDecls {T = T} c now p.decls (Err e) → Measures c p (Err e)
 measures_fault c now p e h = record { judged = λ is. measured_fault c now p e is h; sized = λ is. tt }
 
-pub measures_sizes : {T : Type 0} (c now : Checker) (p : ProgramTree) (x : T) (r : Sizes) → ChecksDecls {T = T} c now p.decls (Ok x) → FindsMain now (Some r) → Measures c p (Ok r)
+measures_sizes : {T : Type 0} (c now : Checker) (p : ProgramTree) (x : T) (r : Sizes) → ChecksDecls {T = T} c now p.decls (Ok x) → FindsMain now (Some r) → Measures c p (Ok r)
 measures_sizes c now p x r h found = record { judged = λ is. with_main now p r (measured c now p x is h) found; sized = λ is. sized now p r (measured c now p x is h) found }
 
-pub measures_no_main : {T : Type 0} (c now : Checker) (p : ProgramTree) (x : T) → ChecksDecls {T = T} c now p.decls (Ok x) → FindsMain now None → Measures c p (Err (Fault 1 (record { first = p.length; after = p.length })))
+measures_no_main : {T : Type 0} (c now : Checker) (p : ProgramTree) (x : T) → ChecksDecls {T = T} c now p.decls (Ok x) → FindsMain now None → Measures c p (Err (Fault 1 (record { first = p.length; after = p.length })))
 measures_no_main c now p x h found = record { judged = λ is. ([], without_main now p (measured c now p x is h) found); sized = λ is. tt }
+
+pub measures_main : {T : Type 0} (c now : Checker) (p : ProgramTree) (x : T) (r : Result Sizes TypeError) → ChecksDecls {T = T} c now p.decls (Ok x)
+    → MatchResult r (λ s. FindsMain now (Some s)) (λ e. FindsMain now None × (e ≡ Fault 1 (record { first = p.length; after = p.length }))) → Measures c p r
+measures_main c now p x (Ok s) h found = measures_sizes c now p x s h found
+measures_main c now p x (Err e) h found = subst (λ (w : TypeError). Measures c p (Err w)) (sym found.1) (measures_no_main c now p x h found.0)

@@ -3,13 +3,14 @@
 ghost use Rattle.std.specs.Prelude.{map};
 ghost use Rattle.nv_ast.specs.ProgramView.{fun_tree, decl_tree};
 ghost use Rattle.nv_ast.specs.Tree.{GroupDecl};
-ghost use Rattle.type_steps.specs.inner.Declarations.{ChecksDecl, ChecksDecls, SignsFunction, SignsAll, ChecksBody, ChecksBodies};
+ghost use Rattle.type_steps.specs.inner.Declarations.{ChecksDecl, ChecksDecls, SignsAll, ChecksBody, ChecksBodies};
 
 use crate::walk::expr;
 use nv_ast::{Decl, Fun};
+use type_order::signatures::signature;
 use type_rules::cost::Cost;
 use type_rules::error::TypeError;
-use type_steps::functions::{Checker, Function};
+use type_steps::functions::Checker;
 use type_steps::wanted::Wanted;
 
 /// Declarations in order, each of which is known to the later ones.
@@ -51,24 +52,6 @@ fn signatures<'a>(checker: &mut Checker<'a>, fs: &'a [Fun]) -> Result<(), TypeEr
     for f in fs {
         signature(checker, f)?;
     }
-    Ok(())
-}
-
-// The types in a function's text; 9: two parameters of one name.
-fn signature<'a>(checker: &mut Checker<'a>, f: &'a Fun) -> Result<(), TypeError>
-    ensures { SignsFunction checker.old checker.new (fun_tree f.now) result }
-{
-    let params = checker.named_texts(f.span, &f.params)?;
-    let result = checker.type_text(f.span, &f.result)?;
-    checker.without_twice_param(f.span, &params)?;
-    let types = checker.param_types(&params)?;
-    let list = checker.table.parts_of(&types)?;
-    checker.fitting_main(f, list, result)?;
-    let function = Function {
-        params: list,
-        result,
-    };
-    checker.functions.add(&f.name, function)?;
     Ok(())
 }
 

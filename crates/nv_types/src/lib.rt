@@ -2,7 +2,6 @@
 #![tactic(auto)]
 
 mod declarations;
-mod limits;
 mod program;
 mod walk;
 

@@ -8,13 +8,14 @@ ghost use Rattle.nv_ast.specs.Faults.{IsTyped, IsFault, main_name, program_fault
 ghost use Rattle.nv_ast.specs.Sizes.{expanded_size, room as room_of};
 ghost use Rattle.nv_ast.specs.Accepted.{IsAccepted};
 ghost use Rattle.nv_types.specs.Refusals.{IsRefusal};
-ghost use Rattle.nv_types.specs.inner.Measuring.{IsSized, FindsMain, Measures};
+ghost use Rattle.nv_types.specs.inner.Measuring.{IsSized, Measures};
 ghost use Rattle.type_rules.specs.inner.Faulty.{Judges};
 
 use crate::declarations::declarations;
-use crate::limits::LARGEST;
 use nv_ast::{Name, Program, Span, Typed};
 use std::alloc::Global;
+use type_order::fitting_size;
+use type_order::main_sizes::{Sizes, sizes_of_main};
 use type_rules::error::TypeError;
 use type_steps::functions::Checker;
 use type_steps::heads::MAIN;
@@ -34,19 +35,9 @@ pub fn check(alloc: Global, p: Program) -> Result<Typed, TypeError>
 {
     let main = Name::new(alloc, &MAIN)?;
     let sizes = measure(alloc, &p, &main)?;
-    if sizes.expanded > LARGEST {
-        return Err(TypeError::TooLarge(sizes.expanded));
-    }
+    fitting_size(sizes.expanded)?;
     let room = sizes.need as u32 + 8;
     Ok(Typed::of(p, sizes.expanded, room, sizes.params))
-}
-
-// The sizes of a program.
-#[derive(Clone, Copy)]
-struct Sizes {
-    expanded: u32,
-    need: u64,
-    params: u8,
 }
 
 // The sizes of a program without a fault.
@@ -71,29 +62,9 @@ fn sizes_of<'a>(
     ensures { Measures checker.old (program_of p.now) result }
 {
     declarations(checker, &p.decls)?;
-    match sizes_of_main(checker, main) {
-        Some(sizes) => Ok(sizes),
-        None => {
-            let end = Span {
-                first: p.length,
-                after: p.length,
-            };
-            Err(TypeError::Fault(1, end))
-        }
-    }
-}
-
-// The sizes of main, if there is one. The size of its group stands still at 4,294,967,295; a main without a
-// fault has parameters of at most 8 words.
-fn sizes_of_main<'a>(checker: &Checker<'a>, name: &'a Name) -> Option<Sizes>
-    requires { name.now ≡ main_name }
-    ensures { FindsMain checker.now result }
-{
-    let main = checker.functions.get(name)?;
-    let cost = checker.costs.get(name)?;
-    Some(Sizes {
-        expanded: cost.size.min(u32::MAX as u64) as u32,
-        need: cost.need,
-        params: checker.table.known(main.params).words.min(8) as u8,
-    })
+    let end = Span {
+        first: p.length,
+        after: p.length,
+    };
+    sizes_of_main(checker, main, end)
 }

@@ -9,6 +9,8 @@ ghost use Rattle.type_steps.specs.inner.Blocks.{ChecksStatement};
 
 use nv_ast::{Expr, Kind, Name, Op, Pat, ShiftOp, Span, Stmt};
 use nv_base::Mem;
+use type_order::handlers::open_handler;
+use type_order::lets::let_value;
 use type_rules::cost::Cost;
 use type_rules::error::{TypeError, fault_where};
 use type_rules::needs::Step;
@@ -307,17 +309,17 @@ fn handled<'a>(
 ) -> Result<Found, TypeError>
     ensures { Checks checker.old checker.new tail wanted (TryTree span (tree_of body.now) exception.now (list_patterns ps.now) (tree_of handler.now)) result }
 {
-    let tried = expr(checker, false, Wanted::Anything, body)?;
+    let read = expr(checker, false, Wanted::Anything, body);
     let mark = checker.scope.mark();
-    let types = checker.handler_patterns(span, exception, ps)?;
-    let caught = expr(checker, tail, Wanted::same_as(tried.value), handler)?;
+    let opened = open_handler(checker, span, exception, ps, handler, read)?;
+    let caught = expr(checker, tail, opened.wanted, opened.handler)?;
     checker.scope.leave(mark)?;
     let raised = Cost {
-        words: checker.table.known(types).words,
+        words: checker.table.known(opened.types).words,
         ..Cost::NONE
     };
-    let parts = raised.beside(tried.cost.beside(caught.cost));
-    checker.plain(span, wanted, tried.value.or(caught.value), parts)
+    let parts = raised.beside(opened.tried.cost.beside(caught.cost));
+    checker.plain(span, wanted, opened.tried.value.or(caught.value), parts)
 }
 
 // 19 and 20: a number of words, or a scratch address.
@@ -408,15 +410,8 @@ fn binding<'a>(
     ensures { ChecksStatement checker.old checker.new (LetStatement span (pattern_tree p.now) (tree_of value.now)) result }
 {
     let before = checker.written.len();
-    let part = expr(checker, false, Wanted::Value, value)?;
-    checker.let_pattern(span, p, part.value)?;
-    let step = Step {
-        before,
-        need: part.cost.words.saturating_add(part.cost.need),
-        pattern: Some(p),
-        words: part.cost.words,
-    };
-    Ok((step, part.cost.size.saturating_add(1)))
+    let read = expr(checker, false, Wanted::Value, value);
+    let_value(checker, span, p, before, read)
 }
 
 // 19 and 20: a number of words, or a scratch address.

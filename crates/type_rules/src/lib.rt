@@ -1,5 +1,5 @@
 //! What typing counts and judges without a walk: the costs of expressions, the need of a block, names that stand twice,
-//! the fields of records and what packs them, and the sizes of layouts.
+//! the fields of records, and the sizes of layouts.
 #![tactic(auto)]
 
 pub mod cost;
@@ -7,5 +7,4 @@ pub mod error;
 pub mod fields;
 pub mod names;
 pub mod needs;
-pub mod packing;
 pub mod shapes;

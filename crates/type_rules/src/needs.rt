@@ -4,7 +4,7 @@ ghost use Rattle.std.specs.Prelude.{◌≡◌, [], ℕ, List, IfOk};
 ghost use Rattle.nv_ast.specs.PatternView.{pattern_tree};
 ghost use Rattle.nv_ast.specs.Scope.{names_in};
 ghost use Rattle.type_table.specs.inner.Cells.{still};
-ghost use Rattle.type_table.specs.inner.Named.{named};
+ghost use Rattle.type_table.specs.inner.Named.{named, plain_names};
 ghost use Rattle.type_rules.specs.inner.Needs.{held_for, IsEnds, IsEnd, block_needs};
 
 use crate::names::add_names;
@@ -65,13 +65,20 @@ fn last_place<'a>(
 {
     let mut names = Vec::new(alloc);
     add_names(p, &mut names)?;
+    Ok(latest(ends, &names))
+}
+
+// The place behind the last one where one of some names is written, or 0.
+fn latest<'a>(ends: &IndexMap<&'a Name, usize>, names: &[&'a Name]) -> usize
+    ensures { (xs : List (List ℕ)) (first : ℕ) → IsEnds first xs (named ends.now.entries) → IsEnd first xs (plain_names names.now) result }
+{
     let mut until: usize = 0;
-    for name in names.iter() {
+    for name in names {
         if let Some(end) = ends.get(name) {
             until = until.max(*end);
         }
     }
-    Ok(until)
+    until
 }
 
 // The words that are held for what is written from a place on.

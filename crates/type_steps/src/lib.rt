@@ -7,6 +7,7 @@ pub mod functions;
 pub mod heads;
 pub mod layouts;
 pub mod nodes;
+mod packing;
 pub mod patterns;
 pub mod scope;
 pub mod texts;

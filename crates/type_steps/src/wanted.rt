@@ -6,9 +6,9 @@ ghost use Rattle.nv_ast.specs.Faults.{Wanted as WantedTree, same_as as same_as_t
 ghost use Rattle.type_table.specs.inner.Store.{Store, IsType, IsValue};
 ghost use Rattle.type_steps.specs.inner.Judging.{IsWanted};
 
+use crate::packing::can_pack_record;
 use nv_base::NoMemory;
 use std::alloc::Global;
-use type_rules::packing::can_pack_record;
 use type_table::table::Table;
 
 /// What is wanted of an expression: nothing, or a value of a right type.

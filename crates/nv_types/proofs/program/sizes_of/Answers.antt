@@ -3,7 +3,7 @@ use Rattle.std.proofs.lemmas.Result.{err_from_is_err_and}
 use Rattle.nv_ast.specs.declared.tree.Decl.{Decl}
 use Rattle.nv_ast.specs.ProgramView.{decl_tree, program_of}
 use Rattle.type_steps.specs.inner.Declarations.{ChecksDecls}
-use Rattle.nv_types.proofs.Measured.{measures_fault, measures_sizes, measures_no_main}
+use Rattle.nv_types.proofs.Measured.{measures_fault, measures_main}
 use Rattle.nv_types.proofs.program.sizes_of.Goals as goal
 
 pub returns-in_err-declarations : goal.returns-in_err-declarations
@@ -13,12 +13,7 @@ returns-in_err-declarations c =
     let p = err_from_is_err_and c.from_residual.result c.from_residual.ensures.1 in
     rw (p.1, p.2) (measures_fault c.args.checker.now c.declarations.new.checker (program_of c.args.p.now) e h)
 
-pub returns-in-Some : goal.returns-in-Some
-returns-in-Some c =
+pub returns : goal.returns
+returns c =
     let h = subst (λ (ds : List Decl). ChecksDecls c.args.checker.now c.declarations.new.checker (map decl_tree ds) (Ok c.in_ok-declarations.field-0)) c.deref.ensures.value c.in_ok-declarations.ensures in
-    measures_sizes c.args.checker.now c.declarations.new.checker (program_of c.args.p.now) _ c.in-Some.sizes h c.in-Some.ensures
-
-pub returns-in-None : goal.returns-in-None
-returns-in-None c =
-    let h = subst (λ (ds : List Decl). ChecksDecls c.args.checker.now c.declarations.new.checker (map decl_tree ds) (Ok c.in_ok-declarations.field-0)) c.deref.ensures.value c.in_ok-declarations.ensures in
-    measures_no_main c.args.checker.now c.declarations.new.checker (program_of c.args.p.now) _ h c.in-None.ensures
+    measures_main c.args.checker.now c.declarations.new.checker (program_of c.args.p.now) _ c.sizes_of_main.result h c.sizes_of_main.ensures

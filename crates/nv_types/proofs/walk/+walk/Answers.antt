@@ -1,13 +1,13 @@
-use Rattle.std.proofs.Common.{◌≡◌, ◌∙◌, ◌≤◌, ◌+◌, ◌∷◌, [], ap, sym, subst, arith, refl, ℕ, Bool, false, List, drop, length, None, Some, Ok, Err, min, take, option_to_list}
+use Rattle.std.proofs.Common.{◌≡◌, ◌∙◌, ◌≤◌, ◌+◌, ◌∷◌, [], ap, sym, subst, arith, refl, ℕ, Bool, false, List, drop, length, None, Some, Ok, Err, Result, min, take, option_to_list}
 use Rattle.std.specs.Borrow.{Bor}
-use Rattle.nv_ast.specs.declared.tree.Expr.{out-Expr}
+use Rattle.nv_ast.specs.declared.tree.Expr.{Expr, out-Expr}
 use Rattle.nv_ast.specs.ExprView.{tree_of, list_trees, list_named_trees, list_statements, statement_tree}
 use Rattle.nv_ast.specs.PatternView.{list_patterns}
 use Rattle.nv_ast.specs.Tests.{where_true}
 use Rattle.nv_ast.specs.Tree.{NumberTree, TruthTree, VarTree, ParenTree, TupleTree, FieldsTree, DotTree, InvertTree, NegateTree, BinaryTree, ShiftTree, CallTree, UnpackTree, PackTree, RaiseTree, IfTree, TryTree, FetchTree, BlockTree, Trees, NamedTrees, no_named_trees, StatementTree}
 use Rattle.nv_ast.specs.Faults.{at_span, wrong_scratch}
 use Rattle.type_rules.specs.declared.cost.Cost.{Cost}
-use Rattle.type_steps.specs.declared.wanted.Wanted.TheVariants.{Value}
+use Rattle.type_steps.specs.declared.wanted.Wanted.TheVariants.{Value, Anything}
 use Rattle.type_table.specs.inner.Named.{named}
 use Rattle.type_rules.specs.inner.Costs.{two_costs, node_cost}
 use Rattle.type_rules.specs.inner.Faulty.{IsFirstOf}
@@ -32,15 +32,17 @@ use Rattle.nv_ast.proofs.TreeKinds.{number-is, truth-is, variable-is, paren-is, 
 use Rattle.type_rules.specs.declared.needs.Step.{Step}
 use Rattle.type_steps.specs.declared.functions.Found.{Found}
 use Rattle.type_table.specs.inner.Cells.{most}
+use Rattle.type_steps.specs.inner.Walk.{Checks}
 use Rattle.type_steps.specs.inner.Blocks.{ChecksStatement}
 use Rattle.type_rules.specs.inner.Needs.{block_needs}
 use Rattle.type_steps.specs.inner.Standing.{written_in}
+use Rattle.type_rules.specs.declared.error.TypeError.{TypeError}
 use Rattle.type_rules.specs.declared.error.TypeError.TheVariants.{NoMemory}
 use Rattle.type_steps.proofs.BlockNodes.{at_err, wants_memory}
 use Rattle.type_steps.proofs.BlockChoices.{choice_fails_at_condition, choice_fails_at_first, choice_fails_at_second, choice_checks}
-use Rattle.type_steps.proofs.BlockHandlers.{try_fails_at_body, try_fails_at_patterns, try_fails_at_handler, try_checks}
+use Rattle.type_steps.proofs.BlockHandlers.{try_fails_at_handler, try_checks}
 use Rattle.type_steps.proofs.BlockFetches.{fetch_fails_at_address, fetch_fails_at_type, fetch_fails_at_words, fetch_fails_at_node, fetch_checks, no_middle, some_middle}
-use Rattle.type_steps.proofs.BlockStatements.{as_many_names, statement_at_err, let_fails_at_value, let_fails_at_pattern, let_checks, store_fails_at_address, store_fails_at_value, store_fails_at_words, store_fails_at_reach, store_checks}
+use Rattle.type_steps.proofs.BlockStatements.{as_many_names, statement_at_err, store_fails_at_address, store_fails_at_value, store_fails_at_words, store_fails_at_reach, store_checks}
 use Rattle.type_steps.proofs.BlockWalked.{Behind, behind_none, behind_next, behind_all, behind_inside, statement_within}
 use Rattle.type_steps.proofs.BlockWhole.{block_fails_at_statement, block_fails_at_tail, block_fails_at_node, block_checks}
 use Rattle.nv_types.proofs.walk.+walk.Goals.{fetch-then-is_in_reach, fetch-else-is_in_reach}
@@ -381,21 +383,23 @@ choice-returns t c =
     choice_checks _ _ _ _ _ _ _ _ _ _ _ _ _ _ _ _ _ c.in_ok-condition.ensures c.in_ok-yes.ensures c.same_as.ensures c.in_ok-no.ensures
     c.or.ensures (c.beside-parts.ensures ∙ ap (two_costs c.in_ok-condition.condition.cost) c.beside.ensures) c.plain.ensures.judged c.plain.ensures.same c.plain.ensures.counted
 
-pub handled-returns-in_err-tried : goal.handled-returns-in_err-tried
-handled-returns-in_err-tried t c = at_err _ _ _ _ _ _ _ c.from_residual.ensures.1 (try_fails_at_body _ _ _ _ _ _ _ _ _ _ c.in_err-tried.ensures)
-
-pub handled-returns-in_err-types : goal.handled-returns-in_err-types
-handled-returns-in_err-types t c = at_err _ _ _ _ _ _ _ c.from_residual-in_err-types.ensures.1 (try_fails_at_patterns _ _ _ _ _ _ _ _ _ _ _ _ _ c.in_ok-tried.ensures c.in_err-types.ensures)
+pub handled-returns-in_err-opened : goal.handled-returns-in_err-opened
+handled-returns-in_err-opened t c = at_err _ _ _ _ _ _ _ c.from_residual.ensures.1 (c.in_err-opened.ensures.first _ _ _ _ _ c.expr-read.ensures)
 
 pub handled-returns-in_err-caught : goal.handled-returns-in_err-caught
-handled-returns-in_err-caught t c = at_err _ _ _ _ _ _ _ c.from_residual-in_err-caught.ensures.1 (try_fails_at_handler _ _ _ _ _ _ _ _ _ _ _ _ _ _ _ _ c.in_ok-tried.ensures c.in_ok-types.ensures c.same_as.ensures c.in_err-caught.ensures)
+handled-returns-in_err-caught t c =
+    let body = subst (λ (r : Result Found TypeError). Checks c.args.checker.now c.expr-read.new.checker false Anything (tree_of c.args.body.now) r) c.in_ok-opened.ensures.tried c.expr-read.ensures in
+    let handler = subst (λ (h : Bor Expr). Checks c.open_handler.new.checker c.expr.new.checker c.args.tail c.in_ok-opened.opened.wanted (tree_of h.now) (Err c.in_err-caught.field-0.0)) c.in_ok-opened.ensures.handler c.in_err-caught.ensures in
+    at_err _ _ _ _ _ _ _ c.from_residual-in_err-caught.ensures.1 (try_fails_at_handler _ _ _ _ _ _ _ _ _ _ _ _ _ _ _ _ body c.in_ok-opened.ensures.bound c.in_ok-opened.ensures.wanted handler)
 
 pub handled-returns-in_err-leave : goal.handled-returns-in_err-leave
 handled-returns-in_err-leave t c = at_err _ _ _ _ _ _ NoMemory c.from_residual-in_err-leave.ensures.1 (wants_memory _ _ _ _ _)
 
 pub handled-returns : goal.handled-returns
 handled-returns t c =
-    try_checks _ _ _ _ _ _ _ _ _ _ _ _ _ _ _ _ _ c.known.result _ _ _ _ c.in_ok-tried.ensures c.in_ok-types.ensures c.same_as.ensures c.in_ok-caught.ensures
+    let body = subst (λ (r : Result Found TypeError). Checks c.args.checker.now c.expr-read.new.checker false Anything (tree_of c.args.body.now) r) c.in_ok-opened.ensures.tried c.expr-read.ensures in
+    let handler = subst (λ (h : Bor Expr). Checks c.open_handler.new.checker c.expr.new.checker c.args.tail c.in_ok-opened.opened.wanted (tree_of h.now) (Ok c.in_ok-caught.caught)) c.in_ok-opened.ensures.handler c.in_ok-caught.ensures in
+    try_checks _ _ _ _ _ _ _ _ _ _ _ _ _ _ _ _ _ c.known.result _ _ _ _ body c.in_ok-opened.ensures.bound c.in_ok-opened.ensures.wanted handler
     c.mark-mark.ensures c.in_ok-leave.ensures c.known.ensures.of_parts refl c.or.ensures (c.beside-parts.ensures ∙ ap (two_costs _) c.beside.ensures)
     c.plain.ensures.judged c.plain.ensures.same c.plain.ensures.counted
 
@@ -433,17 +437,8 @@ fetch-returns t c =
     fetch_checks c.args.checker.now c.expr.new.checker c.words.new.self _ _ _ _ _ _ _ _ _ _ c.in_ok-part.ensures c.in_ok-t.ensures.grows c.in_ok-t.ensures.made c.can_move.ensures c.if-not-can_move.false scratch c.in_ok-judge.ensures
     c.found.ensures.same c.found.ensures.counted
 
-pub binding-returns-in_err-part : goal.binding-returns-in_err-part
-binding-returns-in_err-part t c = statement_at_err _ _ _ _ _ c.from_residual.ensures.1 (let_fails_at_value _ _ _ _ _ _ _ c.in_err-part.ensures)
-
-pub binding-returns-in_err-let_pattern : goal.binding-returns-in_err-let_pattern
-binding-returns-in_err-let_pattern t c = statement_at_err _ _ _ _ _ c.from_residual-in_err-let_pattern.ensures.1 (let_fails_at_pattern _ _ _ _ _ _ _ _ _ c.in_ok-part.ensures c.in_err-let_pattern.ensures)
-
 pub binding-returns : goal.binding-returns
-binding-returns t c =
-    let part = c.in_ok-part.part in
-    let made : ℕ → Step = λ n. record { before = c.len-before.result; need = n; pattern = Some c.args.p; words = c.in_ok-part.part.cost.words } in
-    let_checks _ _ _ _ c.args.p _ part _ _ _ _ c.in_ok-part.ensures c.in_ok-let_pattern.ensures (c.len-before.ensures ∙ c.args.checker.now.written.ok.0) (ap made c.saturating_add.ensures) c.saturating_add-2.ensures
+binding-returns t c = c.let_value.ensures c.args.checker.now (tree_of c.args.value.now) c.expr-read.ensures (c.len-before.ensures ∙ c.args.checker.now.written.ok.0 ∙ as_many_names c.args.checker.now.written.items)
 
 pub store-returns-in_err-address : goal.store-returns-in_err-address
 store-returns-in_err-address t c = statement_at_err _ _ _ _ _ c.from_residual.ensures.1 (store_fails_at_address _ _ _ _ _ _ _ _ c.in_err-address.ensures)
@@ -540,11 +535,11 @@ choice-expr-requires-2 t c = (omega (arith, c.decreases), tt)
 pub choice-expr-requires-3 : goal.choice-expr-requires-3
 choice-expr-requires-3 t c = (omega (arith, c.decreases), tt)
 
-pub handled-expr-requires : goal.handled-expr-requires
-handled-expr-requires t c = (omega (arith, c.decreases), tt)
+pub handled-expr-read-requires : goal.handled-expr-read-requires
+handled-expr-read-requires t c = (omega (arith, c.decreases), tt)
 
-pub handled-expr-requires-2 : goal.handled-expr-requires-2
-handled-expr-requires-2 t c = (omega (arith, c.decreases), tt)
+pub handled-expr-requires : goal.handled-expr-requires
+handled-expr-requires t c = (omega (arith, c.decreases, ap (λ (h : Bor Expr). height (tree_of h.now)) c.in_ok-opened.ensures.handler), tt)
 
 pub fetch-expr-requires : goal.fetch-expr-requires
 fetch-expr-requires t c = (omega (arith, c.decreases), tt)
@@ -552,8 +547,8 @@ fetch-expr-requires t c = (omega (arith, c.decreases), tt)
 pub block-expr-requires : goal.block-expr-requires
 block-expr-requires t c = (omega (arith, c.decreases), tt)
 
-pub binding-expr-requires : goal.binding-expr-requires
-binding-expr-requires t c = (omega (arith, c.decreases), tt)
+pub binding-expr-read-requires : goal.binding-expr-read-requires
+binding-expr-read-requires t c = (omega (arith, c.decreases), tt)
 
 pub store-expr-requires : goal.store-expr-requires
 store-expr-requires t c = (omega (arith, c.decreases), tt)

@@ -1,42 +1,15 @@
-use Rattle.std.proofs.Common.{◌≡◌, ◌∙◌, ℕ, List, take, ◌++◌, ◌∷◌, ap, sym, subst, arith, max, []}
-use Rattle.std.proofs.lemmas.List.{take_all}
+use Rattle.std.proofs.Common.{◌≡◌, ◌∙◌, ℕ, List, ◌++◌, ap, subst}
 use Rattle.nv_ast.specs.PatternView.{pattern_tree}
 use Rattle.nv_ast.specs.Scope.{names_in}
 use Rattle.std.specs.Borrow.{Bor}
-use Rattle.type_table.specs.inner.Named.{named, plain_names}
+use Rattle.type_table.specs.inner.Named.{plain_names}
 use Rattle.type_rules.specs.inner.Needs.{IsEnd}
-use Rattle.type_rules.proofs.Entries.{look_up-named}
-use Rattle.type_rules.proofs.BlockEnds.{end_none, end_some, end_absent, names_then}
 use Rattle.type_rules.proofs.needs.last_place.Goals as goal
-use Rattle.type_rules.proofs.needs.last_place.Goals.{in-Some, in_default}
-
-pub loop-name-init : goal.loop-name-init
-loop-name-init c = λ xs first is. end_none first xs
-
-pub loop-name-preserved : goal.loop-name-preserved
-loop-name-preserved c = λ xs first is.
-    let ns = c.deref-name-items.result.now in
-    let i = c.loop-name.name-index in
-    let x = c.name-item.result in
-    let es = c.args.ends.now.entries in
-    let whole = names_then ns i x c.loop-name-test.true c.name-item.is in
-    let was = c.loop-name.invariant xs first is in
-    subst (λ (l : List (List ℕ)). IsEnd first xs l c.match-get.until) (sym whole)
-    (elim c.match-get.branch [
-      | in-Some w ↦
-          let fresh : c.match-get.until ≡ max c.loop-name.until w.in-Some.end.now = omega (arith, w.until-is, w.max-until.ensures) in
-          end_some first xs (plain_names (take i ns)) x.now (named es) c.loop-name.until w.in-Some.end.now c.match-get.until is was (sym (look_up-named x.now es) ∙ sym w.in-Some.ensures.value) fresh
-      | in_default w ↦
-          subst (λ (n : ℕ). IsEnd first xs (plain_names (take i ns) ++ x.now ∷ []) n) (sym w.until-is)
-          (end_absent first xs (plain_names (take i ns)) x.now (named es) c.loop-name.until is was (sym (look_up-named x.now es) ∙ sym w.in_default.ensures.value))
-    ])
 
 pub returns : goal.returns
 returns c = λ xs first is.
-    let ns = c.deref-name-items.result.now in
-    let i = c.loop-name.name-index in
     let names = names_in (pattern_tree c.args.p.now) in
-    let all : plain_names (take i ns) ≡ names =
-    ap plain_names (take_all i ns c.loop-name-test.false) ∙ ap plain_names c.deref-name-items.ensures.value ∙ c.in_ok-add_names.ensures ∙ ap (λ (l : List (Bor (List ℕ))). plain_names l ++ names) c.new-names.ensures.items
+    let all : plain_names c.deref.result.now ≡ names =
+    ap plain_names c.deref.ensures.value ∙ c.in_ok-add_names.ensures ∙ ap (λ (l : List (Bor (List ℕ))). plain_names l ++ names) c.new-names.ensures.items
     in
-    subst (λ (l : List (List ℕ)). IsEnd first xs l c.loop-name.until) all (c.loop-name.invariant xs first is)
+    subst (λ (l : List (List ℕ)). IsEnd first xs l c.latest.result) all (c.latest.ensures xs first is)

@@ -1,7 +1,7 @@
 use Rattle.std.proofs.Common.{◌+◌, ◌*◌, drop}
 use Rattle.type_table.specs.inner.Knowing.{ArePacked}
 use Rattle.type_table.proofs.FieldPacking.{PackSo}
-use Rattle.type_rules.proofs.packing.+pack.Given as goal
+use Rattle.type_steps.proofs.packing.+pack.Given as goal
 
 abbrev pub decreases-can_pack : goal.decreases-can_pack
 decreases-can_pack l = 4 * l.form + 3

@@ -4,7 +4,7 @@ use Rattle.type_table.specs.declared.table.Cell.TheVariants.{Word, Record, Choic
 use Rattle.type_table.proofs.FieldWalks.{eqb_other}
 use Rattle.type_table.proofs.TypeCells.{pack_word, pack_record, pack_choice, pack_record_none, pack_choice_none, is_form_cell, pack_no_form}
 use Rattle.type_table.proofs.FieldPacking.{pack_start, pack_end, pack_short, pack_other, pack_wrong, pack_next, pack_here, one_none, one_some, choice_one, choice_none, is_field_cell, packed_there, packed_more, pair_same}
-use Rattle.type_rules.proofs.packing.+pack.Goals as goal
+use Rattle.type_steps.proofs.packing.+pack.Goals as goal
 
 pub can_pack-returns-then-contains-clause-packs : goal.can_pack-returns-then-contains-clause-packs
 can_pack-returns-then-contains-clause-packs t c = λ f u h k.

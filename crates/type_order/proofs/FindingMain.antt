@@ -14,7 +14,7 @@ use Rattle.type_table.specs.inner.Cells.{still}
 use Rattle.type_table.specs.inner.Knowing.{AreKnown}
 use Rattle.type_table.specs.inner.Store.{IsParts}
 use Rattle.type_steps.specs.inner.Standing.{Alike, IsFunction}
-use Rattle.nv_types.specs.inner.Measuring.{FindsMain}
+use Rattle.type_order.specs.inner.Finding.{FindsMain}
 use Rattle.type_steps.proofs.Alikes.{Both, alike_at, among_look_up}
 use Rattle.type_steps.proofs.Groups.{known_names, own_none}
 

@@ -11,7 +11,7 @@ use Rattle.type_table.specs.inner.Named.{named, bound_types}
 use Rattle.type_table.specs.inner.Store.{AreTypes}
 use Rattle.type_steps.specs.inner.Texts.{TypesNamed}
 use Rattle.type_steps.proofs.Signing.{Listed, texts_read, sign_params_err, sign_result_err, sign_twice_err, sign_main_err, sign_ok, sign_no_memory}
-use Rattle.nv_types.proofs.declarations.signature.Goals as goal
+use Rattle.type_order.proofs.signatures.signature.Goals as goal
 
 pub returns-in_err-params : goal.returns-in_err-params
 returns-in_err-params c =

@@ -1,6 +1,6 @@
 use Rattle.std.proofs.Common.{sym}
 use Rattle.type_table.proofs.TypeCells.{record_packed, pack_no_record}
-use Rattle.type_rules.proofs.packing.can_pack_record.Goals as goal
+use Rattle.type_steps.proofs.packing.can_pack_record.Goals as goal
 
 pub returns-in-Some : goal.returns-in-Some
 returns-in-Some c =

@@ -5,10 +5,10 @@ ghost use Rattle.nv_ast.specs.Types.{Ty, RecordTy, NamedTys, Form, RecordForm, C
 ghost use Rattle.type_table.specs.inner.Store.{IsType, IsFields, IsForm, IsForms};
 ghost use Rattle.type_table.specs.inner.Knowing.{ArePacked};
 
-use crate::fields::field_in;
 use indexmap::IndexSet;
 use nv_base::NoMemory;
 use std::alloc::Global;
+use type_rules::fields::field_in;
 use type_table::table::{Cell, Table, WORD};
 
 /// Whether a value of a type can be packed by the record of some forms.

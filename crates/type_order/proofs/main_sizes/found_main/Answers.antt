@@ -1,7 +1,7 @@
 use Rattle.std.proofs.Common.{◌∙◌, ap, sym}
 use Rattle.nv_ast.specs.Tests.{look_up}
-use Rattle.nv_types.proofs.FindingMain.{no_function, no_cost, main_found}
-use Rattle.nv_types.proofs.program.sizes_of_main.Goals as goal
+use Rattle.type_order.proofs.FindingMain.{no_function, no_cost, main_found}
+use Rattle.type_order.proofs.main_sizes.found_main.Goals as goal
 
 pub returns-in_err-main : goal.returns-in_err-main
 returns-in_err-main c =

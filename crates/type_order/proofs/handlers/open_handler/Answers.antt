@@ -1,0 +1,34 @@
+use Rattle.std.proofs.Common.{subst, refl, false, Result, Ok, Err}
+use Rattle.std.proofs.lemmas.Result.{err_from_is_err_and}
+use Rattle.type_rules.specs.declared.error.TypeError.{TypeError}
+use Rattle.type_steps.specs.declared.functions.Found.{Found}
+use Rattle.type_steps.specs.declared.wanted.Wanted.TheVariants.{Anything}
+use Rattle.type_steps.specs.inner.Walk.{Checks}
+use Rattle.type_steps.proofs.BlockHandlers.{try_fails_at_body, try_fails_at_patterns}
+use Rattle.type_order.proofs.handlers.open_handler.Goals as goal
+
+pub returns-in_err-tried-clause-first : goal.returns-in_err-tried-clause-first
+returns-in_err-tried-clause-first c =
+    let p = err_from_is_err_and c.from_residual.result c.from_residual.ensures.1 in
+    rw (p.1, p.2) (λ k tail wanted a h is.
+    let body = subst (λ (r : Result Found TypeError). Checks k c.args.checker.now false Anything a r) c.in_err-tried.was is in
+    try_fails_at_body k c.args.checker.now tail wanted c.args.span a _ _ h _ body)
+
+pub returns-in_err-types-clause-first : goal.returns-in_err-types-clause-first
+returns-in_err-types-clause-first c =
+    let p = err_from_is_err_and c.from_residual-in_err-types.result c.from_residual-in_err-types.ensures.1 in
+    rw (p.1, p.2) (λ k tail wanted a h is.
+    let body = subst (λ (r : Result Found TypeError). Checks k c.args.checker.now false Anything a r) c.in_ok-tried.was is in
+    try_fails_at_patterns k c.args.checker.now _ _ tail wanted c.args.span a _ _ h _ _ body c.in_err-types.ensures)
+
+pub returns-clause-tried : goal.returns-clause-tried
+returns-clause-tried c = c.in_ok-tried.was
+
+pub returns-clause-handler : goal.returns-clause-handler
+returns-clause-handler c = refl
+
+pub returns-clause-bound : goal.returns-clause-bound
+returns-clause-bound c = c.in_ok-types.ensures
+
+pub returns-clause-wanted : goal.returns-clause-wanted
+returns-clause-wanted c = c.same_as.ensures

@@ -1,0 +1,12 @@
+//! The places of typing at which an order or a limit counts: which of two faults is the first, where main stands,
+//! and how large a program may be.
+#![tactic(auto)]
+
+mod limits;
+
+pub mod handlers;
+pub mod lets;
+pub mod main_sizes;
+pub mod signatures;
+
+pub use limits::fitting_size;
