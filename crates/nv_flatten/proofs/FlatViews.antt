@@ -1,5 +1,5 @@
 -- What the walk says, at equal trees, scopes, steps, numbers, symbolic values and code.
-use Rattle.std.proofs.Common.{◌≡◌, sym, subst, ℕ, List, [], Option, IfOk, Result, Ok, Err}
+use Rattle.std.proofs.Common.{◌≡◌, sym, subst, ℕ, List, [], Option, IfOk, OnOk, Result, Ok, Err}
 use Rattle.nv_base.specs.declared.term.Atom.{Atom}
 use Rattle.nv_base.specs.declared.term.Cmp.{Cmp}
 use Rattle.nv_ast.specs.Tree.{Tree, StatementTree}
@@ -15,6 +15,11 @@ use Rattle.nv_flatten.specs.inner.Flat.{IsFlatValue, IsFlatStatement, IsFlatTest
 pub mapped : {X E : Type 0} {P Q : X → Type 0} (r : Result X E) → ((x : X) → P x → Q x) → IfOk r P → IfOk r Q
 mapped (Ok x) f h = f x h
 mapped (Err e) f h = tt {0}
+
+-- what holds anyway, also where there is a value
+pub held : {X E : Type 0} {P : Type 0} (r : Result X E) → P → OnOk r P
+held (Ok x) p = p
+held (Err e) p = tt {0}
 
 -- ---- values
 pub value-tree : (w : Whole) (old names : Names) (low high : ℕ) (scope : SymbolScope) (e e' : Tree) (ss : List Step) (s : Symbol) → e' ≡ e → IsFlatValue w old names low high scope e ss s → IsFlatValue w old names low high scope e' ss s

@@ -27,6 +27,7 @@ pub mod NarrowEnds
 pub mod NarrowCalls
 pub mod NarrowViews
 pub mod FlatViews
+pub mod Handling
 pub mod FlatValues
 pub mod FlatLists
 pub mod FlatEnds

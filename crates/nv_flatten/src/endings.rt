@@ -12,25 +12,21 @@ ghost use Rattle.flat_code.specs.inner.Simulation.{Extends};
 ghost use Rattle.flat_code.specs.inner.View.{view, scope_of};
 ghost use Rattle.flat_parts.specs.inner.WholeView.{whole_in};
 
+use crate::made_code::{
+    Tail, both_code, calling, caught, chosen_code, compared, decided_code, either_code, ended,
+    given_code, handled, raising,
+};
 use crate::values::{each, statements, value};
+use crate::want::made;
 use flat_code::arms::{EndArm, TestArm, end_arm, test_arm};
 use flat_code::names::Names;
-use flat_code::parts::{add_steps, short, short_vars};
-use flat_code::scope::{Scope, bind_all};
-use flat_code::symbol::{Symbol, all_operands_in, operands_in, truth_in, word_in};
-use flat_ir::{Flat, Step, join};
-use flat_parts::branches::{Test, branch, give_truth, turned};
+use flat_code::scope::Scope;
+use flat_code::symbol::truth_in;
+use flat_parts::branches::{Test, turned};
 use flat_parts::source::Source;
 use nv_ast::{Expr, Name, Op, Pat, Stmt};
 use nv_base::{Atom, Cmp, NoMemory};
 use std::alloc::Global;
-
-/// Code that ends with an expression's words, and the form of its value, if it has one.
-#[derive(Drop)]
-pub struct Tail<'a> {
-    pub code: Flat,
-    pub form: Option<Symbol<'a>>,
-}
 
 // ---- conditions
 
@@ -52,7 +48,7 @@ fn condition<'a>(
     match test_arm(e) {
         TestArm::Paren(a) => condition(alloc, t, a, scope, names, next),
         TestArm::Negate(a) => {
-            let test = condition(alloc, t, a, scope, names, next)?;
+            let test = made!(condition(alloc, t, a, scope, names, next));
             Ok(Test {
                 cmp: turned(test.cmp),
                 ..test
@@ -83,19 +79,9 @@ fn compare<'a>(
     ensures names { Extends names.old names.new }
     ensures later { next.old ≤ next.new }
 {
-    let left = value(alloc, t, a, scope, names, next)?;
-    let right = value(alloc, t, b, scope, names, next)?;
-    let mut steps = left.steps;
-    add_steps(right.steps, &mut steps)?;
-    let x = word_in(&left.symbol);
-    let y = word_in(&right.symbol);
-    let (left, right) = if swapped { (y, x) } else { (x, y) };
-    Ok(Test {
-        steps,
-        cmp,
-        left,
-        right,
-    })
+    let left = made!(value(alloc, t, a, scope, names, next));
+    let right = made!(value(alloc, t, b, scope, names, next), left);
+    compared(cmp, swapped, left, right)
 }
 
 // A truth is compared with 0.
@@ -114,11 +100,13 @@ fn truth<'a>(
     ensures names { Extends names.old names.new }
     ensures later { next.old ≤ next.new }
 {
-    let v = value(alloc, t, e, scope, names, next)?;
+    let v = made!(value(alloc, t, e, scope, names, next));
+    let left = truth_in(&v.symbol);
+    drop(v.symbol);
     Ok(Test {
         steps: v.steps,
         cmp: Cmp::Ne,
-        left: truth_in(&v.symbol),
+        left,
         right: Atom::Lit(0),
     })
 }
@@ -170,12 +158,8 @@ fn given<'a>(
     ensures names { Extends names.old names.new }
     ensures later { next.old ≤ next.new }
 {
-    let v = value(alloc, t, e, scope, names, next)?;
-    let words = operands_in(alloc, &v.symbol)?;
-    Ok(Tail {
-        code: join(alloc, v.steps, Flat::Give(words))?,
-        form: Some(v.symbol),
-    })
+    let v = made!(value(alloc, t, e, scope, names, next));
+    given_code(alloc, v)
 }
 
 // A comparison: 1 where it holds, else 0.
@@ -194,13 +178,8 @@ fn decided<'a>(
     ensures names { Extends names.old names.new }
     ensures later { next.old ≤ next.new }
 {
-    let test = condition(alloc, t, e, scope, names, next)?;
-    let holds = give_truth(alloc, true)?;
-    let fails = give_truth(alloc, false)?;
-    Ok(Tail {
-        code: branch(alloc, test, holds, fails)?,
-        form: Some(Symbol::Truth(Atom::Lit(0))),
-    })
+    let test = made!(condition(alloc, t, e, scope, names, next));
+    decided_code(alloc, test)
 }
 
 // The right operand where the left one holds, else 0.
@@ -220,13 +199,9 @@ fn both<'a>(
     ensures names { Extends names.old names.new }
     ensures later { next.old ≤ next.new }
 {
-    let test = condition(alloc, t, a, scope, names, next)?;
-    let right = ending(alloc, t, b, scope, names, next)?;
-    let fails = give_truth(alloc, false)?;
-    Ok(Tail {
-        code: branch(alloc, test, right.code, fails)?,
-        form: Some(Symbol::Truth(Atom::Lit(0))),
-    })
+    let test = made!(condition(alloc, t, a, scope, names, next));
+    let right = made!(ending(alloc, t, b, scope, names, next), test);
+    both_code(alloc, test, right)
 }
 
 // 1 where the left operand holds, else the right one.
@@ -246,13 +221,9 @@ fn either<'a>(
     ensures names { Extends names.old names.new }
     ensures later { next.old ≤ next.new }
 {
-    let test = condition(alloc, t, a, scope, names, next)?;
-    let holds = give_truth(alloc, true)?;
-    let right = ending(alloc, t, b, scope, names, next)?;
-    Ok(Tail {
-        code: branch(alloc, test, holds, right.code)?,
-        form: Some(Symbol::Truth(Atom::Lit(0))),
-    })
+    let test = made!(condition(alloc, t, a, scope, names, next));
+    let right = made!(ending(alloc, t, b, scope, names, next), test);
+    either_code(alloc, test, right)
 }
 
 #[cycle(walk)]
@@ -272,13 +243,10 @@ fn choose<'a>(
     ensures names { Extends names.old names.new }
     ensures later { next.old ≤ next.new }
 {
-    let test = condition(alloc, t, c, scope, names, next)?;
-    let first = ending(alloc, t, a, scope, names, next)?;
-    let second = ending(alloc, t, b, scope, names, next)?;
-    Ok(Tail {
-        code: branch(alloc, test, first.code, second.code)?,
-        form: first.form.or(second.form),
-    })
+    let test = made!(condition(alloc, t, c, scope, names, next));
+    let first = made!(ending(alloc, t, a, scope, names, next), test);
+    let second = made!(ending(alloc, t, b, scope, names, next), test, first);
+    chosen_code(alloc, test, first, second)
 }
 
 // A body with a handler, whose variables have the words of the exception.
@@ -300,20 +268,12 @@ fn try_<'a>(
     ensures names { Extends names.old names.new }
     ensures later { next.old ≤ next.new }
 {
-    let body = ending(alloc, t, a, scope, names, next)?;
+    let body = made!(ending(alloc, t, a, scope, names, next));
     let outside = scope.len();
-    let number = t.table.exception(x);
-    let mut vars = Vec::new(alloc);
-    let values = t.raised_values(alloc, number, next, &mut vars)?;
-    bind_all(ps, values, scope)?;
-    let handler = ending(alloc, t, h, scope, names, next)?;
+    let caught = made!(caught(alloc, t, x, ps, scope, next), body);
+    let handler = made!(ending(alloc, t, h, scope, names, next), body, caught);
     scope.truncate(outside);
-    let first = Box::new(alloc, body.code)?;
-    let second = Box::new(alloc, handler.code)?;
-    Ok(Tail {
-        code: Flat::Try(first, number, short_vars(alloc, &vars)?, second),
-        form: body.form.or(handler.form),
-    })
+    handled(alloc, body, caught, handler)
 }
 
 #[cycle(walk)]
@@ -332,13 +292,8 @@ fn call<'a>(
     ensures names { Extends names.old names.new }
     ensures later { next.old ≤ next.new }
 {
-    let args = each(alloc, t, es, scope, names, next)?;
-    let words = all_operands_in(alloc, &args.symbols)?;
-    let number = names.number(f)?;
-    Ok(Tail {
-        code: join(alloc, args.steps, Flat::Call(number, words))?,
-        form: t.result_form(alloc, f)?,
-    })
+    let args = made!(each(alloc, t, es, scope, names, next));
+    calling(alloc, t, f, args, names)
 }
 
 #[cycle(walk)]
@@ -357,12 +312,8 @@ fn raise<'a>(
     ensures names { Extends names.old names.new }
     ensures later { next.old ≤ next.new }
 {
-    let args = each(alloc, t, es, scope, names, next)?;
-    let words = short(alloc, &all_operands_in(alloc, &args.symbols)?)?;
-    Ok(Tail {
-        code: join(alloc, args.steps, Flat::Raise(t.table.exception(x), words))?,
-        form: None,
-    })
+    let args = made!(each(alloc, t, es, scope, names, next));
+    raising(alloc, t, x, args)
 }
 
 #[cycle(walk)]
@@ -382,11 +333,8 @@ fn ending_block<'a>(
     ensures later { next.old ≤ next.new }
 {
     let outside = scope.len();
-    let steps = statements(alloc, t, sts, scope, names, next)?;
-    let last = ending(alloc, t, a, scope, names, next)?;
+    let steps = made!(statements(alloc, t, sts, scope, names, next));
+    let last = made!(ending(alloc, t, a, scope, names, next), steps);
     scope.truncate(outside);
-    Ok(Tail {
-        code: join(alloc, steps, last.code)?,
-        form: last.form,
-    })
+    ended(alloc, steps, last)
 }

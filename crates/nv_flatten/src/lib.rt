@@ -2,7 +2,10 @@
 #![tactic(auto)]
 
 mod endings;
+mod made_code;
+mod made_values;
 mod program;
 mod values;
+mod want;
 
 pub use program::flatten;

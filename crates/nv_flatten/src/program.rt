@@ -26,6 +26,7 @@ ghost use Rattle.flat_code.specs.inner.Whole.{group_of};
 ghost use Rattle.flat_parts.specs.inner.WholeView.{whole_in};
 
 use crate::endings::ending;
+use crate::want::{made, put};
 use flat_code::forms::of_type;
 use flat_code::names::Names;
 use flat_code::scope::Scope;
@@ -47,8 +48,13 @@ pub fn flatten(alloc: Global, t: &Typed) -> Result<FlatProgram, NoMemory>
     ensures bulk { IfOk result (λ f. IsAtMost (bulk f.funs.items f.main) (of_size (expanded_size (typed_program t.now)))) }
 {
     let source = Source::of(alloc, t.program())?;
-    let main = Name::new(alloc, b"main")?;
-    let funs = functions(alloc, &source, &main)?;
+    let Ok(main) = Name::new(alloc, b"main") else {
+        drop(source);
+        return Err(NoMemory);
+    };
+    let funs = made!(functions(alloc, &source, &main), source, main);
+    drop(source);
+    drop(main);
     Ok(FlatProgram { funs, main: 0 })
 }
 
@@ -69,10 +75,12 @@ fn called_from<'a>(alloc: Global, t: &Source<'a>, first: &'a Name) -> Result<Vec
 {
     let mut names = Names::new(alloc);
     let mut funs = Vec::new(alloc);
-    names.number(first)?;
+    made!(names.number(first), names, funs);
     while let Some(name) = names.get(funs.len()) {
-        funs.push(function(alloc, t, name, &mut names)?)?;
+        let fun = made!(function(alloc, t, name, &mut names), names, funs);
+        put!(funs, fun, names, funs);
     }
+    drop(names);
     Ok(funs)
 }
 
@@ -119,8 +127,13 @@ fn flat_function<'a>(
     let mut next = 0;
     let mut params = Vec::new(alloc);
     let mut scope = entry(alloc, t, &f.params, &mut next, &mut params)?;
-    let tail = ending(alloc, t, &f.body, &mut scope, names, &mut next)?;
-    let results = t.words_of(alloc, &f.result)?;
+    let tail = made!(
+        ending(alloc, t, &f.body, &mut scope, names, &mut next),
+        scope
+    );
+    drop(scope);
+    let results = made!(t.words_of(alloc, &f.result), tail);
+    drop(tail.form);
     Ok(FlatFun {
         params,
         results,
@@ -144,8 +157,8 @@ fn entry<'a>(
 {
     let mut scope = Vec::new(alloc);
     for param in params {
-        let value = of_type(alloc, &t.table, &param.1, next, made)?;
-        scope.push((&param.0, value))?;
+        let value = made!(of_type(alloc, &t.table, &param.1, next, made), scope);
+        put!(scope, (&param.0, value), scope);
     }
     Ok(scope)
 }

@@ -1,47 +1,34 @@
 // Expressions and statements as steps of flat code.
 
-ghost use Rattle.std.specs.Prelude.{◌≡◌, ◌≤◌, ◌+◌, ◌++◌, [], Some, true, if◌then◌else◌, IfOk, OnOk, option_map};
+ghost use Rattle.std.specs.Prelude.{◌≡◌, ◌≤◌, [], Some, true, if◌then◌else◌, IfOk, OnOk};
 ghost use Rattle.nv_base.specs.declared.term.Atom.TheVariants.{Lit};
 ghost use Rattle.nv_ast.specs.declared.token.Span.{Span};
-ghost use Rattle.nv_ast.specs.Types.{words};
 ghost use Rattle.nv_ast.specs.ExprView.{tree_of, list_trees, list_named_trees, list_statements, statement_tree};
 ghost use Rattle.nv_ast.specs.Tree.{TupleTree, FieldsTree, DotTree, InvertTree, NegateTree, BinaryTree, ShiftTree, UnpackTree, PackTree, FetchTree, BlockTree, StoreStatement};
 ghost use Rattle.flat_code.specs.inner.Arms.{is_named};
-ghost use Rattle.flat_code.specs.inner.Code.{arithmetic_of, form_or_unit};
-ghost use Rattle.nv_flatten.specs.inner.Flat.{IsFlatValue, AreFlatValues, AreFlatFields, IsFlatStatement, IsFlatStated};
+ghost use Rattle.flat_code.specs.inner.Code.{arithmetic_of};
+ghost use Rattle.nv_flatten.specs.inner.Flat.{IsFlatValue, AreFlatValues, IsFlatStatement, IsFlatStated};
 ghost use Rattle.flat_code.specs.inner.Simulation.{Extends};
-ghost use Rattle.flat_code.specs.inner.Symbols.{Word, Truth, fresh, numbers_from};
-ghost use Rattle.flat_code.specs.inner.View.{view, list_symbols, list_named_symbols, scope_of};
+ghost use Rattle.flat_code.specs.inner.Symbols.{Word, Truth};
+ghost use Rattle.flat_code.specs.inner.View.{view, list_symbols, scope_of};
 ghost use Rattle.flat_parts.specs.inner.WholeView.{whole_in};
 
 use crate::endings::ending;
+use crate::made_values::{
+    Listed, add_field, add_valued, behind, bound_value, combined, fetched, inverted, negated,
+    no_fields, no_values, packed_value, shifted_by, store_steps, unpacked_value,
+};
+use crate::want::made;
 use flat_code::arms::{ValueArm, value_arm};
 use flat_code::names::Names;
-use flat_code::parts::{add_steps, define, new_variables, shifted, short};
+use flat_code::parts::add_steps;
 use flat_code::scope::{Scope, bind, variable};
-use flat_code::symbol::{
-    Field, Symbol, Valued, field_in, operands_in, renewed, symbol_of_words, truth_in, word_in,
-};
+use flat_code::symbol::{Symbol, Valued, field_in};
 use flat_ir::Step;
-use flat_parts::layouts::{packed, unpacked};
 use flat_parts::source::Source;
 use nv_ast::{Expr, Name, Op, ShiftOp, Stmt};
-use nv_base::{Atom, Bin, Mem, NoMemory, Prim, Una};
+use nv_base::{Atom, Bin, Mem, NoMemory};
 use std::alloc::Global;
-
-/// Steps, and symbolic values behind them.
-#[derive(Drop)]
-pub struct Listed<'a> {
-    pub steps: Vec<Step>,
-    pub symbols: Vec<Symbol<'a>>,
-}
-
-/// Steps, and the fields of a record behind them.
-#[derive(Drop)]
-pub struct Recorded<'a> {
-    pub steps: Vec<Step>,
-    pub fields: Vec<Field<'a>>,
-}
 
 // ---- values
 
@@ -121,30 +108,8 @@ fn named<'a>(
     ensures names { Extends names.old names.new }
     ensures later { next.old ≤ next.new }
 {
-    let ending = ending(alloc, t, e, scope, names, next)?;
-    let mut words = Vec::new(alloc);
-    let symbol = renewed_form(alloc, ending.form, next, &mut words)?;
-    let mut steps = Vec::new(alloc);
-    steps.push(Step::Bind(words, ending.code))?;
-    Ok(Valued { steps, symbol })
-}
-
-// A symbolic value of a form, of new variables; where there is no form there is no value.
-fn renewed_form<'a>(
-    alloc: Global,
-    form: Option<Symbol<'a>>,
-    next: &mut u32,
-    made: &mut Vec<u32>,
-) -> Result<Symbol<'a>, NoMemory>
-    ensures symbol { IfOk result (λ new. view new ≡ fresh next.old (form_or_unit (option_map view form.entry))) }
-    ensures next { OnOk result (next.new ≡ next.old + words (form_or_unit (option_map view form.entry))) }
-    ensures made { OnOk result (made.new.items ≡ made.old.items ++ numbers_from next.old (words (form_or_unit (option_map view form.entry)))) }
-    ensures later { next.old ≤ next.new }
-{
-    match form {
-        Some(s) => renewed(alloc, &s, next, made),
-        None => Ok(Symbol::Tuple(Vec::new(alloc))),
-    }
+    let tail = made!(ending(alloc, t, e, scope, names, next));
+    bound_value(alloc, tail, next)
 }
 
 #[cycle(walk)]
@@ -162,7 +127,7 @@ fn tuple<'a>(
     ensures names { Extends names.old names.new }
     ensures later { next.old ≤ next.new }
 {
-    let parts = each(alloc, t, es, scope, names, next)?;
+    let parts = made!(each(alloc, t, es, scope, names, next));
     Ok(Valued {
         steps: parts.steps,
         symbol: Symbol::Tuple(parts.symbols),
@@ -184,10 +149,14 @@ fn record<'a>(
     ensures names { Extends names.old names.new }
     ensures later { next.old ≤ next.new }
 {
-    let parts = each_named(alloc, t, es, scope, names, next)?;
+    let mut recorded = no_fields(alloc, es.len())?;
+    for e in es {
+        let v = made!(value(alloc, t, &e.1, scope, names, next), recorded);
+        made!(add_field(&e.0, v, &mut recorded), recorded);
+    }
     Ok(Valued {
-        steps: parts.steps,
-        symbol: Symbol::Record(parts.fields),
+        steps: recorded.steps,
+        symbol: Symbol::Record(recorded.fields),
     })
 }
 
@@ -207,7 +176,7 @@ fn dot<'a>(
     ensures names { Extends names.old names.new }
     ensures later { next.old ≤ next.new }
 {
-    let whole = value(alloc, t, a, scope, names, next)?;
+    let whole = made!(value(alloc, t, a, scope, names, next));
     Ok(Valued {
         steps: whole.steps,
         symbol: field_in(whole.symbol, x),
@@ -229,17 +198,8 @@ fn invert<'a>(
     ensures names { Extends names.old names.new }
     ensures later { next.old ≤ next.new }
 {
-    let operand = value(alloc, t, a, scope, names, next)?;
-    let mut steps = operand.steps;
-    let x = define(
-        Prim::Una(Una::Not, word_in(&operand.symbol)),
-        &mut steps,
-        next,
-    )?;
-    Ok(Valued {
-        steps,
-        symbol: Symbol::Word(Atom::Var(x)),
-    })
+    let operand = made!(value(alloc, t, a, scope, names, next));
+    inverted(operand, next)
 }
 
 // A truth turned over: 1 for 0, and 0 for 1.
@@ -258,14 +218,8 @@ fn negate<'a>(
     ensures names { Extends names.old names.new }
     ensures later { next.old ≤ next.new }
 {
-    let operand = value(alloc, t, a, scope, names, next)?;
-    let mut steps = operand.steps;
-    let turned = Prim::Bin(Bin::Xor, truth_in(&operand.symbol), Atom::Lit(1));
-    let x = define(turned, &mut steps, next)?;
-    Ok(Valued {
-        steps,
-        symbol: Symbol::Truth(Atom::Var(x)),
-    })
+    let operand = made!(value(alloc, t, a, scope, names, next));
+    negated(operand, next)
 }
 
 // A shift by no place is the word itself.
@@ -286,14 +240,8 @@ fn shift<'a>(
     ensures names { Extends names.old names.new }
     ensures later { next.old ≤ next.new }
 {
-    let operand = value(alloc, t, a, scope, names, next)?;
-    let word = word_in(&operand.symbol);
-    let mut steps = operand.steps;
-    let shifted = shifted(op, word, n, &mut steps, next)?;
-    Ok(Valued {
-        steps,
-        symbol: Symbol::Word(shifted),
-    })
+    let operand = made!(value(alloc, t, a, scope, names, next));
+    shifted_by(op, n, operand, next)
 }
 
 #[cycle(walk)]
@@ -313,16 +261,9 @@ fn combine<'a>(
     ensures names { Extends names.old names.new }
     ensures later { next.old ≤ next.new }
 {
-    let left = value(alloc, t, a, scope, names, next)?;
-    let right = value(alloc, t, b, scope, names, next)?;
-    let mut steps = left.steps;
-    add_steps(right.steps, &mut steps)?;
-    let both = Prim::Bin(bin, word_in(&left.symbol), word_in(&right.symbol));
-    let x = define(both, &mut steps, next)?;
-    Ok(Valued {
-        steps,
-        symbol: Symbol::Word(Atom::Var(x)),
-    })
+    let left = made!(value(alloc, t, a, scope, names, next));
+    let right = made!(value(alloc, t, b, scope, names, next), left);
+    combined(bin, left, right, next)
 }
 
 #[cycle(walk)]
@@ -341,15 +282,8 @@ fn unpack<'a>(
     ensures names { Extends names.old names.new }
     ensures later { next.old ≤ next.new }
 {
-    let packed = value(alloc, t, a, scope, names, next)?;
-    let words = operands_in(alloc, &packed.symbol)?;
-    let mut steps = packed.steps;
-    let fields = unpacked(alloc, &t.table, l, &words, next)?;
-    add_steps(fields.steps, &mut steps)?;
-    Ok(Valued {
-        steps,
-        symbol: fields.symbol,
-    })
+    let whole = made!(value(alloc, t, a, scope, names, next));
+    unpacked_value(alloc, t, l, whole, next)
 }
 
 #[cycle(walk)]
@@ -368,14 +302,8 @@ fn pack<'a>(
     ensures names { Extends names.old names.new }
     ensures later { next.old ≤ next.new }
 {
-    let fields = value(alloc, t, a, scope, names, next)?;
-    let mut steps = fields.steps;
-    let words = packed(alloc, &t.table, l, &fields.symbol, next)?;
-    add_steps(words.steps, &mut steps)?;
-    Ok(Valued {
-        steps,
-        symbol: words.symbol,
-    })
+    let fields = made!(value(alloc, t, a, scope, names, next));
+    packed_value(alloc, t, l, fields, next)
 }
 
 #[cycle(walk)]
@@ -395,15 +323,8 @@ fn fetch<'a>(
     ensures names { Extends names.old names.new }
     ensures later { next.old ≤ next.new }
 {
-    let address = value(alloc, t, a, scope, names, next)?;
-    let mut steps = address.steps;
-    let mut words = Vec::new(alloc);
-    let vars = new_variables(alloc, n, next, &mut words)?;
-    steps.push(Step::Fetch(m, vars, word_in(&address.symbol)))?;
-    Ok(Valued {
-        steps,
-        symbol: symbol_of_words(alloc, &words)?,
-    })
+    let address = made!(value(alloc, t, a, scope, names, next));
+    fetched(alloc, m, n, address, next)
 }
 
 // A block: its statements, and then its value.
@@ -424,14 +345,10 @@ fn block<'a>(
     ensures later { next.old ≤ next.new }
 {
     let outside = scope.len();
-    let mut steps = statements(alloc, t, sts, scope, names, next)?;
-    let last = value(alloc, t, a, scope, names, next)?;
+    let steps = made!(statements(alloc, t, sts, scope, names, next));
+    let last = made!(value(alloc, t, a, scope, names, next), steps);
     scope.truncate(outside);
-    add_steps(last.steps, &mut steps)?;
-    Ok(Valued {
-        steps,
-        symbol: last.symbol,
-    })
+    behind(steps, last)
 }
 
 // ---- expressions one after another
@@ -452,39 +369,12 @@ pub fn each<'a>(
     ensures names { Extends names.old names.new }
     ensures later { next.old ≤ next.new }
 {
-    let mut steps = Vec::new(alloc);
-    let mut symbols = Vec::with_capacity(alloc, es.len())?;
+    let mut listed = no_values(alloc, es.len())?;
     for e in es {
-        let v = value(alloc, t, e, scope, names, next)?;
-        add_steps(v.steps, &mut steps)?;
-        symbols.push(v.symbol)?;
+        let v = made!(value(alloc, t, e, scope, names, next), listed);
+        made!(add_valued(v, &mut listed), listed);
     }
-    Ok(Listed { steps, symbols })
-}
-
-#[cycle(walk)]
-#[inline(never)]
-fn each_named<'a>(
-    alloc: Global,
-    t: &Source<'a>,
-    es: &'a [(Name, Expr)],
-    scope: &mut Scope<'a>,
-    names: &mut Names<'a>,
-    next: &mut u32,
-) -> Result<Recorded<'a>, NoMemory>
-    ensures flat { IfOk result (λ r. AreFlatFields (whole_in t.now) names.old names.new next.old next.new (scope_of scope.old.items []) (list_named_trees es.now) r.steps.items (list_named_symbols r.fields.items)) }
-    ensures scope { OnOk result (scope.new.items ≡ scope.old.items) }
-    ensures names { Extends names.old names.new }
-    ensures later { next.old ≤ next.new }
-{
-    let mut steps = Vec::new(alloc);
-    let mut fields = Vec::with_capacity(alloc, es.len())?;
-    for e in es {
-        let v = value(alloc, t, &e.1, scope, names, next)?;
-        add_steps(v.steps, &mut steps)?;
-        fields.push((&e.0, v.symbol))?;
-    }
-    Ok(Recorded { steps, fields })
+    Ok(listed)
 }
 
 // ---- statements
@@ -507,7 +397,8 @@ pub fn statements<'a>(
 {
     let mut steps = Vec::new(alloc);
     for st in sts {
-        add_steps(statement(alloc, t, st, scope, names, next)?, &mut steps)?;
+        let more = made!(statement(alloc, t, st, scope, names, next), steps);
+        made!(add_steps(more, &mut steps), steps);
     }
     Ok(steps)
 }
@@ -529,8 +420,8 @@ fn statement<'a>(
 {
     match st {
         Stmt::Let(pattern, e, _) => {
-            let v = value(alloc, t, e, scope, names, next)?;
-            bind(pattern, v.symbol, scope)?;
+            let v = made!(value(alloc, t, e, scope, names, next));
+            made!(bind(pattern, v.symbol, scope), v.steps);
             Ok(v.steps)
         }
         Stmt::Store(m, a, e, _) => store(alloc, t, *m, a, e, scope, names, next),
@@ -555,11 +446,7 @@ fn store<'a>(
     ensures names { Extends names.old names.new }
     ensures later { next.old ≤ next.new }
 {
-    let address = value(alloc, t, a, scope, names, next)?;
-    let stored = value(alloc, t, e, scope, names, next)?;
-    let mut steps = address.steps;
-    add_steps(stored.steps, &mut steps)?;
-    let words = short(alloc, &operands_in(alloc, &stored.symbol)?)?;
-    steps.push(Step::Store(m, word_in(&address.symbol), words))?;
-    Ok(steps)
+    let address = made!(value(alloc, t, a, scope, names, next));
+    let stored = made!(value(alloc, t, e, scope, names, next), address);
+    store_steps(alloc, m, address, stored)
 }

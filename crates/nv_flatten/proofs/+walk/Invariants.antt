@@ -74,9 +74,6 @@ decreases-endings::try_ l = 10 * (weight (tree_of l.a.now) + weight (tree_of l.h
 abbrev pub decreases-values::each : goal.decreases-values::each
 decreases-values::each l = 10 * weight_all (list_trees l.es.now) + 7
 
-abbrev pub decreases-values::each_named : goal.decreases-values::each_named
-decreases-values::each_named l = 10 * weight_named (list_named_trees l.es.now) + 7
-
 abbrev pub decreases-values::tuple : goal.decreases-values::tuple
 decreases-values::tuple l = 10 * weight_all (list_trees l.es.now) + 8
 
@@ -103,15 +100,15 @@ decreases-endings::ending_block l = 10 * (weight_statements (list_statements l.s
 
 abbrev pub invariant-values::each-loop-e : goal.invariant-values::each-loop-e
 invariant-values::each-loop-e l = record {
-  front : FlatFront (whole_in l.t) l.fn.names l.names l.fn.next l.next (scope_of l.fn.scope.items []) l.es l.e-index l.steps.items l.symbols.items;
+  front : FlatFront (whole_in l.t) l.fn.names l.names l.fn.next l.next (scope_of l.fn.scope.items []) l.es l.e-index l.listed.steps.items l.listed.symbols.items;
   same : l.scope.items ≡ l.fn.scope.items;
   names : Extends l.fn.names l.names;
   later : l.fn.next ≤ l.next;
 }
 
-abbrev pub invariant-values::each_named-loop-e : goal.invariant-values::each_named-loop-e
-invariant-values::each_named-loop-e l = record {
-  front : FlatFields (whole_in l.t) l.fn.names l.names l.fn.next l.next (scope_of l.fn.scope.items []) l.es l.e-index l.steps.items l.fields.items;
+abbrev pub invariant-values::record-loop-e : goal.invariant-values::record-loop-e
+invariant-values::record-loop-e l = record {
+  front : FlatFields (whole_in l.t) l.fn.names l.names l.fn.next l.next (scope_of l.fn.scope.items []) l.es l.e-index l.recorded.steps.items l.recorded.fields.items;
   same : l.scope.items ≡ l.fn.scope.items;
   names : Extends l.fn.names l.names;
   later : l.fn.next ≤ l.next;

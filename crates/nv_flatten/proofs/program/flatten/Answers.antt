@@ -10,17 +10,17 @@ use Rattle.nv_flatten.proofs.program.flatten.Goals as goal
 
 pub invariant_of-result : goal.invariant_of-result
 invariant_of-result c = record {
-  formed = formed (typed_program c.args.t.now) c.program.ensures.typed c.in_ok-funs.funs.items
-      (λ g e. (bounded-main (whole_in c.in_ok-source.source) (whole_of (typed_program c.args.t.now)) c.in_ok-main.main c.in_ok-funs.funs.items (c.in_ok-source.ensures ∙ ap whole_of c.program.ensures.same) c.in_ok-main.ensures c.in_ok-funs.ensures g e).complete);
+  formed = formed (typed_program c.args.t.now) c.program.ensures.typed c.in-Ok-functions.found.items
+      (λ g e. (bounded-main (whole_in c.in_ok-source.source) (whole_of (typed_program c.args.t.now)) c.in-Ok.main c.in-Ok-functions.found.items (c.in_ok-source.ensures ∙ ap whole_of c.program.ensures.same) c.in-Ok.ensures c.in-Ok-functions.ensures g e).complete);
 }
 
 pub returns : goal.returns
 returns c =
-    let bounded = bounded-main (whole_in c.in_ok-source.source) (whole_of (typed_program c.args.t.now)) c.in_ok-main.main c.in_ok-funs.funs.items (c.in_ok-source.ensures ∙ ap whole_of c.program.ensures.same) c.in_ok-main.ensures c.in_ok-funs.ensures in
+    let bounded = bounded-main (whole_in c.in_ok-source.source) (whole_of (typed_program c.args.t.now)) c.in-Ok.main c.in-Ok-functions.found.items (c.in_ok-source.ensures ∙ ap whole_of c.program.ensures.same) c.in-Ok.ensures c.in-Ok-functions.ensures in
     record {
-      kept = keeps (typed_program c.args.t.now) c.program.ensures.typed c.in_ok-funs.funs.items (λ g e. (bounded g e).complete);
-      equal = equal (typed_program c.args.t.now) c.program.ensures.typed c.in_ok-funs.funs.items (λ g e. (bounded g e).complete);
-      reached = all-reached (typed_program c.args.t.now) c.program.ensures.typed c.in_ok-funs.funs.items (λ g e. (bounded g e).complete);
-      wide = wide-of (typed_program c.args.t.now) c.program.ensures.typed c.in_ok-funs.funs.items bounded;
-      bulk = bulk-of (typed_program c.args.t.now) c.program.ensures.typed (subst (λ n. n ≤ 4096) c.args.t.now.sized c.args.t.now.small) c.in_ok-funs.funs.items bounded;
+      kept = keeps (typed_program c.args.t.now) c.program.ensures.typed c.in-Ok-functions.found.items (λ g e. (bounded g e).complete);
+      equal = equal (typed_program c.args.t.now) c.program.ensures.typed c.in-Ok-functions.found.items (λ g e. (bounded g e).complete);
+      reached = all-reached (typed_program c.args.t.now) c.program.ensures.typed c.in-Ok-functions.found.items (λ g e. (bounded g e).complete);
+      wide = wide-of (typed_program c.args.t.now) c.program.ensures.typed c.in-Ok-functions.found.items bounded;
+      bulk = bulk-of (typed_program c.args.t.now) c.program.ensures.typed (subst (λ n. n ≤ 4096) c.args.t.now.sized c.args.t.now.small) c.in-Ok-functions.found.items bounded;
     }

@@ -3,7 +3,7 @@ use Rattle.flat_code.specs.inner.Code.{form_or_unit}
 use Rattle.flat_code.specs.inner.Symbols.{Tuple, fresh}
 use Rattle.flat_code.specs.inner.View.{view, list_symbols}
 use Rattle.flat_code.proofs.Rows.{tuple_view}
-use Rattle.nv_flatten.proofs.values.renewed_form.Goals as goal
+use Rattle.nv_flatten.proofs.made_values.renewed_form.Goals as goal
 
 pub returns-in-None-clause-symbol : goal.returns-in-None-clause-symbol
 returns-in-None-clause-symbol c = tuple_view c.new.result ∙ ap (λ l. Tuple (list_symbols l)) c.new.ensures.items ∙ ap (λ o. fresh c.args.next.now (form_or_unit (option_map view o))) (sym c.in-None.is)

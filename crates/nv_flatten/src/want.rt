@@ -1,0 +1,50 @@
+// What is handed on where there is no memory.
+
+/// What was made, or the want of memory handed on, once the values that are held go by a call: a value
+/// that goes by itself has all its variants in the proof of the function. In the walk it stands also where
+/// nothing is held, since `?` is two calls more in each goal of a function of a circle.
+macro_rules! made {
+    ($found:expr $(, $held:expr)*) => {
+        match $found {
+            Ok(found) => found,
+            Err(want) => {
+                $(drop($held);)*
+                return Err(want);
+            }
+        }
+    };
+}
+
+/// Puts an item at the end of a vector, or hands the want of memory on, once the item and the values
+/// that are held go by a call.
+macro_rules! put {
+    ($items:expr, $item:expr $(, $held:expr)*) => {
+        match $items.push($item) {
+            Ok(()) => {}
+            Err(failed) => {
+                drop(failed.value);
+                $(drop($held);)*
+                return Err(NoMemory);
+            }
+        }
+    };
+}
+
+/// What is inside, in a box of its own, or the want of memory handed on, once it and the values that are
+/// held go by a call.
+macro_rules! boxed {
+    ($alloc:expr, $inside:expr $(, $held:expr)*) => {
+        match Box::new($alloc, $inside) {
+            Ok(inside) => inside,
+            Err(failed) => {
+                drop(failed.value);
+                $(drop($held);)*
+                return Err(NoMemory);
+            }
+        }
+    };
+}
+
+pub(crate) use boxed;
+pub(crate) use made;
+pub(crate) use put;
