@@ -1,23 +1,21 @@
 -- Of a text's answers one is true.
-use Rattle.std.proofs.Common.{◌≡◌, ◌≢◌, ℕ, zero, suc, ◌+◌, ◌*◌, ◌^◌, ◌<◌, ◌≤◌, List, [], ◌∷◌, ◌++◌, length, refl, sym, ap, ◌∙◌, subst, arith, append_assoc, None, Some, Result, Ok, Err, IfOk, IfErr, decimal}
-use Rattle.std.proofs.lemmas.List.{append-nil, length-append}
-use Rattle.line_text.specs.Line.{Lacks, AllLack, text_of}
-use Rattle.line_text.specs.Format.{IsText, IsFormat, FirstFault, wrong, short}
-use Rattle.line_text.proofs.SplitLaws.{lines_one, split_one, text_of-cons, AllLack-front}
+use Rattle.std.proofs.Common.{◌≡◌, ℕ, ◌+◌, ◌≤◌, List, [], ◌∷◌, ◌++◌, length, refl, sym, ap, ◌∙◌, subst, arith, Some, Result, Ok, Err, IfOk, IfErr, decimal}
+use Rattle.std.proofs.lemmas.List.{append-nil}
+use Rattle.line_text.specs.Line.{AllLack, text_of}
+use Rattle.line_text.specs.Format.{IsText, IsFormat}
+use Rattle.line_text.proofs.SplitLaws.{lines_one, split_one, text_of-cons}
 use Rattle.line_text.proofs.FormatLaws.{no_text, one_fault}
 use Rattle.nv_base.specs.Memories.{Memories, blank, first_too_large}
-use Rattle.nv_base.specs.declared.term.Mem.{Mem}
 use Rattle.nv_memtext.specs.declared.line.Stretch.{Stretch}
 use Rattle.nv_memtext.specs.declared.read.Job.{Job}
 use Rattle.nv_memtext.specs.declared.read.MemError.{MemError}
 use Rattle.nv_memtext.specs.declared.read.MemError.TheVariants.{NoMemory, Bad, TooLarge}
-use Rattle.nv_memtext.specs.Spelling.{name_of, SpellWords}
-use Rattle.nv_memtext.specs.MemoryText.{SpellsSizes, SpellsArgs, SpellsStretch, SpellStretches, stretched, room, IsMemoryText, IsWhole, IsFront, nothing, one_line, lines, IsTooLarge, IsBad, Gives}
+use Rattle.mem_lines.specs.Spelling.{name_of}
+use Rattle.nv_memtext.specs.MemoryText.{SpellsSizes, SpellsArgs, SpellsStretch, SpellStretches, stretched, IsMemoryText, IsWhole, IsFront, nothing, one_line, lines, IsTooLarge, IsBad, Gives}
 use Rattle.nv_memtext.specs.Answer.{IsTrueError, AnswersJob, AnswersBad, AnswersTooLarge}
 use Rattle.nv_memtext.specs.inner.Reading.{HasFirst}
 use Rattle.nv_memtext.proofs.LineLemmas.{args_one, stretch_parts, stretch_is, IsOne, at_small}
-use Rattle.nv_memtext.proofs.TextLemmas.{sizes_one, sizes_lack, args_lack, stretches_lack, text_lack, small_sizes, first_stretches, not_large}
-use Rattle.nv_memtext.proofs.FaultLemmas.{two_lines}
+use Rattle.nv_memtext.proofs.TextLemmas.{sizes_one, sizes_lack, text_lack, small_sizes, first_stretches, not_large}
 
 -- two stretches of the same parts are one
 stretch_ext : (s t : Stretch) → IsOne s t.mem t.at t.words → s ≡ t

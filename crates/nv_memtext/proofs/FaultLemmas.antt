@@ -1,14 +1,14 @@
 -- The first faulty line of a memory text.
-use Rattle.std.proofs.Common.{◌≡◌, ◌≢◌, ℕ, zero, suc, ◌+◌, ◌*◌, ◌^◌, ◌<◌, ◌≤◌, List, [], ◌∷◌, ◌++◌, length, refl, sym, ap, ◌∙◌, subst, arith, append_assoc, None, Some}
-use Rattle.std.proofs.lemmas.List.{append-nil, length-append}
-use Rattle.line_text.specs.Line.{Lacks, AllLack, text_of}
-use Rattle.line_text.specs.Format.{IsText, IsFormat, FirstFault, wrong, short}
-use Rattle.line_text.proofs.SplitLaws.{lines_one, lacks_not, split_one, text_of-push, text_of-cons}
-use Rattle.nv_base.specs.Memories.{Memories, blank, first_too_large}
+use Rattle.std.proofs.Common.{◌≡◌, ℕ, ◌+◌, List, [], ◌∷◌, ◌++◌, length, refl, sym, ap, ◌∙◌, subst, arith}
+use Rattle.std.proofs.lemmas.List.{append-nil}
+use Rattle.line_text.specs.Line.{Lacks, text_of}
+use Rattle.line_text.specs.Format.{IsText, FirstFault, wrong, short}
+use Rattle.line_text.proofs.SplitLaws.{lines_one, lacks_not, split_one, text_of-cons}
+use Rattle.nv_base.specs.Memories.{Memories}
 use Rattle.nv_memtext.specs.declared.line.Stretch.{Stretch}
-use Rattle.nv_memtext.specs.MemoryText.{SpellsSizes, SpellsArgs, SpellsStretch, SpellStretches, IsMemoryText, IsWhole, IsFront, nothing, one_line, lines, IsTooLarge, IsBad, Gives}
+use Rattle.nv_memtext.specs.MemoryText.{SpellsSizes, SpellsArgs, SpellsStretch, SpellStretches, IsWhole, IsFront, nothing, one_line, lines, IsTooLarge, IsBad}
 use Rattle.nv_memtext.specs.inner.Reading.{HasFirst, HasLines}
-use Rattle.nv_memtext.proofs.TextLemmas.{sizes_one, sizes_lack, text_lack, small_sizes, last_stretch, first_stretches, not_large, has_first, whole_of}
+use Rattle.nv_memtext.proofs.TextLemmas.{sizes_one, sizes_lack, text_lack, last_stretch, not_large, has_first, whole_of}
 
 -- a whole text has two lines at least
 pub two_lines : (params : ℕ) (ls : List (List ℕ)) (w : IsWhole params ls) → length ls ≡ length w.text.others + 2

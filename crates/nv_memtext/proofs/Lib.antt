@@ -1,4 +1,3 @@
-pub mod WordLemmas
 pub mod LineLemmas
 pub mod TextLemmas
 pub mod FaultLemmas

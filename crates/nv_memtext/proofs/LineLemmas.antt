@@ -1,16 +1,17 @@
 -- What each line's parts are.
-use Rattle.std.proofs.Common.{◌≡◌, ℕ, ◌+◌, ◌*◌, ◌/◌, ◌%◌, ◌^◌, ◌<◌, ◌≤◌, List, [], ◌∷◌, ◌++◌, length, refl, sym, ap, ◌∙◌, subst, arith, codes, decimal, lit≤, Option, None, Some, IfSome, IfNone}
-use Rattle.line_text.specs.Line.{Lacks, AllLack, parts, parted}
+use Rattle.std.proofs.Common.{◌≡◌, ℕ, ◌+◌, ◌/◌, ◌%◌, ◌<◌, ◌≤◌, List, [], ◌∷◌, length, refl, sym, ap, ◌∙◌, subst, arith, codes, decimal, lit≤, Option, None, Some, IfSome, IfNone}
+use Rattle.line_text.specs.Line.{Lacks, parts, parted}
 use Rattle.line_text.proofs.SplitLaws.{parts-parted, parted-parts, Lacks-test}
 use Rattle.line_text.proofs.NumberLaws.{Lacks-decimal}
 use Rattle.line_text.proofs.NumberLemmas.{decimal_one}
 use Rattle.nv_base.specs.declared.term.Mem.{Mem}
 use Rattle.nv_base.specs.declared.term.Mem.TheVariants.{Sram, Sdram, Scratch}
 use Rattle.nv_base.specs.Memories.{IsAccess, first_word}
-use Rattle.nv_memtext.specs.Spelling.{name_of, SpellWords}
-use Rattle.nv_memtext.specs.MemoryText.{SpellsSizes, SpellsArgs, SpellsStretch, room}
+use Rattle.mem_lines.specs.Spelling.{name_of, SpellWords}
+use Rattle.mem_lines.specs.Places.{room}
+use Rattle.nv_memtext.specs.MemoryText.{SpellsSizes, SpellsArgs, SpellsStretch}
 use Rattle.nv_memtext.specs.declared.line.Stretch.{Stretch}
-use Rattle.nv_memtext.proofs.WordLemmas.{SpellWords-lack, SpellWords-one}
+use Rattle.mem_lines.proofs.WordLemmas.{SpellWords-lack, SpellWords-one}
 
 pub sizes_parts : (line : List ℕ) (a b : ℕ) → SpellsSizes line a b → parts line ≡ codes "memory" ∷ decimal a ∷ decimal b ∷ []
 sizes_parts line a b s =

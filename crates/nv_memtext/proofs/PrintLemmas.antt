@@ -1,5 +1,5 @@
 -- Texts that are written piece by piece.
-use Rattle.std.proofs.Common.{◌≡◌, ℕ, zero, suc, ◌+◌, ◌-◌, ◌*◌, ◌/◌, ◌%◌, ◌<◌, ◌≤◌, List, [], ◌∷◌, ◌++◌, length, get_or, take, drop, map, refl, sym, ap, ◌∙◌, subst, arith, append_assoc, codes, decimal, add-one, Bool, true, false, eqb, Result, OnOk}
+use Rattle.std.proofs.Common.{◌≡◌, ℕ, ◌+◌, ◌-◌, ◌*◌, ◌<◌, ◌≤◌, List, [], ◌∷◌, ◌++◌, length, get_or, take, drop, map, refl, sym, ap, ◌∙◌, arith, append_assoc, decimal, add-one, true, false, eqb, Result, OnOk}
 use Rattle.std.proofs.lemmas.Result.{on_ok_weaker}
 use Rattle.std.proofs.lemmas.List.{append-nil, take_all, length-drop}
 use Rattle.std.proofs.lemmas.Grind.{take_at_read}
@@ -8,9 +8,9 @@ use Rattle.line_text.specs.Line.{text_of, parted}
 use Rattle.line_text.specs.Number.{hex_word}
 use Rattle.line_text.proofs.SplitLaws.{parted-cons, text_of-append}
 use Rattle.nv_base.specs.declared.term.Mem.{Mem}
-use Rattle.nv_base.specs.declared.outcome.Write.{Write}
-use Rattle.nv_memtext.specs.Spelling.{name_of}
-use Rattle.nv_memtext.specs.OutcomeText.{stretch_line, write_line, stretch_lines, stretch_words, stretch_start, numbers_below, memory_lines}
+use Rattle.mem_lines.specs.Spelling.{name_of}
+use Rattle.mem_lines.specs.Places.{stretch_start}
+use Rattle.nv_memtext.specs.OutcomeText.{stretch_line, stretch_lines, stretch_words, numbers_below}
 
 pub flat_map-append : {X A : Type 0} (f : X → List A) (xs ys : List X) → flat_map f (xs ++ ys) ≡ flat_map f xs ++ flat_map f ys
 flat_map-append f [] ys = refl

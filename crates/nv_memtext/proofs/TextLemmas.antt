@@ -1,22 +1,22 @@
 -- Memory texts: one line more, and what no text begins with.
-use Rattle.std.proofs.Common.{◌≡◌, ◌≢◌, ℕ, zero, suc, ◌+◌, ◌*◌, ◌^◌, ◌<◌, ◌≤◌, List, [], ◌∷◌, ◌++◌, length, refl, sym, ap, ◌∙◌, subst, arith, append_assoc, codes, decimal, lit≤, Option, None, Some, unwrap_or, Bool, true, false, cond, leb, take, drop}
+use Rattle.std.proofs.Common.{◌≡◌, ℕ, ◌+◌, ◌*◌, ◌<◌, ◌≤◌, List, [], ◌∷◌, ◌++◌, length, refl, sym, ap, ◌∙◌, subst, arith, codes, decimal, lit≤, None, Some, unwrap_or, Bool, true, false, cond, leb, take, drop}
 use Rattle.std.proofs.lemmas.Bool.{leb-true}
 use Rattle.std.proofs.lemmas.List.{append-nil, length-append, length-take-le, length-drop}
 use Rattle.std.proofs.lemmas.Bool.Decides.{nat_tests}
-use Rattle.line_text.specs.Line.{Lacks, AllLack, text_of, parts, parted}
-use Rattle.line_text.specs.Format.{IsText, IsFormat, FirstFault, wrong, short}
-use Rattle.line_text.proofs.SplitLaws.{lines_one, lacks_not, split_one, text_of-push, text_of-cons, Lacks-parted, Lacks-test, AllLack-append}
+use Rattle.line_text.specs.Line.{Lacks, AllLack, text_of, parts}
+use Rattle.line_text.proofs.SplitLaws.{split_one, text_of-push, text_of-cons, Lacks-parted, Lacks-test}
 use Rattle.line_text.proofs.NumberLaws.{Lacks-decimal}
 use Rattle.line_text.proofs.NumberLemmas.{decimal_one}
-use Rattle.nv_base.specs.Memories.{Memories, blank, first_too_large, stored, IsAccess, first_word, words_at}
+use Rattle.nv_base.specs.Memories.{Memories, blank, first_too_large, stored, words_at}
 use Rattle.nv_base.specs.declared.term.Mem.{Mem}
 use Rattle.nv_base.specs.declared.term.Mem.TheVariants.{Sram, Sdram, Scratch}
 use Rattle.nv_memtext.specs.declared.line.Stretch.{Stretch}
-use Rattle.nv_memtext.specs.Spelling.{name_of, SpellWords}
-use Rattle.nv_memtext.specs.MemoryText.{SpellsSizes, SpellsArgs, SpellsStretch, SpellStretches, stretched, room, IsMemoryText, IsWhole, IsFront, nothing, one_line, lines, IsTooLarge, IsBad, Gives}
+use Rattle.mem_lines.specs.Spelling.{name_of}
+use Rattle.mem_lines.specs.Places.{room}
+use Rattle.nv_memtext.specs.MemoryText.{SpellsSizes, SpellsArgs, SpellsStretch, SpellStretches, stretched, IsMemoryText, lines, IsTooLarge, Gives}
 use Rattle.nv_memtext.specs.inner.Reading.{HasFirst, HasLines, HasLengths}
 use Rattle.nv_memtext.proofs.LineLemmas.{sizes_parts, at_small}
-use Rattle.nv_memtext.proofs.WordLemmas.{SpellWords-lack, SpellWords-one}
+use Rattle.mem_lines.proofs.WordLemmas.{SpellWords-lack}
 
 -- a first line gives one pair of sizes
 pub sizes_one : (line : List ℕ) (a b c d : ℕ) → SpellsSizes line a b → SpellsSizes line c d → (a ≡ c) × (b ≡ d)

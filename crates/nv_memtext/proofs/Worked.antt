@@ -1,5 +1,5 @@
 -- A short memory text, and the text of a short outcome, by computing.
-use Rattle.std.proofs.Common.{ℕ, List, [], ◌∷◌, refl, lit<, lit≤, codes}
+use Rattle.std.proofs.Common.{[], ◌∷◌, refl, lit<, lit≤, codes}
 use Rattle.std.specs.Fmt.{digits}
 use Rattle.line_text.specs.Number.{SpellsWord, hex_word}
 use Rattle.nv_base.specs.declared.term.Mem.TheVariants.{Sram, Sdram}

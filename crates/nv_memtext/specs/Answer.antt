@@ -4,7 +4,7 @@ use Rattle.nv_base.specs.Memories.{Memories}
 use Rattle.nv_memtext.specs.declared.read.Job.{Job}
 use Rattle.nv_memtext.specs.declared.read.MemError.{MemError}
 use Rattle.nv_memtext.specs.declared.read.MemError.TheVariants.{NoMemory, Bad, TooLarge}
-use Rattle.nv_memtext.specs.MemoryText.{Gives, IsBad, IsTooLarge}
+use Rattle.nv_memtext.specs.MemoryText.{IsBad, IsTooLarge}
 
 -- each refusal is true of the bytes
 abbrev pub IsTrueError : ℕ → List ℕ → MemError → Type 0

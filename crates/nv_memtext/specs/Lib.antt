@@ -1,4 +1,3 @@
-pub mod Spelling
 pub mod MemoryText
 pub mod OutcomeText
 pub mod Answer

@@ -1,12 +1,11 @@
 -- The text of a packet's memories and of the arguments of a run.
-use Rattle.std.specs.Prelude.{◌≡◌, ◌≢◌, ℕ, ◌+◌, ◌*◌, ◌^◌, ◌<◌, ◌≤◌, List, [], ◌∷◌, ◌++◌, Some, None, length, codes, decimal, unwrap_or}
+use Rattle.std.specs.Prelude.{◌≡◌, ℕ, ◌+◌, ◌^◌, ◌<◌, ◌≤◌, List, [], ◌∷◌, ◌++◌, Some, None, length, codes, decimal, unwrap_or}
 use Rattle.line_text.specs.Line.{text_of, parted}
-use Rattle.line_text.specs.Format.{IsText, FirstFault}
+use Rattle.line_text.specs.Format.{FirstFault}
 use Rattle.nv_base.specs.Memories.{Memories, IsAccess, blank, first_too_large, first_word, stored}
-use Rattle.nv_base.specs.declared.term.Mem.{Mem}
-use Rattle.nv_base.specs.declared.term.Mem.TheVariants.{Sram, Sdram, Scratch}
 use Rattle.nv_memtext.specs.declared.line.Stretch.{Stretch}
-use Rattle.nv_memtext.specs.Spelling.{name_of, SpellWords}
+use Rattle.mem_lines.specs.Places.{room}
+use Rattle.mem_lines.specs.Spelling.{name_of, SpellWords}
 
 -- line 1: `memory`, the words of SRAM and the quadwords of SDRAM, each of at most ten digits
 pub record SpellsSizes (line : List ℕ) (sram sdram : ℕ) : Type 0 where
@@ -20,12 +19,6 @@ pub record SpellsArgs (line : List ℕ) (args : List ℕ) : Type 0 where
   pub spelled : line ≡ parted (codes "args" ∷ parts)
   pub words : SpellWords parts args
   pub eight : length args ≤ 8
-
--- how many words of a memory a text may give: of scratch those of the source
-abbrev pub room : ℕ → ℕ → Mem → ℕ
-room sram sdram Sram = sram
-room sram sdram Sdram = 2 * sdram
-room sram sdram Scratch = 512
 
 -- each further line: the memory's name, the address, and 1 to 8 words, at SDRAM an even number, inside the memory
 pub record SpellsStretch (sram sdram : ℕ) (line : List ℕ) (s : Stretch) : Type 0 where

@@ -1,5 +1,5 @@
 -- The text of an outcome, of the writes that a log kept, and of the memories.
-use Rattle.std.specs.Prelude.{ℕ, zero, suc, ◌+◌, ◌*◌, ◌/◌, ◌==◌, Bool, List, [], ◌∷◌, ◌++◌, length, map, take, drop, codes, decimal, if◌then◌else◌}
+use Rattle.std.specs.Prelude.{ℕ, zero, suc, ◌+◌, ◌*◌, ◌/◌, ◌==◌, List, [], ◌∷◌, ◌++◌, length, map, take, drop, codes, decimal, if◌then◌else◌}
 use Rattle.std.specs.List.{flat_map, list_all}
 use Rattle.line_text.specs.Line.{text_of, parted}
 use Rattle.line_text.specs.Number.{hex_word}
@@ -10,7 +10,8 @@ use Rattle.nv_base.specs.declared.outcome.Outcome.TheVariants.{Ended, Raised, Fa
 use Rattle.nv_base.specs.declared.outcome.Write.{Write}
 use Rattle.nv_base.specs.declared.term.Mem.{Mem}
 use Rattle.nv_base.specs.declared.term.Mem.TheVariants.{Sram, Sdram, Scratch}
-use Rattle.nv_memtext.specs.Spelling.{name_of}
+use Rattle.mem_lines.specs.Places.{stretch_start}
+use Rattle.mem_lines.specs.Spelling.{name_of}
 
 -- how the run stands
 abbrev pub outcome_line : Outcome → List ℕ
@@ -31,12 +32,6 @@ stretch_line m at ws = parted (name_of m ∷ decimal at ∷ map hex_word ws)
 abbrev pub numbers_below : ℕ → List ℕ
 numbers_below zero = []
 numbers_below (suc n) = numbers_below n ++ n ∷ []
-
--- the address of a memory's stretch k: stretches have eight words, and a quadword has two
-abbrev pub stretch_start : Mem → ℕ → ℕ
-stretch_start Sram k = 8 * k
-stretch_start Sdram k = 4 * k
-stretch_start Scratch k = 8 * k
 
 -- the words of stretch k; the last stretch may be shorter
 abbrev pub stretch_words : List ℕ → ℕ → List ℕ

@@ -2,7 +2,7 @@
 use Rattle.std.specs.Prelude.{◌≡◌, ℕ, List, [], ◌∷◌, codes, replicate}
 use Rattle.line_text.specs.Line.{text_of}
 use Rattle.nv_base.specs.Log.{empty_log, noted}
-use Rattle.nv_base.specs.Memories.{Memories, blank}
+use Rattle.nv_base.specs.Memories.{Memories}
 use Rattle.nv_base.specs.declared.outcome.Outcome.TheVariants.{Raised}
 use Rattle.nv_base.specs.declared.term.Mem.TheVariants.{Sram}
 use Rattle.nv_memtext.specs.MemoryText.{Gives}

@@ -1,24 +1,17 @@
 //! The lines of a memory text, each by itself.
 
-ghost use Rattle.std.specs.Prelude.{◌≡◌, ◌≢◌, ◌+◌, ◌<◌, ◌≤◌, ◌^◌, ◌↔◌, ℕ, List, length, IsTrue, IfSome, IfNone, MatchOption};
-ghost use Rattle.nv_base.specs.Memories.{IsAccess, first_word};
+ghost use Rattle.std.specs.Prelude.{◌≡◌, ◌≢◌, ◌<◌, ◌≤◌, ℕ, List, IfSome, IfNone, MatchOption};
 ghost use Rattle.nv_base.specs.declared.term.Mem.{Mem};
-ghost use Rattle.nv_memtext.specs.Spelling.{name_of, SpellWords};
-ghost use Rattle.nv_memtext.specs.MemoryText.{SpellsSizes, SpellsArgs, SpellsStretch, room};
+ghost use Rattle.mem_lines.specs.Spelling.{name_of};
+ghost use Rattle.nv_memtext.specs.MemoryText.{SpellsSizes, SpellsArgs, SpellsStretch};
 ghost use Rattle.nv_memtext.specs.declared.line.Stretch.{Stretch};
 
-use line_text::{Parts, read_word};
-use nv_base::{COMPILER, Mem, Words};
+use line_text::Parts;
+use mem_lines::{Sizes, is_access, is_inside, words_of};
+use nv_base::{Mem, Words};
 
 /// The greatest number of at most ten digits.
 const TEN_DIGITS: u64 = 9_999_999_999;
-
-/// The sizes that the first line gives: words of SRAM and quadwords of SDRAM.
-#[derive(Clone, Copy)]
-pub struct Sizes {
-    pub sram: u64,
-    pub sdram: u64,
-}
 
 /// Words that a line gives to a memory, from an address on.
 #[derive(Clone, Copy)]
@@ -45,24 +38,6 @@ pub fn sizes_of(line: &[u8]) -> Option<Sizes>
     Some(Sizes { sram, sdram })
 }
 
-/// The words of these parts, at most eight.
-fn words_of(parts: Parts) -> Option<Words>
-    ensures some { IfSome result (λ ws. SpellWords parts.entry ws × (length ws ≤ 8)) }
-    ensures none { IfNone result ((ws : List ℕ) → length ws ≤ 8 → ¬ SpellWords parts.entry ws) }
-{
-    let mut parts = parts;
-    let mut words = [0; 8];
-    let mut count = 0;
-    while let Some(part) = parts.next_part() {
-        if count == 8 {
-            return None;
-        }
-        words[count] = read_word(part)?;
-        count += 1;
-    }
-    Some(Words::of(&words[..count]))
-}
-
 /// The arguments of a second line.
 pub fn args_of(line: &[u8]) -> Option<Words>
     ensures some { IfSome result (SpellsArgs line.now) }
@@ -84,31 +59,6 @@ fn memory_of(name: &[u8]) -> Option<Mem>
         b"sdram" => Some(Mem::Sdram),
         b"scratch" => Some(Mem::Scratch),
         _ => None,
-    }
-}
-
-/// Whether so many words are an access to a memory.
-fn is_access(mem: Mem, count: usize) -> bool
-    requires { count ≤ 8 }
-    ensures { IsTrue result ↔ IsAccess mem count }
-{
-    match mem {
-        Mem::Sram | Mem::Scratch => count > 0,
-        Mem::Sdram => count == 2 || count == 4 || count == 6 || count == 8,
-    }
-}
-
-/// Whether so many words from an address on lie inside the memory.
-fn is_inside(sizes: &Sizes, mem: Mem, at: u64, count: usize) -> bool
-    requires sdram { sizes.now.sdram ≤ 65536 }
-    requires at { at < 10 ^ 10 }
-    requires count { count ≤ 8 }
-    ensures { IsTrue result ↔ (first_word mem at + count ≤ room sizes.now.sram sizes.now.sdram mem) }
-{
-    match mem {
-        Mem::Sram => at + count as u64 <= sizes.sram,
-        Mem::Sdram => 2 * at + count as u64 <= 2 * sizes.sdram,
-        Mem::Scratch => at + count as u64 <= COMPILER as u64,
     }
 }
 

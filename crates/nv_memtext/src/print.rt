@@ -1,13 +1,14 @@
 //! An outcome text, written.
 
-ghost use Rattle.std.specs.Prelude.{◌≡◌, ◌+◌, ◌*◌, ◌/◌, ◌<◌, ◌≤◌, ◌^◌, ◌++◌, ◌∷◌, ◌==◌, [], ℕ, List, map, take, length, codes, decimal, IfOk, OnOk};
+ghost use Rattle.std.specs.Prelude.{◌≡◌, ◌+◌, ◌*◌, ◌/◌, ◌<◌, ◌≤◌, ◌^◌, ◌++◌, ◌∷◌, ◌==◌, [], map, take, length, codes, decimal, IfOk, OnOk};
 ghost use Rattle.std.specs.List.{flat_map, list_all};
 ghost use Rattle.line_text.specs.Line.{text_of};
 ghost use Rattle.line_text.specs.Number.{hex_word};
-ghost use Rattle.nv_memtext.specs.Spelling.{name_of};
-ghost use Rattle.nv_memtext.specs.OutcomeText.{outcome_line, write_line, stretch_line, stretch_start, stretch_words, stretch_lines, memory_lines, sizes_line, outcome_text};
+ghost use Rattle.mem_lines.specs.Spelling.{name_of};
+ghost use Rattle.nv_memtext.specs.OutcomeText.{outcome_line, write_line, stretch_line, stretch_lines, memory_lines, sizes_line, outcome_text};
 
 use line_text::{push_decimal, push_word};
+use mem_lines::start;
 use nv_base::{COMPILER, Mem, NoMemory, Outcome, Packet, Write, WriteLog};
 use std::alloc::{AllocError, Global};
 
@@ -109,17 +110,6 @@ fn push_writes(out: &mut Vec<u8>, writes: &[Write]) -> Result<(), AllocError>
         push_stretch(out, write.mem, u64::from(write.at), write.words.list())?;
     }
     Ok(())
-}
-
-/// The address of a memory's stretch `k`.
-fn start(mem: Mem, k: usize) -> u64
-    requires { k < 2 ^ 32 }
-    ensures { result ≡ stretch_start mem k }
-{
-    match mem {
-        Mem::Sdram => 4 * k as u64,
-        Mem::Sram | Mem::Scratch => 8 * k as u64,
-    }
 }
 
 /// The first of these, at most so many.

@@ -1,14 +1,15 @@
 //! A memory text, read.
 
 ghost use Rattle.std.specs.Prelude.{◌≡◌, ◌+◌, ◌<◌, ◌≤◌, ◌^◌, ℕ, List, length, Some, IfOk, IfErr, OnOk};
-ghost use Rattle.nv_base.specs.Memories.{Memories, IsAccess, blank, stored, first_word, words_at, first_too_large};
+ghost use Rattle.nv_base.specs.Memories.{Memories, IsAccess, blank, stored, first_word, words_at};
 ghost use Rattle.nv_memtext.specs.MemoryText.{Gives, IsBad, IsTooLarge};
 ghost use Rattle.nv_memtext.specs.Answer.{IsTrueError, AnswersJob, AnswersBad, AnswersTooLarge};
 ghost use Rattle.nv_memtext.specs.inner.Reading.{HasFirst, HasLines, HasLengths};
 ghost use Rattle.nv_memtext.specs.declared.read.MemError.TheVariants.{NoMemory as WantOfMemory};
 
-use crate::line::{Sizes, Stretch, args_of, sizes_of, stretch_of};
+use crate::line::{Stretch, args_of, sizes_of, stretch_of};
 use line_text::Lines;
+use mem_lines::{Sizes, too_large};
 use nv_base::{NoMemory, Packet, PacketError, Words};
 use std::alloc::Global;
 use thiserror::Error;
@@ -33,9 +34,6 @@ pub enum MemError {
     TooLarge(u64),
 }
 
-/// The greatest size of SRAM and of SDRAM.
-const GREATEST_SIZE: u64 = 65_536;
-
 /// Reads line 1.
 fn read_sizes(lines: &mut Lines) -> Result<Sizes, MemError>
     ensures ok { IfOk result (λ s. HasFirst lines.old lines.new s.sram s.sdram) }
@@ -47,11 +45,8 @@ fn read_sizes(lines: &mut Lines) -> Result<Sizes, MemError>
     let Some(sizes) = sizes_of(line) else {
         return Err(MemError::Bad(1));
     };
-    if sizes.sram > GREATEST_SIZE {
-        return Err(MemError::TooLarge(sizes.sram));
-    }
-    if sizes.sdram > GREATEST_SIZE {
-        return Err(MemError::TooLarge(sizes.sdram));
+    if let Some(size) = too_large(&sizes) {
+        return Err(MemError::TooLarge(size));
     }
     Ok(sizes)
 }

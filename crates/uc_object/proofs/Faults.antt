@@ -2,9 +2,9 @@
 use Rattle.std.proofs.Common.{◌≡◌, ℕ, zero, suc, ◌+◌, ◌<◌, ◌≤◌, List, [], ◌∷◌, ◌++◌, length, take, drop, get_or, refl, ap, sym, ◌∙◌, subst, arith}
 use Rattle.std.proofs.lemmas.List.{drop_more, drop_all}
 use Rattle.std.proofs.lemmas.Bool.Decides.{nat_tests}
-use Rattle.uc_object.specs.declared.column.Column.{Column}
-use Rattle.uc_object.specs.declared.column.Column.TheVariants.{Between, Source, Target}
-use Rattle.uc_object.specs.inner.Columns.{Allows, Fit, IsFault, row_columns}
+use Rattle.object_bytes.specs.declared.column.Column.{Column}
+use Rattle.object_bytes.specs.declared.column.Column.TheVariants.{Between, Source, Target}
+use Rattle.object_bytes.specs.Columns.{Allows, Fit, IsFault, row_columns}
 
 -- a byte that may not stand in its place is a fault of the rest
 pub fault_here : (cs : List Column) (bs : List ℕ) (i b : ℕ) (d : Column) → i < length cs → i < length bs → get_or bs i 0 ≡ b

@@ -5,8 +5,8 @@ use Rattle.std.proofs.lemmas.Bool.Decides.{nat_tests}
 use Rattle.std.proofs.lemmas.Nat.{from_le_bytes-to_le_bytes_4}
 use Rattle.uc_object.specs.Object.{header_of}
 use Rattle.uc_object.specs.inner.Header.{HasHeader}
-use Rattle.uc_object.specs.inner.Columns.{Fit, Allows, header_columns, IsHeaderFault}
-use Rattle.uc_object.specs.declared.column.Column.{Column}
+use Rattle.object_bytes.specs.Columns.{Fit, Allows, header_columns, IsHeaderFault}
+use Rattle.object_bytes.specs.declared.column.Column.{Column}
 use Rattle.uc_object.proofs.Faults.{fit-length}
 use Rattle.uc_object.proofs.Reading.{four_bytes}
 

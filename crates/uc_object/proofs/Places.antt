@@ -9,11 +9,12 @@ use Rattle.std.proofs.lemmas.List.{take_at, drop_at, drop-drop, take-append-drop
 use Rattle.std.proofs.lemmas.Nat.{from_le_bytes-to_le_bytes_4}
 use Rattle.uc_isa.specs.Code.{CodeView, IsCode}
 use Rattle.uc_isa.specs.declared.instruction.Instr.{Instr}
-use Rattle.uc_object.specs.declared.column.Column.{Column}
-use Rattle.uc_object.specs.declared.column.Column.TheVariants.{Between}
-use Rattle.uc_object.specs.Object.{IsRow, AreRows, IsObject, BeginsObject, IsBadPlace, header_of}
+use Rattle.object_bytes.specs.declared.column.Column.{Column}
+use Rattle.object_bytes.specs.declared.column.Column.TheVariants.{Between}
+use Rattle.object_bytes.specs.Rows.{IsRow}
+use Rattle.uc_object.specs.Object.{AreRows, IsObject, BeginsObject, IsBadPlace, header_of}
 use Rattle.uc_object.specs.inner.Header.{HasHeader}
-use Rattle.uc_object.specs.inner.Columns.{Allows, Fit, IsFault, IsRowFault, IsHeaderFault, header_columns, only, any}
+use Rattle.object_bytes.specs.Columns.{Allows, Fit, IsFault, IsRowFault, IsHeaderFault, header_columns, only, any}
 use Rattle.uc_object.proofs.Faults.{AllowFillers, fillers, fault-filled, filled-length, fault-within, fault-refuses, fault-misfits, fault-front, fit-front, fit-more, fit-append, fit-length}
 use Rattle.uc_object.proofs.Fitting.{FitsRow, fit-row}
 use Rattle.uc_object.proofs.Single.{instruction_of}

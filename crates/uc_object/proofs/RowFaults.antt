@@ -2,10 +2,10 @@
 use Rattle.std.proofs.Common.{◌≡◌, ℕ, zero, suc, ◌+◌, ◌*◌, ◌-◌, ◌<◌, ◌≤◌, List, [], ◌∷◌, ◌++◌, Bool, true, false, refl, ap, sym, ◌∙◌, subst, append_assoc, take, drop, length, get_or, arith, if◌then◌else◌, ◌==◌, nat_lt, nat_le}
 use Rattle.std.proofs.lemmas.List.{take-append-drop}
 use Rattle.uc_isa.specs.declared.instruction.Instr.{Instr}
-use Rattle.uc_object.specs.declared.column.Column.{Column}
-use Rattle.uc_object.specs.declared.column.Column.TheVariants.{Between, Source, Target}
-use Rattle.uc_object.specs.Object.{IsRow}
-use Rattle.uc_object.specs.inner.Columns.{Allows, Fit, IsFault, IsRowFault, row_columns, only, any}
+use Rattle.object_bytes.specs.declared.column.Column.{Column}
+use Rattle.object_bytes.specs.declared.column.Column.TheVariants.{Between, Source, Target}
+use Rattle.object_bytes.specs.Rows.{IsRow}
+use Rattle.object_bytes.specs.Columns.{Allows, Fit, IsFault, IsRowFault, row_columns, only, any}
 use Rattle.uc_object.proofs.Faults.{AllowFillers, fillers, fault-filled, filled-length, fault-within, fault-refuses, fault-front, fit-front, fit-more, row_columns-length}
 use Rattle.uc_object.proofs.Fitting.{FitsRow, row-fits, fit-row}
 use Rattle.uc_object.proofs.Single.{instruction_of}

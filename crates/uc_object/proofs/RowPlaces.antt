@@ -6,9 +6,10 @@ use Rattle.std.proofs.lemmas.Bool.{cases_lt}
 use Rattle.std.proofs.lemmas.List.{take_at, drop_at, take_all, drop-drop, take-append-drop, length-take-le, append-nil}
 use Rattle.uc_isa.specs.Code.{CodeView, IsCode}
 use Rattle.uc_isa.specs.declared.instruction.Instr.{Instr}
-use Rattle.uc_object.specs.Object.{IsRow, AreRows, IsObject, BeginsObject, IsBadPlace, header_of}
+use Rattle.object_bytes.specs.Rows.{IsRow}
+use Rattle.uc_object.specs.Object.{AreRows, IsObject, BeginsObject, IsBadPlace, header_of}
 use Rattle.uc_object.specs.inner.Header.{HasHeader}
-use Rattle.uc_object.specs.inner.Columns.{IsRowFault}
+use Rattle.object_bytes.specs.Columns.{IsRowFault}
 use Rattle.uc_object.proofs.Fitting.{FitsRow, fit-row}
 use Rattle.uc_object.proofs.Single.{instruction_of}
 use Rattle.uc_object.proofs.Rows.{rows-append, rows-length, row-at, zero_rows, zero_instructions, zero_rows-rows, zero_instructions-length}

@@ -7,7 +7,8 @@ use Rattle.uc_isa.specs.declared.instruction.Instr.TheVariants.{Alu}
 use Rattle.uc_isa.specs.declared.instruction.Src.TheVariants as src
 use Rattle.uc_isa.specs.declared.instruction.Dst.TheVariants as dst
 use Rattle.nv_base.specs.declared.term.Bin.TheVariants.{Add}
-use Rattle.uc_object.specs.Object.{IsRow, AreRows}
+use Rattle.object_bytes.specs.Rows.{IsRow}
+use Rattle.uc_object.specs.Object.{AreRows}
 use Rattle.uc_object.proofs.Fitting.{row-fits}
 use Rattle.uc_object.proofs.Single.{row-one}
 

@@ -5,9 +5,9 @@ use Rattle.std.proofs.lemmas.Nat.{from_le_bytes-to_le_bytes_2, from_le_bytes-to_
 use Rattle.std.proofs.lemmas.Bool.Decides.{nat_tests}
 use Rattle.uc_isa.specs.declared.instruction.Instr.{Instr}
 use Rattle.uc_isa.specs.declared.instruction.Instr.TheVariants.{Alu, Un, Immed, Br, Read, Write, Halt}
-use Rattle.uc_object.specs.Object.{IsRow, IsSource, IsTarget, IsAddress, shift_count, number_of_unary}
-use Rattle.uc_object.specs.inner.Columns.{Fit, row_columns, Allows}
-use Rattle.uc_object.specs.declared.column.Column.TheVariants.{Source, Target}
+use Rattle.object_bytes.specs.Rows.{IsRow, IsSource, IsTarget, IsAddress, shift_count, number_of_unary}
+use Rattle.object_bytes.specs.Columns.{Fit, row_columns, Allows}
+use Rattle.object_bytes.specs.declared.column.Column.TheVariants.{Source, Target}
 use Rattle.uc_object.proofs.Reader.{source_of, source_of-is, source_of-one, target_of, target_of-is, target_of-one, address_of, address_of-is, address_of-one, binary_of, binary_of-is, binary_of-one, unary_of, unary_of-is, unary_of-one, condition_of, condition_of-is, condition_of-one, memory_of, memory_of-is, memory_of-one}
 use Rattle.uc_object.proofs.Reading.{of_kind, kind-le, alu-row, un-row, immed-row, br-row, read-row, write-row, halt-row}
 

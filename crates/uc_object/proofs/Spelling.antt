@@ -9,7 +9,8 @@ use Rattle.uc_isa.specs.declared.instruction.Gpr.{Gpr}
 use Rattle.uc_isa.specs.declared.instruction.Gpr.TheVariants as gpr
 use Rattle.uc_isa.specs.declared.instruction.Instr.{Instr}
 use Rattle.uc_isa.specs.declared.instruction.Instr.TheVariants.{Alu, Un, Immed, Br, Read, Write, Halt}
-use Rattle.uc_object.specs.Object.{IsSource, IsTarget, IsAddress, IsRow, AreRows, IsObject, header_of}
+use Rattle.object_bytes.specs.Rows.{IsSource, IsTarget, IsAddress, IsRow}
+use Rattle.uc_object.specs.Object.{AreRows, IsObject, header_of}
 use Rattle.uc_object.proofs.Rows.{rows-length}
 
 source-same : (s : Src) (a b : ℕ) → IsSource s a → IsSource s b → a ≡ b

@@ -1,13 +1,15 @@
 // Bytes as code.
 ghost use Rattle.std.specs.Prelude.{◌≡◌, ◌<◌, ◌≤◌, ◌+◌, ◌^◌, ◌⊎◌, ℕ, length, take, drop, slice_index, IfOk, IfErr, Ok, Err};
 ghost use Rattle.uc_isa.specs.Code.{CodeView};
-ghost use Rattle.uc_object.specs.Object.{IsObject, IsBadPlace, IsRow};
-ghost use Rattle.uc_object.specs.inner.Columns.{IsRowFault};
+ghost use Rattle.object_bytes.specs.Rows.{IsRow};
+ghost use Rattle.uc_object.specs.Object.{IsObject, IsBadPlace};
+ghost use Rattle.object_bytes.specs.Columns.{IsRowFault};
 ghost use Rattle.uc_object.specs.inner.Header.{HasHeader};
 
 use crate::ObjectError;
-use crate::column::{first_fault, header_columns, row_columns};
+use crate::column::first_fault;
 use crate::field::instruction;
+use object_bytes::{header_columns, row_columns};
 use std::alloc::Global;
 use uc_isa::{Code, Dst, Gpr, Instr, Src};
 

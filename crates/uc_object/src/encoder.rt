@@ -1,8 +1,10 @@
 // Code as bytes.
-ghost use Rattle.std.specs.Prelude.{◌≡◌, ◌++◌, IfOk};
-ghost use Rattle.uc_object.specs.Object.{IsObject, IsRow, IsSource, IsTarget, IsAddress, header_of, number_of_binary, number_of_unary, shift_count, number_of_condition, number_of_memory};
+ghost use Rattle.std.specs.Prelude.{◌≡◌, IfOk};
+ghost use Rattle.object_bytes.specs.Rows.{IsRow, IsSource, IsAddress, number_of_binary, number_of_unary, shift_count, number_of_condition, number_of_memory};
+ghost use Rattle.uc_object.specs.Object.{IsObject, header_of};
 
 use nv_base::{Bin, Mem, NoMemory};
+use object_bytes::{halt_row, target_byte};
 use std::alloc::Global;
 use uc_isa::{Code, Cond, Dst, Gpr, Instr, Src, UnOp};
 
@@ -69,10 +71,7 @@ fn row(i: &Instr) -> [u8; 8]
         Instr::Write { mem, r, n, x, off } => {
             [5, memory_number(*mem), *r, *n, address_byte(*x), *off, 0, 0]
         }
-        Instr::Halt { k, n } => {
-            let [low, high] = k.to_le_bytes();
-            [6, *n, low, high, 0, 0, 0, 0]
-        }
+        Instr::Halt { k, n } => halt_row(*k, *n),
     }
 }
 
@@ -84,18 +83,6 @@ fn source_byte(x: Src) -> u8
         Src::B(r) => 16 + r.number,
         Src::L(r) => 32 + r.number,
         Src::LD(r) => 48 + r.number,
-    }
-}
-
-fn target_byte(x: Dst) -> u8
-    ensures { IsTarget x result }
-{
-    match x {
-        Dst::A(r) => r.number,
-        Dst::B(r) => 16 + r.number,
-        Dst::S(r) => 64 + r.number,
-        Dst::SD(r) => 80 + r.number,
-        Dst::Nowhere => 96,
     }
 }
 

@@ -1,7 +1,6 @@
-use Rattle.std.proofs.Common.{◌≡◌, sym, ◌∙◌, refl, [], ◌∷◌, decimal, codes, arith}
+use Rattle.std.proofs.Common.{sym, ◌∙◌, refl, [], ◌∷◌, decimal, arith}
 use Rattle.std.proofs.lemmas.Bool.{false≢true}
-use Rattle.line_text.specs.Line.{parts}
-use Rattle.nv_memtext.proofs.LineLemmas.{sizes_parts, sizes_rest, sizes_from_parts}
+use Rattle.nv_memtext.proofs.LineLemmas.{sizes_rest, sizes_from_parts}
 use Rattle.nv_memtext.proofs.line.sizes_of.Goals as goal
 
 pub returns-in_err-sram-clause-none : goal.returns-in_err-sram-clause-none

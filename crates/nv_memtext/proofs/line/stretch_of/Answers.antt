@@ -1,6 +1,5 @@
-use Rattle.std.proofs.Common.{◌≡◌, sym, ◌∙◌, refl, arith, subst, length}
+use Rattle.std.proofs.Common.{sym, ◌∙◌, refl}
 use Rattle.std.proofs.lemmas.Bool.{false≢true}
-use Rattle.nv_base.specs.Memories.{IsAccess}
 use Rattle.nv_memtext.proofs.LineLemmas.{no_address, no_words, stretch_is, not_access, not_inside, stretch_from_parts}
 use Rattle.nv_memtext.proofs.line.stretch_of.Goals as goal
 

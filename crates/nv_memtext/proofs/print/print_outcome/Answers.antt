@@ -1,4 +1,4 @@
-use Rattle.std.proofs.Common.{◌≡◌, ◌++◌, ◌∷◌, [], length, map, take, ap, ◌∙◌, codes, decimal, arith}
+use Rattle.std.proofs.Common.{◌++◌, ◌∷◌, [], length, map, take, ap, ◌∙◌, codes, decimal, arith}
 use Rattle.std.proofs.lemmas.List.{length-take}
 use Rattle.line_text.specs.Line.{text_of, parted}
 use Rattle.nv_base.specs.declared.term.Mem.TheVariants.{Sram, Sdram, Scratch}

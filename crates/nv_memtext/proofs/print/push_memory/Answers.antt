@@ -1,4 +1,3 @@
-use Rattle.std.proofs.Common.{◌≡◌}
 use Rattle.nv_memtext.proofs.PrintLemmas.{memory_more}
 use Rattle.nv_memtext.proofs.print.push_memory.Goals as goal
 

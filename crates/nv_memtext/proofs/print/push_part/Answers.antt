@@ -1,4 +1,3 @@
-use Rattle.std.proofs.Common.{◌≡◌, sym}
 use Rattle.std.proofs.lemmas.Result.{on_ok_weaker}
 use Rattle.nv_memtext.proofs.PrintLemmas.{blank_part, filled_part, part_is}
 use Rattle.nv_memtext.proofs.print.push_part.Goals as goal

@@ -1,5 +1,4 @@
-use Rattle.std.proofs.Common.{◌≡◌, ◌++◌, ◌∷◌, [], ap, ◌∙◌}
-use Rattle.nv_memtext.specs.Spelling.{name_of}
+use Rattle.std.proofs.Common.{◌++◌, ap, ◌∙◌}
 use Rattle.nv_memtext.proofs.PrintLemmas.{join5, stretch_pieces}
 use Rattle.nv_memtext.proofs.print.push_stretch.Goals as goal
 

@@ -1,4 +1,4 @@
-use Rattle.std.proofs.Common.{◌≡◌, length, [], sym, ap, ◌∙◌, refl, arith}
+use Rattle.std.proofs.Common.{length, sym, ap, ◌∙◌}
 use Rattle.nv_memtext.proofs.FaultLemmas.{bad_short_args, bad_args}
 use Rattle.nv_memtext.proofs.TextLemmas.{has_two}
 use Rattle.nv_memtext.proofs.LineLemmas.{args_one}

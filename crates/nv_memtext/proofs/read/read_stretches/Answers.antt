@@ -1,4 +1,4 @@
-use Rattle.std.proofs.Common.{◌≡◌, length, [], ◌∷◌, sym, ap, ◌∙◌, refl, arith}
+use Rattle.std.proofs.Common.{length, ◌∷◌, sym, ap, ◌∙◌, refl, arith}
 use Rattle.std.proofs.lemmas.Bool.{false≢true}
 use Rattle.std.proofs.lemmas.List.{length-append}
 use Rattle.nv_memtext.proofs.TextLemmas.{has_more, gives_at_end, put_lengths}

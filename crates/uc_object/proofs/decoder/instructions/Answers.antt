@@ -1,8 +1,9 @@
 use Rattle.std.proofs.Common.{◌≡◌, ℕ, ◌+◌, ◌*◌, ◌-◌, ◌<◌, ◌≤◌, length, take, drop, arith, length-drop, length-append, subst, ap, ◌∙◌, sym, w64, w32, Fits, ◌++◌, [], ◌∷◌, refl, add-one}
 use Rattle.std.proofs.lemmas.List.{drop-drop, take_rest}
 use Rattle.std.proofs.Math.Seq.{take-add}
-use Rattle.uc_object.specs.inner.Columns.{IsRowFault}
-use Rattle.uc_object.specs.Object.{AreRows, IsRow, IsBadPlace}
+use Rattle.object_bytes.specs.Columns.{IsRowFault}
+use Rattle.object_bytes.specs.Rows.{IsRow}
+use Rattle.uc_object.specs.Object.{AreRows, IsBadPlace}
 use Rattle.uc_object.proofs.Rows.{rows-more, next-row}
 use Rattle.uc_object.proofs.RowPlaces.{RowsThenFault, row-bad, rest-bad}
 use Rattle.uc_object.proofs.decoder.instructions.Goals as goal

@@ -1,7 +1,7 @@
 use Rattle.std.proofs.Common.{◌≡◌, ℕ, List, rules, arith, subst, ◌<◌, length, get_or}
-use Rattle.uc_object.specs.inner.Columns.{Fit, IsFault, IsHeaderFault, header_columns}
+use Rattle.object_bytes.specs.Columns.{Fit, IsFault, IsHeaderFault, header_columns}
 use Rattle.uc_object.specs.Object.{IsBadPlace}
-use Rattle.uc_object.specs.declared.column.Column.{Column}
+use Rattle.object_bytes.specs.declared.column.Column.{Column}
 use Rattle.uc_object.proofs.Places.{header-bad}
 use Rattle.uc_object.proofs.Faults.{fit-length, fault-within}
 use Rattle.uc_object.proofs.Headers.{fits-header, its-columns}

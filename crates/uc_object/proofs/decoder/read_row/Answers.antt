@@ -1,5 +1,5 @@
 use Rattle.std.proofs.Common.{subst}
-use Rattle.uc_object.specs.inner.Columns.{Fit, IsFault}
+use Rattle.object_bytes.specs.Columns.{Fit, IsFault}
 use Rattle.uc_object.proofs.Faults.{fit-eight, row-columns, fault-within}
 use Rattle.uc_object.proofs.decoder.read_row.Goals as goal
 

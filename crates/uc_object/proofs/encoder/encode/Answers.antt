@@ -2,7 +2,8 @@ use Rattle.std.proofs.Common.{◌≡◌, ℕ, ◌+◌, List, [], ◌∷◌, ◌+
 use Rattle.std.proofs.lemmas.List.{take_more}
 use Rattle.std.proofs.lemmas.Grind.{common_steps}
 use Rattle.uc_isa.specs.declared.instruction.Instr.{Instr}
-use Rattle.uc_object.specs.Object.{IsRow, AreRows}
+use Rattle.object_bytes.specs.Rows.{IsRow}
+use Rattle.uc_object.specs.Object.{AreRows}
 use Rattle.uc_object.proofs.Rows.{rows-more}
 use Rattle.uc_object.proofs.encoder.encode.Goals as goal
 

@@ -1,6 +1,6 @@
 use Rattle.std.proofs.Common.{◌≤◌, length}
-use Rattle.nv_memtext.proofs.WordLemmas.{ReadsWords}
-use Rattle.nv_memtext.proofs.line.words_of.Given as goal
+use Rattle.mem_lines.proofs.WordLemmas.{ReadsWords}
+use Rattle.mem_lines.proofs.words.words_of.Given as goal
 
 abbrev pub invariant-loop-part : goal.invariant-loop-part
 invariant-loop-part l = (l.count ≤ 8) × ReadsWords l.initial.parts l.parts l.words l.count

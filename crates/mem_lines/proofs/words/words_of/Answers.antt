@@ -1,8 +1,8 @@
-use Rattle.std.proofs.Common.{◌≡◌, length, sym, subst, arith}
+use Rattle.std.proofs.Common.{sym, subst, arith}
 use Rattle.std.proofs.lemmas.List.{length-take-le}
-use Rattle.nv_memtext.specs.Spelling.{SpellWords}
-use Rattle.nv_memtext.proofs.WordLemmas.{reads_all}
-use Rattle.nv_memtext.proofs.line.words_of.Goals as goal
+use Rattle.mem_lines.specs.Spelling.{SpellWords}
+use Rattle.mem_lines.proofs.WordLemmas.{reads_all}
+use Rattle.mem_lines.proofs.words.words_of.Goals as goal
 
 pub returns-clause-some : goal.returns-clause-some
 returns-clause-some c =

@@ -1,7 +1,7 @@
 -- Which bytes may stand at each place of an object, by the bytes before it.
 use Rattle.std.specs.Prelude.{◌≡◌, ◌==◌, ℕ, zero, suc, ◌+◌, ◌<◌, ◌≤◌, ◌⊎◌, List, [], ◌∷◌, nat_lt, nat_le, slice_index, if◌then◌else◌}
-use Rattle.uc_object.specs.declared.column.Column.{Column}
-use Rattle.uc_object.specs.declared.column.Column.TheVariants.{Between, Source, Target}
+use Rattle.object_bytes.specs.declared.column.Column.{Column}
+use Rattle.object_bytes.specs.declared.column.Column.TheVariants.{Between, Source, Target}
 
 -- the byte may stand there: one of a range, of an operand, or of the place of a result
 abbrev pub Allows : Column → ℕ → Type 0
