@@ -2,10 +2,9 @@
 //! and how large a program may be.
 #![tactic(auto)]
 
-mod limits;
-
 pub mod handlers;
 pub mod lets;
+mod limits;
 pub mod main_sizes;
 pub mod signatures;
 

@@ -1,4 +1,4 @@
-use Rattle.std.proofs.Common.{subst, refl, false, Result, Ok, Err}
+use Rattle.std.proofs.Common.{subst, refl, false, Result}
 use Rattle.std.proofs.lemmas.Result.{err_from_is_err_and}
 use Rattle.type_rules.specs.declared.error.TypeError.{TypeError}
 use Rattle.type_steps.specs.declared.functions.Found.{Found}

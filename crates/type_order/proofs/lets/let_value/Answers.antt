@@ -1,4 +1,4 @@
-use Rattle.std.proofs.Common.{◌∙◌, ap, sym, subst, false, ℕ, Result, Ok, Err, Some}
+use Rattle.std.proofs.Common.{◌∙◌, ap, sym, subst, false, ℕ, Result, Some}
 use Rattle.type_rules.specs.declared.error.TypeError.{TypeError}
 use Rattle.type_rules.specs.declared.needs.Step.{Step}
 use Rattle.type_steps.specs.declared.functions.Found.{Found}
