@@ -1,5 +1,5 @@
 -- No word of an instruction has a line feed in it.
-use Rattle.std.proofs.Common.{ℕ, ◌<◌, ◌≤◌, ◌^◌, List, [], ◌∷◌, ◌++◌, refl, arith, codes, decimal, lit≤}
+use Rattle.std.proofs.Common.{ℕ, ◌<◌, ◌^◌, List, [], ◌∷◌, ◌++◌, refl, arith, codes, decimal, lit≤}
 use Rattle.line_text.specs.Line.{Lacks, AllLack, parted}
 use Rattle.line_text.proofs.SplitLaws.{Lacks-test, Lacks-append, AllLack-append}
 use Rattle.line_text.proofs.NumberLaws.{Lacks-decimal}

@@ -1,5 +1,5 @@
 -- Of a text's answers one is true.
-use Rattle.std.proofs.Common.{◌≡◌, ℕ, ◌+◌, ◌≤◌, List, [], ◌∷◌, ◌++◌, length, refl, sym, ap, ◌∙◌, subst, arith, Some, Result, Ok, Err, IfOk, IfErr, decimal}
+use Rattle.std.proofs.Common.{◌≡◌, ℕ, ◌≤◌, List, [], ◌∷◌, ◌++◌, length, refl, sym, ap, ◌∙◌, subst, arith, Some, Result, Ok, Err, IfOk, IfErr, decimal}
 use Rattle.std.proofs.lemmas.List.{append-nil}
 use Rattle.line_text.specs.Line.{AllLack, text_of}
 use Rattle.line_text.specs.Format.{IsText, IsFormat}

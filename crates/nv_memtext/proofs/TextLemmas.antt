@@ -3,7 +3,7 @@ use Rattle.std.proofs.Common.{◌≡◌, ℕ, ◌+◌, ◌*◌, ◌<◌, ◌≤�
 use Rattle.std.proofs.lemmas.Bool.{leb-true}
 use Rattle.std.proofs.lemmas.List.{append-nil, length-append, length-take-le, length-drop}
 use Rattle.std.proofs.lemmas.Bool.Decides.{nat_tests}
-use Rattle.line_text.specs.Line.{Lacks, AllLack, text_of, parts}
+use Rattle.line_text.specs.Line.{Lacks, AllLack, text_of}
 use Rattle.line_text.proofs.SplitLaws.{split_one, text_of-push, text_of-cons, Lacks-parted, Lacks-test}
 use Rattle.line_text.proofs.NumberLaws.{Lacks-decimal}
 use Rattle.line_text.proofs.NumberLemmas.{decimal_one}
@@ -13,7 +13,7 @@ use Rattle.nv_base.specs.declared.term.Mem.TheVariants.{Sram, Sdram, Scratch}
 use Rattle.nv_memtext.specs.declared.line.Stretch.{Stretch}
 use Rattle.mem_lines.specs.Spelling.{name_of}
 use Rattle.mem_lines.specs.Places.{room}
-use Rattle.nv_memtext.specs.MemoryText.{SpellsSizes, SpellsArgs, SpellsStretch, SpellStretches, stretched, IsMemoryText, lines, IsTooLarge, Gives}
+use Rattle.nv_memtext.specs.MemoryText.{SpellsSizes, SpellsArgs, SpellsStretch, SpellStretches, stretched, IsMemoryText, IsTooLarge, Gives}
 use Rattle.nv_memtext.specs.inner.Reading.{HasFirst, HasLines, HasLengths}
 use Rattle.nv_memtext.proofs.LineLemmas.{sizes_parts, at_small}
 use Rattle.mem_lines.proofs.WordLemmas.{SpellWords-lack}
