@@ -28,6 +28,7 @@ pub struct Opened<'a> {
 
 /// A try with what its body gave, up to its handler. A fault of the body counts before one of the patterns, and that
 /// before one of the handler.
+#[tactic(none)]
 pub fn open_handler<'a>(
     checker: &mut Checker<'a>,
     span: Span,

@@ -32,3 +32,46 @@ returns-clause-bound c = c.in_ok-types.ensures
 
 pub returns-clause-wanted : goal.returns-clause-wanted
 returns-clause-wanted c = c.same_as.ensures
+
+pub returns-in_err-tried-clause-tried : goal.returns-in_err-tried-clause-tried
+returns-in_err-tried-clause-tried c =
+    let p = err_from_is_err_and c.from_residual.result c.from_residual.ensures.1 in
+    rw p.1 tt
+
+pub returns-in_err-tried-clause-handler : goal.returns-in_err-tried-clause-handler
+returns-in_err-tried-clause-handler c =
+    let p = err_from_is_err_and c.from_residual.result c.from_residual.ensures.1 in
+    rw p.1 tt
+
+pub returns-in_err-tried-clause-bound : goal.returns-in_err-tried-clause-bound
+returns-in_err-tried-clause-bound c =
+    let p = err_from_is_err_and c.from_residual.result c.from_residual.ensures.1 in
+    rw p.1 tt
+
+pub returns-in_err-tried-clause-wanted : goal.returns-in_err-tried-clause-wanted
+returns-in_err-tried-clause-wanted c =
+    let p = err_from_is_err_and c.from_residual.result c.from_residual.ensures.1 in
+    rw p.1 tt
+
+pub returns-in_err-types-clause-tried : goal.returns-in_err-types-clause-tried
+returns-in_err-types-clause-tried c =
+    let p = err_from_is_err_and c.from_residual-in_err-types.result c.from_residual-in_err-types.ensures.1 in
+    rw p.1 tt
+
+pub returns-in_err-types-clause-handler : goal.returns-in_err-types-clause-handler
+returns-in_err-types-clause-handler c =
+    let p = err_from_is_err_and c.from_residual-in_err-types.result c.from_residual-in_err-types.ensures.1 in
+    rw p.1 tt
+
+pub returns-in_err-types-clause-bound : goal.returns-in_err-types-clause-bound
+returns-in_err-types-clause-bound c =
+    let p = err_from_is_err_and c.from_residual-in_err-types.result c.from_residual-in_err-types.ensures.1 in
+    rw p.1 tt
+
+pub returns-in_err-types-clause-wanted : goal.returns-in_err-types-clause-wanted
+returns-in_err-types-clause-wanted c =
+    let p = err_from_is_err_and c.from_residual-in_err-types.result c.from_residual-in_err-types.ensures.1 in
+    rw p.1 tt
+
+pub returns-clause-first : goal.returns-clause-first
+returns-clause-first c = tt
