@@ -97,4 +97,3 @@ kind-lacks (Halt k n) = Lacks-test 10 (codes "halt") refl
 
 pub instruction-lacks : (i : Instr) → InRange i → Lacks 10 (parted (words i))
 instruction-lacks i h = parted-lacks (words i) (kind-lacks i, operands-lack i h)
-

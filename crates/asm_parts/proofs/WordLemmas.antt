@@ -151,4 +151,3 @@ branch-only ps h (Br cond place) g e = h cond place g (ap (drop 1) e)
 branch-only ps h (Read m r n x off) g e = absurd (omega (arith, ap kind_tag e))
 branch-only ps h (Write m r n x off) g e = absurd (omega (arith, ap kind_tag e))
 branch-only ps h (Halt k n) g e = absurd (omega (arith, ap kind_tag e))
-
