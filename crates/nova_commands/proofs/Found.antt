@@ -1,5 +1,5 @@
 -- What a source that isn't refused comes to, as what `compile` makes of it.
-use Rattle.std.proofs.Common.{◌≡◌, ℕ, List, [], ◌∷◌, length, refl, ap, sym, ◌∙◌, subst}
+use Rattle.std.proofs.Common.{◌≡◌, ℕ, List, [], ◌∷◌, length, refl, ap, sym, ◌∙◌, subst, Result, Ok, Err, IfOk}
 use Rattle.nv_ast.specs.TypedView.{typed_program}
 use Rattle.uc_object.specs.Object.{IsObject}
 use Rattle.zo_cert.specs.declared.report.Report.{Report}
@@ -10,8 +10,13 @@ use Rattle.nova_commands.specs.Checking.{IsReportOf}
 use Rattle.nova_commands.specs.Headline.{CompiledMakes, WithoutMakes, CompileMakes}
 use Rattle.command_line.specs.Lines.{compiled_text, infeasible_text, spent_text}
 use Rattle.nova_commands.specs.Saving.{File, file}
-use Rattle.nova_commands.specs.inner.Found.{IsBuilt, IsWithoutBanks}
+use Rattle.nova_commands.specs.inner.Contents.{files_of}
+use Rattle.nova_commands.specs.inner.Found.{HasReport, IsBuilt, IsFound, IsWithoutBanks}
 use Rattle.nova_commands.specs.declared.build.Compiled.{Compiled}
+use Rattle.nova_commands.specs.declared.compile.Found.{Found}
+use Rattle.nova_commands.specs.declared.compile.Found.TheVariants as found
+use Rattle.nova_commands.specs.declared.save.Made.{Made}
+use Rattle.nv_base.specs.declared.error.NoMemory.{NoMemory}
 use Rattle.command_line.specs.declared.status.Status.{Status}
 use Rattle.command_line.specs.declared.status.Status.TheVariants as status
 
@@ -51,6 +56,11 @@ without-made text report_name report slots budget v r files h reports saves = re
   saves = saves;
 }
 
+pub found-reported : (text : List ℕ) (slots budget store : ℕ) (f : Found) → IsFound text slots budget store f → HasReport f
+found-reported text slots budget store (found.Code t) h = h.banks.report.valid
+found-reported text slots budget store (found.Infeasible r) h = h.without.without.report.valid
+found-reported text slots budget store (found.Spent r) h = h.without.without.report.valid
+
 pub two-files : (a b f g : File) → a ≡ f → b ≡ g → a ∷ b ∷ [] ≡ f ∷ g ∷ []
 two-files a b f g h k = ap (λ (x : File). x ∷ b ∷ []) h ∙ ap (λ (x : File). f ∷ x ∷ []) k
 
@@ -67,3 +77,15 @@ pub spent-made : (text object_name report_name report : List ℕ) (slots budget 
     → s ≡ status.BudgetSpent → files ≡ file report_name report ∷ [] → line ≡ spent_text budget → CompileMakes text object_name report_name slots budget store s files line
 spent-made text object_name report_name report slots budget store r s files line h reports is saves told =
     subst (λ (x : Status). CompileMakes text object_name report_name slots budget store x files line) (sym is) (without-made text report_name report slots budget verdict.Spent r files h reports saves, told)
+
+pub infeasible-found : (text object_name report_name report line : List ℕ) (slots budget store : ℕ) (r : Report) (q : Result Made NoMemory) → IsWithoutBanks text slots budget verdict.Infeasible r → IsReportOf report r → line ≡ infeasible_text
+    → IfOk q (λ m. m.status ≡ status.Infeasible) → IfOk q (λ m. m.text.items ≡ line) → IfOk q (λ m. files_of m.outputs ≡ file report_name report ∷ [])
+    → IfOk q (λ m. CompileMakes text object_name report_name slots budget store m.status (files_of m.outputs) m.text.items)
+infeasible-found text object_name report_name report line slots budget store r (Ok m) h reports is s told saves = infeasible-made text object_name report_name report slots budget store r m.status (files_of m.outputs) m.text.items h reports s saves (told ∙ is)
+infeasible-found text object_name report_name report line slots budget store r (Err e) h reports is s told saves = tt
+
+pub spent-found : (text object_name report_name report line : List ℕ) (slots budget store : ℕ) (r : Report) (q : Result Made NoMemory) → IsWithoutBanks text slots budget verdict.Spent r → IsReportOf report r → line ≡ spent_text budget
+    → IfOk q (λ m. m.status ≡ status.BudgetSpent) → IfOk q (λ m. m.text.items ≡ line) → IfOk q (λ m. files_of m.outputs ≡ file report_name report ∷ [])
+    → IfOk q (λ m. CompileMakes text object_name report_name slots budget store m.status (files_of m.outputs) m.text.items)
+spent-found text object_name report_name report line slots budget store r (Ok m) h reports is s told saves = spent-made text object_name report_name report slots budget store r m.status (files_of m.outputs) m.text.items h reports s saves (told ∙ is)
+spent-found text object_name report_name report line slots budget store r (Err e) h reports is s told saves = tt

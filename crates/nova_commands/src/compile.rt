@@ -9,7 +9,7 @@ ghost use Rattle.command_line.specs.Limits.{source_limit};
 ghost use Rattle.command_line.specs.Lines.{IsUncaused};
 ghost use Rattle.nova_commands.specs.Saving.{file};
 ghost use Rattle.nova_commands.specs.inner.Contents.{file_of, files_of, AreTold, IsTold};
-ghost use Rattle.nova_commands.specs.inner.Found.{IsBuilt, IsFound, IsSortedAs};
+ghost use Rattle.nova_commands.specs.inner.Found.{HasReport, IsBuilt, IsFound, IsSortedAs};
 ghost use Rattle.command_line.specs.inner.Words.{AreInLimits};
 
 use crate::build::{CompileError, Compiled, compile_text};
@@ -46,15 +46,34 @@ pub fn compile_bytes<'a>(
     ensures told { IfOk result (λ m. AreTold m.outputs) }
     ensures refused { IfErr result (λ e. IsUncaused e ⊎ CompileRefuses bytes.now options.slots options.store e) }
 {
-    match found_of(alloc, bytes, options)? {
-        Found::Code(compiled) => Ok(code_made(alloc, &compiled, object, report)?),
-        Found::Infeasible(found) => {
+    let found = found_of(alloc, bytes, options)?;
+    let made = found_made(alloc, &found, object, report, options.budget);
+    // By a call, and not at each way out, where the proof would follow each field.
+    drop(found);
+    Ok(made?)
+}
+
+// What is saved and told of a source that isn't refused.
+fn found_made<'a>(
+    alloc: Global,
+    found: &Found,
+    object: &'a str,
+    report: &'a str,
+    budget: u32,
+) -> Result<Made<'a>, NoMemory>
+    requires { HasReport found.now }
+    ensures made { (text : List ℕ) (slots store : ℕ) → IsFound text slots budget store found.now → IfOk result (λ m. CompileMakes text object.now report.now slots budget store m.status (files_of m.outputs) m.text.items) }
+    ensures told { IfOk result (λ m. AreTold m.outputs) }
+{
+    match found {
+        Found::Code(compiled) => code_made(alloc, compiled, object, report),
+        Found::Infeasible(without) => {
             let text = line(alloc, b"infeasible")?;
-            Ok(report_made(alloc, Status::Infeasible, text, report, &found)?)
+            report_made(alloc, Status::Infeasible, text, report, without)
         }
-        Found::Spent(found) => {
-            let text = counted_line(alloc, b"budget ", u64::from(options.budget))?;
-            Ok(report_made(alloc, Status::BudgetSpent, text, report, &found)?)
+        Found::Spent(without) => {
+            let text = counted_line(alloc, b"budget ", u64::from(budget))?;
+            report_made(alloc, Status::BudgetSpent, text, report, without)
         }
     }
 }

@@ -10,7 +10,7 @@ ghost use Rattle.command_line.specs.Limits.{source_limit, slots_limit, budget_de
 ghost use Rattle.command_line.specs.Lines.{IsUncaused};
 ghost use Rattle.command_line.specs.declared.status.Status.{Status};
 ghost use Rattle.nova_commands.specs.inner.Found.{IsBuilt};
-ghost use Rattle.nova_commands.specs.inner.Generated.{HasRoom, HasWord, AreWord};
+ghost use Rattle.nova_commands.specs.inner.Generated.{HasRoom, HasWord, AreWord, TellsOf};
 
 use crate::build::Compiled;
 use crate::compile::{Found, found_of};
@@ -41,22 +41,39 @@ pub fn generate<'a>(alloc: Global, seed: u32, size: u32) -> Result<Reply, Refusa
 {
     let source = made_text(alloc, seed, size)?;
     let compiled = compiled_of(alloc, &source)?;
-    let word = word_of(alloc, &compiled)?;
-    let bytes = source.len() as u64;
-    let instructions = compiled.built.code.list().len() as u64;
+    let text = text_of(alloc, seed, size, source.len() as u64, &compiled);
+    drop(compiled);
+    Ok(Reply {
+        status: Status::Done,
+        text: text?,
+    })
+}
+
+// The line of a seed, a size, the number of bytes of its source, and what that is compiled to.
+fn text_of(
+    alloc: Global,
+    seed: u32,
+    size: u32,
+    bytes: u64,
+    t: &Compiled,
+) -> Result<Vec<u8>, NoMemory>
+    requires word { HasWord (typed_program t.now.typed) }
+    requires code { IsCodeFor (typed_program t.now.typed) t.now.built.code }
+    requires report { IsValidReport t.now.built.report }
+    ensures { IfOk result (λ out. TellsOf seed size bytes t.now out.items) }
+{
+    let word = word_of(alloc, t)?;
+    let instructions = t.built.code.list().len() as u64;
     let text = line_of(
         alloc,
         seed,
         size,
         bytes,
         instructions,
-        &compiled.built.report,
+        &t.built.report,
         word,
     )?;
-    Ok(Reply {
-        status: Status::Done,
-        text,
-    })
+    Ok(text)
 }
 
 // The code of a made source: there are more slots than its program has room, so banks are always found.

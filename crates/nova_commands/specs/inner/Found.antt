@@ -2,6 +2,7 @@
 use Rattle.std.specs.Prelude.{◌≡◌, ◌≤◌, ℕ, List, length, Result, Ok, Err}
 use Rattle.nv_ast.specs.Tree.{ProgramTree}
 use Rattle.nv_ast.specs.TypedView.{typed_program}
+use Rattle.zo_cert.specs.Report.{IsValidReport}
 use Rattle.zo_cert.specs.declared.report.Report.{Report}
 use Rattle.zo_cert.specs.declared.report.Verdict.{Verdict}
 use Rattle.zo_cert.specs.declared.report.Verdict.TheVariants as verdict
@@ -33,6 +34,12 @@ abbrev pub IsFound : List ℕ → ℕ → ℕ → ℕ → Found → Type 0
 IsFound text slots budget store (found.Code t) = IsBuilt text slots budget store t
 IsFound text slots budget store (found.Infeasible r) = IsWithoutBanks text slots budget verdict.Infeasible r
 IsFound text slots budget store (found.Spent r) = IsWithoutBanks text slots budget verdict.Spent r
+
+-- its report is valid
+abbrev pub HasReport : Found → Type 0
+HasReport (found.Code t) = IsValidReport t.built.report
+HasReport (found.Infeasible r) = IsValidReport r
+HasReport (found.Spent r) = IsValidReport r
 
 -- how a text without code is sorted: those with a report aren't refused
 abbrev pub IsRefusedAs : Result Found Refusal → (Refusal → Type 0) → Type 0

@@ -1,4 +1,4 @@
-use Rattle.std.proofs.Common.{List, ℕ, ◌∙◌, subst}
+use Rattle.std.proofs.Common.{List, ℕ, ◌∙◌, length, refl, subst}
 use Rattle.std.proofs.lemmas.Result.{err_from_is_err_and}
 use Rattle.nv_ast.specs.TypedView.{typed_program}
 use Rattle.command_line.specs.Limits.{slots_limit, budget_default, store_limit}
@@ -17,11 +17,12 @@ returns-in_err-compiled-clause-refused c =
     let p = err_from_is_err_and c.from_residual-in_err-compiled.result c.from_residual-in_err-compiled.ensures.1 in
     rw (p.1, p.2) (made-refused c.args.seed c.args.size c.deref.result.now _ c.requires.some c.requires.few (c.deref.ensures.value ∙ c.in_ok-source.ensures) c.in_err-compiled.ensures.refused)
 
-pub word_of-requires-clause-word : goal.word_of-requires-clause-word
-word_of-requires-clause-word c =
+pub text_of-text-requires-clause-word : goal.text_of-text-requires-clause-word
+text_of-text-requires-clause-word c =
     made-word c.args.seed c.args.size c.deref.result.now (typed_program c.in_ok-compiled.compiled.typed) c.requires.some c.requires.few (c.deref.ensures.value ∙ c.in_ok-source.ensures) c.in_ok-compiled.ensures.built.is_source
 
 pub returns-clause-generated : goal.returns-clause-generated
 returns-clause-generated c =
-    generated-by c.args.seed c.args.size c.in_ok-source.source.items c.in_ok-text.text.items c.in_ok-compiled.compiled _ _ c.in_ok-word.word c.in_ok-source.ensures
-    (subst (λ (x : List ℕ). IsBuilt x slots_limit budget_default store_limit c.in_ok-compiled.compiled) c.deref.ensures.value c.in_ok-compiled.ensures.built) (cc) (cc) c.in_ok-word.ensures c.in_ok-text.ensures
+    let h = c.in_ok-text.ensures in
+    generated-by c.args.seed c.args.size c.in_ok-source.source.items c.in_ok-text.field-0.items c.in_ok-compiled.compiled _ (length c.in_ok-compiled.compiled.built.code.list) h.0 c.in_ok-source.ensures
+    (subst (λ (x : List ℕ). IsBuilt x slots_limit budget_default store_limit c.in_ok-compiled.compiled) c.deref.ensures.value c.in_ok-compiled.ensures.built) (cc) refl h.1 h.2
