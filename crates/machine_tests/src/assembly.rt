@@ -1,33 +1,23 @@
 // Texts by hand, against codes, listings and faulty lines.
-use nv_base::Bin;
 use std::alloc::Global;
 use std::test::Fail;
 use uc_asm::laws::assemble_printed;
 use uc_asm::{AsmError, assemble, print};
-use uc_isa::{Dst, Instr, RegA, RegB, Src};
+use uc_object::encode;
 
 const SUM: &[u8] = b"params 2\n\
     alu A0 ADD A0 B0\n\
     halt 0 1\n";
 
+// Its object.
+const OBJECT: &[u8] = b"NVO1\x02\0\0\0\x02\0\0\0\0\0\0\0\x10\0\0\0\x06\x01\0\0\0\0\0\0";
+
 #[test]
 fn a_text_gives_its_code(rt: HostRuntime) -> Result<(), Fail> {
     let code = assemble(rt.alloc(), SUM)?;
     assert_eq!(rt; code.params(), 2);
-    assert!(rt;
-        matches!(
-            code.list(),
-            [
-                Instr::Alu {
-                    dst: Dst::A(RegA { number: 0 }),
-                    op: Bin::Add,
-                    x: Src::A(RegA { number: 0 }),
-                    y: Src::B(RegB { number: 0 }),
-                },
-                Instr::Halt { k: 0, n: 1 },
-            ]
-        )
-    );
+    let object = encode(rt.alloc(), &code)?;
+    assert_eq!(rt; object.as_slice(), OBJECT);
     Ok(())
 }
 

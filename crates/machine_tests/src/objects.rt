@@ -2,6 +2,7 @@
 use nv_base::{Bin, Mem};
 use std::alloc::{AllocError, Global};
 use std::test::Fail;
+use uc_asm::print;
 use uc_isa::{Code, Dst, Gpr, Instr, RegA, RegB, RegL, RegLD, Src};
 use uc_object::{ObjectError, decode, encode};
 
@@ -50,31 +51,9 @@ fn code_has_its_bytes(rt: HostRuntime) -> Result<(), Fail> {
 fn bytes_have_their_code_whether_lawful_or_not(rt: HostRuntime) -> Result<(), Fail> {
     let code = decode(rt.alloc(), &BYTES)?;
     assert_eq!(rt; code.params(), 8);
-    assert!(rt;
-        matches!(
-            code.list(),
-            [
-                Instr::Alu {
-                    dst: Dst::Nowhere,
-                    op: Bin::Xor,
-                    x: Src::L(RegL { number: 7 }),
-                    y: Src::LD(RegLD { number: 6 }),
-                },
-                Instr::Write {
-                    mem: Mem::Sdram,
-                    r: 255,
-                    n: 1,
-                    x: Gpr::B(RegB { number: 10 }),
-                    off: 127,
-                },
-                Instr::Immed {
-                    dst: Dst::A(RegA { number: 9 }),
-                    v: 0xfa0b,
-                    s: 9,
-                },
-            ]
-        )
-    );
+    let text = print(rt.alloc(), &code)?;
+    let listing = b"params 8\nalu none XOR L7 LD6\nwrite sdram 255 1 B10 127\nimmed A9 64011 9\n";
+    assert_eq!(rt; text.as_slice(), listing.as_slice());
     Ok(())
 }
 

@@ -5,7 +5,7 @@ use nv_base::{Cmp, NoMemory, Vars};
 use place_ir::{PlaceError, spill_all};
 use ssu_ir::{Ssu, SsuBuild, SsuLabel, SsuNode, single, size};
 use std::alloc::Global;
-use uc_isa::{Code, Cond, Dst, Instr, RegA, RegS, Src, UnOp};
+use uc_isa::{Code, Cond, Dst, Instr, Src, UnOp};
 use ucode_emit::emit;
 
 // Ends with exception 1 where two parameters are equal, else with exception 2.
@@ -35,16 +35,19 @@ fn a_sum_has_twelve_instructions(rt: HostRuntime) -> Result<(), PlaceError> {
     let s = sum(rt.alloc())?;
     let code = code_of(rt.alloc(), &s)?;
     assert_eq!(rt; code.as_ref().map(|c| c.list().len()), Some(12));
-    assert!(rt;
-        matches!(
-            code.as_ref().and_then(|c| c.list().first()),
-            Some(Instr::Un {
-                dst: Dst::S(RegS { number: 0 }),
+    match code.as_ref().and_then(|c| c.list().first()).copied() {
+        Some(
+            Instr::Un {
+                dst: Dst::S(to),
                 op: UnOp::Copy,
-                x: Src::A(RegA { number: 0 }),
-            })
-        )
-    );
+                x: Src::A(from),
+            },
+        ) => {
+            assert_eq!(rt; to.number, 0);
+            assert_eq!(rt; from.number, 0);
+        }
+        _ => assert!(rt; false),
+    }
     Ok(())
 }
 
