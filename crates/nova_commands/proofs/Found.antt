@@ -9,13 +9,13 @@ use Rattle.nova_back.specs.Causes.{report_cost}
 use Rattle.nova_commands.specs.Checking.{IsReportOf}
 use Rattle.nova_commands.specs.Headline.{CompiledMakes, WithoutMakes, CompileMakes}
 use Rattle.command_line.specs.Lines.{compiled_text, infeasible_text, spent_text}
-use Rattle.nova_commands.specs.Saving.{File, file}
-use Rattle.nova_commands.specs.inner.Contents.{files_of}
+use Rattle.object_commands.specs.Saving.{File, file}
+use Rattle.object_commands.specs.inner.Files.{files_of}
 use Rattle.nova_commands.specs.inner.Found.{HasReport, IsBuilt, IsFound, IsWithoutBanks}
 use Rattle.nova_commands.specs.declared.build.Compiled.{Compiled}
 use Rattle.nova_commands.specs.declared.compile.Found.{Found}
 use Rattle.nova_commands.specs.declared.compile.Found.TheVariants as found
-use Rattle.nova_commands.specs.declared.save.Made.{Made}
+use Rattle.object_commands.specs.declared.save.Made.{Made}
 use Rattle.nv_base.specs.declared.error.NoMemory.{NoMemory}
 use Rattle.command_line.specs.declared.status.Status.{Status}
 use Rattle.command_line.specs.declared.status.Status.TheVariants as status

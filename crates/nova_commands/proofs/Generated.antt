@@ -28,7 +28,7 @@ use Rattle.nova_commands.specs.Generating.{GenRefuses, IsGenerated, MeansWord, g
 use Rattle.nova_commands.specs.Headline.{CompileRefuses, IsUnfit}
 use Rattle.command_line.specs.Limits.{slots_limit, budget_default, store_limit}
 use Rattle.command_line.specs.Lines.{IsUncaused}
-use Rattle.nova_commands.specs.Machine.{spill_base}
+use Rattle.object_commands.specs.Machine.{spill_base}
 use Rattle.nova_commands.specs.Reading.{HasTyped}
 use Rattle.command_line.specs.declared.refusal.Refusal.{Refusal}
 use Rattle.nova_commands.specs.declared.build.Compiled.{Compiled}

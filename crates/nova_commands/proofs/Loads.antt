@@ -7,6 +7,7 @@ use Rattle.nova_commands.specs.Answers.{IsFree}
 use Rattle.command_line.specs.Lines.{IsUncaused, refusal_status}
 use Rattle.nova_commands.specs.Loading.{Input, IsRead, AreRead, StopsAt, IsUnread}
 use Rattle.nova_commands.specs.inner.Contents.{AreShort}
+use Rattle.object_commands.proofs.Saves.{rose-later}
 use Rattle.command_line.specs.declared.refusal.Refusal.{Refusal}
 use Rattle.command_line.specs.declared.refusal.Refusal.TheVariants.{ReadFault, TooLarge}
 
@@ -91,9 +92,6 @@ unread-one T held R (TooLarge n) _ i h k = absurd k
 unread-one T held R _ e' i h k = absurd h
 
 -- a count that rose later rose from before on
-pub rose-later : (a b c : ℕ) → a ≤ b → Rose b c → Rose a c
-rose-later a b c h r = omega arith
-
 pub unread-later : (T : Type 0) (held : Holding) (before mid after : List ℕ → ℕ) (e : Refusal) (i : Input) → ((q : List ℕ) → before q ≤ mid q)
     → IsUnread T held (λ q. Rose (mid q) (after q)) e i → IsUnread T held (λ q. Rose (before q) (after q)) e i
 unread-later T held before mid after (ReadFault name) i rises h = (h.0, rose-later (before i.name) (mid i.name) (after i.name) (rises i.name) h.1)

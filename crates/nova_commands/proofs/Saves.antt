@@ -1,7 +1,6 @@
 -- The files that a command saves.
-use Rattle.std.proofs.Common.{◌≡◌, ℕ, ◌≤◌, ◌⊎◌, inl, inr, List, [], ◌∷◌, refl, ap, sym, ◌∙◌, subst, arith}
+use Rattle.std.proofs.Common.{◌≡◌, ℕ, ◌⊎◌, inl, inr, List, [], ◌∷◌, refl, ap, sym, ◌∙◌, subst, arith}
 use Rattle.std.specs.Prelude.{Contains}
-use Rattle.nv_outside.specs.Causes.{Rose}
 use Rattle.nv_outside.specs.Holding.{Holding, Replaced, SameElsewhere}
 use Rattle.nova_commands.specs.Answers.{Makes, Refuses, IsCaused, IsDone, IsStopped}
 use Rattle.command_line.specs.Command.{Command, Compile, Run, Exec, Asm, Dis, Lint, Check, Gen, SomeFile, outputs_of}
@@ -11,16 +10,11 @@ use Rattle.nova_commands.specs.Headline.{CompiledMakes, WithoutMakes, CompileMak
 use Rattle.command_line.specs.Limits.{source_limit}
 use Rattle.command_line.specs.Lines.{IsUncaused, cannot_write}
 use Rattle.nova_commands.specs.Loading.{input, IsRead, AreRead, StopsAt, IsUnread, inputs_of}
-use Rattle.nova_commands.specs.Saving.{File, file, AreSaved, IsCut, IsSameBut}
+use Rattle.object_commands.specs.Saving.{File, file, AreSaved, IsCut, IsSameBut}
 use Rattle.command_line.specs.declared.refusal.Refusal.{Refusal}
 use Rattle.command_line.specs.declared.status.Status.{Status}
 use Rattle.command_line.specs.declared.status.Status.TheVariants.{Done, WriteFault, Infeasible, BudgetSpent}
-use Rattle.nova_commands.proofs.Loads.{rose-later}
-
-pub cut-map : (T : Type 0) (fs : List File) (old new : Holding) (P Q : List ℕ → Type 0) → ((name : List ℕ) → P name → Q name) → IsCut T fs old new P → IsCut T fs old new Q
-cut-map T [] old new P Q f h = h
-cut-map T (x ∷ fs) old new P Q f (inl h) = inl (f x.name h.0, h.1)
-cut-map T (x ∷ fs) old new P Q f (inr h) = inr (h.0, h.1, cut-map T fs h.0 new P Q f h.2)
+use Rattle.object_commands.proofs.Saves.{cut-map}
 
 -- the only file
 cut-one : (T : Type 0) (f : File) (old new : Holding) (P : List ℕ → Type 0) → IsCut T (f ∷ []) old new P → P f.name × (T → SameElsewhere old new f.name)
@@ -199,18 +193,6 @@ reported-of T old new source object report slots budget store _ s fs t tells rea
 pub done-reported : (T : Type 0) (old new : Holding) (source object report : List ℕ) (slots budget store : ℕ) (s : Status) (t : List ℕ) → T → IsDone T old new (Compile source object report slots budget store) s t
     → IfWithout s (λ v. IsReported old new source report slots budget v)
 done-reported T old new source object report slots budget store s t tells h = reported-of T old new source object report slots budget store h.contents s h.files t tells h.read h.makes h.saved
-
--- the first of two files was saved, and the second is saved or not
-pub second-saved : (T : Type 0) (f g : File) (old mid new : Holding) (before between after : List ℕ → ℕ) (made s : Status) (text t : List ℕ) (fs : List File) → fs ≡ f ∷ g ∷ []
-    → (T → Replaced old mid f.name f.bytes) → ((name : List ℕ) → before name ≤ between name)
-    → ((s ≡ made) × (t ≡ text) × (T → AreSaved (g ∷ []) mid new)) ⊎ ((s ≡ WriteFault) × IsCut T (g ∷ []) mid new (λ name. Rose (between name) (after name) × (t ≡ cannot_write name)))
-    → ((s ≡ made) × (t ≡ text) × (T → AreSaved fs old new)) ⊎ ((s ≡ WriteFault) × IsCut T fs old new (λ name. Rose (before name) (after name) × (t ≡ cannot_write name)))
-second-saved T f g old mid new before between after made s text t fs is first rises (inl h) = inl (h.0, h.1, λ tells. subst (λ (x : List File). AreSaved x old new) (sym is) (mid, first tells, h.2 tells))
-second-saved T f g old mid new before between after made s text t fs is first rises (inr h) =
-    let cut : IsCut T (g ∷ []) mid new (λ name. Rose (before name) (after name) × (t ≡ cannot_write name)) =
-    cut-map T (g ∷ []) mid new (λ name. Rose (between name) (after name) × (t ≡ cannot_write name)) (λ name. Rose (before name) (after name) × (t ≡ cannot_write name))
-    (λ name both. (rose-later (before name) (between name) (after name) (rises name) both.0, both.1)) h.1 in
-    inr (h.0, subst (λ (x : List File). IsCut T x old new (λ name. Rose (before name) (after name) × (t ≡ cannot_write name))) (sym is) (inr (mid, first, cut)))
 
 -- what was made is saved, or a save failed
 pub saves-end : (T : Type 0) (old mid new : Holding) (Rises Later : List ℕ → Type 0) (c : Command) (bs : List (List ℕ)) (made s : Status) (fs : List File) (line t : List ℕ)

@@ -1,7 +1,7 @@
 -- The answers of the program.
 use Rattle.std.specs.Prelude.{◌≡◌, ◌⊎◌, ◌++◌, ℕ, List, [], ◌∷◌, ⊤}
 use Rattle.nv_outside.specs.Holding.{Holding, AppendsFront}
-use Rattle.nova_commands.specs.Assembly.{AsmMakes, AsmRefuses, HasAssembly, IsListed}
+use Rattle.object_commands.specs.Assembly.{AsmMakes, AsmRefuses, HasAssembly, IsListed}
 use Rattle.command_line.specs.Command.{Command, Compile, Run, Exec, Asm, Dis, Lint, Check, Gen}
 use Rattle.nova_commands.specs.Checking.{CheckRefuses, IsChecked}
 use Rattle.nova_commands.specs.Executing.{ExecRefuses, IsExecuted}
@@ -9,9 +9,9 @@ use Rattle.nova_commands.specs.Generating.{IsGenerated, GenRefuses}
 use Rattle.nova_commands.specs.Headline.{CompileMakes, CompileRefuses, IsEndOf}
 use Rattle.command_line.specs.Lines.{IsUncaused, refusal_status, refusal_text, cannot_write}
 use Rattle.nova_commands.specs.Loading.{AreRead, StopsAt, IsUnread, inputs_of}
-use Rattle.nova_commands.specs.Machine.{IsBadObjectFor, LintRefuses, IsLinted, RunRefuses, IsRun}
+use Rattle.object_commands.specs.Machine.{IsBadObjectFor, LintRefuses, IsLinted, RunRefuses, IsRun}
 use Rattle.nova_commands.specs.Reading.{HasTyped, SourceRefuses}
-use Rattle.nova_commands.specs.Saving.{File, AreSaved, IsCut}
+use Rattle.object_commands.specs.Saving.{File, AreSaved, IsCut}
 use Rattle.command_line.specs.declared.refusal.Refusal.{Refusal}
 use Rattle.command_line.specs.declared.status.Status.{Status}
 use Rattle.command_line.specs.declared.status.Status.TheVariants.{Done, ReadFault, WriteFault, NoMemory}

@@ -1,13 +1,10 @@
 pub mod Loading
-pub mod Saving
 pub mod Reading
 pub mod Forms
 pub mod Headline
 pub mod Building
-pub mod Machine
 pub mod Executing
 pub mod Generating
-pub mod Assembly
 pub mod Checking
 pub mod Answers
 pub mod inner

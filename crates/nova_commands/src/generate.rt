@@ -42,6 +42,7 @@ pub fn generate<'a>(alloc: Global, seed: u32, size: u32) -> Result<Reply, Refusa
     let source = made_text(alloc, seed, size)?;
     let compiled = compiled_of(alloc, &source)?;
     let text = text_of(alloc, seed, size, source.len() as u64, &compiled);
+    // By a call, as in `compile_bytes`.
     drop(compiled);
     Ok(Reply {
         status: Status::Done,

@@ -2,22 +2,15 @@
 //! listing, a verdict; or why it is refused.
 #![tactic(auto)]
 
-mod assemble;
 mod build;
 mod compile;
 mod execute;
 mod generate;
-mod lint;
-mod list;
 mod load;
-mod object;
 mod perform;
 mod report;
-mod save;
-mod simulate;
 mod source;
 
 pub use build::{CompileError, Compiled, compile_text};
 pub use load::{Inputs, load_inputs};
 pub use perform::work;
-pub use save::{Made, Output, Outputs};

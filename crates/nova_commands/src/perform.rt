@@ -4,20 +4,18 @@ ghost use Rattle.nova_commands.specs.Answers.{Makes, Refuses};
 ghost use Rattle.command_line.specs.inner.Words.{command_as, HasLimits};
 ghost use Rattle.command_line.specs.Lines.{IsUncaused};
 ghost use Rattle.nova_commands.specs.Loading.{inputs_of};
-ghost use Rattle.nova_commands.specs.inner.Contents.{contents_of, files_of, AreShort, AreTold};
-ghost use Rattle.nova_commands.specs.inner.Replies.{IsOutcome, IsShown};
+ghost use Rattle.nova_commands.specs.inner.Contents.{contents_of, AreShort};
+ghost use Rattle.object_commands.specs.inner.Files.{files_of, AreTold};
+ghost use Rattle.nova_commands.specs.inner.Replies.{IsShown};
+ghost use Rattle.object_commands.specs.inner.Outcomes.{IsOutcome};
 
-use crate::assemble::assemble_bytes;
 use crate::compile::compile_bytes;
 use crate::execute::exec_bytes;
 use crate::generate::generate;
-use crate::lint::lint_bytes;
-use crate::list::list_bytes;
 use crate::load::Inputs;
 use crate::report::check_bytes;
-use crate::save::{Made, Outputs};
-use crate::simulate::run_bytes;
 use command_line::{Command, Refusal, Reply};
+use object_commands::{Made, Outputs, assemble_bytes, lint_bytes, list_bytes, run_bytes};
 use std::alloc::Global;
 
 /// Does what a command is for, but for loading, saving and printing.

@@ -10,9 +10,10 @@ use Rattle.zo_cert.specs.declared.report.Verdict.{Verdict}
 use Rattle.nova_commands.specs.Headline.{IsCompiled, IfWithout, IsReported}
 use Rattle.command_line.specs.Lines.{IsUncaused, refusal_status, refusal_text, cannot_read, cannot_write}
 use Rattle.nova_commands.specs.Loading.{AreRead, StopsAt, IsUnread, inputs_of}
-use Rattle.nova_commands.specs.Saving.{File, IsSameBut}
+use Rattle.object_commands.specs.Saving.{File, IsSameBut}
 use Rattle.command_line.specs.Status.{MaySave}
-use Rattle.nova_commands.specs.inner.Replies.{IsOutcome, HasEnded}
+use Rattle.nova_commands.specs.inner.Replies.{HasEnded}
+use Rattle.object_commands.specs.inner.Outcomes.{IsOutcome}
 use Rattle.command_line.specs.declared.refusal.Refusal.{Refusal}
 use Rattle.command_line.specs.declared.refusal.Refusal.TheVariants.{NoMemory, ReadFault, TooLarge, SourceChar, SourceNumber, SourceName, SourceSyntax, SourceDeep, SourceType, SourceLarge, Syntax, Label, BadObject, BadMemoryText, BadReport, FalseReport, Unlawful, UnlawfulLine, StoreFull}
 use Rattle.command_line.specs.declared.status.Status.{Status}

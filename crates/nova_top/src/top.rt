@@ -9,7 +9,7 @@ ghost use Rattle.command_line.specs.inner.Words.{command_as, HasLimits};
 ghost use Rattle.nova_commands.specs.Headline.{IsCompiled, IfWithout, IsReported};
 ghost use Rattle.command_line.specs.Lines.{IsUncaused, usage_text, cannot_read, cannot_write, refusal_status, refusal_text};
 ghost use Rattle.nova_commands.specs.Loading.{AreRead, inputs_of, StopsAt};
-ghost use Rattle.nova_commands.specs.Saving.{IsSameBut};
+ghost use Rattle.object_commands.specs.Saving.{IsSameBut};
 ghost use Rattle.command_line.specs.Status.{MaySave};
 ghost use Rattle.nova_commands.specs.inner.Replies.{IsEnd, HasEnded};
 ghost use Rattle.command_line.specs.declared.refusal.Refusal.{Refusal};

@@ -5,20 +5,11 @@ use Rattle.nova_commands.specs.Answers.{IsDone, IsStopped, IsRefused}
 use Rattle.command_line.specs.Command.{Command}
 use Rattle.command_line.specs.declared.refusal.Refusal.{Refusal}
 use Rattle.command_line.specs.declared.reply.Reply.{Reply}
-use Rattle.nova_commands.specs.declared.save.Made.{Made}
-use Rattle.nova_commands.specs.declared.save.Outputs.TheVariants.{Nothing}
+use Rattle.object_commands.specs.inner.Outcomes.{IsOutcome}
+use Rattle.object_commands.specs.declared.save.Made.{Made}
+use Rattle.object_commands.specs.declared.save.Outputs.TheVariants.{Nothing}
 use Rattle.command_line.specs.declared.status.Status.{Status}
-use Rattle.command_line.specs.declared.status.Status.TheVariants.{Done, WriteFault, Infeasible, BudgetSpent, Raised, Fault, StepsSpent}
-
--- a command that isn't refused, and no save of which fails, ends with one of these
-abbrev pub IsOutcome : Status → Type 0
-IsOutcome Done = Unit {0}
-IsOutcome Infeasible = Unit {0}
-IsOutcome BudgetSpent = Unit {0}
-IsOutcome Raised = Unit {0}
-IsOutcome Fault = Unit {0}
-IsOutcome StepsSpent = Unit {0}
-IsOutcome _ = ⊥
+use Rattle.command_line.specs.declared.status.Status.TheVariants.{WriteFault}
 
 -- a command that isn't refused ends with one of these
 abbrev pub IsEnd : Status → Type 0

@@ -2,8 +2,9 @@ use Rattle.std.proofs.Common.{ℕ, List}
 use Rattle.std.proofs.lemmas.Result.{err_from_is_err_and}
 use Rattle.nv_outside.specs.Causes.{Rose}
 use Rattle.command_line.specs.inner.Words.{command_as}
-use Rattle.nova_commands.specs.inner.Contents.{contents_of, files_of}
-use Rattle.nova_commands.proofs.Loads.{rose-later}
+use Rattle.nova_commands.specs.inner.Contents.{contents_of}
+use Rattle.object_commands.specs.inner.Files.{files_of}
+use Rattle.object_commands.proofs.Saves.{rose-later}
 use Rattle.nova_commands.proofs.Saves.{saves-end, pass-unread, pass-refused}
 use Rattle.nova_top.proofs.top.perform.Goals as goal
 

@@ -1,9 +1,9 @@
 //! The command `dis`.
 ghost use Rattle.std.specs.Prelude.{◌≡◌, ◌⊎◌, ◌≤◌, length, IfOk, IfErr};
-ghost use Rattle.nova_commands.specs.Assembly.{IsListed};
+ghost use Rattle.object_commands.specs.Assembly.{IsListed};
 ghost use Rattle.command_line.specs.Limits.{object_limit};
 ghost use Rattle.command_line.specs.Lines.{IsUncaused};
-ghost use Rattle.nova_commands.specs.Machine.{IsBadObjectFor};
+ghost use Rattle.object_commands.specs.Machine.{IsBadObjectFor};
 ghost use Rattle.command_line.specs.declared.status.Status.{Status};
 
 use crate::object::code_of;

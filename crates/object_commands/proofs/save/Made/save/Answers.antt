@@ -1,9 +1,9 @@
 use Rattle.std.proofs.Common.{List, ℕ, ap, subst}
 use Rattle.nv_outside.specs.Holding.{Replaced}
-use Rattle.nova_commands.specs.declared.save.Outputs.{Outputs}
-use Rattle.nova_commands.specs.inner.Contents.{file_of, files_of}
-use Rattle.nova_commands.proofs.Saves.{second-saved}
-use Rattle.nova_commands.proofs.save.Made.save.Goals as goal
+use Rattle.object_commands.specs.declared.save.Outputs.{Outputs}
+use Rattle.object_commands.specs.inner.Files.{file_of, files_of}
+use Rattle.object_commands.proofs.Saves.{second-saved}
+use Rattle.object_commands.proofs.save.Made.save.Goals as goal
 
 pub returns-in-Done : goal.returns-in-Done
 returns-in-Done g c = record {

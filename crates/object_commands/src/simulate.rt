@@ -5,9 +5,9 @@ ghost use Rattle.uc_isa.specs.Engine.{engine};
 ghost use Rattle.uc_isa.specs.Lawful.{IsLawful};
 ghost use Rattle.command_line.specs.Limits.{object_limit, memory_limit};
 ghost use Rattle.command_line.specs.Lines.{IsUncaused};
-ghost use Rattle.nova_commands.specs.Machine.{RunRefuses, IsMemoryRefusedFor, IsRun, spill_base, full_text};
+ghost use Rattle.object_commands.specs.Machine.{RunRefuses, IsMemoryRefusedFor, IsRun, spill_base, full_text};
 ghost use Rattle.command_line.specs.Status.{outcome_status};
-ghost use Rattle.nova_commands.specs.inner.Replies.{IsOutcome};
+ghost use Rattle.object_commands.specs.inner.Outcomes.{IsOutcome};
 
 use crate::object::{check_lawful, code_of};
 use command_line::limits::SPILL_BASE;

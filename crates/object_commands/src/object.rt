@@ -3,7 +3,7 @@ ghost use Rattle.std.specs.Prelude.{◌≡◌, ◌<◌, ◌^◌, ◌⊎◌, leng
 ghost use Rattle.uc_isa.specs.Lawful.{IsLawful};
 ghost use Rattle.uc_object.specs.Object.{IsObject};
 ghost use Rattle.command_line.specs.Lines.{IsUncaused};
-ghost use Rattle.nova_commands.specs.Machine.{IsBadObjectFor, IsUnlawfulFor};
+ghost use Rattle.object_commands.specs.Machine.{IsBadObjectFor, IsUnlawfulFor};
 
 use command_line::Refusal;
 use std::alloc::Global;

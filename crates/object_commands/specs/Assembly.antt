@@ -5,7 +5,7 @@ use Rattle.uc_asm.specs.Text.{IsSyntaxError, listing}
 use Rattle.uc_isa.specs.Code.{CodeView}
 use Rattle.uc_object.specs.Object.{IsObject}
 use Rattle.command_line.specs.Lines.{counted}
-use Rattle.nova_commands.specs.Saving.{File, file}
+use Rattle.object_commands.specs.Saving.{File, file}
 use Rattle.command_line.specs.declared.status.Status.{Status}
 use Rattle.command_line.specs.declared.status.Status.TheVariants.{Done}
 use Rattle.command_line.specs.declared.refusal.Refusal.{Refusal}

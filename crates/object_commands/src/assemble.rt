@@ -1,9 +1,9 @@
 //! The command `asm`.
 ghost use Rattle.std.specs.Prelude.{◌≡◌, ◌⊎◌, ◌≤◌, length, IfOk, IfErr};
-ghost use Rattle.nova_commands.specs.Assembly.{AsmMakes, AsmRefuses, IsAssembledTo};
+ghost use Rattle.object_commands.specs.Assembly.{AsmMakes, AsmRefuses, IsAssembledTo};
 ghost use Rattle.command_line.specs.Limits.{assembly_limit};
 ghost use Rattle.command_line.specs.Lines.{IsUncaused};
-ghost use Rattle.nova_commands.specs.inner.Contents.{files_of, AreTold};
+ghost use Rattle.object_commands.specs.inner.Files.{files_of, AreTold};
 
 use crate::save::{Made, Product};
 use command_line::Refusal;

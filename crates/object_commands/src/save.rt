@@ -2,8 +2,8 @@
 ghost use Rattle.std.specs.Prelude.{◌≡◌, ◌⊎◌, ◌≤◌, ◌∷◌, [], IfOk};
 ghost use Rattle.nv_outside.specs.Causes.{Rose};
 ghost use Rattle.command_line.specs.Lines.{counted, cannot_write};
-ghost use Rattle.nova_commands.specs.Saving.{file, AreSaved, IsCut};
-ghost use Rattle.nova_commands.specs.inner.Contents.{file_of, files_of, AreTold, IsTold};
+ghost use Rattle.object_commands.specs.Saving.{file, AreSaved, IsCut};
+ghost use Rattle.object_commands.specs.inner.Files.{file_of, files_of, AreTold, IsTold};
 ghost use Rattle.command_line.specs.declared.status.Status.{Status};
 
 use command_line::{Reply, Status, counted_line, named_line};

@@ -2,7 +2,7 @@
 ghost use Rattle.std.specs.Prelude.{◌≡◌, ◌≤◌, ◌⊎◌, length, IfOk, IfErr};
 ghost use Rattle.command_line.specs.Limits.{object_limit};
 ghost use Rattle.command_line.specs.Lines.{IsUncaused};
-ghost use Rattle.nova_commands.specs.Machine.{LintRefuses, IsLinted};
+ghost use Rattle.object_commands.specs.Machine.{LintRefuses, IsLinted};
 ghost use Rattle.command_line.specs.declared.status.Status.{Status};
 
 use crate::object::{check_lawful, code_of};

@@ -1,0 +1,4 @@
+pub mod Saving
+pub mod Machine
+pub mod Assembly
+pub mod inner
