@@ -5,10 +5,10 @@ pub mod error;
 pub mod laws;
 pub mod program;
 
+pub use bank_columns::{column_names, column_numbers};
 pub use bank_form::{
     Access, Bank, Column, Form, Numbers, Role, Service, Sort, Stop, Tables, Use, Value, form_of,
     number, services,
 };
-pub use bank_rows::{column_names, column_numbers};
 pub use error::BankError;
 pub use program::build;

@@ -11,9 +11,10 @@ ghost use Rattle.bank_form.specs.Program.{bank_program, IsTooLarge};
 ghost use Rattle.bank_prog.specs.declared.error.BankError.TheVariants.{TooLarge as Exceeds};
 
 use crate::error::BankError;
+use bank_columns::{columns_of, costs_of};
 use bank_form::form::form_of;
 use bank_form::numbers::{COUNT_LIMIT, number_columns};
-use bank_rows::{columns_of, costs_of, rows_of};
+use bank_rows::rows_of;
 use place_ir::held;
 use ssu_ir::Ssu;
 use std::alloc::Global;

@@ -1,12 +1,10 @@
-//! The columns of the program of the banks with their costs, and its rows.
+//! The rows of the program of the banks.
 #![tactic(auto)]
 
 mod all_rows;
 mod begins;
 mod choice;
-mod columns;
 mod cover;
-mod named;
 mod owners;
 mod passes;
 mod refills;
@@ -14,5 +12,3 @@ mod spans;
 mod waiting;
 
 pub use all_rows::rows_of;
-pub use columns::{columns_of, costs_of};
-pub use named::{column_names, column_numbers};

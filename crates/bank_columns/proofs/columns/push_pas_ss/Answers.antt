@@ -1,0 +1,15 @@
+use Rattle.std.proofs.Common.{◌++◌, ◌∙◌, ap, map, arith}
+use Rattle.std.specs.List.{flat_map}
+use Rattle.bank_form.specs.inner.Form as form
+use Rattle.bank_form.specs.inner.Form.{stop_view}
+use Rattle.ssu_ir.specs.View.{labels_view}
+use Rattle.bank_form.proofs.Loops.{out-more, out-all}
+use Rattle.bank_columns.proofs.columns.push_pas_ss.Goals as goal
+
+pub loop-stop-preserved : goal.loop-stop-preserved
+loop-stop-preserved c =
+    out-more (form.part_pas_s (labels_view c.args.f.now.ssu.now)) stop_view c.args.stops.now c.loop-stop.stop-index _ c.loop-stop.out.items c.push_pas_s.new.out.items
+    (c.args.out.now.items ++ flat_map (form.part_pas_s (labels_view c.args.f.now.ssu.now)) (map stop_view c.args.stops.now)) (omega arith) (c.in_ok-push_pas_s.ensures ∙ ap (λ s. c.loop-stop.out.items ++ form.part_pas_s (labels_view c.args.f.now.ssu.now) (stop_view s)) c.stop-item.is) c.loop-stop.invariant
+
+pub returns : goal.returns
+returns c = out-all (form.part_pas_s (labels_view c.args.f.now.ssu.now)) stop_view c.args.stops.now c.loop-stop.stop-index c.loop-stop.out.items (c.args.out.now.items ++ flat_map (form.part_pas_s (labels_view c.args.f.now.ssu.now)) (map stop_view c.args.stops.now)) (omega arith) c.loop-stop.invariant
