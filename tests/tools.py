@@ -168,7 +168,7 @@ def as_made(top):
 def pages_as_made(top):
     """The pages of nova_explain are those of docs/FAULTS.md."""
     made = pages.files(top).items()
-    return [f"{name} is to be written again by tests/pages.py" for name, text in made if read(top, f"crates/nova_explain/src/{name}") != text]
+    return [f"{name} is to be written again by tests/pages.py" for name, text in made if read(top, f"crates/fault_pages/src/{name}") != text]
 
 
 def believed_as_made(top):

@@ -1,6 +1,6 @@
 //! Where else a name is declared.
 
-use crate::text::{Sheet, part};
+use fault_parts::text::{Sheet, part};
 use nv_ast::{Decl, Fun, Name, Program, Span};
 use std::alloc::Global;
 use text_place::line_of;

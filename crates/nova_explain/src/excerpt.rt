@@ -1,6 +1,6 @@
 //! The line of a source that has a fault, with carets under the fault.
 
-use crate::text::{Sheet, part};
+use fault_parts::text::{Sheet, part};
 use nv_ast::Span;
 use text_place::{column_of, line_of};
 

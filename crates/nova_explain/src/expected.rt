@@ -1,6 +1,6 @@
 //! Which tokens may stand at a place of a text.
 
-use crate::text::{Sheet, part};
+use fault_parts::text::{Sheet, part};
 use nv_base::NoMemory;
 use nv_text::{MOST_BYTES, Sort, TextError, Token, parse};
 use std::alloc::Global;

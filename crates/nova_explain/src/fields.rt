@@ -1,7 +1,7 @@
 //! Where the fields of layouts stand.
 
-use crate::declared::Declared;
-use crate::text::{Sheet, part};
+use fault_parts::declared::Declared;
+use fault_parts::text::{Sheet, part};
 use nv_ast::{FieldText, LayoutText, Name};
 use std::alloc::Global;
 

@@ -5,31 +5,16 @@
 //! fails, 5 for want of memory.
 #![tactic(auto)]
 
-mod blocks;
-mod cost;
-mod declared;
 mod elsewhere;
 mod excerpt;
 mod expected;
-mod expressions;
 mod fields;
-mod kinds;
-mod layouts;
-mod nearest;
-mod other_pages;
-mod pages;
 mod refusal;
 mod sizes;
 mod slips;
 mod source;
 mod status;
-mod tell;
-mod text;
 mod top;
-mod type_pages;
-mod types;
-mod walk;
-mod wanted;
 
 use nv_base::NoMemory;
 use nv_outside::{DiskFiles, StdSink};

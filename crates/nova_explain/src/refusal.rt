@@ -3,11 +3,11 @@
 use crate::elsewhere::push_elsewhere;
 use crate::excerpt::{push_excerpt, push_place};
 use crate::expected::Expected;
-use crate::kinds::{kind_advice, kind_sentence};
 use crate::sizes::push_parts;
 use crate::slips::{Around, byte_advice};
-use crate::text::{Sheet, part};
-use crate::walk::Walk;
+use fault_parts::kinds::{kind_advice, kind_sentence};
+use fault_parts::text::{Sheet, part};
+use fault_walk::Walk;
 use nv_ast::{Program, Span};
 use nv_text::{MOST_BYTES, TextError, Token, parse, tokens};
 use nv_types::TypeError;

@@ -1,9 +1,9 @@
 //! The sizes of a program without a fault.
 
-use crate::cost::Cost;
 use crate::fields::FieldLister;
-use crate::text::Sheet;
-use crate::walk::Walk;
+use fault_parts::cost::Cost;
+use fault_parts::text::Sheet;
+use fault_walk::Walk;
 use nv_ast::{Decl, Fun, LayoutText, Name, Program, Span, Typed};
 use std::alloc::Global;
 

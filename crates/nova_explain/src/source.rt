@@ -2,7 +2,7 @@
 
 use crate::refusal::{explain_text, explain_type};
 use crate::sizes::push_sizes;
-use crate::text::Sheet;
+use fault_parts::text::Sheet;
 use nv_ast::Program;
 use nv_text::{MOST_BYTES, parse};
 use nv_types::check;

@@ -1,9 +1,9 @@
 //! From the words of a command line to the text that is printed.
 
-use crate::pages::page_of;
 use crate::source::explain_source;
 use crate::status::Status;
-use crate::text::Sheet;
+use fault_pages::page_of;
+use fault_parts::text::Sheet;
 use nv_base::NoMemory;
 use nv_outside::{Files, Loaded, Put, Sink};
 use nv_text::MOST_BYTES;

@@ -1,10 +1,10 @@
 //! A walk over a program, up to a fault or over the whole of it. It finds the types and sizes that are told of both.
 //! What it finds goes into the text that is printed; where the fault lies, `check` has said before.
 
-use crate::cost::Cost;
-use crate::declared::{Declared, Scope};
-use crate::text::Sheet;
-use crate::types::{BOOL, Part, Types};
+use fault_parts::cost::Cost;
+use fault_parts::declared::{Declared, Scope};
+use fault_parts::text::Sheet;
+use fault_parts::types::{BOOL, Part, Types};
 use nv_ast::{Decl, Fun, Name, Program, Span, TyText};
 use std::alloc::Global;
 
@@ -49,8 +49,10 @@ impl Found {
 #[derive(Drop)]
 pub struct Walk<'a> {
     pub alloc: Global,
+    /// The types that were met, to which the numbers below belong.
     pub types: Types<'a>,
     pub layouts: Declared<'a, Shape>,
+    /// The tuple of each exception's types.
     pub exceptions: Declared<'a, usize>,
     pub functions: Declared<'a, Function>,
     /// What calls of the functions of groups that are behind cost.
@@ -68,6 +70,7 @@ pub struct Walk<'a> {
     pub inside: u8,
     /// Whether the fault is told, and nothing behind it is walked.
     pub is_over: bool,
+    /// What is told of the fault.
     pub note: Sheet,
     /// What helps, where more is known than the kind.
     pub advice: Option<&'static str>,

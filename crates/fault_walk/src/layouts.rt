@@ -1,7 +1,7 @@
 //! Layouts in a walk.
 
-use crate::types::{Part, WORD};
 use crate::walk::{Shape, Walk};
+use fault_parts::types::{Part, WORD};
 use nv_ast::{FieldText, LayoutText, Name, Span};
 
 // A field: its bits, how many bit fields it has, and the type of its unpacked value.

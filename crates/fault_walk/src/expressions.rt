@@ -1,10 +1,11 @@
 //! Expressions in a walk.
 
-use crate::cost::Cost;
-use crate::types::{BOOL, Part, WORD};
 use crate::walk::{Found, Function, Walk};
-use crate::wanted::{Wanted, Why};
-use nv_ast::{Expr, Fun, Kind, Name, Op, Span};
+use fault_parts::cost::Cost;
+use fault_parts::operators::{operand_of, result_of};
+use fault_parts::types::{BOOL, Part, WORD};
+use fault_parts::wanted::{Wanted, Why};
+use nv_ast::{Expr, Fun, Kind, Name, Span};
 use nv_base::Mem;
 
 impl<'a> Walk<'a> {
@@ -309,21 +310,5 @@ impl<'a> Walk<'a> {
         }
         let t = self.types.of_words(n);
         self.found(Some(t), part.cost)
-    }
-}
-
-// The type of an operator's operands.
-fn operand_of(op: Op) -> usize {
-    match op {
-        Op::Both | Op::Either => BOOL,
-        _ => WORD,
-    }
-}
-
-// The type of what an operator gives.
-fn result_of(op: Op) -> usize {
-    match op {
-        Op::Add | Op::Sub | Op::And | Op::Or | Op::Xor => WORD,
-        _ => BOOL,
     }
 }

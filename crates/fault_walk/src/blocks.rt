@@ -1,10 +1,10 @@
 //! Blocks and patterns in a walk, and the words that the lets of a block hold.
 
-use crate::cost::Cost;
-use crate::text::Sheet;
-use crate::types::WORD;
 use crate::walk::{Found, Walk};
-use crate::wanted::{Wanted, Why};
+use fault_parts::cost::Cost;
+use fault_parts::names::add_names;
+use fault_parts::types::WORD;
+use fault_parts::wanted::{Wanted, Why};
 use indexmap::IndexMap;
 use nv_ast::{Kind, Name, Pat, Stmt};
 
@@ -186,24 +186,6 @@ impl<'a> Walk<'a> {
             let kind = self.types.tuple_part(t, n).unwrap_or(WORD);
             self.bind(p, kind);
         }
-    }
-}
-
-/// Adds the names in a pattern.
-#[cycle(names)]
-pub fn add_names<'a>(out: &mut Sheet, p: &'a Pat, names: &mut Vec<&'a Name>) {
-    match p {
-        Pat::Name(x) => out.keep(names, x),
-        Pat::Any => {}
-        Pat::Tuple(ps) => add_all_names(out, ps, names),
-    }
-}
-
-/// Adds the names in some patterns.
-#[cycle(names)]
-pub fn add_all_names<'a>(out: &mut Sheet, ps: &'a [Pat], names: &mut Vec<&'a Name>) {
-    for p in ps {
-        add_names(out, p, names);
     }
 }
 

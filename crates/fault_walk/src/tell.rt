@@ -1,10 +1,10 @@
 //! What a walk tells of the fault that it comes to.
 
-use crate::blocks::{add_all_names, add_names};
-use crate::nearest::push_nearest;
-use crate::types::{BOOL, Part};
 use crate::walk::{Shape, Walk};
-use crate::wanted::Wanted;
+use fault_parts::names::{add_all_names, add_names, stands_before};
+use fault_parts::nearest::push_nearest;
+use fault_parts::types::{BOOL, Part};
+use fault_parts::wanted::Wanted;
 use nv_ast::{Expr, Fun, Kind, Name, Pat, Span, TyText};
 use nv_base::Mem;
 
@@ -395,19 +395,6 @@ impl<'a> Walk<'a> {
             _ => self.note.line("wanted: a plain number, without brackets"),
         }
     }
-}
-
-// Whether the name of a place stands at an earlier one.
-fn stands_before(names: &[&Name], place: usize, name: &Name) -> bool {
-    for (n, it) in names.iter().enumerate() {
-        if n >= place {
-            return false;
-        }
-        if *it == name {
-            return true;
-        }
-    }
-    false
 }
 
 // Whether all sizes are one.
