@@ -9,6 +9,7 @@ use Rattle.nv_base.specs.declared.term.Una.{Una}
 use Rattle.nv_base.specs.declared.term.Una.TheVariants.{Not, Shl, Shr, Rol}
 use Rattle.nv_base.specs.declared.term.Primitive.{Primitive}
 use Rattle.nv_base.specs.declared.term.Primitive.TheVariants.{Same, Una as UnaOf, Bin as BinOf}
+use Rattle.nv_base.specs.Memories.{source_scratch}
 use Rattle.nv_base.specs.Sets.{is_in}
 
 -- ---- operands: a literal, or one of these variables
@@ -43,7 +44,7 @@ can_move Sdram n = (n == 2) || ((n == 4) || ((n == 6) || (n == 8)))
 
 -- scratch is addressed by literals alone, and the words lie below 512
 abbrev pub is_address : Mem → Atom → ℕ → Bool
-is_address Scratch (Lit at) n = nat_le (at + n) 512
+is_address Scratch (Lit at) n = nat_le (at + n) source_scratch
 is_address Scratch (Var x) n = false
 is_address Sram a n = true
 is_address Sdram a n = true

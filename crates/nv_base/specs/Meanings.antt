@@ -5,7 +5,7 @@ use Rattle.nv_base.specs.declared.term.Mem.TheVariants.{Sram, Sdram, Scratch}
 use Rattle.nv_base.specs.declared.outcome.Outcome.{Outcome}
 use Rattle.nv_base.specs.declared.outcome.Outcome.TheVariants.{Ended, Raised, Fault, Going}
 use Rattle.nv_base.specs.declared.outcome.Write.{Write}
-use Rattle.nv_base.specs.Memories.{Memories, HasSizes, stored}
+use Rattle.nv_base.specs.Memories.{Memories, HasSizes, source_scratch, stored}
 
 -- an outcome, with the memories and the writes so far, the first one first
 pub record FullOutcome : Type 0 where
@@ -24,7 +24,7 @@ IsOver Going = ⊥
 abbrev pub is_source_write : Mem → ℕ → Bool
 is_source_write Sram at = true
 is_source_write Sdram at = true
-is_source_write Scratch at = nat_lt at 512
+is_source_write Scratch at = nat_lt at source_scratch
 
 -- the writes without those to the compiler's scratch words
 abbrev pub source_writes : List Write → List Write
@@ -32,7 +32,7 @@ source_writes ws = filter (λ w. is_source_write w.mem w.at) ws
 
 -- the memories without the compiler's scratch words
 abbrev pub source_memories : Memories → Memories
-source_memories p = record p { scratch = take 512 p.scratch }
+source_memories p = record p { scratch = take source_scratch p.scratch }
 
 -- a full outcome without the compiler's scratch words
 abbrev pub seen : FullOutcome → FullOutcome

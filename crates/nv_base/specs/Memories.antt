@@ -9,10 +9,18 @@ pub record Memories : Type 0 where
   pub sdram : List ℕ
   pub scratch : List ℕ
 
+-- the greatest size of SRAM, in words, and of SDRAM, in quadwords
+abbrev pub size_limit : ℕ
+size_limit = 65536
+
+-- how many words of scratch a source may use: those from there on belong to the compiler
+abbrev pub source_scratch : ℕ
+source_scratch = 512
+
 -- the words fit 32 bits, SDRAM has whole quadwords, and scratch has 1,024 words
 pub record HasSizes (p : Memories) : Type 0 where
-  pub sram : (length p.sram ≤ 65536) × All (λ w. w < 2 ^ 32) p.sram
-  pub sdram : (quadwords : ℕ) × (quadwords ≤ 65536) × (length p.sdram ≡ 2 * quadwords) × All (λ w. w < 2 ^ 32) p.sdram
+  pub sram : (length p.sram ≤ size_limit) × All (λ w. w < 2 ^ 32) p.sram
+  pub sdram : (quadwords : ℕ) × (quadwords ≤ size_limit) × (length p.sdram ≡ 2 * quadwords) × All (λ w. w < 2 ^ 32) p.sdram
   pub scratch : (length p.scratch ≡ 1024) × All (λ w. w < 2 ^ 32) p.scratch
 
 -- memories of zeros: so many words of SRAM, so many quadwords of SDRAM, and 1,024 words of scratch
@@ -21,7 +29,7 @@ blank sram sdram = record { sram = replicate sram 0; sdram = replicate (2 * sdra
 
 -- the first of the sizes of SRAM and SDRAM that is above 65,536
 abbrev pub first_too_large : ℕ → ℕ → Option ℕ
-first_too_large sram sdram = if nat_lt 65536 sram then Some sram else (if nat_lt 65536 sdram then Some sdram else None)
+first_too_large sram sdram = if nat_lt size_limit sram then Some sram else (if nat_lt size_limit sdram then Some sdram else None)
 
 -- the words of one memory
 abbrev pub words_at : Mem → Memories → List ℕ
@@ -74,4 +82,4 @@ AreApart m at n m' at' n' = (m ≡ m' → ⊥) ⊎ ((first_word m at + n ≤ fir
 abbrev pub IsSourceStretch : Mem → ℕ → ℕ → Type 0
 IsSourceStretch Sram at n = ⊤
 IsSourceStretch Sdram at n = ⊤
-IsSourceStretch Scratch at n = at + n ≤ 512
+IsSourceStretch Scratch at n = at + n ≤ source_scratch

@@ -2,7 +2,7 @@
 ghost use Rattle.std.specs.Prelude.{◌≡◌, ◌≤◌, ◌+◌, ◌↔◌, ℕ, suc, Bool, true, List, [], ◌∷◌, ◌++◌, All, None, Some, length, take};
 ghost use Rattle.nv_base.specs.Log.{Log, empty_log, noted_all};
 ghost use Rattle.nv_base.specs.Measures.{Bulk, operands_wide, let_wide, entry_wide, nothing, both, IsAtMost};
-ghost use Rattle.nv_base.specs.Memories.{Memories, HasSizes, IsAccess, AreApart, IsSourceStretch, words_at, fetched, stored};
+ghost use Rattle.nv_base.specs.Memories.{Memories, HasSizes, IsAccess, AreApart, IsSourceStretch, source_scratch, words_at, fetched, stored};
 ghost use Rattle.nv_base.specs.Meanings.{Meaning, Same, KeepsOutcomes, AreEqual, AreArguments, seen, applied, left_by, source_memories};
 ghost use Rattle.nv_base.specs.Progress.{Before, Reaches, Grows, Lands, IsStepwise, FollowsAll, FollowsWrites};
 ghost use Rattle.nv_base.specs.Access.{can_move, has_count, is_primitive, is_address};
@@ -130,7 +130,7 @@ pub fn accesses_apart_keep_one_another()
 /// What a source sees of memories is unchanged by stores in scratch from 512 on, and tells what the
 /// source can fetch of them and what its stores leave.
 pub fn sources_see_enough()
-    ensures hidden { (at : ℕ) (ws : List ℕ) (p q : Memories) → 512 ≤ at → stored Scratch at ws p ≡ Some q → source_memories q ≡ source_memories p }
+    ensures hidden { (at : ℕ) (ws : List ℕ) (p q : Memories) → source_scratch ≤ at → stored Scratch at ws p ≡ Some q → source_memories q ≡ source_memories p }
     ensures fetched { (m : Mem) (at n : ℕ) (p q : Memories) → HasSizes p → HasSizes q → source_memories p ≡ source_memories q → IsSourceStretch m at n → fetched m at n p ≡ fetched m at n q }
     ensures stored { (m : Mem) (at : ℕ) (ws : List ℕ) (p q k : Memories) → HasSizes p → HasSizes q → source_memories p ≡ source_memories q → stored m at ws p ≡ Some k → (l : Memories) × (stored m at ws q ≡ Some l) × (source_memories k ≡ source_memories l) }
     ensures past { (m : Mem) (at : ℕ) (ws : List ℕ) (p q : Memories) → HasSizes p → HasSizes q → source_memories p ≡ source_memories q → stored m at ws p ≡ None → stored m at ws q ≡ None }

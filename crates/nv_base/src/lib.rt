@@ -14,6 +14,6 @@ mod words;
 pub use error::{NoMemory, PacketError};
 pub use log::{COMPILER, WriteLog};
 pub use outcome::{Outcome, Write};
-pub use packet::Packet;
+pub use packet::{Packet, SIZE_LIMIT};
 pub use term::{Access, Args, Atom, Bin, Cmp, Mem, Primitive, Primitive as Prim, Una, Vars};
 pub use words::Words;

@@ -10,8 +10,8 @@ use crate::term::{Access, Mem};
 use std::alloc::Global;
 use std::marker::Model;
 
-// The greatest number of words of SRAM, and of quadwords of SDRAM.
-const MOST: u32 = 65_536;
+/// The greatest size of SRAM, in words, and of SDRAM, in quadwords.
+pub const SIZE_LIMIT: u32 = 65_536;
 
 // The words of scratch.
 const SCRATCH: usize = 1_024;
@@ -75,10 +75,10 @@ impl Packet {
         ensures made { IfOk result (λ packet. packet ≡ blank sram sdram) }
         ensures too_large { (n : ℕ) → result ≡ Err (PacketError.TooLarge n) ↔ first_too_large sram sdram ≡ Some n }
     {
-        if sram > MOST {
+        if sram > SIZE_LIMIT {
             return Err(PacketError::TooLarge(sram));
         }
-        if sdram > MOST {
+        if sdram > SIZE_LIMIT {
             return Err(PacketError::TooLarge(sdram));
         }
         Ok(Packet {
