@@ -1,5 +1,6 @@
 -- Where the words of a memory stand in memory and outcome texts.
 use Rattle.std.specs.Prelude.{ℕ, ◌*◌}
+use Rattle.nv_base.specs.Memories.{source_scratch}
 use Rattle.nv_base.specs.declared.term.Mem.{Mem}
 use Rattle.nv_base.specs.declared.term.Mem.TheVariants.{Sram, Sdram, Scratch}
 
@@ -7,7 +8,7 @@ use Rattle.nv_base.specs.declared.term.Mem.TheVariants.{Sram, Sdram, Scratch}
 abbrev pub room : ℕ → ℕ → Mem → ℕ
 room sram sdram Sram = sram
 room sram sdram Sdram = 2 * sdram
-room sram sdram Scratch = 512
+room sram sdram Scratch = source_scratch
 
 -- the address of a memory's stretch k: stretches have eight words, and a quadword has two
 abbrev pub stretch_start : Mem → ℕ → ℕ

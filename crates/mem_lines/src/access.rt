@@ -1,6 +1,6 @@
 //! Which words of a memory a line may give.
 ghost use Rattle.std.specs.Prelude.{◌+◌, ◌<◌, ◌≤◌, ◌^◌, ◌↔◌, IsTrue};
-ghost use Rattle.nv_base.specs.Memories.{IsAccess, first_word};
+ghost use Rattle.nv_base.specs.Memories.{IsAccess, first_word, size_limit};
 ghost use Rattle.mem_lines.specs.Places.{room};
 
 use crate::Sizes;
@@ -19,7 +19,7 @@ pub fn is_access(mem: Mem, count: usize) -> bool
 
 /// Whether so many words from an address on lie inside the memory.
 pub fn is_inside(sizes: &Sizes, mem: Mem, at: u64, count: usize) -> bool
-    requires sdram { sizes.now.sdram ≤ 65536 }
+    requires sdram { sizes.now.sdram ≤ size_limit }
     requires at { at < 10 ^ 10 }
     requires count { count ≤ 8 }
     ensures { IsTrue result ↔ (first_word mem at + count ≤ room sizes.now.sram sizes.now.sdram mem) }

@@ -2,6 +2,8 @@
 ghost use Rattle.std.specs.Prelude.{◌≡◌};
 ghost use Rattle.nv_base.specs.Memories.{first_too_large};
 
+use nv_base::SIZE_LIMIT;
+
 /// The sizes that the first line gives: words of SRAM and quadwords of SDRAM.
 #[derive(Clone, Copy)]
 pub struct Sizes {
@@ -9,17 +11,14 @@ pub struct Sizes {
     pub sdram: u64,
 }
 
-/// The greatest size of SRAM and of SDRAM.
-const GREATEST_SIZE: u64 = 65_536;
-
 /// The first of the sizes that is too large, that of SRAM before that of SDRAM.
 pub fn too_large(sizes: &Sizes) -> Option<u64>
     ensures { result ≡ first_too_large sizes.now.sram sizes.now.sdram }
 {
-    if sizes.sram > GREATEST_SIZE {
+    if sizes.sram > SIZE_LIMIT as u64 {
         return Some(sizes.sram);
     }
-    if sizes.sdram > GREATEST_SIZE {
+    if sizes.sdram > SIZE_LIMIT as u64 {
         return Some(sizes.sdram);
     }
     None
