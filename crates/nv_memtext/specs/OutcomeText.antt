@@ -4,7 +4,7 @@ use Rattle.std.specs.List.{flat_map, list_all}
 use Rattle.line_text.specs.Line.{text_of, parted}
 use Rattle.line_text.specs.Number.{hex_word}
 use Rattle.nv_base.specs.Log.{Log}
-use Rattle.nv_base.specs.Memories.{Memories}
+use Rattle.nv_base.specs.Memories.{Memories, source_scratch}
 use Rattle.nv_base.specs.declared.outcome.Outcome.{Outcome}
 use Rattle.nv_base.specs.declared.outcome.Outcome.TheVariants.{Ended, Raised, Fault, Going}
 use Rattle.nv_base.specs.declared.outcome.Write.{Write}
@@ -55,7 +55,7 @@ sizes_line p = parted (codes "memory" ∷ decimal (length p.sram) ∷ decimal (l
 abbrev pub outcome_lines : Outcome → Memories → Log → List (List ℕ)
 outcome_lines o p log =
     outcome_line o ∷ parted (codes "writes" ∷ decimal log.count ∷ []) ∷ map write_line (take 64 log.kept)
-    ++ sizes_line p ∷ memory_lines Sram p.sram ++ memory_lines Sdram p.sdram ++ memory_lines Scratch (take 512 p.scratch)
+    ++ sizes_line p ∷ memory_lines Sram p.sram ++ memory_lines Sdram p.sdram ++ memory_lines Scratch (take source_scratch p.scratch)
 
 -- the text of these lines
 unfoldable pub outcome_text : Outcome → Memories → Log → List ℕ

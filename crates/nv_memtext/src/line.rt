@@ -1,6 +1,7 @@
 //! The lines of a memory text, each by itself.
 
 ghost use Rattle.std.specs.Prelude.{◌≡◌, ◌≢◌, ◌<◌, ◌≤◌, ℕ, List, IfSome, IfNone, MatchOption};
+ghost use Rattle.nv_base.specs.Memories.{size_limit};
 ghost use Rattle.nv_base.specs.declared.term.Mem.{Mem};
 ghost use Rattle.mem_lines.specs.Spelling.{name_of};
 ghost use Rattle.nv_memtext.specs.MemoryText.{SpellsSizes, SpellsArgs, SpellsStretch};
@@ -64,8 +65,8 @@ fn memory_of(name: &[u8]) -> Option<Mem>
 
 /// The stretch of a further line.
 pub fn stretch_of(line: &[u8], sizes: &Sizes) -> Option<Stretch>
-    requires sram { sizes.now.sram ≤ 65536 }
-    requires sdram { sizes.now.sdram ≤ 65536 }
+    requires sram { sizes.now.sram ≤ size_limit }
+    requires sdram { sizes.now.sdram ≤ size_limit }
     ensures some { IfSome result (SpellsStretch sizes.now.sram sizes.now.sdram line.now) }
     ensures none { IfNone result ((s : Stretch) → ¬ SpellsStretch sizes.now.sram sizes.now.sdram line.now s) }
 {

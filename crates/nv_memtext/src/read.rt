@@ -1,7 +1,7 @@
 //! A memory text, read.
 
 ghost use Rattle.std.specs.Prelude.{◌≡◌, ◌+◌, ◌<◌, ◌≤◌, ◌^◌, ℕ, List, length, Some, IfOk, IfErr, OnOk};
-ghost use Rattle.nv_base.specs.Memories.{Memories, IsAccess, blank, stored, first_word, words_at};
+ghost use Rattle.nv_base.specs.Memories.{Memories, IsAccess, blank, stored, first_word, size_limit, words_at};
 ghost use Rattle.nv_memtext.specs.MemoryText.{Gives, IsBad, IsTooLarge};
 ghost use Rattle.nv_memtext.specs.Answer.{IsTrueError, AnswersJob, AnswersBad, AnswersTooLarge};
 ghost use Rattle.nv_memtext.specs.inner.Reading.{HasFirst, HasLines, HasLengths};
@@ -81,8 +81,8 @@ fn put(packet: &mut Packet, s: &Stretch)
 /// Reads all further lines into the packet.
 fn read_stretches(lines: &mut Lines, sizes: &Sizes, packet: &mut Packet) -> Result<(), MemError>
     requires short { length lines.old + 8 < 2 ^ 32 }
-    requires sram { sizes.now.sram ≤ 65536 }
-    requires sdram { sizes.now.sdram ≤ 65536 }
+    requires sram { sizes.now.sram ≤ size_limit }
+    requires sdram { sizes.now.sdram ≤ size_limit }
     requires lengths { HasLengths packet.old sizes.now.sram sizes.now.sdram }
     ensures ok { OnOk result ((params : ℕ) (bytes args : List ℕ) → HasLines params sizes.now.sram sizes.now.sdram bytes lines.old packet.old args 2 → Gives params bytes packet.new args) }
     ensures err { IfErr result (λ e. (params : ℕ) (bytes args : List ℕ) → HasLines params sizes.now.sram sizes.now.sdram bytes lines.old packet.old args 2 → IsTrueError params bytes e) }
@@ -103,8 +103,8 @@ fn read_stretches(lines: &mut Lines, sizes: &Sizes, packet: &mut Packet) -> Resu
 
 /// A packet of zeros.
 fn blank_packet(alloc: Global, sizes: &Sizes) -> Result<Packet, NoMemory>
-    requires sram { sizes.now.sram ≤ 65536 }
-    requires sdram { sizes.now.sdram ≤ 65536 }
+    requires sram { sizes.now.sram ≤ size_limit }
+    requires sdram { sizes.now.sdram ≤ size_limit }
     ensures { IfOk result (λ packet. packet ≡ blank sizes.now.sram sizes.now.sdram) }
 {
     match Packet::new(alloc, sizes.sram as u32, sizes.sdram as u32) {
