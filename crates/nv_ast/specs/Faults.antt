@@ -3,6 +3,7 @@
 -- A node's faults stand in the order of their kinds. The program's fault is the first of the list; what stands behind it has no meaning of its own.
 use Rattle.std.specs.Prelude.{◌≡◌, ℕ, ◌+◌, nat_lt, Bool, true, false, not, ◌&&◌, ◌||◌, if◌then◌else◌, List, [], ◌∷◌, ◌++◌, map, Option, Some, None, is_none, bytes_eq, option_map, codes}
 pub use Rattle.nv_base.specs.Access.{can_move}
+use Rattle.nv_base.specs.Memories.{source_scratch}
 use Rattle.nv_base.specs.declared.term.Mem.{Mem}
 use Rattle.nv_base.specs.declared.term.Mem.TheVariants.{Scratch}
 use Rattle.nv_ast.specs.declared.token.Span.{Span}
@@ -145,7 +146,7 @@ wrong_access m n = where_true (not (can_move m n)) 19
 
 -- 20: a scratch address that isn't a number, or with the words reaches past 512
 abbrev pub wrong_scratch : Mem → Tree → ℕ → List ℕ
-wrong_scratch Scratch (NumberTree s at) n = where_true (nat_lt 512 (at + n)) 20
+wrong_scratch Scratch (NumberTree s at) n = where_true (nat_lt source_scratch (at + n)) 20
 wrong_scratch Scratch _ n = 20 ∷ []
 wrong_scratch _ a n = []
 
