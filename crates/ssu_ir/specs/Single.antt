@@ -4,6 +4,7 @@ use Rattle.std.specs.List.{list_all, list_any}
 use Rattle.nv_base.specs.declared.term.Mem.{Mem}
 use Rattle.nv_base.specs.declared.term.Mem.TheVariants.{Sram, Sdram, Scratch}
 use Rattle.nv_base.specs.Access.{has_count, can_move}
+use Rattle.nv_base.specs.Memories.{source_scratch}
 use Rattle.nv_base.specs.Sets.{is_in, all_different}
 use Rattle.ssu_ir.specs.Tree.{Step, Lit, Una, Bin, Clone, Read, Write, Last, Jump, Halt, Tree, Do, If, End, Label, step_values, step_clones, last_uses}
 use Rattle.ssu_ir.specs.Points.{own, used}
@@ -150,7 +151,7 @@ numbers_after number (Write m y xs) = number
 
 -- so many words from a number on lie below 512
 abbrev pub fits_scratch : ℕ → Option ℕ → Bool
-fits_scratch n (Some v) = nat_le (v + n) 512
+fits_scratch n (Some v) = nat_le (v + n) source_scratch
 fits_scratch n None = false
 
 abbrev pub is_address : Mem → Option ℕ → ℕ → Bool

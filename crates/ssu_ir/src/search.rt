@@ -15,7 +15,7 @@ ghost use Rattle.ssu_ir.specs.inner.Under.{HasTree, tree_at};
 use crate::node::{NodeId, SsuNode};
 use crate::pieces::{Kids, behind, clones, clones_from, operands, uses, values};
 use crate::ssu::Ssu;
-use nv_base::Mem;
+use nv_base::{COMPILER, Mem};
 
 /// Whether a name is in a list.
 pub fn has(xs: &[u32], x: u32) -> bool
@@ -115,7 +115,7 @@ fn fits_scratch(number: Option<u32>, n: usize) -> bool
     ensures { result ≡ rules.fits_scratch n number }
 {
     match number {
-        Some(v) => n <= 512 && v as usize + n <= 512,
+        Some(v) => n <= COMPILER as usize && v as usize + n <= COMPILER as usize,
         None => false,
     }
 }
