@@ -1,5 +1,6 @@
 -- Main behind all declarations.
 use Rattle.std.proofs.Common.{◌≡◌, ◌∙◌, ap, sym, subst, ℕ, min, Bool, true, false, cond, List, [], ◌∷◌, Option, None, Some, is_some, bytes_eq, arith}
+use Rattle.std.proofs.lemmas.Option.{none-some, same_Some}
 use Rattle.nv_ast.specs.Tests.{is_among, value_at, look_up}
 use Rattle.nv_ast.specs.Types.{Tys, total_named_words}
 use Rattle.nv_ast.specs.Scope.{Signature, callable, plain_tys}
@@ -18,21 +19,15 @@ use Rattle.type_order.specs.inner.Finding.{FindsMain}
 use Rattle.type_steps.proofs.Alikes.{Both, alike_at, among_look_up}
 use Rattle.type_steps.proofs.Groups.{known_names, own_none}
 
-some_same : {A : Type 0} (x y : A) → Some x ≡ Some y → x ≡ y
-some_same x y q = cc
-
-none_some : {A : Type 0} (x : A) → None ≡ Some x → ⊥
-none_some x q = cc
-
 value_alike : (f : Cost → ℕ) (costs : List (List ℕ × Cost)) (sizes : GroupNumbers) → Alike (λ (cost : Cost) n. f cost ≡ still n) costs sizes → (x : List ℕ) (cost : Cost) → look_up x costs ≡ Some cost → f cost ≡ still (value_at 0 x sizes)
-value_alike f [] [] h x cost e = absurd (none_some cost e)
+value_alike f [] [] h x cost e = absurd (none-some cost e)
 value_alike f [] (s ∷ sizes) h x cost e = absurd h
 value_alike f (c ∷ costs) [] h x cost e = absurd h
 value_alike f ((y, c) ∷ costs) ((z, n) ∷ sizes) h x cost e =
     subst (λ w. f cost ≡ still (value_at 0 x ((w, n) ∷ sizes))) h.0 (by (bytes_eq x y) (λ q. value_alike f costs sizes h.2 x cost q) e)
   where
     by : (t : Bool) → (look_up x costs ≡ Some cost → f cost ≡ still (value_at 0 x sizes)) → cond t (Some c) (look_up x costs) ≡ Some cost → f cost ≡ still (cond t n (value_at 0 x sizes))
-    by true rest q = ap f (sym (some_same c cost q)) ∙ h.1
+    by true rest q = ap f (sym (same_Some c cost q)) ∙ h.1
     by false rest q = rest q
 
 pub no_function : (c : Checker) → look_up main_name c.functions ≡ None → FindsMain c None

@@ -61,9 +61,6 @@ end_absent first xs names x ends before is was absent at =
       λ l. whole ∙ or_first a b ((was at).1 l),
     )
 
-turned : (x y : List ℕ) → bytes_eq x y ≡ bytes_eq y x
-turned x y = nat_list_eq_equiv.symm x y
-
 pub ends_none : (first : ℕ) (w : List (List ℕ)) → IsEnds first (drop first (take first w)) []
 ends_none first w x at =
     let nothing = ap (drop (at - first)) (drop_all first (take first w) (omega (arith, length-take first w))) ∙ drop_all (at - first) [] (omega arith) in
@@ -108,7 +105,7 @@ ends_more w first i x old new le lt e was after y at =
     let size : length (drop first (take i w)) ≡ i - first = omega (arith, length-drop first (take i w), length-take i w, lt) in
     let short : first ≤ length (take i w) = omega (arith, length-take i w, lt, le) in
     let split : drop first (take (i + 1) w) ≡ drop first (take i w) ++ x ∷ [] = ap (drop first) (take_item w i x lt e) ∙ drop-append-le first (take i w) (x ∷ []) short in
-    let fresh : look_up y new ≡ cond (bytes_eq y x) (Some (i + 1)) (look_up y old) = after y ∙ ap (λ c. cond c (Some (i + 1)) (look_up y old)) (turned x y) in
+    let fresh : look_up y new ≡ cond (bytes_eq y x) (Some (i + 1)) (look_up y old) = after y ∙ ap (λ c. cond c (Some (i + 1)) (look_up y old)) (nat_list_eq_equiv.symm x y) in
     subst (λ (l : List (List ℕ)). IsTrue (among first l at y) ↔ IsSomeAnd (look_up y new) (λ end. at < end)) (sym split)
     (subst (λ (o : Option ℕ). IsTrue (among first (drop first (take i w) ++ x ∷ []) at y) ↔ IsSomeAnd o (λ end. at < end)) (sym fresh)
     (ends_step first i at (drop first (take i w)) x y old le size (was y at)))

@@ -1,9 +1,9 @@
 -- The needs of a block's steps, one after another.
-use Rattle.std.proofs.Common.{◌≡◌, ◌∙◌, refl, ap, sym, subst, ℕ, ◌+◌, ◌-◌, ◌<◌, ◌≤◌, min, max, Bool, true, false, cond, List, ◌∷◌, ◌++◌, take, drop, length, get_or, Option, None, Some, arith, append_assoc, append-nil, nat_lt, rules, tests, suc, add-one, []}
+use Rattle.std.proofs.Common.{◌≡◌, ◌∙◌, refl, ap, sym, subst, ℕ, ◌+◌, ◌-◌, ◌<◌, ◌≤◌, min, max, Bool, true, false, cond, List, ◌∷◌, ◌++◌, take, drop, length, get_or, Option, None, Some, arith, append_assoc, append-nil, nat_lt, suc, add-one, []}
 use Rattle.std.specs.Prelude.{◌↔◌, IsTrue, option_map}
 use Rattle.std.specs.Borrow.{Bor}
 use Rattle.std.specs.List.{list_any}
-use Rattle.std.proofs.lemmas.Bool.{false≢true}
+use Rattle.std.proofs.lemmas.Bool.{false≢true, lt-ltb, le-ltb, ltb-true}
 use Rattle.std.proofs.Math.Seq.{drop-cons}
 use Rattle.std.proofs.lemmas.List.{drop_all}
 use Rattle.nv_ast.specs.declared.tree.Pat.{Pat}
@@ -45,18 +45,12 @@ pub no_lets : (first : ℕ) (xs : List (List ℕ)) → HoldsLets first xs [] []
 no_lets first xs at = refl
 
 same_test : (b : Bool) (at until : ℕ) → (IsTrue b ↔ (at < until)) → b ≡ nat_lt at until
-same_test true at until h = sym (lt_true at until (h.0 refl))
-  where
-    lt_true : (a b : ℕ) → a < b → nat_lt a b ≡ true
-    lt_true a b l = search (tests, rules)
+same_test true at until h = sym (lt-ltb at until (h.0 refl))
 same_test false at until h = by (nat_lt at until) refl
   where
-    lt_is : (a b : ℕ) → nat_lt a b ≡ true → a < b
-    lt_is a b l = search (tests, rules)
-
     by : (c : Bool) → nat_lt at until ≡ c → false ≡ c
     by false e = refl
-    by true e = absurd (false≢true (h.1 (lt_is at until e)))
+    by true e = absurd (false≢true (h.1 (ltb-true at until e)))
 
 -- one more let is held
 pub holds_more : (first : ℕ) (xs : List (List ℕ)) (lets : Lets) (held : List Held) (names : List (List ℕ)) (h : Held)
@@ -131,18 +125,12 @@ no_let_held first xs steps i s held lt e is was =
 pub held_more : (xs : List Held) (i : ℕ) (h : Held) (at : ℕ) → i < length xs → h ≡ get_or xs i h → held_for (take (i + 1) xs) at ≡ held_for (take i xs) at + held_for (h ∷ []) at
 held_more xs i h at lt e = ap (λ l. held_for l at) (take_item xs i h lt e) ∙ held-append (take i xs) (h ∷ []) at
 
-lt_true : (a b : ℕ) → a < b → nat_lt a b ≡ true
-lt_true a b h = search (tests, rules)
-
-lt_false : (a b : ℕ) → b ≤ a → nat_lt a b ≡ false
-lt_false a b h = search (tests, rules)
-
 pub held_then : (hs : List Held) (i : ℕ) (h d : Held) (at words new : ℕ) → i < length hs → h ≡ get_or hs i h → words ≡ still (held_for (take i hs) at) → at < h.until → new ≡ min (words + h.words) most → new ≡ still (held_for (take (i + 1) hs) at)
 held_then hs i h d at words new lt e before live after =
-    let one : held_for (h ∷ []) at ≡ h.words + 0 = ap (λ b. cond b h.words 0 + 0) (lt_true at h.until live) in
+    let one : held_for (h ∷ []) at ≡ h.words + 0 = ap (λ b. cond b h.words 0 + 0) (lt-ltb at h.until live) in
     omega (arith, held_more hs i h at lt e, one, before, after)
 
 pub held_else : (hs : List Held) (i : ℕ) (h d : Held) (at words : ℕ) → i < length hs → h ≡ get_or hs i h → words ≡ still (held_for (take i hs) at) → h.until ≤ at → words ≡ still (held_for (take (i + 1) hs) at)
 held_else hs i h d at words lt e before dead =
-    let one : held_for (h ∷ []) at ≡ 0 + 0 = ap (λ b. cond b h.words 0 + 0) (lt_false at h.until dead) in
+    let one : held_for (h ∷ []) at ≡ 0 + 0 = ap (λ b. cond b h.words 0 + 0) (le-ltb at h.until dead) in
     omega (arith, held_more hs i h at lt e, one, before)

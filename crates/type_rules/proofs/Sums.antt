@@ -1,9 +1,8 @@
 -- Sums and greatest of fields, as they are counted and as outlines have them.
-use Rattle.std.proofs.Common.{◌≡◌, ◌∙◌, refl, ap, subst, ℕ, ◌+◌, ◌<◌, ◌≤◌, min, max, Bool, true, false, ◌&&◌, List, [], ◌∷◌, ◌++◌, take, drop, length, get_or, arith, length-append, inl, inr}
+use Rattle.std.proofs.Common.{◌≡◌, ◌∙◌, refl, ap, subst, ℕ, ◌+◌, ◌<◌, ◌≤◌, min, max, Bool, true, false, ◌&&◌, List, [], ◌∷◌, ◌++◌, take, drop, length, get_or, arith, length-append}
 use Rattle.std.specs.Prelude.{◌==◌}
 use Rattle.std.specs.Borrow.{Bor}
 use Rattle.std.specs.List.{list_all}
-use Rattle.std.proofs.lemmas.Bool.Decides.{eqb_tells}
 use Rattle.nv_ast.specs.Outline.{OutlineTree, OutlineTrees, outline_and, NamedOutlines, no_named_outlines, named_outline_and, size, total_named_size, longest, highest_named_outline, bit_fields, part_fields, alternative_fields, joined_fields, sizes_of}
 use Rattle.nv_ast.specs.Tests.{all_same}
 use Rattle.nv_ast.proofs.Items.{take_item, split_item}
@@ -135,6 +134,3 @@ one_size s ms first others os e h = by os (subst (λ (l : List Entry). AreMember
     by : (us : NamedOutlines) → AreMembers s (named (first ∷ others)) us → all_have first.1.bits others ≡ all_same (sizes_of us)
     by no_named_outlines k = absurd k
     by (named_outline_and x o us) k = have_sizes s first.1.bits others us k.2 ∙ ap (λ n. list_all (λ m. m == n) (sizes_of us)) (exactly first.1.bits (size o) k.1.of_bits k.1.short)
-
-pub unequal : (m n : ℕ) → (m ≡ n → ⊥) → (m == n) ≡ false
-unequal m n h = elim (eqb_tells m n) [ inl e ↦ absurd (h e.1) | inr e ↦ e.0 ]

@@ -1,6 +1,7 @@
 -- Things of the same names in the same order.
 use Rattle.std.proofs.Common.{◌≡◌, ◌∙◌, refl, ap, sym, subst, ℕ, Bool, true, false, cond, ◌||◌, ◌&&◌, List, [], ◌∷◌, ◌++◌, bytes_eq, Option, None, Some, is_some, is_none, true≢false}
 use Rattle.std.specs.Cmp.Lexicographic.{bytes_decides}
+use Rattle.std.proofs.lemmas.Option.{none-some, same_Some}
 use Rattle.nv_ast.specs.Tests.{is_among, names_of, look_up}
 use Rattle.type_steps.specs.inner.Standing.{Alike}
 
@@ -42,12 +43,9 @@ alike_at {A = A} {B = B} R ((y, a) ∷ as_) ((z, b) ∷ bs) h x = subst (λ w. B
     by true rest = h.1
     by false rest = rest
 
-some_is_none : {A : Type 0} (z : A) → Some z ≡ None → ⊥
-some_is_none z q = cc
-
 pub both_none : {A B : Type 0} (R : A → B → Type 0) (a : Option A) (b : Option B) → Both R a b → a ≡ None → b ≡ None
 both_none R None None h e = refl
-both_none R (Some a) (Some b) h e = absurd (some_is_none a e)
+both_none R (Some a) (Some b) h e = absurd (none-some a (sym e))
 both_none R None (Some b) h e = absurd h
 both_none R (Some a) None h e = absurd h
 
@@ -55,14 +53,8 @@ pub both_some : {A B : Type 0} (R : A → B → Type 0) (a : Option A) (b : Opti
 both_some {A = A} {B = B} R a b x y h e f = subst (λ (o : Option B). Both R (Some x) o) f (subst (λ (o : Option A). Both R o b) e h)
 
 pub both_found : {A B : Type 0} (R : A → B → Type 0) (a : Option A) (b : Option B) (x : A) → Both R a b → a ≡ Some x → (y : B) × (b ≡ Some y) × R x y
-both_found R (Some z) (Some y) x h e = (y, refl, subst (λ w. R w y) (same z x e) h)
-  where
-    same : {A : Type 0} (v w : A) → Some v ≡ Some w → v ≡ w
-    same v w q = cc
-both_found R None None x h e = absurd (none_some x e)
-  where
-    none_some : {A : Type 0} (w : A) → None ≡ Some w → ⊥
-    none_some w q = cc
+both_found R (Some z) (Some y) x h e = (y, refl, subst (λ w. R w y) (same_Some z x e) h)
+both_found R None None x h e = absurd (none-some x e)
 both_found R None (Some y) x h e = absurd h
 both_found R (Some z) None x h e = absurd h
 
@@ -91,7 +83,7 @@ look_up-append x [] bs e = refl
 look_up-append {A = A} x ((y, a) ∷ as_) bs e = by (bytes_eq x y) (λ q. look_up-append x as_ bs q) e
   where
     by : (t : Bool) → (look_up x as_ ≡ None → look_up x (as_ ++ bs) ≡ look_up x bs) → cond t (Some a) (look_up x as_) ≡ None → cond t (Some a) (look_up x (as_ ++ bs)) ≡ look_up x bs
-    by true rest q = absurd (some_is_none a q)
+    by true rest q = absurd (none-some a (sym q))
     by false rest q = rest q
 
 pub look_up-here : {A : Type 0} (x : List ℕ) (a : A) (es : List (List ℕ × A)) → look_up x ((x, a) ∷ es) ≡ Some a

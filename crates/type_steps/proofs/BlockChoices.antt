@@ -27,7 +27,8 @@ use Rattle.type_table.proofs.Staying.{value_stays}
 use Rattle.type_steps.proofs.Holding.{holds_stays, sees_stay, counts_stay, wanted_stays, Keeps-trans}
 use Rattle.type_steps.proofs.BlockStanding.{writes_trans}
 use Rattle.type_steps.proofs.BlockCosts.{two_are, cost_moved}
-use Rattle.type_steps.proofs.BlockNodes.{fails, node_checks}
+use Rattle.type_steps.proofs.BlockNodes.{node_checks}
+use Rattle.type_steps.proofs.WalkNodes.{failed}
 
 -- where the first of two parts has a value, the type of that, else of the other
 pub first_value : (s : Store) (a b v : Option ℕ) (t u : Option Ty) → IsValue s a t → IsValue s b u → v ≡ option_or a b → IsValue s v (or_ty t u)
@@ -37,11 +38,11 @@ first_value s None b v (Some t) u h g e = absurd h
 first_value s (Some i) b v None u h g e = absurd h
 
 pub choice_fails_at_condition : (c new : Checker) (tail : Bool) (wanted : Wanted) (s : Span) (x a b : Tree) (why : TypeError) → Checks c new false (Typed 1) x (Err why) → Checks c new tail wanted (IfTree s x a b) (Err why)
-choice_fails_at_condition c new tail wanted s x a b why h = fails c new tail wanted (IfTree s x a b) why (λ k vars w holds sees is. first_append _ _ why (h.judged k vars (of_type BoolTy) holds sees (BoolTy, refl, refl)))
+choice_fails_at_condition c new tail wanted s x a b why h = failed c new tail wanted (IfTree s x a b) why (λ k vars w holds sees is. first_append _ _ why (h.judged k vars (of_type BoolTy) holds sees (BoolTy, refl, refl)))
 
 pub choice_fails_at_first : (c c1 new : Checker) (tail : Bool) (wanted : Wanted) (s : Span) (x a b : Tree) (f : Found) (why : TypeError)
     → Checks c c1 false (Typed 1) x (Ok f) → Checks c1 new tail Anything a (Err why) → Checks c new tail wanted (IfTree s x a b) (Err why)
-choice_fails_at_first c c1 new tail wanted s x a b f why h g = fails c new tail wanted (IfTree s x a b) why (λ k vars w holds sees is.
+choice_fails_at_first c c1 new tail wanted s x a b f why h g = failed c new tail wanted (IfTree s x a b) why (λ k vars w holds sees is.
     let done = h.judged k vars (of_type BoolTy) holds sees (BoolTy, refl, refl) in
     let here = g.judged k vars anything (holds_stays c c1 k h.keeps.declared holds) (sees_stay c c1 vars h.keeps sees) refl in
     judges_behind {T = Found} _ _ (Err why) done (first_append _ _ why here))
@@ -49,7 +50,7 @@ choice_fails_at_first c c1 new tail wanted s x a b f why h g = fails c new tail 
 pub choice_fails_at_second : (c c1 c2 new : Checker) (tail : Bool) (wanted other : Wanted) (s : Span) (x a b : Tree) (f g : Found) (why : TypeError)
     → Checks c c1 false (Typed 1) x (Ok f) → Checks c1 c2 tail Anything a (Ok g) → ((st : Store) (t : Option Ty) → IsValue st g.value t → IsWanted st other (same_as t)) → Checks c2 new tail other b (Err why)
     → Checks c new tail wanted (IfTree s x a b) (Err why)
-choice_fails_at_second c c1 c2 new tail wanted other s x a b f g why h1 h2 is_other h3 = fails c new tail wanted (IfTree s x a b) why (λ k vars w holds sees is.
+choice_fails_at_second c c1 c2 new tail wanted other s x a b f g why h1 h2 is_other h3 = failed c new tail wanted (IfTree s x a b) why (λ k vars w holds sees is.
     let holds1 = holds_stays c c1 k h1.keeps.declared holds in
     let sees1 = sees_stay c c1 vars h1.keeps sees in
     let holds2 = holds_stays c1 c2 k h2.keeps.declared holds1 in

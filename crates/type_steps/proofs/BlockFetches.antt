@@ -22,16 +22,17 @@ use Rattle.type_steps.specs.inner.Judging.{IsWanted, judged_faults}
 use Rattle.type_steps.specs.inner.Walk.{Checks}
 use Rattle.type_rules.proofs.Firsts.{first_append, judges_behind, first_kind, then_kinds}
 use Rattle.type_steps.proofs.Holding.{wanted_stays, Keeps-trans, Keeps-table}
-use Rattle.type_steps.proofs.BlockNodes.{fails, node_checks}
+use Rattle.type_steps.proofs.BlockNodes.{node_checks}
+use Rattle.type_steps.proofs.WalkNodes.{failed}
 
 pub fetch_fails_at_address : (c new : Checker) (wanted : Wanted) (s : Span) (m : Mem) (n : ℕ) (a : Tree) (why : TypeError) → Checks c new false (Typed 0) a (Err why) → Checks c new false wanted (FetchTree s m n a) (Err why)
-fetch_fails_at_address c new wanted s m n a why h = fails c new false wanted (FetchTree s m n a) why (λ k vars w holds sees is. first_append _ _ why (h.judged k vars (of_type WordTy) holds sees (WordTy, refl, refl)))
+fetch_fails_at_address c new wanted s m n a why h = failed c new false wanted (FetchTree s m n a) why (λ k vars w holds sees is. first_append _ _ why (h.judged k vars (of_type WordTy) holds sees (WordTy, refl, refl)))
 
 -- another type
 pub fetch_fails_at_type : (c c1 new : Checker) (wanted : Wanted) (s : Span) (m : Mem) (n : ℕ) (a : Tree) (f : Found) (right : Bool) (why : TypeError)
     → Checks c c1 false (Typed 0) a (Ok f) → ((w : WantedTree) → IsWanted c1.table wanted w → right ≡ w.right (words_ty n)) → IsFirstOf (at_span s (where_true (not right) 14)) why
     → Checks c new false wanted (FetchTree s m n a) (Err why)
-fetch_fails_at_type c c1 new wanted s m n a f right why h1 of_right wrong = fails c new false wanted (FetchTree s m n a) why (λ k vars w holds sees is.
+fetch_fails_at_type c c1 new wanted s m n a f right why h1 of_right wrong = failed c new false wanted (FetchTree s m n a) why (λ k vars w holds sees is.
     let done = h1.judged k vars (of_type WordTy) holds sees (WordTy, refl, refl) in
     let here = subst (λ (b : Bool). IsFirstOf (at_span s (where_true (not b) 14)) why) (of_right w (wanted_stays c.table c1.table h1.keeps.declared.grows wanted w is)) wrong in
     judges_behind {T = Found} _ _ (Err why) done (first_kind s (other_type w (Some (words_ty n))) _ why here))
@@ -40,7 +41,7 @@ fetch_fails_at_type c c1 new wanted s m n a f right why h1 of_right wrong = fail
 pub fetch_fails_at_words : (c c1 new : Checker) (wanted : Wanted) (s : Span) (m : Mem) (n : ℕ) (a : Tree) (f : Found) (right moves : Bool)
     → Checks c c1 false (Typed 0) a (Ok f) → ((w : WantedTree) → IsWanted c1.table wanted w → right ≡ w.right (words_ty n)) → at_span s (where_true (not right) 14) ≡ [] → moves ≡ can_move m n → moves ≡ false
     → Checks c new false wanted (FetchTree s m n a) (Err (Fault 19 s))
-fetch_fails_at_words c c1 new wanted s m n a f right moves h1 of_right fine of_moves none = fails c new false wanted (FetchTree s m n a) (Fault 19 s) (λ k vars w holds sees is.
+fetch_fails_at_words c c1 new wanted s m n a f right moves h1 of_right fine of_moves none = failed c new false wanted (FetchTree s m n a) (Fault 19 s) (λ k vars w holds sees is.
     let done = h1.judged k vars (of_type WordTy) holds sees (WordTy, refl, refl) in
     let typed = subst (λ (b : Bool). at_span s (where_true (not b) 14) ≡ []) (of_right w (wanted_stays c.table c1.table h1.keeps.declared.grows wanted w is)) fine in
     let wrong : wrong_access m n ≡ 19 ∷ [] = ap (λ b. where_true (not b) 19) (sym of_moves ∙ none) in
@@ -60,7 +61,7 @@ pub fetch_fails_at_node : (c c1 new : Checker) (table : Store) (wanted : Wanted)
     → Checks c c1 false (Typed 0) a (Ok f) → Grows c1.table table → IsType table t (words_ty n) → moves ≡ can_move m n → moves ≡ true → option_to_list middle ≡ wrong_scratch m a n
     → ((w : WantedTree) (u : Option Ty) → IsWanted table wanted w → IsValue table (Some t) u → IsFirstOf (judged_faults s w u None middle) why)
     → Checks c new false wanted (FetchTree s m n a) (Err why)
-fetch_fails_at_node c c1 new table wanted s m n a f t moves middle why h1 grows is_type of_moves all scratch judged = fails c new false wanted (FetchTree s m n a) why (λ k vars w holds sees is.
+fetch_fails_at_node c c1 new table wanted s m n a f t moves middle why h1 grows is_type of_moves all scratch judged = failed c new false wanted (FetchTree s m n a) why (λ k vars w holds sees is.
     let done = h1.judged k vars (of_type WordTy) holds sees (WordTy, refl, refl) in
     let here = judged w (Some (words_ty n)) (wanted_stays c1.table table grows wanted w (wanted_stays c.table c1.table h1.keeps.declared.grows wanted w is)) is_type in
     judges_behind {T = Found} _ _ (Err why) done (node_is_judged s w n (option_to_list middle) (wrong_access m n ++ wrong_scratch m a n) Found (Err why) (middle_is m n a moves middle of_moves all scratch) here))

@@ -31,15 +31,16 @@ use Rattle.type_table.proofs.Staying.{value_stays, parts_stay}
 use Rattle.type_steps.proofs.Holding.{holds_stays, sees_stay, counts_stay, wanted_stays, declared_trans}
 use Rattle.type_steps.proofs.BlockStanding.{scope_left, writes_trans, written_same}
 use Rattle.type_steps.proofs.BlockCosts.{two_are, cost_same, cost_moved}
-use Rattle.type_steps.proofs.BlockNodes.{fails, node_checks}
+use Rattle.type_steps.proofs.BlockNodes.{node_checks}
 use Rattle.type_steps.proofs.BlockChoices.{first_value}
+use Rattle.type_steps.proofs.WalkNodes.{failed}
 
 pub try_fails_at_body : (c new : Checker) (tail : Bool) (wanted : Wanted) (s : Span) (a : Tree) (x : List ℕ) (ps : PatternTrees) (h : Tree) (why : TypeError) → Checks c new false Anything a (Err why) → Checks c new tail wanted (TryTree s a x ps h) (Err why)
-try_fails_at_body c new tail wanted s a x ps h why g = fails c new tail wanted (TryTree s a x ps h) why (λ k vars w holds sees is. first_append _ _ why (g.judged k vars anything holds sees refl))
+try_fails_at_body c new tail wanted s a x ps h why g = failed c new tail wanted (TryTree s a x ps h) why (λ k vars w holds sees is. first_append _ _ why (g.judged k vars anything holds sees refl))
 
 pub try_fails_at_patterns : (c c1 bound new : Checker) (tail : Bool) (wanted : Wanted) (s : Span) (a : Tree) (x : List ℕ) (ps : PatternTrees) (h : Tree) (f : Found) (why : TypeError)
     → Checks c c1 false Anything a (Ok f) → BindsHandler c1 bound s x ps (Err why) → Checks c new tail wanted (TryTree s a x ps h) (Err why)
-try_fails_at_patterns c c1 bound new tail wanted s a x ps h f why h1 hp = fails c new tail wanted (TryTree s a x ps h) why (λ k vars w holds sees is.
+try_fails_at_patterns c c1 bound new tail wanted s a x ps h f why h1 hp = failed c new tail wanted (TryTree s a x ps h) why (λ k vars w holds sees is.
     let done1 = h1.judged k vars anything holds sees refl in
     let here = hp.judged k (holds_stays c c1 k h1.keeps.declared holds) in
     judges_behind {T = Found} _ _ (Err why) done1 (first_append _ _ why here))
@@ -72,7 +73,7 @@ reached c c1 c2 other s a x ps f types h1 hp is_other k vars holds sees =
 pub try_fails_at_handler : (c c1 c2 new last : Checker) (tail : Bool) (wanted other : Wanted) (s : Span) (a : Tree) (x : List ℕ) (ps : PatternTrees) (h : Tree) (f : Found) (types : ℕ) (why : TypeError)
     → Checks c c1 false Anything a (Ok f) → BindsHandler c1 c2 s x ps (Ok types) → ((st : Store) (t : Option Ty) → IsValue st f.value t → IsWanted st other (same_as t)) → Checks c2 new tail other h (Err why)
     → Checks c last tail wanted (TryTree s a x ps h) (Err why)
-try_fails_at_handler c c1 c2 new last tail wanted other s a x ps h f types why h1 hp is_other h3 = fails c last tail wanted (TryTree s a x ps h) why (λ k vars w holds sees is.
+try_fails_at_handler c c1 c2 new last tail wanted other s a x ps h f types why h1 hp is_other h3 = failed c last tail wanted (TryTree s a x ps h) why (λ k vars w holds sees is.
     let r = reached c c1 c2 other s a x ps f types h1 hp is_other k vars holds sees in
     let here = h3.judged k (handler_vars k vars x ps) (same_as (type_at k vars a)) r.holds r.sees r.is_other in
     judges_behind {T = Found} _ _ (Err why) r.done (judges_behind {T = Found} _ _ (Err why) r.bound (first_append _ _ why here)))

@@ -1,6 +1,6 @@
 -- An expression whose parts have no fault, and one of whose parts has one.
 use Rattle.std.proofs.Common.{◌≡◌, sym, subst, ℕ, ◌+◌, Bool, ◌++◌, Option, Result, Ok, Err}
-use Rattle.std.specs.Result.{IfOk, IsErrAnd}
+use Rattle.std.specs.Result.{IfOk}
 use Rattle.nv_ast.specs.Tree.{Tree}
 use Rattle.nv_ast.specs.Types.{Ty, words_of_value}
 use Rattle.nv_ast.specs.Scope.{Known, Vars}
@@ -13,7 +13,7 @@ use Rattle.type_steps.specs.declared.wanted.Wanted.{Wanted}
 use Rattle.type_rules.specs.declared.cost.Cost.{Cost}
 use Rattle.type_steps.specs.declared.functions.Checker.{Checker}
 use Rattle.type_steps.specs.declared.functions.Found.{Found}
-use Rattle.type_rules.specs.inner.Faulty.{IsFirstOf, Judges}
+use Rattle.type_rules.specs.inner.Faulty.{Judges}
 use Rattle.type_table.specs.inner.Store.{IsValue}
 use Rattle.type_table.specs.inner.Cells.{still}
 use Rattle.type_rules.specs.inner.Costs.{IsCost, node_cost}
@@ -22,27 +22,11 @@ use Rattle.type_steps.specs.inner.Standing.{Holds, Sees, Counts, Keeps, place, w
 use Rattle.type_steps.specs.inner.Walk.{Checks}
 use Rattle.type_steps.proofs.BlockStanding.{on_ok}
 use Rattle.type_steps.proofs.BlockCosts.{node_is}
-
--- a fault in it
-pub fails : (c new : Checker) (tail : Bool) (wanted : Wanted) (e : Tree) (why : TypeError)
-    → ((k : Known) (vars : Vars) (w : WantedTree) → Holds c k → Sees c vars → IsWanted c.table wanted w → IsFirstOf (faults (place k vars tail) w e) why)
-    → Checks c new tail wanted e (Err why)
-fails c new tail wanted e why h = record {
-  judged = h;
-  typed = λ k vars holds sees. tt;
-  counted = λ k vars sizes needs holds sees counts. tt;
-  keeps = tt;
-  writes = tt;
-}
-
--- at the exit of a `?`
-pub at_err : (c new : Checker) (tail : Bool) (wanted : Wanted) (e : Tree) (r : Result Found TypeError) (why : TypeError) → IsErrAnd r (λ y. y ≡ why) → Checks c new tail wanted e (Err why) → Checks c new tail wanted e r
-at_err c new tail wanted e (Err y) why h g = subst (λ (x : TypeError). Checks c new tail wanted e (Err x)) (sym h) g
-at_err c new tail wanted e (Ok x) why h g = absurd h
+use Rattle.type_steps.proofs.WalkNodes.{failed}
 
 -- want of memory
 pub wants_memory : (c new : Checker) (tail : Bool) (wanted : Wanted) (e : Tree) → Checks c new tail wanted e (Err NoMemory)
-wants_memory c new tail wanted e = fails c new tail wanted e NoMemory (λ k vars w holds sees is. tt)
+wants_memory c new tail wanted e = failed c new tail wanted e NoMemory (λ k vars w holds sees is. tt)
 
 typed_so : (new : Checker) (value : Option ℕ) (t : Option Ty) (r : Result Found TypeError) → IsValue new.table value t → IfOk r (λ found. found.value ≡ value) → IfOk r (λ found. IsValue new.table found.value t)
 typed_so new value t (Ok found) h e = subst (λ (v : Option ℕ). IsValue new.table v t) (sym e) h

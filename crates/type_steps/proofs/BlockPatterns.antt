@@ -1,6 +1,7 @@
 -- The patterns of a handler.
 use Rattle.std.proofs.Common.{◌≡◌, suc, ◌∙◌, refl, ap, sym, subst, ℕ, ◌+◌, Bool, true, false, not, ◌&&◌, cond, eqb, List, ◌∷◌, ◌++◌, length, Option, None, Some, is_none, Result, Ok, Err, bytes_eq, rules, tests, []}
 use Rattle.std.specs.Result.{IsErrAnd}
+use Rattle.std.proofs.lemmas.Option.{same_Some, none-some}
 use Rattle.nv_ast.specs.declared.token.Span.{Span}
 use Rattle.nv_ast.specs.declared.tree.Pat.{Pat}
 use Rattle.nv_ast.specs.PatternView.{list_patterns}
@@ -22,17 +23,11 @@ use Rattle.type_table.proofs.Staying.{parts_stay}
 -- ---- things of the same names
 some_step : {A B : Type 0} (R : A → B → Type 0) (a c : A) (b : B) (left : Option A) (right : Option B) (t : Bool) → R a b → ((left ≡ Some c) → (d : B) × (right ≡ Some d) × R c d)
     → cond t (Some a) left ≡ Some c → (d : B) × (cond t (Some b) right ≡ Some d) × R c d
-some_step R a c b left right true h g e = (b, refl, subst (λ y. R y b) (same a c e) h)
-  where
-    same : {T : Type 0} (x y : T) → Some x ≡ Some y → x ≡ y
-    same x y q = cc
+some_step R a c b left right true h g e = (b, refl, subst (λ y. R y b) (same_Some a c e) h)
 some_step R a c b left right false h g e = g e
 
 alike_some : {A B : Type 0} (R : A → B → Type 0) (x : List ℕ) (xs : List (List ℕ × A)) (ys : List (List ℕ × B)) (c : A) → Alike R xs ys → look_up x xs ≡ Some c → (d : B) × (look_up x ys ≡ Some d) × R c d
-alike_some R x [] [] c h e = absurd (not_some c e)
-  where
-    not_some : {T : Type 0} (y : T) → None ≡ Some y → ⊥
-    not_some y q = cc
+alike_some R x [] [] c h e = absurd (none-some c e)
 alike_some R x ((y, a) ∷ xs) ((z, b) ∷ ys) c h e =
     let found = some_step R a c b (look_up x xs) (look_up x ys) (bytes_eq x y) h.1 (λ l. alike_some R x xs ys c h.2 l) e in
     (found.0, ap (λ (n : List ℕ). cond (bytes_eq x n) (Some b) (look_up x ys)) (sym h.0) ∙ found.1, found.2)

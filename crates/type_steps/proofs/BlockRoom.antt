@@ -4,6 +4,7 @@ use Rattle.std.specs.Prelude.{option_map}
 use Rattle.std.specs.Borrow.{Bor}
 use Rattle.std.specs.List.{list_any}
 use Rattle.std.proofs.lemmas.List.{drop_at, drop-drop}
+use Rattle.type_steps.proofs.BlockCosts.{still_max}
 use Rattle.nv_ast.specs.declared.tree.Pat.{Pat}
 use Rattle.nv_ast.specs.Tree.{StatementTree, StatementTrees, no_statements, statement_and}
 use Rattle.nv_ast.specs.Tests.{is_among}
@@ -57,9 +58,6 @@ same_pending (a ∷ as_) [] w h = absurd h
 still_need : (p q h m n : ℕ) → p ≡ q → still q ≡ still h → m ≡ still n → still (still p + m) ≡ still (h + n)
 still_need p q h m n e f g = omega (arith, e, f, g)
 
-still_most : (a b x y : ℕ) → a ≡ still x → b ≡ still y → max a b ≡ still (max x y)
-still_most a b x y h g = omega (arith, h, g)
-
 max_group : (a b c : ℕ) → max a (max b c) ≡ max (max a b) c
 max_group a b c = omega arith
 
@@ -94,7 +92,7 @@ needs_are k needs xs first at vars (step ∷ steps) (statement_and st sts) lets 
     let moved : pending ((plain ++ let_of k vars st) ++ lets_behind k (vars_after k vars st) sts) written ≡ pending (plain ++ (let_of k vars st ++ lets_behind k (vars_after k vars st) sts)) written =
     ap (λ l. pending l written) (append_assoc plain (let_of k vars st) (lets_behind k (vars_after k vars st) sts))
     in
-    still_most _ _ _ _ one rest
+    still_max _ _ _ _ one rest
     ∙ ap (λ m. still m) (max_group (pending plain all + need_statement needs k vars st) (need_statements needs k (vars_after k vars st) (plain ++ let_of k vars st) sts written) _)
     ∙ ap (λ m. still (max (max (pending plain all + need_statement needs k vars st) (need_statements needs k (vars_after k vars st) (plain ++ let_of k vars st) sts written)) (m + n))) moved
 needs_are k needs xs first at vars [] (statement_and st sts) lets plain written last tail_need n le left is same place tail = absurd is

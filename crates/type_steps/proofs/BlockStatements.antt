@@ -1,8 +1,8 @@
 -- A let and a store.
-use Rattle.std.proofs.Common.{◌≡◌, ◌∙◌, refl, ap, sym, subst, ⊎_elim, ℕ, ◌+◌, ◌<◌, ◌≤◌, min, Bool, true, false, not, ◌&&◌, ◌||◌, eqb, nat_lt, nat_le, List, ◌∷◌, ◌++◌, length, Option, None, Some, Result, Ok, Err, arith, rules, tests, []}
+use Rattle.std.proofs.Common.{◌≡◌, ◌∙◌, refl, ap, sym, subst, ⊎_elim, ℕ, ◌+◌, ◌<◌, ◌≤◌, min, Bool, true, false, not, ◌||◌, eqb, nat_le, List, ◌∷◌, ◌++◌, length, Option, None, Some, Result, Ok, Err, arith, []}
 use Rattle.std.specs.Result.{IsErrAnd}
 use Rattle.std.specs.Borrow.{Bor}
-use Rattle.std.proofs.lemmas.Bool.{cases_lt}
+use Rattle.std.proofs.lemmas.Bool.{cases_lt, lt-ltb, lt-leb, ne_eqb, and_right}
 use Rattle.nv_base.specs.declared.term.Mem.{Mem}
 use Rattle.nv_base.specs.declared.term.Mem.TheVariants.{Sram, Sdram, Scratch}
 use Rattle.nv_ast.specs.declared.token.Span.{Span}
@@ -97,19 +97,6 @@ let_checks c c1 c2 s p e f x step before size h g at of_step of_size = subst (λ
 })
 
 -- ---- a number of words that stands still moves as it does, and reaches as far
-le_false : (a b : ℕ) → b < a → nat_le a b ≡ false
-le_false a b h = search (tests, rules)
-
-lt_true : (a b : ℕ) → a < b → nat_lt a b ≡ true
-lt_true a b h = search (tests, rules)
-
-eq_false : (a b : ℕ) → b < a → eqb a b ≡ false
-eq_false a b h = search (tests, rules)
-
-last_false : (a b : Bool) → b ≡ false → (a && b) ≡ false
-last_false true b h = h
-last_false false b h = refl
-
 none_of : (a b c d : Bool) → a ≡ false → b ≡ false → c ≡ false → d ≡ false → (a || (b || (c || d))) ≡ false
 none_of false false false false e f g h = refl
 none_of true b c d e f g h = e
@@ -118,9 +105,9 @@ none_of false false true d e f g h = g
 none_of false false false true e f g h = h
 
 many_stay : (m : Mem) (n : ℕ) → 8 < n → can_move m n ≡ false
-many_stay Sram n h = last_false (nat_le 1 n) (nat_le n 8) (le_false n 8 h)
-many_stay Scratch n h = last_false (nat_le 1 n) (nat_le n 8) (le_false n 8 h)
-many_stay Sdram n h = none_of (eqb n 2) (eqb n 4) (eqb n 6) (eqb n 8) (eq_false n 2 (omega (arith, h))) (eq_false n 4 (omega (arith, h))) (eq_false n 6 (omega (arith, h))) (eq_false n 8 h)
+many_stay Sram n h = and_right (nat_le 1 n) (nat_le n 8) (lt-leb n 8 h)
+many_stay Scratch n h = and_right (nat_le 1 n) (nat_le n 8) (lt-leb n 8 h)
+many_stay Sdram n h = none_of (eqb n 2) (eqb n 4) (eqb n 6) (eqb n 8) (ne_eqb n 2 (λ e. omega (arith, h, e))) (ne_eqb n 4 (λ e. omega (arith, h, e))) (ne_eqb n 6 (λ e. omega (arith, h, e))) (ne_eqb n 8 (λ e. omega (arith, h, e)))
 
 still_cases : (P : ℕ → Type 0) (n : ℕ) → (still n ≡ n → P n) → (most < n → P n) → P n
 still_cases P n f g = ⊎_elim (λ (l : most < n). g l) (λ (l : n ≤ most). f (omega (arith, l))) (cases_lt most n)
@@ -134,7 +121,7 @@ reach_still m a n = still_cases (λ j. wrong_scratch m a (still j) ≡ wrong_scr
     far : (m : Mem) (a : Tree) (x y : ℕ) → 512 < x → 512 < y → wrong_scratch m a x ≡ wrong_scratch m a y
     far Sram a x y h g = refl
     far Sdram a x y h g = refl
-    far Scratch (NumberTree t at) x y h g = ap (λ b. where_true b 20) (lt_true 512 (at + x) (omega (arith, h)) ∙ sym (lt_true 512 (at + y) (omega (arith, g))))
+    far Scratch (NumberTree t at) x y h g = ap (λ b. where_true b 20) (lt-ltb 512 (at + x) (omega (arith, h)) ∙ sym (lt-ltb 512 (at + y) (omega (arith, g))))
     far Scratch (TruthTree t b) x y h g = refl
     far Scratch (VarTree t z) x y h g = refl
     far Scratch (ParenTree t e) x y h g = refl

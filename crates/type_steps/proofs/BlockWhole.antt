@@ -26,15 +26,15 @@ use Rattle.type_steps.specs.inner.Walk.{Checks}
 use Rattle.type_rules.proofs.Firsts.{first_append, judges_behind}
 use Rattle.type_steps.proofs.Holding.{holds_stays, counts_stay, wanted_stays, declared_trans}
 use Rattle.type_steps.proofs.BlockStanding.{scope_left, writes_trans}
-use Rattle.type_steps.proofs.BlockNodes.{fails}
 use Rattle.type_steps.proofs.BlockStatements.{as_many_names}
 use Rattle.type_steps.proofs.BlockRoom.{AreSteps, needs_are}
 use Rattle.type_steps.proofs.BlockWalked.{Behind, faults-append}
+use Rattle.type_steps.proofs.WalkNodes.{failed}
 
 -- a statement has a fault
 pub block_fails_at_statement : (c now next last : Checker) (tail : Bool) (wanted : Wanted) (s : Span) (all xs ys : List Stmt) (st : Stmt) (e : Tree) (steps : List Step) (size : ℕ) (why : TypeError)
     → Behind c now xs steps size → ChecksStatement now next (statement_tree st) (Err why) → all ≡ xs ++ st ∷ ys → Checks c last tail wanted (BlockTree s (list_statements all) e) (Err why)
-block_fails_at_statement c now next last tail wanted s all xs ys st e steps size why was one split = fails c last tail wanted (BlockTree s (list_statements all) e) why (λ k vars w holds sees is.
+block_fails_at_statement c now next last tail wanted s all xs ys st e steps size why was one split = failed c last tail wanted (BlockTree s (list_statements all) e) why (λ k vars w holds sees is.
     let vars1 = vars_behind k vars (list_statements xs) in
     let here = one.judged k vars1 (holds_stays c now k was.declared holds) (was.sees k vars holds sees) in
     let first : IsFirstOf (statements_faults (place k vars1 false) (list_statements (st ∷ ys))) why = first_append (statement_faults (place k vars1 false) (statement_tree st)) _ why here in
@@ -45,7 +45,7 @@ block_fails_at_statement c now next last tail wanted s all xs ys st e steps size
 
 pub block_fails_at_tail : (c now next last : Checker) (tail : Bool) (wanted : Wanted) (s : Span) (all : List Stmt) (e : Tree) (steps : List Step) (size : ℕ) (why : TypeError)
     → Behind c now all steps size → Checks now next tail Anything e (Err why) → Checks c last tail wanted (BlockTree s (list_statements all) e) (Err why)
-block_fails_at_tail c now next last tail wanted s all e steps size why was one = fails c last tail wanted (BlockTree s (list_statements all) e) why (λ k vars w holds sees is.
+block_fails_at_tail c now next last tail wanted s all e steps size why was one = failed c last tail wanted (BlockTree s (list_statements all) e) why (λ k vars w holds sees is.
     let vars1 = vars_behind k vars (list_statements all) in
     let here = one.judged k vars1 anything (holds_stays c now k was.declared holds) (was.sees k vars holds sees) refl in
     judges_behind {T = Found} _ _ (Err why) (was.judged k vars holds sees) (first_append _ _ why here))
@@ -54,7 +54,7 @@ pub block_fails_at_node : (c now next last : Checker) (tail : Bool) (wanted : Wa
     → Behind c now all steps size → Checks now next tail Anything e (Ok f)
     → ((w : WantedTree) (u : Option Ty) → IsWanted next.table wanted w → IsValue next.table f.value u → IsFirstOf (judged_faults s w u None None) why)
     → Checks c last tail wanted (BlockTree s (list_statements all) e) (Err why)
-block_fails_at_node c now next last tail wanted s all e steps size f why was one judged = fails c last tail wanted (BlockTree s (list_statements all) e) why (λ k vars w holds sees is.
+block_fails_at_node c now next last tail wanted s all e steps size f why was one judged = failed c last tail wanted (BlockTree s (list_statements all) e) why (λ k vars w holds sees is.
     let vars1 = vars_behind k vars (list_statements all) in
     let holds1 = holds_stays c now k was.declared holds in
     let sees1 = was.sees k vars holds sees in

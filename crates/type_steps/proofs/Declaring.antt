@@ -1,5 +1,6 @@
 -- The faults of a declaration, one after another.
-use Rattle.std.proofs.Common.{◌≡◌, ◌∙◌, refl, ap, sym, subst, ℕ, ◌<◌, ◌≤◌, true, false, cond, List, [], ◌∷◌, ◌++◌, nat_lt, bytes_eq, Option, None, Some, is_some, Result, Err, arith, rules, tests, ◌⊎◌, ⊎_elim}
+use Rattle.std.proofs.Common.{◌≡◌, ◌∙◌, refl, ap, sym, subst, ℕ, ◌<◌, ◌≤◌, cond, List, [], ◌∷◌, ◌++◌, nat_lt, bytes_eq, Option, None, Some, is_some, Result, Err, arith, ◌⊎◌, ⊎_elim}
+use Rattle.std.proofs.lemmas.Bool.{cases_lt, lt-ltb, le-ltb}
 use Rattle.nv_ast.specs.declared.token.Span.{Span}
 use Rattle.nv_ast.specs.Tree.{LayoutTree, TypeTrees, FunTree, LayoutDecl, ExceptionDecl, GroupDecl}
 use Rattle.nv_ast.specs.Tests.{is_among, names_of, look_up, where_true}
@@ -58,21 +59,12 @@ pub exception_types : (c : Checker) (k : Known) (x : List ℕ) (ts : TypeTrees) 
 exception_types c k x ts s e is none h =
     exception_then {T = Unit {0}} c k x ts s (Err e) is none (first_kind s (types_faults k.layouts ts) (wide_exception (types_of k.layouts ts)) e h)
 
-lt_cases : (a b : ℕ) → (a < b) ⊎ (b ≤ a)
-lt_cases a b = search arith
-
-pub lt_true : (a b : ℕ) → a < b → nat_lt a b ≡ true
-lt_true a b h = search (tests, rules)
-
-pub lt_false : (a b : ℕ) → b ≤ a → nat_lt a b ≡ false
-lt_false a b h = search (tests, rules)
-
 pub over_eight : (n : ℕ) → nat_lt 8 (still n) ≡ nat_lt 8 n
 over_eight n =
     ⊎_elim
-    (λ (h : 8 < n). lt_true 8 (still n) (omega (arith, h)) ∙ sym (lt_true 8 n h))
-    (λ (h : n ≤ 8). lt_false 8 (still n) (omega (arith, h)) ∙ sym (lt_false 8 n h))
-    (lt_cases 8 n)
+    (λ (h : 8 < n). lt-ltb 8 (still n) (omega (arith, h)) ∙ sym (lt-ltb 8 n h))
+    (λ (h : n ≤ 8). le-ltb 8 (still n) (omega (arith, h)) ∙ sym (le-ltb 8 n h))
+    (cases_lt 8 n)
 
 pub exception_wide : {T : Type 0} (c : Checker) (k : Known) (x : List ℕ) (ts : TypeTrees) (s : Span) (n : ℕ) (r : Result T TypeError) → Between c k
     → at_span s (where_true (is_some (look_up x c.exceptions)) 2) ≡ [] → at_span s (types_faults k.layouts ts) ≡ [] → n ≡ still (total_words (types_of k.layouts ts)) → Judges (at_span s (where_true (nat_lt 8 n) 23)) r

@@ -1,8 +1,9 @@
 -- The walk over a group's names.
-use Rattle.std.proofs.Common.{◌≡◌, ◌∙◌, refl, ap, sym, subst, ℕ, Bool, true, false, cond, ◌||◌, List, [], ◌∷◌, ◌++◌, bytes_eq, true≢false}
+use Rattle.std.proofs.Common.{◌≡◌, ◌∙◌, refl, ap, sym, subst, ℕ, Bool, true, false, cond, ◌||◌, List, [], ◌∷◌, ◌++◌, bytes_eq}
 use Rattle.std.specs.Borrow.{Bor}
 use Rattle.std.specs.List.{list_any}
 use Rattle.std.proofs.lemmas.List.Folds.{list_any-append}
+use Rattle.std.proofs.lemmas.Bool.{or_left, or_right}
 use Rattle.nv_ast.specs.declared.token.Span.{Span}
 use Rattle.nv_ast.specs.Tree.{FunTree}
 use Rattle.nv_ast.specs.Tests.{is_among, where_true}
@@ -59,14 +60,6 @@ seen_more known keys more all rest f name is s fresh unknown e = record {
   left = s.left ∙ ap (λ b. at_span f.span (where_true b 2) ++ name_faults (f.name ∷ s.seen) rest) (s.same f.name ∙ ap (λ b. b || is_among f.name known) fresh ∙ unknown);
 }
 
-or_right : (a b : Bool) → b ≡ true → (a || b) ≡ true
-or_right true b e = refl
-or_right false b e = e
-
-or_first : (a b : Bool) → a ≡ true → (a || b) ≡ true
-or_first true b e = refl
-or_first false b e = absurd (true≢false (sym e))
-
 -- a name of an earlier function
 pub seen_earlier : (known : List (List ℕ)) (keys : List (Bor (List ℕ))) (all rest : List FunTree) (f : FunTree) (found : Bool) (e : TypeError)
     → Seen known keys all (f ∷ rest) → found ≡ is_among f.name known → IsFirstOf (at_span f.span (where_true found 2)) e → IsFirstOf (name_faults known all) e
@@ -77,7 +70,7 @@ seen_earlier known keys all rest f found e s is first =
 pub seen_again : (known : List (List ℕ)) (keys : List (Bor (List ℕ))) (all rest : List FunTree) (f : FunTree) (found : Bool) (e : TypeError)
     → Seen known keys all (f ∷ rest) → found ≡ among_keys f.name keys → IsFirstOf (at_span f.span (where_true found 2)) e → IsFirstOf (name_faults known all) e
 seen_again known keys all rest f found e s is first =
-    seen_fault known keys all rest f found e s (λ yes_. or_first (among_keys f.name keys) (is_among f.name known) (sym is ∙ yes_)) first
+    seen_fault known keys all rest f found e s (λ yes_. or_left (among_keys f.name keys) (is_among f.name known) (sym is ∙ yes_)) first
 
 pub not_found : (s : Span) (b : Bool) → at_span s (where_true b 2) ≡ [] → b ≡ false
 not_found s b e = not_where b 2 (no_kinds s (where_true b 2) e)

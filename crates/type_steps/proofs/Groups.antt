@@ -1,6 +1,7 @@
 -- The functions of a group: their names, their signatures and their costs.
 use Rattle.std.proofs.Common.{◌≡◌, ◌∙◌, refl, ap, sym, subst, ℕ, ◌+◌, max, Bool, true, false, ◌||◌, List, [], ◌∷◌, ◌++◌, None, append-nil, append_assoc, bytes_eq, arith}
 use Rattle.std.proofs.lemmas.List.Folds.{list_any-append}
+use Rattle.std.proofs.lemmas.Bool.{or_parts}
 use Rattle.nv_ast.specs.Tree.{FunTree, GroupDecl}
 use Rattle.nv_ast.specs.Tests.{is_among, names_of, look_up}
 use Rattle.nv_ast.specs.Outline.{Layouts}
@@ -80,12 +81,8 @@ SignedSo c now all done rest = (k : Known) → Between c k → AreNew (names_of 
 pub signed_start : (c : Checker) (all : List FunTree) → SignedSo c c all [] all
 signed_start c all = λ k is new. record { holds = group_start c k is; left = refl; new_names = new }
 
-or_left : (a b : Bool) → (a || b) ≡ false → a ≡ false
-or_left true b e = e
-or_left false b e = refl
-
 front_absent : (x : List ℕ) (as_ bs : List (List ℕ)) → is_among x (as_ ++ bs) ≡ false → is_among x as_ ≡ false
-front_absent x as_ bs e = or_left (is_among x as_) (is_among x bs) (sym (list_any-append (bytes_eq x) as_ bs) ∙ e)
+front_absent x as_ bs e = (or_parts (is_among x as_) (is_among x bs) (sym (list_any-append (bytes_eq x) as_ bs) ∙ e)).0
 
 own_names : (c : Checker) (k : Known) (fs : List FunTree) → Holds c (in_group k fs) → names_of c.functions ≡ names_of k.functions ++ names_of (signatures k.layouts fs)
 own_names c k fs h = alike_names (IsFunction c.table) c.functions (k.functions ++ signatures k.layouts fs) h.of_functions ∙ names_of-append k.functions (signatures k.layouts fs)
@@ -198,9 +195,6 @@ size_more sizes k (d ∷ done) f = omega (arith, size_more sizes k done f)
 need_more : (needs : GroupNumbers) (k : Known) (done : List FunTree) (f : FunTree) → group_need needs k (done ++ f ∷ []) ≡ max (group_need needs k done) (fun_need needs k f)
 need_more needs k [] f = omega arith
 need_more needs k (d ∷ done) f = omega (arith, need_more needs k done f)
-
-pub cost_none : IsCost (record { words = 0; size = 0; need = 0 }) 0 0 0
-cost_none = record { of_words = refl; of_size = refl; of_need = refl }
 
 pub cost_more : (sizes needs : GroupNumbers) (k : Known) (done : List FunTree) (f : FunTree) (whole cost : Cost)
     → IsCost whole 0 (group_size sizes k done) (group_need needs k done) → IsCost cost 0 (fun_size sizes k f) (fun_need needs k f)

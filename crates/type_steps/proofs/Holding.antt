@@ -2,6 +2,7 @@
 use Rattle.std.proofs.Common.{◌≡◌, ◌∙◌, refl, ap, sym, subst, ℕ, Bool, true, false, cond, ◌&&◌, ◌||◌, List, [], ◌∷◌, Option, None, Some, is_none, is_some, bytes_eq, Result, Ok, Err, Vec, Global}
 use Rattle.std.specs.Result.{OnOk}
 use Rattle.std.specs.Borrow.{Bor}
+use Rattle.std.proofs.lemmas.Option.{none-some, same_Some}
 use Rattle.nv_ast.specs.Outline.{OutlineTree}
 use Rattle.nv_ast.specs.Tests.{is_among, names_of, look_up, value_at}
 use Rattle.nv_ast.specs.Scope.{Signature, Known, Vars, callable}
@@ -112,18 +113,9 @@ table_keeps c table (Ok x) g = Keeps-table c table g
 table_keeps c table (Err e) g = tt
 
 -- ---- what is looked up
-some_same : {A : Type 0} (a b : A) → Some a ≡ Some b → a ≡ b
-some_same a b e = cc
-
-none_some : {A : Type 0} (a : A) → None ≡ Some a → ⊥
-none_some a e = cc
-
-some_none : {A : Type 0} (a : A) → Some a ≡ None → ⊥
-some_none a e = cc
-
 pub found_alike : {A B : Type 0} (R : A → B → Type 0) (d : B) (x : List ℕ) (m : A) (as_ : List (List ℕ × A)) (bs : List (List ℕ × B)) → Alike R as_ bs → look_up x as_ ≡ Some m
     → (is_among x (names_of bs) ≡ true) × (look_up x bs ≡ Some (value_at d x bs)) × R m (value_at d x bs)
-found_alike R d x m [] [] h e = absurd (none_some m e)
+found_alike R d x m [] [] h e = absurd (none-some m e)
 found_alike R d x m [] (b ∷ bs) h e = absurd h
 found_alike R d x m (a ∷ as_) [] h e = absurd h
 found_alike R d x m ((y, a) ∷ as_) ((z, b) ∷ bs) h e = by (λ f. found_alike R d x m as_ bs h.2 f) (bytes_eq x y) refl
@@ -133,7 +125,7 @@ found_alike R d x m ((y, a) ∷ as_) ((z, b) ∷ bs) h e = by (λ f. found_alike
     by more true q =
         let p : bytes_eq x z ≡ true = ap (bytes_eq x) (sym h.0) ∙ q in
         let here : value_at d x ((z, b) ∷ bs) ≡ b = ap (λ t. cond t b (value_at d x bs)) p in
-        let same : a ≡ m = some_same a m (sym (ap (λ t. cond t (Some a) (look_up x as_)) q) ∙ e) in
+        let same : a ≡ m = same_Some a m (sym (ap (λ t. cond t (Some a) (look_up x as_)) q) ∙ e) in
         (ap (λ t. t || is_among x (names_of bs)) p, ap (λ t. cond t (Some b) (look_up x bs)) p ∙ ap Some (sym here), subst (R m) (sym here) (subst (λ n. R n b) same h.1))
     by more false q =
         let p : bytes_eq x z ≡ false = ap (bytes_eq x) (sym h.0) ∙ q in
@@ -148,7 +140,7 @@ absent_alike R x (a ∷ as_) [] h e = absurd h
 absent_alike R x ((y, a) ∷ as_) ((z, b) ∷ bs) h e = by (λ f. absent_alike R x as_ bs h.2 f) (bytes_eq x y) refl
   where
     by : (look_up x as_ ≡ None → is_among x (names_of bs) ≡ false) → (t : Bool) → bytes_eq x y ≡ t → is_among x (names_of ((z, b) ∷ bs)) ≡ false
-    by more true q = absurd (some_none a (sym (ap (λ t. cond t (Some a) (look_up x as_)) q) ∙ e))
+    by more true q = absurd (none-some a (sym e ∙ ap (λ t. cond t (Some a) (look_up x as_)) q))
     by more false q =
         let p : bytes_eq x z ≡ false = ap (bytes_eq x) (sym h.0) ∙ q in
         ap (λ t. t || is_among x (names_of bs)) p ∙ more (sym (ap (λ t. cond t (Some a) (look_up x as_)) q) ∙ e)

@@ -1,7 +1,8 @@
 -- What the walk over a layout gives, arm by arm.
-use Rattle.std.proofs.Common.{◌≡◌, ◌∙◌, refl, ap, sym, subst, ℕ, ◌≤◌, Bool, true, false, not, ◌&&◌, leb, leb-true, List, [], ◌++◌, arith, None, Some, Vec, Global, Result, Ok, Err}
+use Rattle.std.proofs.Common.{◌≡◌, ◌∙◌, ap, sym, subst, ℕ, ◌≤◌, Bool, true, false, not, ◌&&◌, leb, leb-true, List, [], ◌++◌, arith, None, Some, Vec, Global, Result, Ok, Err}
 use Rattle.std.specs.Result.{IfOk, OnOk}
 use Rattle.std.specs.Borrow.{Bor}
+use Rattle.std.proofs.lemmas.Bool.{not-false}
 use Rattle.nv_ast.specs.declared.token.Span.{Span}
 use Rattle.nv_ast.specs.Tree.{LayoutTree, NamedLayout, GapLayout, PartsLayout, JoinedLayout, LayoutTrees, FieldTree, BitsField, InnerField, OverlayField, FieldTrees}
 use Rattle.nv_ast.specs.Outline.{OutlineTree, BitsOutline, GapOutline, PartsOutline, OverlayOutline, JoinedOutline, OutlineTrees, NamedOutlines, no_named_outlines, outline, outlines, field_outlines, sizes_of}
@@ -133,15 +134,11 @@ pub bits_wrong : (c : Checker) (s : Span) (n : ℕ) (b : Bool) (x : TypeError) �
 bits_wrong c s n b x e h = field_refused c c s (BitsField n) x (λ k q. subst (λ t. IsFirstOf (at_span s (where_true t 4)) x) e h)
 
 few_bits : (s : Span) (n : ℕ) (b : Bool) → b ≡ not (within 1 32 n) → at_span s (where_true b 4) ≡ [] → n ≤ 1024
-few_bits s n b e h = omega (arith, leb-true n 32 (right_of (leb 1 n) (leb n 32) (holds (within 1 32 n) (sym e ∙ where_none s b 4 h))))
+few_bits s n b e h = omega (arith, leb-true n 32 (right_of (leb 1 n) (leb n 32) (not-false (within 1 32 n) (sym e ∙ where_none s b 4 h))))
   where
     right_of : (x y : Bool) → (x && y) ≡ true → y ≡ true
     right_of true y k = k
     right_of false y k = cc
-
-    holds : (t : Bool) → not t ≡ false → t ≡ true
-    holds true k = refl
-    holds false k = cc
 
 pub bits_right : (c : Checker) (s : Span) (n : ℕ) (b : Bool) (m : Member) → b ≡ not (within 1 32 n) → at_span s (where_true b 4) ≡ [] → ((a : Store) → n ≤ 1024 → IsMember a m (BitsOutline n)) → ShapesField c c s (BitsField n) (Ok m)
 bits_right c s n b m e h made = record {

@@ -125,11 +125,8 @@ fits_so s shape o empty h e = record { shaped = h; short = by (short empty (nat_
     short false true c k = k
     short true b c k = cc
 
-    le_of : (a b : ℕ) → nat_lt a b ≡ false → b ≤ a
-    le_of a b k = ltb-false a b k
-
     by : nat_lt 1024 shape.bits ≡ false → size o ≤ 1024
-    by k = omega (arith, le_of 1024 shape.bits k, h.of_bits)
+    by k = omega (arith, ltb-false 1024 shape.bits k, h.of_bits)
 
 -- ---- the shape of a record
 pub parts_shape : (b c : Store) (shape : Shape) (os : NamedOutlines) → Grows b c

@@ -8,9 +8,6 @@ use Rattle.nv_ast.specs.Tests.{look_up}
 use Rattle.type_steps.specs.declared.scope.Binding.{Binding}
 use Rattle.type_steps.specs.inner.Stack.{bound_pair, bindings, Hides, IsScope}
 
-turned : (x y : List ℕ) → bytes_eq x y ≡ bytes_eq y x
-turned x y = nat_list_eq_equiv.symm x y
-
 newest_first : (stack : List Binding) (b : Binding) → reverse (stack ++ b ∷ []) ≡ b ∷ reverse stack
 newest_first stack b = reverse-append stack (b ∷ [])
 
@@ -26,14 +23,14 @@ IsScope-push stack seen more b is hidden after = record {
   hides = subst Hides (sym (newest_first stack b)) (hidden, is.hides);
   seen_first = λ x.
       after x
-      ∙ ap (λ t. cond t (Some b.bound) (lookup (λ k. bytes_eq x k.now) seen)) (turned b.name.now x)
+      ∙ ap (λ t. cond t (Some b.bound) (lookup (λ k. bytes_eq x k.now) seen)) (nat_list_eq_equiv.symm b.name.now x)
       ∙ ap (cond (bytes_eq x b.name.now) (Some b.bound)) (is.seen_first x)
       ∙ ap (look_up x) (sym (bindings-push stack b));
 }
 
 hidden_again : (x y : List ℕ) (t : ℕ) (hidden : Option ℕ) (older : List (List ℕ × ℕ)) (b : Bool) → bytes_eq y x ≡ b → hidden ≡ look_up y older → cond b hidden (look_up x ((y, t) ∷ older)) ≡ look_up x older
 hidden_again x y t hidden older true e h = h ∙ ap (λ z. look_up z older) ((bytes_decides y x).0 e)
-hidden_again x y t hidden older false e h = ap (λ c. cond c (Some t) (look_up x older)) (turned x y ∙ e)
+hidden_again x y t hidden older false e h = ap (λ c. cond c (Some t) (look_up x older)) (nat_list_eq_equiv.symm x y ∙ e)
 
 pub IsScope-pop : (stack : List Binding) (seen less : List (Bor (List ℕ) × ℕ)) (b : Binding)
     → IsScope (stack ++ b ∷ []) seen

@@ -6,7 +6,7 @@ use Rattle.std.specs.Borrow.{Bor}
 use Rattle.nv_ast.specs.declared.token.Span.{Span}
 use Rattle.nv_ast.specs.declared.tree.TyText
 use Rattle.nv_ast.specs.declared.tree.TyText.{TyText}
-use Rattle.nv_ast.specs.Tree.{TypeTree, WordType, BoolType, PackedType, UnpackedType, TupleType, RecordType, TypeTrees, NamedTypes, no_named_types, named_type_and}
+use Rattle.nv_ast.specs.Tree.{TypeTree, WordType, BoolType, PackedType, UnpackedType, TupleType, RecordType, TypeTrees, NamedTypes}
 use Rattle.nv_ast.specs.Height.{type_height, highest_type, highest_named_type}
 use Rattle.nv_ast.specs.TypeView.{type_tree, list_types, list_named_types}
 use Rattle.nv_ast.proofs.Rows.{types_items, named_types_items}
@@ -35,6 +35,7 @@ use Rattle.type_rules.proofs.Firsts.{first_kind, then_kinds}
 use Rattle.type_steps.proofs.Holding.{Keeps-refl, Keeps-trans, found_alike, absent_alike}
 use Rattle.type_steps.proofs.LayoutWalk.{at_none, first_within}
 use Rattle.type_steps.proofs.LayoutArms.{on_ok}
+use Rattle.type_steps.proofs.Params.{names_in_text}
 
 -- ---- vectors in the text
 pub tuple_text : (v : Vec TyText Global) → type_tree (TyText.Tuple v) ≡ TupleType (list_types v.items)
@@ -117,20 +118,13 @@ highest_named-append (x ∷ xs) ys = omega (arith, highest_named-append xs ys)
 pub highest_named_within : (xs : List TypeNamed) (i : ℕ) (p : TypeNamed) → i < length xs → p ≡ get_or xs i p → type_height (type_tree p.1) ≤ highest_named_type (list_named_types xs)
 highest_named_within xs i p h e = omega (arith, ap (λ l. highest_named_type (list_named_types l)) (split_item xs i p h e), highest_named-append (take i xs) (p ∷ drop (i + 1) xs))
 
-pub type_names_of : (k : Layouts) (ts : NamedTypes) → field_names (named_types_of k ts) ≡ type_names ts
-type_names_of k no_named_types = refl
-type_names_of k (named_type_and x t ts) = ap (λ l. x ∷ l) (type_names_of k ts)
-
 -- ---- the type of at most 1,024 words isn't too large
 parts_height : (n : ℕ) → highest_ty (word_parts n) ≤ 1
 parts_height zero = omega arith
 parts_height (suc n) = omega (arith, parts_height n)
 
 tuple_small : (n : ℕ) → n ≤ 1024 → too_large (TupleTy (word_parts n)) ≡ []
-tuple_small n h = ap (λ b. where_true {A = ℕ} (b || nat_lt 100 (ty_height (TupleTy (word_parts n)))) 24) (not_over 1024 (total_words (word_parts n)) (omega (arith, parts_words n, h))) ∙ ap (λ b. where_true {A = ℕ} b 24) (not_over 100 (1 + highest_ty (word_parts n)) (omega (arith, parts_height n)))
-  where
-    not_over : (a b : ℕ) → b ≤ a → nat_lt a b ≡ false
-    not_over a b h = le-ltb a b h
+tuple_small n h = ap (λ b. where_true {A = ℕ} (b || nat_lt 100 (ty_height (TupleTy (word_parts n)))) 24) (le-ltb 1024 (total_words (word_parts n)) (omega (arith, parts_words n, h))) ∙ ap (λ b. where_true {A = ℕ} b 24) (le-ltb 100 (1 + highest_ty (word_parts n)) (omega (arith, parts_height n)))
 
 pub words_small : (n : ℕ) → n ≤ 1024 → too_large (words_ty n) ≡ []
 words_small n h = by (n == 1)
@@ -263,7 +257,7 @@ fields_done c mid new s ts v r q judged typed keeps = record {
   judged = λ k h.
       let us = named_types_of k.layouts ts in
       then_kinds s (named_types_faults k.layouts ts) (twice_in_type (type_names ts) ++ too_large (type_of k.layouts (RecordType ts))) r (q.judged k h)
-      (subst (λ names. Judges (at_span s (twice_in_type names ++ too_large (RecordTy us))) r) (type_names_of k.layouts ts) (judged us (q.typed k h)));
+      (subst (λ names. Judges (at_span s (twice_in_type names ++ too_large (RecordTy us))) r) (names_in_text k.layouts ts) (judged us (q.typed k h)));
   typed = λ k h. typed (named_types_of k.layouts ts) (q.typed k h);
   keeps = keeps_both c mid new r q.keeps keeps;
 }

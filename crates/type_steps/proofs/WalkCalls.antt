@@ -1,7 +1,8 @@
 -- Calls of functions, and exceptions that are raised.
-use Rattle.std.proofs.Common.{◌≡◌, ◌∙◌, refl, ap, sym, subst, ℕ, suc, ◌+◌, ◌<◌, add-one, ◌==◌, eqb, max, Bool, true, false, not, ◌&&◌, cond, List, [], ◌∷◌, ◌++◌, append-nil, append_assoc, length, Option, None, Some, is_none, is_some, Result, Ok, Err, arith, rules, tests}
+use Rattle.std.proofs.Common.{◌≡◌, ◌∙◌, refl, ap, sym, subst, ℕ, suc, ◌+◌, add-one, ◌==◌, eqb, max, Bool, true, false, not, ◌&&◌, cond, List, [], ◌∷◌, ◌++◌, append-nil, append_assoc, length, Option, None, Some, is_none, is_some, Result, Ok, Err, arith}
 use Rattle.std.specs.Result.{IfOk}
 use Rattle.std.specs.Prelude.{option_map}
+use Rattle.std.proofs.lemmas.Bool.{ne_eqb}
 use Rattle.nv_ast.specs.declared.token.Span.{Span}
 use Rattle.nv_ast.specs.declared.tree.Expr.{Expr}
 use Rattle.nv_ast.specs.ExprView.{list_trees}
@@ -28,6 +29,7 @@ use Rattle.type_steps.specs.inner.Standing.{IsFunction, Holds, Sees, Keeps, plac
 use Rattle.type_steps.specs.inner.Walk.{Checks, ChecksAll}
 use Rattle.type_rules.proofs.Firsts.{first_append, at_span-append}
 use Rattle.type_table.proofs.Staying.{type_stays}
+use Rattle.type_table.proofs.RowEdges.{both_more}
 use Rattle.type_steps.proofs.Alikes.{alike_at, both_none, both_found}
 use Rattle.type_steps.proofs.WalkCosts.{parts_and_call, size_called, need_called, no_words_called}
 use Rattle.type_steps.proofs.WalkNodes.{Parts, failed, parts_stand, node_checks}
@@ -35,20 +37,11 @@ use Rattle.type_steps.proofs.WalkArms.{IsJudged, IsCounted}
 use Rattle.type_steps.proofs.WalkNamed.{low_first, middle_first, own_failed}
 use Rattle.type_steps.proofs.WalkLists.{all_parts}
 
-same_count : (m n : ℕ) → eqb (m + 1) (n + 1) ≡ eqb m n
-same_count m n = search (tests, rules, arith)
-
-less_count : (a b : ℕ) → a < b → eqb a b ≡ false
-less_count a b l = search (tests, rules)
-
-more_count : (a b : ℕ) → b < a → eqb a b ≡ false
-more_count a b l = search (tests, rules)
-
 pub as_many_counted : (ts : Tys) (es : List Expr) → as_many ts (list_trees es) ≡ eqb (count_tys ts) (length es)
 as_many_counted no_tys [] = refl
-as_many_counted (ty_and t ts) (e ∷ es) = as_many_counted ts es ∙ sym (same_count (count_tys ts) (length es)) ∙ ap (λ k. eqb (count_tys ts + 1) k) (add-one (length es))
-as_many_counted no_tys (e ∷ es) = sym (less_count 0 (suc (length es)) (omega arith))
-as_many_counted (ty_and t ts) [] = sym (more_count (count_tys ts + 1) 0 (omega arith))
+as_many_counted (ty_and t ts) (e ∷ es) = as_many_counted ts es ∙ sym (both_more (count_tys ts) (length es)) ∙ ap (λ k. eqb (count_tys ts + 1) k) (add-one (length es))
+as_many_counted no_tys (e ∷ es) = sym (ne_eqb 0 (suc (length es)) (λ q. omega (arith, q)))
+as_many_counted (ty_and t ts) [] = sym (ne_eqb (count_tys ts + 1) 0 (λ q. omega (arith, q)))
 
 -- the list of types where there are as many of them
 abbrev pub IsMany : Store → ℕ → ℕ → Option ℕ → Type 0

@@ -13,9 +13,10 @@ use Rattle.type_rules.specs.inner.Faulty.{IsFirstOf, Judges}
 use Rattle.type_steps.specs.inner.Walk.{Checks, ChecksAll}
 use Rattle.type_steps.proofs.WalkArms.{no_memory}
 
-pub answered : (c new : Checker) (tail : Bool) (wanted : Wanted) (e : Tree) (r : Result Found TypeError) (error : TypeError) → IsErrAnd r (λ y. y ≡ error) → Checks c new tail wanted e (Err error) → Checks c new tail wanted e r
-answered c new tail wanted e (Err y) error is h = subst (λ (x : TypeError). Checks c new tail wanted e (Err x)) (sym is) h
-answered c new tail wanted e (Ok x) error is h = absurd is
+-- at the exit of a `?`
+pub at_err : (c new : Checker) (tail : Bool) (wanted : Wanted) (e : Tree) (r : Result Found TypeError) (error : TypeError) → IsErrAnd r (λ y. y ≡ error) → Checks c new tail wanted e (Err error) → Checks c new tail wanted e r
+at_err c new tail wanted e (Err y) error is h = subst (λ (x : TypeError). Checks c new tail wanted e (Err x)) (sym is) h
+at_err c new tail wanted e (Ok x) error is h = absurd is
 
 pub all_answered : (c new : Checker) (types : Option ℕ) (es : Trees) (r : Result Cost TypeError) (error : TypeError) → IsErrAnd r (λ y. y ≡ error) → ChecksAll c new types es (Err error) → ChecksAll c new types es r
 all_answered c new types es (Err y) error is h = subst (λ (x : TypeError). ChecksAll c new types es (Err x)) (sym is) h

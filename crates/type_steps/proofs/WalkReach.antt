@@ -1,5 +1,6 @@
 -- Scratch addresses that are numbers.
-use Rattle.std.proofs.Common.{◌≡◌, ◌∙◌, refl, ap, sym, ◌⊎◌, ⊎_elim, ℕ, ◌+◌, ◌<◌, ◌≤◌, min, nat_lt, nat_le, Bool, true, false, not, [], arith, rules, tests}
+use Rattle.std.proofs.Common.{◌≡◌, ◌∙◌, refl, ap, sym, ◌⊎◌, ⊎_elim, ℕ, ◌+◌, ◌<◌, ◌≤◌, min, nat_lt, nat_le, Bool, true, not, [], arith}
+use Rattle.std.proofs.lemmas.Bool.{cases_lt, lt-ltb, le-ltb, le-leb, lt-leb}
 use Rattle.nv_base.specs.declared.term.Mem.{Mem}
 use Rattle.nv_base.specs.declared.term.Mem.TheVariants.{Sram, Sdram, Scratch}
 use Rattle.nv_ast.specs.declared.token.Span.{Span}
@@ -12,26 +13,11 @@ use Rattle.nv_ast.specs.Tests.{where_true}
 use Rattle.nv_ast.specs.Faults.{wrong_scratch}
 use Rattle.type_table.specs.inner.Cells.{most}
 
-le_true : (a b : ℕ) → a ≤ b → nat_le a b ≡ true
-le_true a b h = search (tests, rules)
-
-le_false : (a b : ℕ) → b < a → nat_le a b ≡ false
-le_false a b h = search (tests, rules)
-
-over_true : (a b : ℕ) → a < b → nat_lt a b ≡ true
-over_true a b h = search (tests, rules)
-
-over_false : (a b : ℕ) → b ≤ a → nat_lt a b ≡ false
-over_false a b h = search (tests, rules)
-
-sides : (s : ℕ) → (s ≤ 512) ⊎ (512 < s)
-sides s = search arith
-
 reach_test : (s x : ℕ) → s ≡ min x most → not (nat_le s 512) ≡ nat_lt 512 x
 reach_test s x e =
-    ⊎_elim (λ (low : s ≤ 512). ap not (le_true s 512 low) ∙ sym (over_false 512 x (omega (arith, e, low))))
-    (λ (high : 512 < s). ap not (le_false s 512 high) ∙ sym (over_true 512 x (omega (arith, e, high))))
-    (sides s)
+    ⊎_elim (λ (high : 512 < s). ap not (lt-leb s 512 high) ∙ sym (lt-ltb 512 x (omega (arith, e, high))))
+    (λ (low : s ≤ 512). ap not (le-leb s 512 low) ∙ sym (le-ltb 512 x (omega (arith, e, low))))
+    (cases_lt 512 s)
 
 pub reach_number : (m : Mem) (e : Expr) (at n s : ℕ) → m ≡ Scratch → (out-Expr e).kind ≡ Number at → s ≡ min (at + n) most → where_true {A = ℕ} (not (nat_le s 512)) 20 ≡ wrong_scratch m (tree_of e) n
 reach_number m e at n s scratch is sum =

@@ -2,6 +2,7 @@
 use Rattle.std.proofs.Common.{◌≡◌, ◌∙◌, refl, ap, sym, subst, ℕ, ◌+◌, Bool, true, false, List, [], ◌∷◌, ◌++◌, append-nil, Option, None, Some, Result, Ok, Err, unwrap_or}
 use Rattle.std.specs.Result.{IfOk, OnOk}
 use Rattle.std.specs.Prelude.{option_to_list, option_map}
+use Rattle.std.proofs.lemmas.Option.{same_Some, none-some}
 use Rattle.nv_ast.specs.declared.token.Span.{Span}
 use Rattle.nv_ast.specs.Tree.{Tree, Trees, no_trees, tree_and, NamedTrees, no_named_trees, named_tree_and, TupleTree, FieldsTree}
 use Rattle.nv_ast.specs.Scope.{Known, Vars}
@@ -34,14 +35,8 @@ use Rattle.type_steps.proofs.WalkLists.{AllSo, next_value, all_first, all_end, a
 
 -- the number of a type that is there
 pub number_there : (s : Store) (o : Option ℕ) (u : Option Ty) (t : Ty) → IsValue s o u → u ≡ Some t → IsType s (unwrap_or o 0) t
-number_there s (Some i) (Some v) t h e = subst (λ (x : Ty). IsType s i x) (same v t e) h
-  where
-    same : (x y : Ty) → Some x ≡ Some y → x ≡ y
-    same x y q = cc
-number_there s None None t h e = absurd (none_some t e)
-  where
-    none_some : (x : Ty) → None ≡ Some x → ⊥
-    none_some x q = cc
+number_there s (Some i) (Some v) t h e = subst (λ (x : Ty). IsType s i x) (same_Some v t e) h
+number_there s None None t h e = absurd (none-some t e)
 number_there s None (Some v) t h e = absurd h
 number_there s (Some i) None t h e = absurd h
 

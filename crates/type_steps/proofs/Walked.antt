@@ -1,6 +1,7 @@
 -- Patterns one after another, and lists of types that are walked with them.
 use Rattle.std.proofs.Common.{◌≡◌, ◌∙◌, refl, ap, sym, subst, ℕ, ◌+◌, ◌<◌, List, [], ◌∷◌, drop, length, get_or, None, Some, slice_get, arith, true, false, eqb, is_none, rules, tests, ◌&&◌, suc, add-one}
 use Rattle.std.proofs.Math.Seq.{drop-cons}
+use Rattle.std.proofs.lemmas.Bool.{eq-eqb}
 use Rattle.nv_ast.specs.declared.tree.Pat
 use Rattle.nv_ast.specs.declared.tree.Pat.{Pat}
 use Rattle.nv_ast.specs.Tree.{no_patterns}
@@ -52,14 +53,11 @@ after_some s is types list i j rest after some us h =
 pub after_all : (s : Store) → IsStore s → (types list n : ℕ) → IsAfter s types list n → (us : Tys) → IsParts s types us → is_none (part_of (slice_get s.cells list)) ≡ eqb (count_tys us) n
 after_all s is types list n after us h = let v = after us h in by v.0 v.1 v.2
   where
-    same_number : (a b : ℕ) → a ≡ b → eqb a b ≡ true
-    same_number a b e = search (tests, rules)
-
     more_number : (a b : ℕ) → b < a → eqb a b ≡ false
     more_number a b l = search (tests, rules)
 
     by : (vs : Tys) → IsParts s list vs → count_tys us ≡ count_tys vs + n → is_none (part_of (slice_get s.cells list)) ≡ eqb (count_tys us) n
-    by no_tys k e = ap (λ m. is_none (part_of (slice_get s.cells m))) k ∙ ap (λ o. is_none (part_of o)) is.no_parts ∙ sym (same_number (count_tys us) n (omega (arith, e)))
+    by no_tys k e = ap (λ m. is_none (part_of (slice_get s.cells m))) k ∙ ap (λ o. is_none (part_of o)) is.no_parts ∙ sym (eq-eqb (count_tys us) n (omega (arith, e)))
     by (ty_and t ts) k e = ap (λ o. is_none (part_of o)) k.2 ∙ sym (more_number (count_tys us) n (omega (arith, e)))
 
 -- patterns that were walked with a list: the others fit the rest exactly where all fit all

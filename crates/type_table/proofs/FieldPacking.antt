@@ -11,7 +11,7 @@ use Rattle.type_table.specs.inner.Store.{Store, IsStore, IsRow, IsType, IsFields
 use Rattle.type_table.proofs.RowNumbers.{row_one}
 use Rattle.type_table.proofs.FieldWalks.{number_name}
 use Rattle.std.specs.List.{list_any}
-use Rattle.std.proofs.lemmas.Bool.{eqb-true, false≢true}
+use Rattle.std.proofs.lemmas.Bool.{eqb-true, false≢true, and_parts}
 use Rattle.std.proofs.lemmas.List.Elements.{All-head, All-tail, All-same, All-push}
 use Rattle.type_table.specs.inner.Knowing.{ArePacked}
 
@@ -205,9 +205,5 @@ pub packed_more : (s : Store) (keys new : List (ℕ × ℕ)) (p : ℕ × ℕ) (b
 packed_more s keys new p true e all here = All-same (IsPackedPair s) new keys e all
 packed_more s keys new p false e all here = All-same (IsPackedPair s) new (keys ++ p ∷ []) e (All-push (IsPackedPair s) keys p all here)
 
-pair_tests : (a b : Bool) → (a && b) ≡ true → (a ≡ true) × (b ≡ true)
-pair_tests true b h = (refl, h)
-pair_tests false b h = absurd (false≢true h)
-
 pub pair_same : (n m : ℕ) (k : ℕ × ℕ) → (eqb n k.0 && eqb m k.1) ≡ true → (k.0 ≡ n) × (k.1 ≡ m)
-pair_same n m k h = let p = pair_tests (eqb n k.0) (eqb m k.1) h in (sym (eqb-true n k.0 p.0), sym (eqb-true m k.1 p.1))
+pair_same n m k h = let p = and_parts (eqb n k.0) (eqb m k.1) h in (sym (eqb-true n k.0 p.0), sym (eqb-true m k.1 p.1))

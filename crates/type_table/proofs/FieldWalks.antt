@@ -8,7 +8,7 @@ use Rattle.std.specs.List.{list_any}
 use Rattle.std.proofs.lemmas.List.Folds.{list_any-append}
 use Rattle.std.proofs.lemmas.List.Elements.{All-append, All-cons, All-nil}
 use Rattle.std.proofs.lemmas.Bool.{eqb-true, eq-eqb, false≢true}
-use Rattle.std.proofs.lemmas.Option.{slice_get-get_or}
+use Rattle.std.proofs.lemmas.Option.{slice_get-get_or, none-some, same_Some}
 use Rattle.std.proofs.lemmas.List.Quantifiers.{position-Some}
 use Rattle.nv_ast.specs.Tests.{is_among, has_twice, look_up}
 use Rattle.nv_ast.specs.Types.{Ty, WordTy, BoolTy, TupleTy, RecordTy, NamedTys, no_named_tys, named_ty_and, Forms}
@@ -23,12 +23,7 @@ use Rattle.type_table.proofs.FieldCells.{names_split, cells_names, form_cells_na
 use Rattle.type_table.proofs.FieldLists.{stands_field, stands_both, is_tree_cell, stands_other, IsTest, row_ended, row_stands, ones_then}
 use Rattle.type_table.proofs.TypeCells.{record_some}
 use Rattle.nv_ast.proofs.Twice.{twice_more, twice_before}
-
-no_number : (n : ℕ) → None ≡ Some n → ⊥
-no_number n e = cc
-
-same_name : (x y : List ℕ) → Some x ≡ Some y → x ≡ y
-same_name x y e = cc
+use Rattle.type_table.proofs.KnownRows.{or_false}
 
 -- two names have the same number exactly where they are the same
 pub number_name : (s : Store) → IsStore s → (m n : ℕ) (x y : List ℕ) → slice_get s.names m ≡ Some x → slice_get s.names n ≡ Some y → eqb m n ≡ bytes_eq x y
@@ -37,15 +32,8 @@ number_name s is m n x y h k = by (eqb m n) (bytes_eq x y) refl refl
     by : (a b : Bool) → eqb m n ≡ a → bytes_eq x y ≡ b → a ≡ b
     by true true e f = refl
     by false false e f = refl
-    by true false e f = sym (sym f ∙ (bytes_decides x y).1 (same_name x y (sym h ∙ ap (slice_get s.names) (eqb-true m n e) ∙ k)))
+    by true false e f = sym (sym f ∙ (bytes_decides x y).1 (same_Some x y (sym h ∙ ap (slice_get s.names) (eqb-true m n e) ∙ k)))
     by false true e f = sym e ∙ eq-eqb m n (is.one_name m n x h (k ∙ ap Some (sym ((bytes_decides x y).0 f))))
-
-pub eqb_other : (a b : ℕ) → (a ≡ b → ⊥) → eqb a b ≡ false
-eqb_other a b h = by (eqb a b) refl
-  where
-    by : (t : Bool) → eqb a b ≡ t → eqb a b ≡ false
-    by true e = absurd (h (eqb-true a b e))
-    by false e = e
 
 -- a name that is found, and one that isn't
 pub found_name : (keys : List (Bor (List ℕ))) (x : Bor (List ℕ)) (i : ℕ) → position (λ k. bytes_eq x.now k.now) keys ≡ Some i → slice_get (plain_names keys) i ≡ Some x.now
@@ -67,7 +55,7 @@ name_missing keys x names (Some j) same e none i h = absurd (false≢true none)
 
 -- ---- what stands under a name: in the left tree, or else in the right one
 found_front : (n t : ℕ) (ps qs : List (ℕ × ℕ)) → Some t ≡ field_with n ps → Some t ≡ field_with n (ps ++ qs)
-found_front n t [] qs e = absurd (no_number t (sym e))
+found_front n t [] qs e = absurd (none-some t (sym e))
 found_front n t (p ∷ ps) qs e = by (eqb p.0 n) (found_front n t ps qs) e
   where
     by : (b : Bool) → (Some t ≡ field_with n ps → Some t ≡ field_with n (ps ++ qs)) → Some t ≡ cond b (Some p.1) (field_with n ps) → Some t ≡ cond b (Some p.1) (field_with n (ps ++ qs))
@@ -79,7 +67,7 @@ found_behind n [] qs e = refl
 found_behind n (p ∷ ps) qs e = by (eqb p.0 n) (found_behind n ps qs) e
   where
     by : (b : Bool) → (None ≡ field_with n ps → field_with n qs ≡ field_with n (ps ++ qs)) → None ≡ cond b (Some p.1) (field_with n ps) → field_with n qs ≡ cond b (Some p.1) (field_with n (ps ++ qs))
-    by true rest f = absurd (no_number p.1 f)
+    by true rest f = absurd (none-some p.1 f)
     by false rest f = rest f
 
 pub found_here : (s : Store) (i n j m : ℕ) → slice_get s.cells i ≡ Some (Field n j) → eqb n m ≡ true → (t : Row) → Stands s i t → Some j ≡ field_with m (leaves t)
@@ -130,7 +118,7 @@ pub no_record_field : (s : Store) (x : List ℕ) (t : ℕ) → record_in (slice_
 no_record_field s x t none WordTy h = tt
 no_record_field s x t none BoolTy h = tt
 no_record_field s x t none (TupleTy ts) h = tt
-no_record_field s x t none (RecordTy ts) h = absurd (no_number h.0 (sym none ∙ ap record_in h.1))
+no_record_field s x t none (RecordTy ts) h = absurd (none-some h.0 (sym none ∙ ap record_in h.1))
 
 absent_field : (s : Store) (x : List ℕ) → ((n : ℕ) → slice_get s.names n ≡ Some x → ⊥) → (ps : List (ℕ × ℕ)) (ts : NamedTys) → AreFieldCells s ps ts → look_up x (fields_of ts) ≡ None
 absent_field s x none [] no_named_tys h = refl
@@ -162,10 +150,6 @@ seen_none s = record { once = refl; each = λ n x at. refl }
 -- what is said of some names and those of a tree behind them
 abbrev pub SaysSo : Store → ℕ → List ℕ → (List (List ℕ) → Type 0) → Type 0
 SaysSo s i old Q = (t : Row) (xs names : List (List ℕ)) → AreSeen s old xs → Stands s i t → AreNames s (leaves t) names → Q (xs ++ names)
-
-or_false : (b : Bool) → b ≡ (b || false)
-or_false true = refl
-or_false false = refl
 
 pub meets_one : (s : Store) (i n j : ℕ) → slice_get s.cells i ≡ Some (Field n j) → (old : List ℕ) → SaysSo s i old (λ l. list_any (eqb n) old ≡ has_twice l)
 meets_one s i n j at old t xs names before h k = by names (subst (λ u. AreNames s (leaves u) names) (stands_field s i n j at t h) k)

@@ -1,5 +1,5 @@
 -- What is found in a table, and what isn't there.
-use Rattle.std.proofs.Common.{◌≡◌, ◌∙◌, refl, ap, sym, ℕ, true, false, cond, List, [], ◌∷◌, ◌++◌, get_or, Some, slice_get, position, Result, Ok, Err, true≢false, bytes_eq, map, ◌||◌}
+use Rattle.std.proofs.Common.{◌≡◌, ◌∙◌, refl, ap, sym, ℕ, true, false, cond, List, [], ◌∷◌, ◌++◌, get_or, Some, slice_get, position, Result, Ok, Err, true≢false, bytes_eq, map, ◌||◌, Bool, not}
 use Rattle.std.specs.Result.{OnOk, is_err}
 use Rattle.std.specs.List.{list_any}
 use Rattle.std.specs.Borrow.{Bor}
@@ -16,6 +16,11 @@ use Rattle.type_table.proofs.CellSame.{cell_same, cell_itself}
 pub was_ok : {T E : Type 0} (r : Result T E) (P : Type 0) → is_err r ≡ false → OnOk r P → P
 was_ok (Ok x) P e h = h
 was_ok (Err x) P e h = absurd (true≢false e)
+
+-- whether a number was added, from whether it was there, and back
+pub turned_back : (b r : Bool) → r ≡ not b → b ≡ not r
+turned_back true r e = ap not (sym e)
+turned_back false r e = ap not (sym e)
 
 pub found_cell : (cells : List Cell) (c : Cell) (i : ℕ) → position (eq-value.it c) cells ≡ Some i → slice_get cells i ≡ Some c
 found_cell cells c i h =

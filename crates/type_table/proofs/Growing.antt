@@ -1,7 +1,7 @@
 -- Tables that grow by one cell, or by one name.
 use Rattle.std.proofs.Common.{◌≡◌, ◌∙◌, refl, ap, sym, subst, inl, inr, ◌⊎◌, ⊎_elim, ℕ, ◌<◌, ◌≤◌, List, [], ◌∷◌, ◌++◌, length, Some, arith, slice_get, length-append, Result, Ok, Err}
 use Rattle.std.specs.Result.{OnOk}
-use Rattle.std.proofs.lemmas.Option.{slice_get_within, slice_get-get_or, get_or_from_slice_get}
+use Rattle.std.proofs.lemmas.Option.{slice_get_within, slice_get-get_or, get_or_from_slice_get, same_Some}
 use Rattle.std.proofs.lemmas.List.{get_or_append_left}
 use Rattle.std.proofs.Math.Seq.{get_or-append_seam}
 use Rattle.type_table.specs.declared.table.Facts.{Facts}
@@ -18,16 +18,13 @@ get_left xs ys i x h =
 pub get_last : {A : Type 0} (xs : List A) (x : A) → slice_get (xs ++ x ∷ []) (length xs) ≡ Some x
 get_last xs x = slice_get-get_or (xs ++ x ∷ []) (length xs) x (omega (arith, length-append xs (x ∷ []))) ∙ ap Some (get_or-append_seam xs x [] x)
 
-some_injective : {A : Type 0} (x y : A) → Some x ≡ Some y → x ≡ y
-some_injective x y e = cc
-
 pub get_cases : {A : Type 0} (xs : List A) (y x : A) (i : ℕ) → slice_get (xs ++ y ∷ []) i ≡ Some x → (slice_get xs i ≡ Some x) ⊎ ((i ≡ length xs) × (x ≡ y))
 get_cases xs y x i h =
     let lt = slice_get_within (xs ++ y ∷ []) i x h in
     let within : i ≤ length xs = omega (arith, lt, length-append xs (y ∷ [])) in
     ⊎_elim
     (λ (inside : i < length xs). inl (slice_get-get_or xs i x inside ∙ ap Some (sym (get_or_append_left xs (y ∷ []) x i inside) ∙ get_or_from_slice_get (xs ++ y ∷ []) i x x h)))
-    (λ (last : i ≡ length xs). inr (last, some_injective x y (sym h ∙ ap (slice_get (xs ++ y ∷ [])) last ∙ get_last xs y)))
+    (λ (last : i ≡ length xs). inr (last, same_Some x y (sym h ∙ ap (slice_get (xs ++ y ∷ [])) last ∙ get_last xs y)))
     (le_cases i (length xs) within)
   where
     le_cases : (a b : ℕ) → a ≤ b → (a < b) ⊎ (a ≡ b)

@@ -44,9 +44,9 @@ bool_then : (ts us : NamedTys) → some_named_bool (fields_then ts us) ≡ (some
 bool_then no_named_tys us = refl
 bool_then (named_ty_and x t ts) us = ap (λ b. has_bool t || b) (bool_then ts us) ∙ or_assoc (has_bool t) (some_named_bool ts) (some_named_bool us)
 
-or_none : (a : Bool) → a ≡ (a || false)
-or_none true = refl
-or_none false = refl
+pub or_false : (a : Bool) → a ≡ (a || false)
+or_false true = refl
+or_false false = refl
 
 known_lone : (f g : Facts) (x : List ℕ) (ts : NamedTys) → f ≡ lone g → KnowsFields g ts → KnowsFields f ts
 known_lone f g x ts e k = subst (λ (y : Facts). KnowsFields y ts) (sym e) (record { of_words = k.of_words; of_height = k.of_height; of_bool = k.of_bool })
@@ -65,7 +65,7 @@ known_tree names cells facts is i (one p) (named_ty_and x t no_named_tys) h k =
     known_lone (fact_at facts i) (fact_at facts p.1) x (named_ty_and x t no_named_tys) (fact_is names cells facts is i (Field p.0 p.1) h) (record {
       of_words = omega (arith, k.0.of_words);
       of_height = omega (arith, k.0.of_height);
-      of_bool = k.0.of_bool ∙ or_none (has_bool t);
+      of_bool = k.0.of_bool ∙ or_false (has_bool t);
     })
 known_tree names cells facts is i (both t u) ts h k =
     let v = know_split facts (leaves t) (leaves u) ts k in

@@ -1,5 +1,6 @@
 -- What a table knows of its cells is right of the types that they stand for.
 use Rattle.std.proofs.Common.{◌≡◌, ◌∙◌, refl, ap, sym, subst, ℕ, Bool, false, ◌&&◌, ◌||◌, eqb, List, [], ◌∷◌, Some, slice_get, arith, rules, tests}
+use Rattle.std.proofs.lemmas.Option.{same_Some}
 use Rattle.nv_ast.specs.Types.{Ty, WordTy, BoolTy, TupleTy, RecordTy, Tys, no_tys, ty_and, NamedTys, no_named_tys, named_ty_and, same_type, has_bool}
 use Rattle.type_table.specs.declared.table.Facts.{Facts}
 use Rattle.type_table.specs.declared.table.Cell.{Cell}
@@ -13,10 +14,7 @@ not_zero : (i : ℕ) → (i ≡ 0 → ⊥) → eqb i 0 ≡ false
 not_zero i h = search (tests, rules)
 
 other_than_word : (cells : List Cell) (i : ℕ) (c : Cell) → slice_get cells 0 ≡ Some Word → slice_get cells i ≡ Some c → (Word ≡ c → ⊥) → eqb i 0 ≡ false
-other_than_word cells i c word h other = not_zero i (λ e. other (some_same Word c (sym word ∙ ap (slice_get cells) (sym e) ∙ h)))
-  where
-    some_same : (a b : Cell) → Some a ≡ Some b → a ≡ b
-    some_same a b e = cc
+other_than_word cells i c word h other = not_zero i (λ e. other (same_Some Word c (sym word ∙ ap (slice_get cells) (sym e) ∙ h)))
 
 -- a number is that of words exactly where its type is
 pub word_test : (names : List (List ℕ)) (cells : List Cell) (facts : List Facts) → IsTable names cells facts → (i : ℕ) (t : Ty) → IsType (record { names = names; cells = cells }) i t → eqb i 0 ≡ same_type t WordTy

@@ -1,5 +1,7 @@
 -- A type has one number, and a number one type; so numbers are the same exactly where types are.
-use Rattle.std.proofs.Common.{◌≡◌, ◌∙◌, refl, ap, sym, subst, ℕ, Bool, true, false, eqb, List, [], ◌∷◌, Some, slice_get, arith, rules, tests}
+use Rattle.std.proofs.Common.{◌≡◌, ◌∙◌, refl, ap, sym, subst, ℕ, Bool, true, false, eqb, List, [], ◌∷◌, Some, slice_get, arith}
+use Rattle.std.proofs.lemmas.Option.{same_Some}
+use Rattle.std.proofs.lemmas.Bool.{eqb-true, eq-eqb}
 use Rattle.nv_ast.specs.Types.{Ty, WordTy, BoolTy, TupleTy, RecordTy, Tys, no_tys, ty_and, NamedTys, no_named_tys, named_ty_and, same_type}
 use Rattle.nv_ast.proofs.SameTypes.{same_itself, same_sound}
 use Rattle.type_table.specs.declared.table.Cell.{Cell}
@@ -8,10 +10,7 @@ use Rattle.type_table.specs.inner.Store.{Store, IsStore, IsType, IsParts, IsRow,
 use Rattle.type_table.proofs.RowNumbers.{row_same, row_one}
 
 one_cell : (cells : List Cell) (i j : ℕ) (a b : Cell) → i ≡ j → slice_get cells j ≡ Some a → slice_get cells i ≡ Some b → a ≡ b
-one_cell cells i j a b e h k = some_same a b (sym h ∙ ap (slice_get cells) (sym e) ∙ k)
-  where
-    some_same : (x y : Cell) → Some x ≡ Some y → x ≡ y
-    some_same x y p = cc
+one_cell cells i j a b e h k = same_Some a b (sym h ∙ ap (slice_get cells) (sym e) ∙ k)
 
 tuple_parts_one : (a b : ℕ) → Tuple a ≡ Tuple b → a ≡ b
 tuple_parts_one a b e = cc
@@ -26,10 +25,7 @@ part_rest : (a b x y : ℕ) → Part a b ≡ Part x y → b ≡ y
 part_rest a b x y e = cc
 
 one_name_at : (names : List (List ℕ)) (i j : ℕ) (x y : List ℕ) → i ≡ j → slice_get names i ≡ Some x → slice_get names j ≡ Some y → x ≡ y
-one_name_at names i j x y e h k = some_same x y (sym h ∙ ap (slice_get names) e ∙ k)
-  where
-    some_same : (a b : List ℕ) → Some a ≡ Some b → a ≡ b
-    some_same a b p = cc
+one_name_at names i j x y e h k = same_Some x y (sym h ∙ ap (slice_get names) e ∙ k)
 
 mutual
   pub type_one : (s : Store) → IsStore s → (i : ℕ) (t u : Ty) → IsType s i t → IsType s i u → t ≡ u
@@ -104,14 +100,8 @@ mutual
 pub same_number : (s : Store) → IsStore s → (i j : ℕ) (t u : Ty) → IsType s i t → IsType s j u → eqb i j ≡ same_type t u
 same_number s is i j t u h k = by (eqb i j) (same_type t u) refl refl
   where
-    number_same : (a b : ℕ) → eqb a b ≡ true → a ≡ b
-    number_same a b e = search (tests, rules)
-
-    test_same : (a b : ℕ) → a ≡ b → eqb a b ≡ true
-    test_same a b e = search (tests, rules)
-
     by : (a b : Bool) → eqb i j ≡ a → same_type t u ≡ b → a ≡ b
     by true true e f = refl
     by false false e f = refl
-    by true false e f = sym (sym f ∙ ap (same_type t) (sym (type_one s is j t u (subst (λ n. IsType s n t) (number_same i j e) h) k)) ∙ same_itself t)
-    by false true e f = sym e ∙ test_same i j (number_one s is i j t h (subst (IsType s j) (sym (same_sound t u f)) k))
+    by true false e f = sym (sym f ∙ ap (same_type t) (sym (type_one s is j t u (subst (λ n. IsType s n t) (eqb-true i j e) h) k)) ∙ same_itself t)
+    by false true e f = sym e ∙ eq-eqb i j (number_one s is i j t h (subst (IsType s j) (sym (same_sound t u f)) k))

@@ -26,7 +26,7 @@ no_halves s i (both v w) h e = absurd (not_some (h.0, h.1) (sym e ∙ ap halves_
 abbrev pub DeepSo : Store → ℕ → ℕ → ℕ → ℕ → Type 0
 DeepSo s first second a b = (t u : Row) → Stands s first t → Stands s second u → (v w : Row) × Stands s a v × Stands s b w × (eqb (depth t) (depth u) ≡ eqb (depth v) (depth w))
 
-both_more : (a b : ℕ) → eqb (a + 1) (b + 1) ≡ eqb a b
+pub both_more : (a b : ℕ) → eqb (a + 1) (b + 1) ≡ eqb a b
 both_more a b = by (eqb a b) refl
   where
     by : (x : Bool) → eqb a b ≡ x → eqb (a + 1) (b + 1) ≡ eqb a b

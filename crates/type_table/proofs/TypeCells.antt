@@ -1,17 +1,12 @@
 -- The cells of types and of forms, and what they say of what is packed.
 use Rattle.std.proofs.Common.{◌≡◌, ◌∙◌, refl, ap, sym, subst, ℕ, Bool, true, false, eqb, Option, None, Some, slice_get, Result, true≢false}
 use Rattle.std.specs.Result.{IfOk}
+use Rattle.std.proofs.lemmas.Option.{none-some, same_Some}
 use Rattle.nv_ast.specs.Types.{Ty, WordTy, BoolTy, TupleTy, RecordTy, Tys, NamedTys, Form, WordForm, RecordForm, ChoiceForm, Forms, can_pack, can_pack_all}
 use Rattle.type_table.specs.declared.table.Cell.{Cell}
 use Rattle.type_table.specs.declared.table.Cell.TheVariants.{Word, Record, Choice}
 use Rattle.type_table.specs.inner.Store.{Store, IsStore, IsType, IsFields, IsForm, IsForms, record_in}
 use Rattle.type_table.proofs.OneNumber.{same_number}
-
-some_number : (a b : ℕ) → Some a ≡ Some b → a ≡ b
-some_number a b e = cc
-
-no_number : (n : ℕ) → None ≡ Some n → ⊥
-no_number n e = cc
 
 same_record : (i j : ℕ) → Some (Record i) ≡ Some (Record j) → i ≡ j
 same_record i j e = cc
@@ -30,17 +25,17 @@ record_choice : (c : Option Cell) (i j : ℕ) → c ≡ Some (Record i) → c �
 record_choice c i j h e = cc
 
 pub record_some : (s : Store) → IsStore s → (i j : ℕ) (u : Ty) → IsType s i u → record_in (slice_get s.cells i) ≡ Some j → (ts : NamedTys) × (u ≡ RecordTy ts) × IsFields s j ts
-record_some s is i j WordTy h e = absurd (no_number j (sym (ap (λ n. record_in (slice_get s.cells n)) h ∙ ap record_in is.word) ∙ e))
-record_some s is i j BoolTy h e = absurd (no_number j (sym (ap (λ n. record_in (slice_get s.cells n)) h ∙ ap record_in is.bool) ∙ e))
-record_some s is i j (TupleTy ts) h e = absurd (no_number j (sym (ap record_in h.1) ∙ e))
-record_some s is i j (RecordTy ts) h e = (ts, refl, subst (λ n. IsFields s n ts) (some_number h.0 j (sym (ap record_in h.1) ∙ e)) h.2)
+record_some s is i j WordTy h e = absurd (none-some j (sym (ap (λ n. record_in (slice_get s.cells n)) h ∙ ap record_in is.word) ∙ e))
+record_some s is i j BoolTy h e = absurd (none-some j (sym (ap (λ n. record_in (slice_get s.cells n)) h ∙ ap record_in is.bool) ∙ e))
+record_some s is i j (TupleTy ts) h e = absurd (none-some j (sym (ap record_in h.1) ∙ e))
+record_some s is i j (RecordTy ts) h e = (ts, refl, subst (λ n. IsFields s n ts) (same_Some h.0 j (sym (ap record_in h.1) ∙ e)) h.2)
 
 -- a type without the cell of a record is none
 pub not_record : (s : Store) (i : ℕ) (u : Ty) → IsType s i u → record_in (slice_get s.cells i) ≡ None → (P : Ty → Bool) → P WordTy ≡ false → P BoolTy ≡ false → ((ts : Tys) → P (TupleTy ts) ≡ false) → P u ≡ false
 not_record s i WordTy h e P word bool tuple = word
 not_record s i BoolTy h e P word bool tuple = bool
 not_record s i (TupleTy ts) h e P word bool tuple = tuple ts
-not_record s i (RecordTy ts) h e P word bool tuple = absurd (no_number h.0 (sym e ∙ ap record_in h.1))
+not_record s i (RecordTy ts) h e P word bool tuple = absurd (none-some h.0 (sym e ∙ ap record_in h.1))
 
 -- ---- the cell of a form
 pub word_form : (s : Store) → IsStore s → (i : ℕ) (f : Form) → IsForm s i f → slice_get s.cells i ≡ Some Word → f ≡ WordForm

@@ -5,14 +5,15 @@ use Rattle.nv_ast.specs.ProgramView.{fun_tree}
 use Rattle.type_steps.proofs.Holding.{Keeps-refl}
 use Rattle.type_rules.specs.declared.cost.Cost.{Cost}
 use Rattle.type_steps.proofs.Images.{image_before, image_behind, image_all, image_none}
-use Rattle.type_steps.proofs.Groups.{BodiedSo, CountedSo, cost_none}
+use Rattle.type_steps.proofs.Groups.{BodiedSo, CountedSo}
 use Rattle.type_steps.proofs.DeclWalk.{bodies_err, bodies_so, bodies_counted, bodies_keeps, bodies_end}
+use Rattle.type_steps.proofs.WalkCosts.{no_cost}
 use Rattle.nv_types.proofs.declarations.bodies.Goals as goal
 
 pub loop-f-init : goal.loop-f-init
 loop-f-init c = record {
   so = λ k holds scope signed. record { left = refl; signed = signed };
-  counted = λ k sizes needs holds scope signed counts. cost_none;
+  counted = λ k sizes needs holds scope signed counts. no_cost;
   keeps = λ scope. Keeps-refl c.args.checker.now;
 }
 

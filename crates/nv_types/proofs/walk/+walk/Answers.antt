@@ -25,7 +25,7 @@ use Rattle.type_steps.proofs.WalkCalls.{call_other, call_unknown, call_failed, c
 use Rattle.nv_ast.specs.Height.{height, statement_height}
 use Rattle.type_steps.proofs.WalkHeights.{expr_within, named_within}
 use Rattle.type_steps.proofs.WalkKinds.{of_tree, arm}
-use Rattle.type_steps.proofs.WalkErrors.{answered, all_answered, memory_wanted}
+use Rattle.type_steps.proofs.WalkErrors.{at_err, all_answered, memory_wanted}
 use Rattle.nv_ast.specs.declared.tree.Stmt.{Stmt}
 use Rattle.nv_ast.proofs.Items.{split_item}
 use Rattle.nv_ast.proofs.TreeKinds.{number-is, truth-is, variable-is, paren-is, dot-is, invert-is, negate-is, shift-is, unpack-is, pack-is, fetch-is, binary-is, if-is, try-is, tuple-is, record-is, call-is, raise-is, block-is}
@@ -38,7 +38,7 @@ use Rattle.type_rules.specs.inner.Needs.{block_needs}
 use Rattle.type_steps.specs.inner.Standing.{written_in}
 use Rattle.type_rules.specs.declared.error.TypeError.{TypeError}
 use Rattle.type_rules.specs.declared.error.TypeError.TheVariants.{NoMemory}
-use Rattle.type_steps.proofs.BlockNodes.{at_err, wants_memory}
+use Rattle.type_steps.proofs.BlockNodes.{wants_memory}
 use Rattle.type_steps.proofs.BlockChoices.{choice_fails_at_condition, choice_fails_at_first, choice_fails_at_second, choice_checks}
 use Rattle.type_steps.proofs.BlockHandlers.{try_fails_at_handler, try_checks}
 use Rattle.type_steps.proofs.BlockFetches.{fetch_fails_at_address, fetch_fails_at_type, fetch_fails_at_words, fetch_fails_at_node, fetch_checks, no_middle, some_middle}
@@ -62,7 +62,7 @@ expr-returns-in-Var t c =
 
 pub expr-returns-in_err-part-in-Paren : goal.expr-returns-in_err-part-in-Paren
 expr-returns-in_err-part-in-Paren t c =
-    of_tree c.args.checker.now _ c.args.tail c.args.wanted c.from_residual.result (tree_of c.args.e.now) (ParenTree (out-Expr c.args.e.now).span (tree_of c.deref.result.now)) (paren-is c.args.e.now c.in-Paren.inner c.deref.result.now c.in-Paren.is c.deref.ensures) (answered c.args.checker.now _ c.args.tail c.args.wanted (ParenTree (out-Expr c.args.e.now).span (tree_of c.deref.result.now)) c.from_residual.result _ c.from_residual.ensures.1 (paren_failed c.args.checker.now _ c.args.tail c.args.wanted (out-Expr c.args.e.now).span (tree_of c.deref.result.now) _ c.in_err-part-in-Paren.ensures _))
+    of_tree c.args.checker.now _ c.args.tail c.args.wanted c.from_residual.result (tree_of c.args.e.now) (ParenTree (out-Expr c.args.e.now).span (tree_of c.deref.result.now)) (paren-is c.args.e.now c.in-Paren.inner c.deref.result.now c.in-Paren.is c.deref.ensures) (at_err c.args.checker.now _ c.args.tail c.args.wanted (ParenTree (out-Expr c.args.e.now).span (tree_of c.deref.result.now)) c.from_residual.result _ c.from_residual.ensures.1 (paren_failed c.args.checker.now _ c.args.tail c.args.wanted (out-Expr c.args.e.now).span (tree_of c.deref.result.now) _ c.in_err-part-in-Paren.ensures _))
 
 pub expr-returns-in_ok-part-in-Paren : goal.expr-returns-in_ok-part-in-Paren
 expr-returns-in_ok-part-in-Paren t c =
@@ -70,7 +70,7 @@ expr-returns-in_ok-part-in-Paren t c =
 
 pub expr-returns-in_err-part-in-Invert : goal.expr-returns-in_err-part-in-Invert
 expr-returns-in_err-part-in-Invert t c =
-    of_tree c.args.checker.now _ c.args.tail c.args.wanted c.from_residual-in_err-part-in-Invert.result (tree_of c.args.e.now) (InvertTree (out-Expr c.args.e.now).span (tree_of c.deref-in-Invert.result.now)) (invert-is c.args.e.now c.in-Invert.inner c.deref-in-Invert.result.now c.in-Invert.is c.deref-in-Invert.ensures) (answered c.args.checker.now _ c.args.tail c.args.wanted (InvertTree (out-Expr c.args.e.now).span (tree_of c.deref-in-Invert.result.now)) c.from_residual-in_err-part-in-Invert.result _ c.from_residual-in_err-part-in-Invert.ensures.1 (invert_failed c.args.checker.now _ c.args.tail c.args.wanted (out-Expr c.args.e.now).span (tree_of c.deref-in-Invert.result.now) _ c.in_err-part-in-Invert.ensures _))
+    of_tree c.args.checker.now _ c.args.tail c.args.wanted c.from_residual-in_err-part-in-Invert.result (tree_of c.args.e.now) (InvertTree (out-Expr c.args.e.now).span (tree_of c.deref-in-Invert.result.now)) (invert-is c.args.e.now c.in-Invert.inner c.deref-in-Invert.result.now c.in-Invert.is c.deref-in-Invert.ensures) (at_err c.args.checker.now _ c.args.tail c.args.wanted (InvertTree (out-Expr c.args.e.now).span (tree_of c.deref-in-Invert.result.now)) c.from_residual-in_err-part-in-Invert.result _ c.from_residual-in_err-part-in-Invert.ensures.1 (invert_failed c.args.checker.now _ c.args.tail c.args.wanted (out-Expr c.args.e.now).span (tree_of c.deref-in-Invert.result.now) _ c.in_err-part-in-Invert.ensures _))
 
 pub expr-returns-in_ok-part-in-Invert : goal.expr-returns-in_ok-part-in-Invert
 expr-returns-in_ok-part-in-Invert t c =
@@ -78,7 +78,7 @@ expr-returns-in_ok-part-in-Invert t c =
 
 pub expr-returns-in_err-part-in-Negate : goal.expr-returns-in_err-part-in-Negate
 expr-returns-in_err-part-in-Negate t c =
-    of_tree c.args.checker.now _ c.args.tail c.args.wanted c.from_residual-in_err-part-in-Negate.result (tree_of c.args.e.now) (NegateTree (out-Expr c.args.e.now).span (tree_of c.deref-in-Negate.result.now)) (negate-is c.args.e.now c.in-Negate.inner c.deref-in-Negate.result.now c.in-Negate.is c.deref-in-Negate.ensures) (answered c.args.checker.now _ c.args.tail c.args.wanted (NegateTree (out-Expr c.args.e.now).span (tree_of c.deref-in-Negate.result.now)) c.from_residual-in_err-part-in-Negate.result _ c.from_residual-in_err-part-in-Negate.ensures.1 (negate_failed c.args.checker.now _ c.args.tail c.args.wanted (out-Expr c.args.e.now).span (tree_of c.deref-in-Negate.result.now) _ c.in_err-part-in-Negate.ensures _))
+    of_tree c.args.checker.now _ c.args.tail c.args.wanted c.from_residual-in_err-part-in-Negate.result (tree_of c.args.e.now) (NegateTree (out-Expr c.args.e.now).span (tree_of c.deref-in-Negate.result.now)) (negate-is c.args.e.now c.in-Negate.inner c.deref-in-Negate.result.now c.in-Negate.is c.deref-in-Negate.ensures) (at_err c.args.checker.now _ c.args.tail c.args.wanted (NegateTree (out-Expr c.args.e.now).span (tree_of c.deref-in-Negate.result.now)) c.from_residual-in_err-part-in-Negate.result _ c.from_residual-in_err-part-in-Negate.ensures.1 (negate_failed c.args.checker.now _ c.args.tail c.args.wanted (out-Expr c.args.e.now).span (tree_of c.deref-in-Negate.result.now) _ c.in_err-part-in-Negate.ensures _))
 
 pub expr-returns-in_ok-part-in-Negate : goal.expr-returns-in_ok-part-in-Negate
 expr-returns-in_ok-part-in-Negate t c =
@@ -144,7 +144,7 @@ pub tuple-returns-in_err-part : goal.tuple-returns-in_err-part
 tuple-returns-in_err-part t c =
     let at = exprs_at c.args.es.now c.loop-e.e-index c.e-item.result c.loop-e-test.true c.e-item.is in
     let so = subst (λ (rest : Trees). AllSo c.args.checker.now c.loop-e.checker None None (list_trees c.args.es.now) rest c.loop-e.parts) at c.loop-e.invariant.so in
-    answered c.args.checker.now _ false c.args.wanted _ _ _ c.from_residual.ensures.1 (tuple_failed c.args.checker.now c.loop-e.checker _ c.args.wanted c.args.span (list_trees c.args.es.now) (list_trees (drop (c.loop-e.e-index + 1) c.args.es.now)) (tree_of c.e-item.result) c.loop-e.parts _ so c.in_err-part.ensures _)
+    at_err c.args.checker.now _ false c.args.wanted _ _ _ c.from_residual.ensures.1 (tuple_failed c.args.checker.now c.loop-e.checker _ c.args.wanted c.args.span (list_trees c.args.es.now) (list_trees (drop (c.loop-e.e-index + 1) c.args.es.now)) (tree_of c.e-item.result) c.loop-e.parts _ so c.in_err-part.ensures _)
 
 pub tuple-returns-in_err-push : goal.tuple-returns-in_err-push
 tuple-returns-in_err-push t c =
@@ -187,7 +187,7 @@ pub fields-returns-in_err-part : goal.fields-returns-in_err-part
 fields-returns-in_err-part t c =
     let at = named_at c.args.es.now c.loop-e.e-index c.e-item.result c.loop-e-test.true c.e-item.is in
     let so = subst (λ (rest : NamedTrees). AllSo c.args.checker.now c.loop-e.checker None None (unnamed (list_named_trees c.args.es.now)) (unnamed rest) c.loop-e.parts) at c.loop-e.invariant.so in
-    answered c.args.checker.now _ false c.args.wanted _ _ _ c.from_residual.ensures.1 (fields_failed c.args.checker.now c.loop-e.checker _ c.args.wanted c.args.span (list_named_trees c.args.es.now) (unnamed (list_named_trees (drop (c.loop-e.e-index + 1) c.args.es.now))) (tree_of c.e-item.result.1) c.loop-e.parts _ so c.in_err-part.ensures _)
+    at_err c.args.checker.now _ false c.args.wanted _ _ _ c.from_residual.ensures.1 (fields_failed c.args.checker.now c.loop-e.checker _ c.args.wanted c.args.span (list_named_trees c.args.es.now) (unnamed (list_named_trees (drop (c.loop-e.e-index + 1) c.args.es.now))) (tree_of c.e-item.result.1) c.loop-e.parts _ so c.in_err-part.ensures _)
 
 pub fields-returns-in_err-push : goal.fields-returns-in_err-push
 fields-returns-in_err-push t c =
@@ -214,7 +214,7 @@ fields-returns t c =
 
 pub dot-returns-in_err-part : goal.dot-returns-in_err-part
 dot-returns-in_err-part t c =
-    answered c.args.checker.now _ false c.args.wanted _ _ _ c.from_residual.ensures.1 (dot_failed c.args.checker.now _ c.args.wanted c.args.span (tree_of c.args.inner.now) c.args.name.now _ c.in_err-part.ensures _)
+    at_err c.args.checker.now _ false c.args.wanted _ _ _ c.from_residual.ensures.1 (dot_failed c.args.checker.now _ c.args.wanted c.args.span (tree_of c.args.inner.now) c.args.name.now _ c.in_err-part.ensures _)
 
 pub dot-returns-in-Some : goal.dot-returns-in-Some
 dot-returns-in-Some t c =
@@ -226,11 +226,11 @@ dot-returns-in-None t c =
 
 pub binary-returns-in_err-left : goal.binary-returns-in_err-left
 binary-returns-in_err-left t c =
-    answered c.args.checker.now _ false c.args.wanted _ _ _ c.from_residual.ensures.1 (left_failed c.args.checker.now _ c.args.wanted c.args.span c.args.op (tree_of c.args.a.now) (tree_of c.args.b.now) c.operand_type.result _ c.operand_type.ensures c.in_err-left.ensures _)
+    at_err c.args.checker.now _ false c.args.wanted _ _ _ c.from_residual.ensures.1 (left_failed c.args.checker.now _ c.args.wanted c.args.span c.args.op (tree_of c.args.a.now) (tree_of c.args.b.now) c.operand_type.result _ c.operand_type.ensures c.in_err-left.ensures _)
 
 pub binary-returns-in_err-right : goal.binary-returns-in_err-right
 binary-returns-in_err-right t c =
-    answered c.args.checker.now _ false c.args.wanted _ _ _ c.from_residual-in_err-right.ensures.1 (right_failed c.args.checker.now c.expr.new.checker _ c.args.wanted c.args.span c.args.op (tree_of c.args.a.now) (tree_of c.args.b.now) c.operand_type.result c.in_ok-left.left _ c.operand_type.ensures c.in_ok-left.ensures c.in_err-right.ensures _)
+    at_err c.args.checker.now _ false c.args.wanted _ _ _ c.from_residual-in_err-right.ensures.1 (right_failed c.args.checker.now c.expr.new.checker _ c.args.wanted c.args.span c.args.op (tree_of c.args.a.now) (tree_of c.args.b.now) c.operand_type.result c.in_ok-left.left _ c.operand_type.ensures c.in_ok-left.ensures c.in_err-right.ensures _)
 
 pub binary-returns : goal.binary-returns
 binary-returns t c =
@@ -238,12 +238,12 @@ binary-returns t c =
 
 pub shift-returns-in_err-part : goal.shift-returns-in_err-part
 shift-returns-in_err-part t c =
-    answered c.args.checker.now _ false c.args.wanted _ _ _ c.from_residual.ensures.1 (shift_failed c.args.checker.now _ c.args.wanted c.args.span c.args._op (tree_of c.args.inner.now) c.args.n _ c.in_err-part.ensures _)
+    at_err c.args.checker.now _ false c.args.wanted _ _ _ c.from_residual.ensures.1 (shift_failed c.args.checker.now _ c.args.wanted c.args.span c.args._op (tree_of c.args.inner.now) c.args.n _ c.in_err-part.ensures _)
 
 pub shift-returns-in_err-judge : goal.shift-returns-in_err-judge
 shift-returns-in_err-judge t c =
     let stands = shift_stands c.args.checker.now c.expr.new.checker c.args.span c.args._op (tree_of c.args.inner.now) c.args.n c.in_ok-part.part c.kind_where-count.result c.in_ok-part.ensures (sym c.kind_where-count.ensures) in
-    answered c.args.checker.now _ false c.args.wanted _ _ _ c.from_residual-in_err-judge.ensures.1 (node_failed {T = Unit {0}} c.args.checker.now c.expr.new.checker false c.args.wanted (ShiftTree c.args.span c.args._op (tree_of c.args.inner.now) c.args.n) (Some 0) c.in_ok-part.part.cost None c.kind_where-count.result (Err c.in_err-judge.field-0.0) _ refl stands c.in_err-judge.ensures)
+    at_err c.args.checker.now _ false c.args.wanted _ _ _ c.from_residual-in_err-judge.ensures.1 (node_failed {T = Unit {0}} c.args.checker.now c.expr.new.checker false c.args.wanted (ShiftTree c.args.span c.args._op (tree_of c.args.inner.now) c.args.n) (Some 0) c.in_ok-part.part.cost None c.kind_where-count.result (Err c.in_err-judge.field-0.0) _ refl stands c.in_err-judge.ensures)
 
 pub shift-returns : goal.shift-returns
 shift-returns t c =
@@ -274,7 +274,7 @@ arguments-returns t c =
 
 pub call-returns-in_err-arguments : goal.call-returns-in_err-arguments
 call-returns-in_err-arguments t c =
-    answered c.args.checker.now _ c.args.tail c.args.wanted _ _ _ c.from_residual.ensures.1 (call_other c.args.checker.now _ c.args.tail c.args.wanted c.args.span c.args.name.now (list_trees c.args.es.now) _ (sym c.in_default.ensures) c.in_err-arguments.ensures _)
+    at_err c.args.checker.now _ c.args.tail c.args.wanted _ _ _ c.from_residual.ensures.1 (call_other c.args.checker.now _ c.args.tail c.args.wanted c.args.span c.args.name.now (list_trees c.args.es.now) _ (sym c.in_default.ensures) c.in_err-arguments.ensures _)
 
 pub call-returns-in_default : goal.call-returns-in_default
 call-returns-in_default t c =
@@ -282,16 +282,16 @@ call-returns-in_default t c =
 
 pub call-returns-in_err-parts : goal.call-returns-in_err-parts
 call-returns-in_err-parts t c =
-    answered c.args.checker.now _ c.args.tail c.args.wanted _ _ _ c.from_residual-in_err-parts.ensures.1 (call_failed c.args.checker.now _ c.args.tail c.args.wanted c.args.span c.args.name.now c.args.es.now c.in-Some.f c.if_as_many-types.result _ (sym c.in-Some.ensures) c.if_as_many-types.ensures c.in_err-parts.ensures _)
+    at_err c.args.checker.now _ c.args.tail c.args.wanted _ _ _ c.from_residual-in_err-parts.ensures.1 (call_failed c.args.checker.now _ c.args.tail c.args.wanted c.args.span c.args.name.now c.args.es.now c.in-Some.f c.if_as_many-types.result _ (sym c.in-Some.ensures) c.if_as_many-types.ensures c.in_err-parts.ensures _)
 
 pub call-returns-in_err-fault_where : goal.call-returns-in_err-fault_where
 call-returns-in_err-fault_where t c =
-    answered c.args.checker.now _ c.args.tail c.args.wanted _ _ _ c.from_residual-in_err-fault_where.ensures.1 (call_outside c.args.checker.now c.arguments-2.new.checker c.args.tail c.args.wanted c.args.span c.args.name.now c.args.es.now c.in-Some.f c.if_as_many-types.result c.get-behind.result c.in_ok-parts.parts _ (sym c.in-Some.ensures) c.if_as_many-types.ensures c.in_ok-parts.ensures c.get-behind.ensures
+    at_err c.args.checker.now _ c.args.tail c.args.wanted _ _ _ c.from_residual-in_err-fault_where.ensures.1 (call_outside c.args.checker.now c.arguments-2.new.checker c.args.tail c.args.wanted c.args.span c.args.name.now c.args.es.now c.in-Some.f c.if_as_many-types.result c.get-behind.result c.in_ok-parts.parts _ (sym c.in-Some.ensures) c.if_as_many-types.ensures c.in_ok-parts.ensures c.get-behind.ensures
     (subst (λ (b : Bool). IsFirstOf (at_span c.args.span (where_true {A = ℕ} b 12)) c.in_err-fault_where.field-0.0) c.is_outside.ensures c.in_err-fault_where.ensures) _)
 
 pub call-returns-in_err-fault_where-2 : goal.call-returns-in_err-fault_where-2
 call-returns-in_err-fault_where-2 t c =
-    answered c.args.checker.now _ c.args.tail c.args.wanted _ _ _ c.from_residual-in_err-fault_where-2.ensures.1 (call_number c.args.checker.now c.arguments-2.new.checker c.args.tail c.args.wanted c.args.span c.args.name.now c.args.es.now c.in-Some.f c.if_as_many-types.result c.get-behind.result c.in_ok-parts.parts _ (sym c.in-Some.ensures) c.if_as_many-types.ensures c.in_ok-parts.ensures c.get-behind.ensures (ap (λ (b : Bool). at_span c.args.span (where_true {A = ℕ} b 12)) (sym c.is_outside.ensures) ∙ c.in_ok-fault_where.ensures)
+    at_err c.args.checker.now _ c.args.tail c.args.wanted _ _ _ c.from_residual-in_err-fault_where-2.ensures.1 (call_number c.args.checker.now c.arguments-2.new.checker c.args.tail c.args.wanted c.args.span c.args.name.now c.args.es.now c.in-Some.f c.if_as_many-types.result c.get-behind.result c.in_ok-parts.parts _ (sym c.in-Some.ensures) c.if_as_many-types.ensures c.in_ok-parts.ensures c.get-behind.ensures (ap (λ (b : Bool). at_span c.args.span (where_true {A = ℕ} b 12)) (sym c.is_outside.ensures) ∙ c.in_ok-fault_where.ensures)
     (subst (λ (b : Bool). IsFirstOf (at_span c.args.span (where_true {A = ℕ} b 13)) c.in_err-fault_where-2.field-0.0) (none_test c.if_as_many-types.result _ c.is_none.ensures) c.in_err-fault_where-2.ensures) _)
 
 pub call-returns : goal.call-returns
@@ -301,7 +301,7 @@ call-returns t c =
 
 pub unpack-returns-in_err-expr : goal.unpack-returns-in_err-expr
 unpack-returns-in_err-expr t c =
-    answered c.args.checker.now _ false c.args.wanted _ _ _ c.from_residual.ensures.1 (unpack_other c.args.checker.now _ c.args.wanted c.args.span c.args.layout.now (tree_of c.args.inner.now) _ (sym c.in_default.ensures) c.in_err-expr.ensures _)
+    at_err c.args.checker.now _ false c.args.wanted _ _ _ c.from_residual.ensures.1 (unpack_other c.args.checker.now _ c.args.wanted c.args.span c.args.layout.now (tree_of c.args.inner.now) _ (sym c.in_default.ensures) c.in_err-expr.ensures _)
 
 pub unpack-returns-in_default : goal.unpack-returns-in_default
 unpack-returns-in_default t c =
@@ -313,7 +313,7 @@ unpack-returns-in_err-packed t c =
 
 pub unpack-returns-in_err-part : goal.unpack-returns-in_err-part
 unpack-returns-in_err-part t c =
-    answered c.args.checker.now _ false c.args.wanted _ _ _ c.from_residual-in_err-part.ensures.1 (unpack_failed c.args.checker.now (record c.args.checker.now { table = c.words.new.self }) _ c.args.wanted c.args.span c.args.layout.now (tree_of c.args.inner.now) c.in-Some.shape c.in_ok-packed.packed c.packed_words.result _ (Keeps-table c.args.checker.now c.words.new.self c.in_ok-packed.ensures.grows) refl (sym c.in-Some.ensures) c.packed_words.ensures c.in_ok-packed.ensures.made c.in_err-part.ensures _)
+    at_err c.args.checker.now _ false c.args.wanted _ _ _ c.from_residual-in_err-part.ensures.1 (unpack_failed c.args.checker.now (record c.args.checker.now { table = c.words.new.self }) _ c.args.wanted c.args.span c.args.layout.now (tree_of c.args.inner.now) c.in-Some.shape c.in_ok-packed.packed c.packed_words.result _ (Keeps-table c.args.checker.now c.words.new.self c.in_ok-packed.ensures.grows) refl (sym c.in-Some.ensures) c.packed_words.ensures c.in_ok-packed.ensures.made c.in_err-part.ensures _)
 
 pub unpack-returns-in_err-t : goal.unpack-returns-in_err-t
 unpack-returns-in_err-t t c =
@@ -327,7 +327,7 @@ unpack-returns t c =
 
 pub pack-returns-in_err-expr : goal.pack-returns-in_err-expr
 pack-returns-in_err-expr t c =
-    answered c.args.checker.now _ false c.args.wanted _ _ _ c.from_residual.ensures.1 (pack_other c.args.checker.now _ c.args.wanted c.args.span c.args.layout.now (tree_of c.args.inner.now) _ (sym c.in_default.ensures) c.in_err-expr.ensures _)
+    at_err c.args.checker.now _ false c.args.wanted _ _ _ c.from_residual.ensures.1 (pack_other c.args.checker.now _ c.args.wanted c.args.span c.args.layout.now (tree_of c.args.inner.now) _ (sym c.in_default.ensures) c.in_err-expr.ensures _)
 
 pub pack-returns-in_default : goal.pack-returns-in_default
 pack-returns-in_default t c =
@@ -335,7 +335,7 @@ pack-returns-in_default t c =
 
 pub pack-returns-in_err-part : goal.pack-returns-in_err-part
 pack-returns-in_err-part t c =
-    answered c.args.checker.now _ false c.args.wanted _ _ _ c.from_residual-in_err-part.ensures.1 (pack_failed c.args.checker.now _ c.args.wanted c.args.span c.args.layout.now (tree_of c.args.inner.now) c.in-Some.shape _ (sym c.in-Some.ensures) c.in_err-part.ensures _)
+    at_err c.args.checker.now _ false c.args.wanted _ _ _ c.from_residual-in_err-part.ensures.1 (pack_failed c.args.checker.now _ c.args.wanted c.args.span c.args.layout.now (tree_of c.args.inner.now) c.in-Some.shape _ (sym c.in-Some.ensures) c.in_err-part.ensures _)
 
 pub pack-returns-in_err-t : goal.pack-returns-in_err-t
 pack-returns-in_err-t t c =
@@ -349,7 +349,7 @@ pack-returns t c =
 
 pub raise-returns-in_err-arguments : goal.raise-returns-in_err-arguments
 raise-returns-in_err-arguments t c =
-    answered c.args.checker.now _ false c.args.wanted _ _ _ c.from_residual.ensures.1 (raise_other c.args.checker.now _ c.args.wanted c.args.span c.args.name.now (list_trees c.args.es.now) _ (sym c.in_default.ensures) c.in_err-arguments.ensures _)
+    at_err c.args.checker.now _ false c.args.wanted _ _ _ c.from_residual.ensures.1 (raise_other c.args.checker.now _ c.args.wanted c.args.span c.args.name.now (list_trees c.args.es.now) _ (sym c.in_default.ensures) c.in_err-arguments.ensures _)
 
 pub raise-returns-in_default : goal.raise-returns-in_default
 raise-returns-in_default t c =
@@ -357,11 +357,11 @@ raise-returns-in_default t c =
 
 pub raise-returns-in_err-parts : goal.raise-returns-in_err-parts
 raise-returns-in_err-parts t c =
-    answered c.args.checker.now _ false c.args.wanted _ _ _ c.from_residual-in_err-parts.ensures.1 (raise_failed c.args.checker.now _ c.args.wanted c.args.span c.args.name.now c.args.es.now c.in-Some.list c.if_as_many-types.result _ (sym c.in-Some.ensures) c.if_as_many-types.ensures c.in_err-parts.ensures _)
+    at_err c.args.checker.now _ false c.args.wanted _ _ _ c.from_residual-in_err-parts.ensures.1 (raise_failed c.args.checker.now _ c.args.wanted c.args.span c.args.name.now c.args.es.now c.in-Some.list c.if_as_many-types.result _ (sym c.in-Some.ensures) c.if_as_many-types.ensures c.in_err-parts.ensures _)
 
 pub raise-returns-in_err-fault_where : goal.raise-returns-in_err-fault_where
 raise-returns-in_err-fault_where t c =
-    answered c.args.checker.now _ false c.args.wanted _ _ _ c.from_residual-in_err-fault_where.ensures.1 (raise_number c.args.checker.now c.arguments-2.new.checker c.args.wanted c.args.span c.args.name.now c.args.es.now c.in-Some.list c.if_as_many-types.result c.in_ok-parts.parts _ (sym c.in-Some.ensures) c.if_as_many-types.ensures c.in_ok-parts.ensures
+    at_err c.args.checker.now _ false c.args.wanted _ _ _ c.from_residual-in_err-fault_where.ensures.1 (raise_number c.args.checker.now c.arguments-2.new.checker c.args.wanted c.args.span c.args.name.now c.args.es.now c.in-Some.list c.if_as_many-types.result c.in_ok-parts.parts _ (sym c.in-Some.ensures) c.if_as_many-types.ensures c.in_ok-parts.ensures
     (subst (λ (b : Bool). IsFirstOf (at_span c.args.span (where_true {A = ℕ} b 13)) c.in_err-fault_where.field-0.0) (none_test c.if_as_many-types.result _ c.is_none.ensures) c.in_err-fault_where.ensures) _)
 
 pub raise-returns : goal.raise-returns

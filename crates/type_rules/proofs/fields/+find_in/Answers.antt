@@ -1,8 +1,8 @@
 use Rattle.std.proofs.Common.{◌≡◌, ◌∙◌, ap, sym, false, Some, slice_get, arith, rules}
-use Rattle.std.proofs.lemmas.Bool.{eq-eqb}
+use Rattle.std.proofs.lemmas.Bool.{eq-eqb, ne_eqb}
 use Rattle.type_table.specs.declared.table.Cell.TheVariants.{Field, Both}
 use Rattle.type_table.proofs.FieldLists.{is_tree_cell, stands_other}
-use Rattle.type_table.proofs.FieldWalks.{eqb_other, found_here, found_other, found_left, found_right, found_below}
+use Rattle.type_table.proofs.FieldWalks.{found_here, found_other, found_left, found_right, found_below}
 use Rattle.type_rules.proofs.fields.+find_in.Goals as goal
 
 pub find_in-requires : goal.find_in-requires
@@ -30,7 +30,7 @@ returns-then-x-name-clause-below t c =
 pub returns-else-x-name-clause-found : goal.returns-else-x-name-clause-found
 returns-else-x-name-clause-found t c =
     let at : slice_get c.args.table.now.cells c.args.list ≡ Some (Field c.in-Some-Field.x c.in-Some-Field.t) = cc in
-    found_other c.args.table.now c.args.list c.in-Some-Field.x c.in-Some-Field.t c.args.name at (eqb_other c.in-Some-Field.x c.args.name c.if-x-name.false)
+    found_other c.args.table.now c.args.list c.in-Some-Field.x c.in-Some-Field.t c.args.name at (ne_eqb c.in-Some-Field.x c.args.name c.if-x-name.false)
 
 pub returns-in-Some-clause-found : goal.returns-in-Some-clause-found
 returns-in-Some-clause-found t c =

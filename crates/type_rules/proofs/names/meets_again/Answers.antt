@@ -1,17 +1,13 @@
-use Rattle.std.proofs.Common.{rules, ◌≡◌, ◌∙◌, ◌+◌, ◌++◌, ◌∷◌, [], List, ℕ, Bool, true, false, cond, not, ◌||◌, ◌<◌, length, take, drop, bytes_eq, ap, sym, arith}
+use Rattle.std.proofs.Common.{rules, ◌≡◌, ◌∙◌, ◌+◌, ◌++◌, ◌∷◌, [], List, ℕ, true, false, cond, not, ◌||◌, ◌<◌, length, take, drop, bytes_eq, ap, sym, arith}
 use Rattle.std.specs.Borrow.{Bor}
 use Rattle.std.specs.List.{list_any}
 use Rattle.std.proofs.lemmas.List.Folds.{list_any-append}
 use Rattle.nv_ast.specs.Tests.{is_among, has_twice}
 use Rattle.nv_ast.proofs.Items.{take_item, split_item}
 use Rattle.type_table.specs.inner.Named.{plain_names}
-use Rattle.type_table.proofs.Found.{plain-append}
+use Rattle.type_table.proofs.Found.{plain-append, turned_back}
 use Rattle.nv_ast.proofs.Twice.{twice_more, twice_here}
 use Rattle.type_rules.proofs.names.meets_again.Goals as goal
-
-turned_back : (b r : Bool) → r ≡ not b → b ≡ not r
-turned_back true r e = ap not (sym e)
-turned_back false r e = ap not (sym e)
 
 pub returns-then-not-branch : goal.returns-then-not-branch
 returns-then-not-branch c =

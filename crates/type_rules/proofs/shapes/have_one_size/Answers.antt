@@ -1,6 +1,7 @@
 use Rattle.std.proofs.Common.{◌∙◌, ap, sym, eq-eqb}
 use Rattle.std.proofs.lemmas.List.{take_all}
-use Rattle.type_rules.proofs.Sums.{all_have, have_more, have_other, no_sizes, one_size, unequal}
+use Rattle.std.proofs.lemmas.Bool.{ne_eqb}
+use Rattle.type_rules.proofs.Sums.{all_have, have_more, have_other, no_sizes, one_size}
 use Rattle.type_rules.proofs.shapes.have_one_size.Goals as goal
 
 pub loop-m-preserved : goal.loop-m-preserved
@@ -20,4 +21,4 @@ returns-in_default c = λ s os h. no_sizes s c.args.members.now os c.in_default.
 pub returns-then-m-first : goal.returns-then-m-first
 returns-then-m-first c = λ s os h.
     let n = c.in-Some.first.now.1.bits in
-    sym (have_other c.in-Some.others.now c.loop-m.m-index c.m-item.result n c.loop-m-test.true c.m-item.is c.loop-m.invariant (unequal _ _ c.if-m-first.true)) ∙ one_size s c.args.members.now c.in-Some.first.now c.in-Some.others.now os c.in-Some.ensures.cases.0 h
+    sym (have_other c.in-Some.others.now c.loop-m.m-index c.m-item.result n c.loop-m-test.true c.m-item.is c.loop-m.invariant (ne_eqb _ _ c.if-m-first.true)) ∙ one_size s c.args.members.now c.in-Some.first.now c.in-Some.others.now os c.in-Some.ensures.cases.0 h

@@ -1,7 +1,6 @@
 use Rattle.std.proofs.Common.{◌≡◌, ◌∙◌, ◌<◌, ◌≤◌, ap, sym, false, length, Some, slice_get, arith, rules}
-use Rattle.std.proofs.lemmas.Bool.{eq-eqb}
+use Rattle.std.proofs.lemmas.Bool.{eq-eqb, ne_eqb}
 use Rattle.type_table.specs.declared.table.Cell.TheVariants.{Word, Record, Choice, Field}
-use Rattle.type_table.proofs.FieldWalks.{eqb_other}
 use Rattle.type_table.proofs.TypeCells.{pack_word, pack_record, pack_choice, pack_record_none, pack_choice_none, is_form_cell, pack_no_form}
 use Rattle.type_table.proofs.FieldPacking.{pack_start, pack_end, pack_short, pack_other, pack_wrong, pack_next, pack_here, one_none, one_some, choice_one, choice_none, is_field_cell, packed_there, packed_more, pair_same}
 use Rattle.type_steps.proofs.packing.+pack.Goals as goal
@@ -89,7 +88,7 @@ can_pack_all-returns-then-x-y-clause-packs t c =
     let along : c.loop-i.i < length c.in_ok-fields.fields.items = omega arith in
     pack_other c.args.table.now c.in_ok-forms.ensures.store c.args.forms c.args.fields p q _ _
     (pack_here c.args.table.now c.args.forms c.args.fields c.in_ok-forms.forms.items c.in_ok-fields.fields.items c.loop-i.i p q inside along c.index.ensures c.index-in-loop-i.ensures c.loop-i.invariant.so)
-    (eqb_other p.0 q.0 c.if-x-y.true)
+    (ne_eqb p.0 q.0 c.if-x-y.true)
 
 pub can_pack_all-returns-then-not-packs-clause-packs : goal.can_pack_all-returns-then-not-packs-clause-packs
 can_pack_all-returns-then-not-packs-clause-packs t c =

@@ -1,14 +1,10 @@
-use Rattle.std.proofs.Common.{◌≡◌, ◌∙◌, ap, sym, subst, false, rules, List, Result, Ok, Err, true≢false}
-use Rattle.std.specs.Result.{OnOk, is_err}
+use Rattle.std.proofs.Common.{◌∙◌, ap, sym, subst, rules, List}
+use Rattle.type_table.proofs.Found.{was_ok}
 use Rattle.nv_ast.specs.Tests.{look_up}
 use Rattle.type_steps.specs.declared.scope.Binding.{Binding}
 use Rattle.type_steps.specs.inner.Stack.{IsScope}
 use Rattle.type_steps.proofs.Stacks.{IsScope-push}
 use Rattle.type_steps.proofs.scope.Scope.bind.Goals as goal
-
-was_ok : {T E : Type 0} (r : Result T E) (P : Type 0) → is_err r ≡ false → OnOk r P → P
-was_ok (Ok x) P e h = h
-was_ok (Err x) P e h = absurd (true≢false e)
 
 pub invariant_of-self-else-is_err : goal.invariant_of-self-else-is_err
 invariant_of-self-else-is_err c =

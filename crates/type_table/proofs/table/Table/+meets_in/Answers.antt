@@ -1,4 +1,4 @@
-use Rattle.std.proofs.Common.{◌≡◌, ◌∙◌, ◌++◌, ◌∷◌, [], ap, sym, subst, Bool, true, false, not, cond, eqb, Some, slice_get, arith, rules}
+use Rattle.std.proofs.Common.{◌≡◌, ◌∙◌, ◌++◌, ◌∷◌, [], ap, sym, subst, false, cond, eqb, Some, slice_get, arith, rules}
 use Rattle.std.specs.List.{list_any}
 use Rattle.std.specs.Result.{IfOk}
 use Rattle.nv_ast.specs.Tests.{has_twice}
@@ -7,10 +7,7 @@ use Rattle.type_table.specs.inner.Store.{AreSeen}
 use Rattle.type_table.proofs.FieldLists.{is_tree_cell, stands_other}
 use Rattle.type_table.proofs.FieldWalks.{meets_one, seen_one, meets_left, meets_right}
 use Rattle.type_table.proofs.table.Table.+meets_in.Goals as goal
-
-turned_back : (b r : Bool) → r ≡ not b → b ≡ not r
-turned_back true r e = ap not (sym e)
-turned_back false r e = ap not (sym e)
+use Rattle.type_table.proofs.Found.{turned_back}
 
 pub meets_in-requires : goal.meets_in-requires
 meets_in-requires t c =
