@@ -6,6 +6,7 @@ use Rattle.std.proofs.lemmas.Fmt.{decimal_injective}
 use Rattle.std.proofs.lemmas.List.{append_cancel_left}
 use Rattle.std.proofs.lemmas.List.Folds.{list_any-append}
 use Rattle.std.proofs.lemmas.Slice.Eq.{bytes_eq-Decides}
+use Rattle.std.proofs.lemmas.Bool.{false_from_ne_true, or_from}
 use Rattle.nv_ast.specs.declared.token.Span.{Span}
 use Rattle.nv_ast.specs.Scope.{Known, Vars}
 use Rattle.nv_ast.specs.Sizes.{Lets, variables, variables_statement, variables_statements, let_of, lets_behind, pending, need, need_statement, need_statements, room}
@@ -27,29 +28,21 @@ x-same i j low high e = decimal_injective i j low high (append_cancel_left (code
 abbrev IsAbsent : ℕ → List (List ℕ) → Type 0
 IsAbsent m names = is_among (name_of m) names ≡ false
 
-not-true : (b : Bool) → (b ≡ true → ⊥) → b ≡ false
-not-true true h = absurd (h refl)
-not-true false h = refl
-
-or-false : (a b : Bool) → a ≡ false → b ≡ false → (a || b) ≡ false
-or-false true b e f = e
-or-false false b e f = f
-
 other-name : (m n : ℕ) → 2 ≤ m → m < n → n < 2 ^ 64 → bytes_eq (name_of m) (name_of n) ≡ false
 other-name zero n low lt small = absurd (omega arith)
 other-name (suc zero) n low lt small = absurd (omega arith)
 other-name (suc (suc i)) zero low lt small = absurd (omega arith)
 other-name (suc (suc i)) (suc zero) low lt small = absurd (omega arith)
 other-name (suc (suc i)) (suc (suc j)) low lt small =
-    not-true (bytes_eq (name_of (suc (suc i))) (name_of (suc (suc j)))) (λ e.
+    false_from_ne_true (bytes_eq (name_of (suc (suc i))) (name_of (suc (suc j)))) (λ e.
     let same : i ≡ j = x-same i j (omega arith) (omega arith) ((bytes_eq-Decides (name_of (suc (suc i))) (name_of (suc (suc j)))).0 e) in
     omega arith)
 
 absent-one : (m n : ℕ) → 2 ≤ m → m < n → n < 2 ^ 64 → IsAbsent m (name_of n ∷ [])
-absent-one m n low lt small = or-false (bytes_eq (name_of m) (name_of n)) false (other-name m n low lt small) refl
+absent-one m n low lt small = or_from (bytes_eq (name_of m) (name_of n)) false (other-name m n low lt small) refl
 
 absent-both : (m : ℕ) (a b : List (List ℕ)) → IsAbsent m a → IsAbsent m b → IsAbsent m (a ++ b)
-absent-both m a b h k = list_any-append (bytes_eq (name_of m)) a b ∙ or-false (is_among (name_of m) a) (is_among (name_of m) b) h k
+absent-both m a b h k = list_any-append (bytes_eq (name_of m)) a b ∙ or_from (is_among (name_of m) a) (is_among (name_of m) b) h k
 
 -- ---- the names in lines
 absent-line : (m i p : ℕ) (line : Line) → 2 ≤ m → m + 6 < i → IsLine i line → i ≤ line.left + 6 → i ≤ line.right + 6 → i < 2 ^ 32 → IsAbsent m (variables_statement (statement_of i p line))

@@ -1,8 +1,9 @@
 -- Tokens that stand in front of what cannot go on with them.
-use Rattle.std.proofs.Common.{◌≡◌, ℕ, suc, ◌+◌, ◌≤◌, Bool, true, false, List, [], ◌∷◌, ◌++◌, length, take, drop, refl, sym, ap, ◌∙◌, subst, arith, length-append, length-drop}
+use Rattle.std.proofs.Common.{◌≡◌, ℕ, suc, ◌+◌, ◌≤◌, false, List, [], ◌∷◌, ◌++◌, length, take, drop, refl, sym, ap, ◌∙◌, subst, arith, length-append, length-drop}
 use Rattle.std.specs.Prelude.{Some, None}
 use Rattle.std.specs.List.{prefix_len}
 use Rattle.std.proofs.Math.Seq.{take-append_seam, drop-append_seam}
+use Rattle.std.proofs.lemmas.Bool.{both_ways}
 use Rattle.nv_ast.specs.declared.token.Token.{Token}
 use Rattle.nv_ast.specs.declared.token.Sort.TheVariants.{Word, Key, Sign}
 use Rattle.nv_ast.specs.Name.{IsWord}
@@ -89,13 +90,10 @@ no-triple c d k rest h = record { none = none }
         none-some (x ∷ y ∷ z ∷ []) j (subst (λ w. sign_of w ≡ None) same (h.no_three z)) f
     none (x ∷ y ∷ z ∷ u ∷ w) more j e n f = omega arith
 
-is-not : (b : Bool) → b ≡ false → b ≡ true → ⊥
-is-not b e f = let h : false ≡ true = sym e ∙ f in cc
-
 pub sign-read : (p q c d k : ℕ) (rest left : List ℕ) (ts : List Token) → StandsAlone c d k → Reads (p + 1) (d ∷ rest) ts q left → Reads p (c ∷ d ∷ rest) (at (span p 1) (Sign k) ∷ ts) q left
 sign-read p q c d k rest left ts h r =
     let one : LongestSign (c ∷ d ∷ rest) k 1 = sign_one (c ∷ d ∷ rest) k (no-triple c d k rest h) (no-pair c d k rest h) (omega arith) h.sign in
-    let longest = sign_longest (c ∷ d ∷ rest) k 1 (is-not (starts_word c) h.no_word) (is-not (is_digit c) h.no_number) one in
+    let longest = sign_longest (c ∷ d ∷ rest) k 1 (both_ways (starts_word c) h.no_word) (both_ways (is_digit c) h.no_number) one in
     take_token {p = p} {n = 1} {q = q} {bytes = c ∷ d ∷ rest} {left = left} {ts = ts} {s = Sign k} longest tt r
 
 -- ---- blanks

@@ -8,6 +8,7 @@ use Rattle.nv_text.specs.Program.{IsTextOf, FaultOf}
 use Rattle.nv_text.specs.declared.error.TextError.{TextError}
 use Rattle.nv_text.proofs.Texts.{program_one}
 use Rattle.nv_text.proofs.ProgramRules.{fault_same, no_fault}
+use Rattle.nv_types.proofs.OnlyRefusals.{typed_faultless}
 use Rattle.nova_front.specs.Sources.{IsSource, IsTypedSource, IsUntyped, IsLarge, IsCause}
 use Rattle.nova_front.specs.declared.error.FrontError.{FrontError}
 use Rattle.nova_front.specs.declared.error.FrontError.TheVariants.{NoMemory, Text, Fault, TooLarge}
@@ -34,11 +35,6 @@ fault-one p kind kind' place place' h k =
     let both : (kind, place) ∷ h.later ≡ (kind', place') ∷ k.later = sym h.first ∙ k.first in
     ap first-answer both
 
-typed-faultless : (p : ProgramTree) (kind : ℕ) (place : Span) → IsTyped p → IsFault p kind place → ⊥
-typed-faultless p kind place t h =
-    let both : [] ≡ (kind, place) ∷ h.later = sym t ∙ h.first in
-    cc
-
 untyped-one : (bytes : List ℕ) (kind kind' : ℕ) (place place' : Span) → IsUntyped bytes kind place → IsUntyped bytes kind' place' → Fault kind place ≡ Fault kind' place'
 untyped-one bytes kind kind' place place' h k =
     let same = source-program bytes h.program k.program h.is_source k.is_source in
@@ -47,7 +43,7 @@ untyped-one bytes kind kind' place place' h k =
 untyped-typed : (bytes : List ℕ) (kind : ℕ) (place : Span) (p : ProgramTree) → IsSource bytes p → IsTyped p → IsUntyped bytes kind place → ⊥
 untyped-typed bytes kind place p s t h =
     let same = source-program bytes h.program p h.is_source s in
-    typed-faultless p kind place t (subst (λ (q : ProgramTree). IsFault q kind place) same h.fault)
+    typed_faultless p kind place t (subst (λ (q : ProgramTree). IsFault q kind place) same h.fault)
 
 large-one : (bytes : List ℕ) (n m : ℕ) → IsLarge bytes n → IsLarge bytes m → n ≡ m
 large-one bytes n m h k = h.expanded ∙ ap expanded_size (source-program bytes h.program k.program h.is_source k.is_source) ∙ sym k.expanded

@@ -234,7 +234,7 @@ written-two ws first n v y fits some word inside more is =
 front_same : (l b m c : List ℕ) → length l ≡ length m → l ++ b ≡ m ++ c → l ≡ m
 front_same l b m c e h = sym (take-append_seam l b) ∙ ap (take (length l)) h ∙ ap (λ k. take k (m ++ c)) e ∙ take-append_seam m c
 
-length-replaced : (s : ℕ) (new w : List ℕ) → s + length new ≤ length w → length (replaced s new w) ≡ length w
+pub length-replaced : (s : ℕ) (new w : List ℕ) → s + length new ≤ length w → length (replaced s new w) ≡ length w
 length-replaced s new w h =
     length-append (take s w ++ new) (drop (s + length new) w) ∙ omega (arith, length-append (take s w) new, length-take-le s w (omega arith), length-drop (s + length new) w)
 

@@ -1,9 +1,9 @@
 -- The walk over a layout text, as far as a loop has come.
-use Rattle.std.proofs.Common.{◌≡◌, ◌∙◌, inl, inr, refl, ap, sym, subst, ℕ, ◌+◌, ◌<◌, ◌≤◌, max, Bool, true, false, ◌&&◌, ◌||◌, List, [], ◌∷◌, ◌++◌, take, drop, length, get_or, arith, append_assoc, append-nil, bytes_eq, Result, Ok, Err, Vec, Global}
+use Rattle.std.proofs.Common.{◌≡◌, ◌∙◌, refl, ap, sym, subst, ℕ, ◌+◌, ◌<◌, ◌≤◌, max, Bool, true, false, ◌&&◌, ◌||◌, List, [], ◌∷◌, ◌++◌, take, drop, length, get_or, arith, append_assoc, append-nil, bytes_eq, Result, Ok, Err, Vec, Global}
 use Rattle.std.specs.Prelude.{◌==◌}
 use Rattle.std.specs.List.{list_all}
 use Rattle.std.specs.Cmp.Lexicographic.{nat_list_eq_equiv}
-use Rattle.std.proofs.lemmas.Bool.Decides.{eqb_tells}
+use Rattle.std.proofs.lemmas.Bool.{or_parts}
 use Rattle.nv_ast.specs.declared.tree.LayoutText
 use Rattle.nv_ast.specs.declared.tree.LayoutText.{LayoutText}
 use Rattle.nv_ast.specs.declared.tree.FieldText
@@ -25,7 +25,7 @@ use Rattle.nv_layout.specs.OutlineView.{outline_tree, list_outlines, list_named_
 use Rattle.nv_layout.specs.Shaping.{IsFirstOf}
 use Rattle.nv_layout.specs.inner.Shapes.{Shapes}
 use Rattle.nv_layout.proofs.Rows.{parts_tree, joined_tree}
-use Rattle.nv_layout.proofs.Lists.{Named, named_from, named_from-layouts, layouts-append, all_from, all_from-trees, trees_of}
+use Rattle.nv_layout.proofs.Lists.{Named, named_from, named_from-layouts, layouts-append, all_from, all_from-trees, trees_of, trees-append}
 
 -- ---- vectors in the text
 -- ---- first faults
@@ -102,10 +102,6 @@ all_from-shaped k (x ∷ xs) = ap (outline_and (outline k (layout_tree x))) (all
 pub layouts_shaped : (k : Layouts) (os : List Outline) (xs : List LayoutText) → trees_of os ≡ shaped_layouts k xs → list_outlines os ≡ outlines k (list_layouts xs)
 layouts_shaped k os xs e = sym (all_from-trees os) ∙ ap all_from e ∙ all_from-shaped k xs
 
-trees-append : (xs ys : List Outline) → trees_of (xs ++ ys) ≡ trees_of xs ++ trees_of ys
-trees-append [] ys = refl
-trees-append (x ∷ xs) ys = ap (λ l. outline_tree x ∷ l) (trees-append xs ys)
-
 pub shaped_layouts_more : (k : Layouts) (xs : List LayoutText) (i : ℕ) (p : LayoutText) (os : List Outline) (o : Outline) → i < length xs → p ≡ get_or xs i p → trees_of os ≡ shaped_layouts k (take i xs) → outline_tree o ≡ outline k (layout_tree p) → trees_of (os ++ o ∷ []) ≡ shaped_layouts k (take (i + 1) xs)
 shaped_layouts_more k xs i p os o h e before shape =
     trees-append os (o ∷ [])
@@ -119,20 +115,9 @@ shaped_names k no_fields = refl
 shaped_names k (field_and x f fs) = ap (λ l. x ∷ l) (shaped_names k fs)
 
 -- ---- known layouts
-turned : (x y : List ℕ) → bytes_eq x y ≡ bytes_eq y x
-turned x y = nat_list_eq_equiv.symm x y
-
 absent_more : (x : List ℕ) (xs : List Named) (p : Named) → is_among x (names_of (layouts_of xs)) ≡ false → bytes_eq p.0 x ≡ false → is_among x (names_of (layouts_of (xs ++ p ∷ []))) ≡ false
-absent_more x [] p h e = ap (λ b. b || false) (turned x p.0 ∙ e)
-absent_more x (y ∷ xs) p h e = ap (λ b. bytes_eq x y.0 || b) (absent_more x xs p (or_right (bytes_eq x y.0) (is_among x (names_of (layouts_of xs))) h) e) ∙ ap (λ b. b || false) (or_left (bytes_eq x y.0) (is_among x (names_of (layouts_of xs))) h)
-  where
-    or_left : (a b : Bool) → (a || b) ≡ false → a ≡ false
-    or_left true b h = h
-    or_left false b h = refl
-
-    or_right : (a b : Bool) → (a || b) ≡ false → b ≡ false
-    or_right true b h = cc
-    or_right false b h = h
+absent_more x [] p h e = ap (λ b. b || false) (nat_list_eq_equiv.symm x p.0 ∙ e)
+absent_more x (y ∷ xs) p h e = ap (λ b. bytes_eq x y.0 || b) (absent_more x xs p (or_parts (bytes_eq x y.0) (is_among x (names_of (layouts_of xs))) h).1 e) ∙ ap (λ b. b || false) (or_parts (bytes_eq x y.0) (is_among x (names_of (layouts_of xs))) h).0
 
 pub still_absent : (x : List ℕ) (xs : List Named) (i : ℕ) (p : Named) → i < length xs → p ≡ get_or xs i p → is_among x (names_of (layouts_of (take i xs))) ≡ false → bytes_eq p.0 x ≡ false → is_among x (names_of (layouts_of (take (i + 1) xs))) ≡ false
 still_absent x xs i p h e before here = ap (λ l. is_among x (names_of (layouts_of l))) (take_item xs i p h e) ∙ absent_more x (take i xs) p before here
@@ -148,7 +133,7 @@ present d x (y ∷ xs) ys p h e = elim (bytes_eq x y.0) as (λ b. (b || is_among
 
 pub known_here : (d : OutlineTree) (x : List ℕ) (xs : List Named) (i : ℕ) (p : Named) → i < length xs → p ≡ get_or xs i p → is_among x (names_of (layouts_of (take i xs))) ≡ false → bytes_eq p.0 x ≡ true → (is_among x (names_of (layouts_of xs)) ≡ true) × (value_at d x (layouts_of xs) ≡ outline_tree p.1)
 known_here d x xs i p h e before here =
-    let all = present d x (take i xs) (drop (i + 1) xs) p before (turned x p.0 ∙ here) in
+    let all = present d x (take i xs) (drop (i + 1) xs) p before (nat_list_eq_equiv.symm x p.0 ∙ here) in
     let cut = split_item xs i p h e in
     (ap (λ l. is_among x (names_of (layouts_of l))) cut ∙ all.0, ap (λ l. value_at d x (layouts_of l)) cut ∙ all.1)
 
@@ -168,9 +153,6 @@ same_size_more xs i p n h e before here =
 pub other_size : (xs : List Named) (i : ℕ) (p : Named) (n : ℕ) → i < length xs → p ≡ get_or xs i p → list_all (λ m. m == n) (sizes_of (list_named_outlines (take i xs))) ≡ true → (size (outline_tree p.1) == n) ≡ false → list_all (λ m. m == n) (sizes_of (list_named_outlines xs)) ≡ false
 other_size xs i p n h e before here =
     ap (λ l. list_all (λ m. m == n) (sizes_of (list_named_outlines l))) (split_item xs i p h e) ∙ sizes-append (take i xs) (p ∷ drop (i + 1) xs) n ∙ ap (λ b. b && ((size (outline_tree p.1) == n) && list_all (λ m. m == n) (sizes_of (list_named_outlines (drop (i + 1) xs))))) before ∙ ap (λ b. b && list_all (λ m. m == n) (sizes_of (list_named_outlines (drop (i + 1) xs)))) here
-
-pub unequal : (m n : ℕ) → (m ≡ n → ⊥) → (m == n) ≡ false
-unequal m n h = elim (eqb_tells m n) [ inl e ↦ absurd (h e.1) | inr e ↦ e.0 ]
 
 -- ---- nodes behind their parts
 pub parts_shaped : (k : Layouts) (fs : List FieldNamed) (v : Vec Named Global) (r : Result Outline LayoutError) → fields_faults k (list_fields fs) ≡ [] → list_named_outlines v.items ≡ field_outlines k (list_fields fs) → Shapes (same_field (names_of (record_of (outline_tree (Outline.Parts v))))) (outline_tree (Outline.Parts v)) r → Shapes (layout_faults k (PartsLayout (list_fields fs))) (outline k (PartsLayout (list_fields fs))) r

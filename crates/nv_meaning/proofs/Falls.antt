@@ -1,6 +1,7 @@
 -- What the interpreter's recursion goes down by: the calls that are left, and the text.
-use Rattle.std.proofs.Common.{◌≡◌, ℕ, zero, suc, ◌+◌, ◌-◌, ◌*◌, ◌^◌, ◌<◌, ◌≤◌, Bool, true, false, List, [], ◌∷◌, refl, sym, ap, ◌∙◌, drop, length, get_or, if◌then◌else◌, Some, None, bytes_eq, arith}
+use Rattle.std.proofs.Common.{◌≡◌, ℕ, zero, suc, ◌+◌, ◌-◌, ◌*◌, ◌^◌, ◌<◌, ◌≤◌, Bool, true, false, List, [], ◌∷◌, refl, sym, ap, ◌∙◌, drop, length, get_or, if◌then◌else◌, Some, bytes_eq, arith}
 use Rattle.std.proofs.Math.Nat.{mul-le-mul_right}
+use Rattle.std.proofs.lemmas.Option.{same_Some, none-some}
 use Rattle.nv_ast.specs.declared.tree.Expr.{Expr}
 use Rattle.nv_ast.specs.declared.tree.Stmt.{Stmt}
 use Rattle.nv_ast.specs.ExprView.{tree_of, list_trees, list_named_trees, list_statements, statement_tree}
@@ -37,19 +38,13 @@ span-some : (fs : List FunTree) → 0 < span fs
 span-some [] = omega arith
 span-some (f ∷ fs) = let h : 0 < span fs = span-some fs in omega arith
 
-pub some_same : {A : Type 0} {x y : A} → Some x ≡ Some y → x ≡ y
-some_same e = cc
-
-none_some : {A : Type 0} {x : A} → None ≡ Some x → ⊥
-none_some e = cc
-
 pub body-below : (fs : List FunTree) (x : List ℕ) (g : FunTree) → function_in fs x ≡ Some g → 8 * weight g.body < span fs
-body-below [] x g is = absurd (none_some is)
+body-below [] x g is = absurd (none-some g is)
 body-below (h ∷ fs) x g is = by (bytes_eq x h.name) refl (λ e. body-below fs x g e)
   where
     by : (b : Bool) → bytes_eq x h.name ≡ b → (function_in fs x ≡ Some g → 8 * weight g.body < span fs) → 8 * weight g.body < span (h ∷ fs)
     by true e next =
-        let k : h ≡ g = some_same (sym (ap (λ b. if b then Some h else function_in fs x) e) ∙ is) in
+        let k : h ≡ g = same_Some h g (sym (ap (λ b. if b then Some h else function_in fs x) e) ∙ is) in
         let w : weight h.body ≡ weight g.body = ap (λ z. weight z.body) k in
         let s : 0 < span fs = span-some fs in
         omega arith

@@ -1,11 +1,10 @@
 -- Bits of packed words, read and written from a place on.
 use Rattle.std.proofs.Common.{◌≡◌, ◌∙◌, refl, ap, sym, ℕ, zero, suc, ◌+◌, ◌-◌, ◌*◌, ◌/◌, ◌%◌, ◌^◌, ◌<◌, ◌≤◌, min, List, [], ◌∷◌, ◌++◌, take, drop, length, replicate, append_assoc, append-nil, ◌⊎◌, inl, inr, length-append, length-drop, arith}
 use Rattle.std.proofs.Math.Seq.{take-append_seam, drop-append_seam}
-use Rattle.std.proofs.lemmas.List.{drop-drop, length-take-le, take-append-drop, drop-replicate, length-replicate}
+use Rattle.std.proofs.lemmas.List.{drop-drop, length-take-le, take-append-drop, drop-replicate, length-replicate, take_min, drop_all}
 use Rattle.nv_ast.specs.Bits.{bits, number, packed, slice, replaced}
-use Rattle.nv_layout.proofs.BitLists.{number-bits, packed-append, length-packed, length-front}
+use Rattle.nv_layout.proofs.BitLists.{number-bits, packed-append, length-packed, length-front, length-replaced}
 use Rattle.nv_meaning.specs.inner.Blanks.{IsBlankFrom}
-use Rattle.nv_meaning.proofs.Unpacking.{drop-past}
 
 -- ---- reading
 
@@ -21,12 +20,6 @@ take-nothing : {A : Type 0} (n : ℕ) → take {A = A} n [] ≡ []
 take-nothing zero = refl
 take-nothing (suc n) = refl
 
--- no more than there is
-take-short : {A : Type 0} (m : ℕ) (xs : List A) → take (min m (length xs)) xs ≡ take m xs
-take-short zero xs = let e : min 0 (length xs) ≡ 0 = omega arith in ap (λ k. take k xs) e
-take-short (suc m) [] = take-nothing (min (suc m) 0)
-take-short (suc m) (x ∷ xs) = let e : min (suc m) (length (x ∷ xs)) ≡ suc (min m (length xs)) = omega arith in ap (λ k. take k (x ∷ xs)) e ∙ ap (λ l. x ∷ l) (take-short m xs)
-
 -- the bits of a field that a part of the words holds
 pub field-there : (ws : List ℕ) (place n width : ℕ) → place < 32 * length ws → width ≡ min n (32 * length ws - place) → slice (place % 32) width (packed (drop (place / 32) ws)) ≡ take n (drop place (packed ws))
 field-there ws place n width inside e =
@@ -36,7 +29,7 @@ field-there ws place n width inside e =
     ap (λ l. drop (place % 32) l) (packed-drop ws (place / 32) q) ∙ drop-drop (place % 32) (32 * (place / 32)) (packed ws) ∙ ap (λ k. drop k (packed ws)) whole in
     let long : length (drop place (packed ws)) ≡ 32 * length ws - place = length-drop place (packed ws) ∙ ap (λ k. k - place) (length-packed ws) in
     let w : width ≡ min n (length (drop place (packed ws))) = e ∙ ap (λ k. min n k) (sym long) in
-    ap (λ l. take width l) same ∙ ap (λ k. take k (drop place (packed ws))) w ∙ take-short n (drop place (packed ws))
+    ap (λ l. take width l) same ∙ ap (λ k. take k (drop place (packed ws))) w ∙ take_min n (drop place (packed ws))
 
 number-empty : number [] ≡ 0
 unfolding number
@@ -45,7 +38,7 @@ number-empty = refl
 -- no bits
 pub none-there : (ws : List ℕ) (place n : ℕ) → ((32 * length ws ≤ place) ⊎ (n ≡ 0)) → 0 ≡ number (take (min n 32) (drop place (packed ws)))
 none-there ws place n h = elim h [
-  | inl past ↦ (let l : length (packed ws) ≡ 32 * length ws = length-packed ws in sym (ap (λ k. number (take (min n 32) k)) (drop-past place (packed ws) (omega arith)) ∙ ap number (take-nothing (min n 32)) ∙ number-empty))
+  | inl past ↦ (let l : length (packed ws) ≡ 32 * length ws = length-packed ws in sym (ap (λ k. number (take (min n 32) k)) (drop_all place (packed ws) (omega arith)) ∙ ap number (take-nothing (min n 32)) ∙ number-empty))
   | inr nothing ↦ (let m : min n 32 ≡ 0 = omega arith in sym (ap (λ k. number (take k (drop place (packed ws)))) m ∙ number-empty))
 ]
 
@@ -56,9 +49,6 @@ replaced-nothing place bs = let e : place + 0 ≡ place = omega arith in ap (λ 
 
 front-long : (place : ℕ) (xs bs : List ℕ) → place + length xs ≤ length bs → length (take place bs ++ xs) ≡ place + length xs
 front-long place xs bs h = length-append (take place bs) xs ∙ ap (λ k. k + length xs) (length-take-le place bs (omega arith))
-
-pub length-replaced : (place : ℕ) (xs bs : List ℕ) → place + length xs ≤ length bs → length (replaced place xs bs) ≡ length bs
-length-replaced place xs bs h = length-append (take place bs ++ xs) (drop (place + length xs) bs) ∙ ap (λ k. k + length (drop (place + length xs) bs)) (front-long place xs bs h) ∙ ap (λ k. place + length xs + k) (length-drop (place + length xs) bs) ∙ omega arith
 
 -- behind what was written the bits are the old ones
 pub drop-replaced : (place : ℕ) (xs bs : List ℕ) → place + length xs ≤ length bs → drop (place + length xs) (replaced place xs bs) ≡ drop (place + length xs) bs

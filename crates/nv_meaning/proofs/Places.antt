@@ -7,6 +7,7 @@ use Rattle.std.proofs.lemmas.Slice.Eq.{bytes_eq-Decides}
 use Rattle.std.specs.Cmp.Lexicographic.{nat_list_eq_equiv}
 use Rattle.std.specs.Map.{update}
 use Rattle.std.specs.Option.{is_some, is_none, option_copied}
+use Rattle.std.proofs.lemmas.Option.{same_Some}
 use Rattle.nv_ast.specs.declared.tree.Fun.{Fun}
 use Rattle.nv_ast.specs.declared.tree.Decl.{Decl}
 use Rattle.nv_ast.specs.declared.tree.LayoutText.{LayoutText}
@@ -21,7 +22,6 @@ use Rattle.nv_meaning.specs.inner.Tables.{place_from, or_else, laid, layout_pair
 use Rattle.nv_meaning.proofs.Lists.{dropped-all}
 use Rattle.nv_ast.proofs.Items.{take_item, next_item}
 use Rattle.nv_ast.proofs.ExceptionCounts.{exceptions_append}
-use Rattle.nv_meaning.proofs.Falls.{some_same}
 
 -- ---- places
 pub or_else-none : (a : Option ℕ) → or_else a None ≡ a
@@ -99,7 +99,7 @@ place-stands i j x [] h = cc
 place-stands i j x (y ∷ ys) h = by (bytes_eq x y) refl (λ k. place-stands (suc i) j x ys k)
   where
     by : (b : Bool) → bytes_eq x y ≡ b → (place_from (suc i) x ys ≡ Some j → Stands (suc i) j (length ys)) → Stands i j (length (y ∷ ys))
-    by true e next = let k : i ≡ j = some_same (sym (ap (λ b. if b then Some i else place_from (suc i) x ys) e) ∙ h) in record { from = omega arith; below = omega arith }
+    by true e next = let k : i ≡ j = same_Some _ _ (sym (ap (λ b. if b then Some i else place_from (suc i) x ys) e) ∙ h) in record { from = omega arith; below = omega arith }
     by false e next = let r = next (sym (ap (λ b. if b then Some i else place_from (suc i) x ys) e) ∙ h) in record { from = (let k : suc i ≤ j = r.from in omega arith); below = (let k : j < suc i + length ys = r.below in omega arith) }
 
 length-mapped : {A B : Type 0} (f : A → B) (xs : List A) → length (map f xs) ≡ length xs
@@ -134,7 +134,7 @@ function-found i k x (f ∷ fs) d h = by (bytes_eq x f.now.name) refl (λ k h. f
   where
     by : (b : Bool) → bytes_eq x f.now.name ≡ b → ((k : ℕ) → place_from (suc i) x (names_of fs) ≡ Some (suc i + k) → function_in (trees_of fs) x ≡ Some (fun_tree (get_or fs k d).now)) → (k : ℕ) → place_from i x (names_of (f ∷ fs)) ≡ Some (i + k) → function_in (trees_of (f ∷ fs)) x ≡ Some (fun_tree (get_or (f ∷ fs) k d).now)
     by true e next zero h = ap (λ b. if b then Some (fun_tree f.now) else function_in (trees_of fs) x) e
-    by true e next (suc k) h = let s : i ≡ i + suc k = some_same (sym (ap (λ b. if b then Some i else place_from (suc i) x (names_of fs)) e) ∙ h) in absurd (omega arith)
+    by true e next (suc k) h = let s : i ≡ i + suc k = same_Some _ _ (sym (ap (λ b. if b then Some i else place_from (suc i) x (names_of fs)) e) ∙ h) in absurd (omega arith)
     by false e next zero h = let r = place-stands (suc i) (i + 0) x (names_of fs) (sym (ap (λ b. if b then Some i else place_from (suc i) x (names_of fs)) e) ∙ h) in let s : suc i ≤ i + 0 = r.from in absurd (omega arith)
     by false e next (suc k) h =
         let s : i + suc k ≡ suc i + k = omega arith in
@@ -256,7 +256,7 @@ value-found i j (suc n) y none ((x, a) ∷ known) d h inside = by (bytes_eq y x)
     by : (b : Bool) → bytes_eq y x ≡ b → ((k : ℕ) → place_from (suc i) y (firsts known) ≡ Some (suc i + k) → k < n → value_at none y (take n known) ≡ (get_or known k d).1)
         → (k : ℕ) → place_from i y (firsts ((x, a) ∷ known)) ≡ Some (i + k) → k < suc n → value_at none y (take (suc n) ((x, a) ∷ known)) ≡ (get_or ((x, a) ∷ known) k d).1
     by true e next zero h l = ap (λ b. if b then a else value_at none y (take n known)) e
-    by true e next (suc k) h l = let s : i ≡ i + suc k = some_same (sym (ap (λ b. if b then Some i else place_from (suc i) y (firsts known)) e) ∙ h) in absurd (omega arith)
+    by true e next (suc k) h l = let s : i ≡ i + suc k = same_Some _ _ (sym (ap (λ b. if b then Some i else place_from (suc i) y (firsts known)) e) ∙ h) in absurd (omega arith)
     by false e next zero h l = let r = place-stands (suc i) (i + 0) y (firsts known) (sym (ap (λ b. if b then Some i else place_from (suc i) y (firsts known)) e) ∙ h) in let s : suc i ≤ i + 0 = r.from in absurd (omega arith)
     by false e next (suc k) h l =
         let s : i + suc k ≡ suc i + k = omega arith in
@@ -270,7 +270,7 @@ value-beyond i zero (suc n) y none ((x, a) ∷ known) h past = absurd (omega ari
 value-beyond i (suc j) (suc n) y none ((x, a) ∷ known) h past = by (bytes_eq y x) refl (λ g. value-beyond (suc i) j n y none known g (omega arith))
   where
     by : (b : Bool) → bytes_eq y x ≡ b → (place_from (suc i) y (firsts known) ≡ Some (suc i + j) → value_at none y (take n known) ≡ none) → value_at none y (take (suc n) ((x, a) ∷ known)) ≡ none
-    by true e next = let s : i ≡ i + suc j = some_same (sym (ap (λ b. if b then Some i else place_from (suc i) y (firsts known)) e) ∙ h) in absurd (omega arith)
+    by true e next = let s : i ≡ i + suc j = same_Some _ _ (sym (ap (λ b. if b then Some i else place_from (suc i) y (firsts known)) e) ∙ h) in absurd (omega arith)
     by false e next =
         let s : i + suc j ≡ suc i + j = omega arith in
         ap (λ b. if b then a else value_at none y (take n known)) e ∙ next (sym (ap (λ b. if b then Some i else place_from (suc i) y (firsts known)) e) ∙ h ∙ ap (λ m. Some m) s)

@@ -1,6 +1,7 @@
 -- Records out of a list of bits: what is said of a list of fields as far as a loop has come.
 use Rattle.std.proofs.lemmas.Bool.{cases_lt}
 use Rattle.std.proofs.Common.{inl, inr, ◌≡◌, ◌∙◌, refl, ap, sym, ℕ, zero, suc, ◌+◌, ◌<◌, ◌≤◌, min, max, false, List, [], ◌∷◌, ◌++◌, take, drop, length, get_or, arith}
+use Rattle.std.proofs.lemmas.List.{drop_all}
 use Rattle.nv_ast.specs.declared.tree.FieldText.{FieldText}
 use Rattle.nv_ast.specs.declared.tree.LayoutText.{LayoutText}
 use Rattle.nv_ast.specs.Tree.{LayoutTree, NamedLayout, GapLayout, PartsLayout, JoinedLayout}
@@ -56,11 +57,6 @@ pub drop-nothing : {A : Type 0} (n : ℕ) → drop {A = A} n [] ≡ []
 drop-nothing zero = refl
 drop-nothing (suc n) = refl
 
-pub drop-past : {A : Type 0} (n : ℕ) (xs : List A) → length xs ≤ n → drop n xs ≡ []
-drop-past n [] h = drop-nothing n
-drop-past zero (x ∷ xs) h = absurd (omega arith)
-drop-past (suc n) (x ∷ xs) h = drop-past n xs (omega arith)
-
 pub drop-further : {A : Type 0} (n m : ℕ) (xs : List A) → drop m (drop n xs) ≡ drop (n + m) xs
 drop-further zero m xs = let e : 0 + m ≡ m = omega arith in ap (λ k. drop k xs) (sym e)
 drop-further (suc n) m [] = drop-nothing m ∙ sym (drop-nothing (suc n + m))
@@ -70,7 +66,7 @@ drop-further (suc n) m (x ∷ xs) = let e : suc n + m ≡ suc (n + m) = omega ar
 pub drop-capped : (k most : ℕ) (bs : List ℕ) → length bs ≤ most → drop (min k most) bs ≡ drop k bs
 drop-capped k most bs h = elim (cases_lt k most) [
   | inl below ↦ (let e : min k most ≡ k = omega arith in ap (λ n. drop n bs) e)
-  | inr past ↦ (let e : min k most ≡ most = omega arith in ap (λ n. drop n bs) e ∙ drop-past most bs h ∙ sym (drop-past k bs (omega arith)))
+  | inr past ↦ (let e : min k most ≡ most = omega arith in ap (λ n. drop n bs) e ∙ drop_all most bs h ∙ sym (drop_all k bs (omega arith)))
 ]
 
 -- the bits behind a place that stands still, and behind k more

@@ -1,5 +1,6 @@
 -- What each line's parts are.
 use Rattle.std.proofs.Common.{◌≡◌, ℕ, ◌+◌, ◌/◌, ◌%◌, ◌<◌, ◌≤◌, List, [], ◌∷◌, length, refl, sym, ap, ◌∙◌, subst, arith, codes, decimal, lit≤, Option, None, Some, IfSome, IfNone}
+use Rattle.nv_base.proofs.Operands.{access_eight}
 use Rattle.line_text.specs.Line.{Lacks, parts, parted}
 use Rattle.line_text.proofs.SplitLaws.{parts-parted, parted-parts, Lacks-test}
 use Rattle.line_text.proofs.NumberLaws.{Lacks-decimal}
@@ -54,11 +55,6 @@ name_one Scratch Sram e = absurd (omega (arith, ap length e))
 name_one Scratch Sdram e = absurd (omega (arith, ap length e))
 name_one Scratch Scratch e = refl
 
-pub few_words : (m : Mem) (n : ℕ) → IsAccess m n → n ≤ 8
-few_words Sram n h = h.1
-few_words Sdram n h = omega (arith, h.1, h.3)
-few_words Scratch n h = h.1
-
 pub at_small : (m : Mem) (at n sram sdram : ℕ) → sram ≤ 65536 → sdram ≤ 65536 → first_word m at + n ≤ room sram sdram m → at ≤ 9999999999
 at_small Sram at n sram sdram a b h = omega arith
 at_small Sdram at n sram sdram a b h = omega arith
@@ -81,7 +77,7 @@ pub no_words : (line name : List ℕ) (new new' : List (List ℕ)) (at sram sdra
 no_words line name new new' at sram sdram a b e e' none s h =
     let f = stretch_parts line sram sdram s a b h in
     let same : h.parts ≡ new' = cc (e, e', f) in
-    none s.words (few_words s.mem (length s.words) h.number) (subst (λ ps. SpellWords ps s.words) same h.words)
+    none s.words (access_eight s.mem (length s.words) h.number) (subst (λ ps. SpellWords ps s.words) same h.words)
 
 -- the one stretch of a line
 pub record IsOne (s : Stretch) (mem : Mem) (at : ℕ) (words : List ℕ) : Type 0 where

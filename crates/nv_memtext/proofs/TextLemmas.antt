@@ -1,8 +1,9 @@
 -- Memory texts: one line more, and what no text begins with.
-use Rattle.std.proofs.Common.{◌≡◌, ℕ, ◌+◌, ◌*◌, ◌<◌, ◌≤◌, List, [], ◌∷◌, ◌++◌, length, refl, sym, ap, ◌∙◌, subst, arith, codes, decimal, lit≤, None, Some, unwrap_or, Bool, true, false, cond, leb, take, drop}
+use Rattle.std.proofs.Common.{◌≡◌, ℕ, ◌+◌, ◌*◌, ◌<◌, ◌≤◌, List, [], ◌∷◌, ◌++◌, length, refl, sym, ap, ◌∙◌, subst, arith, codes, decimal, lit≤, None, Some, unwrap_or, leb, take, drop}
 use Rattle.std.proofs.lemmas.Bool.{leb-true}
 use Rattle.std.proofs.lemmas.List.{append-nil, length-append, length-take-le, length-drop}
 use Rattle.std.proofs.lemmas.Bool.Decides.{nat_tests}
+use Rattle.std.proofs.lemmas.Option.{cond_some}
 use Rattle.line_text.specs.Line.{Lacks, AllLack, text_of}
 use Rattle.line_text.proofs.SplitLaws.{split_one, text_of-push, text_of-cons, Lacks-parted, Lacks-test}
 use Rattle.line_text.proofs.NumberLaws.{Lacks-decimal}
@@ -170,10 +171,6 @@ has_first params sram sdram bytes rest p args count h =
       small = h.small;
     }
 
-some_if : {X : Type 0} (t : Bool) (x q : X) → cond t (Some x) None ≡ Some q → (t ≡ true) × (x ≡ q)
-some_if true x q e = (refl, cc)
-some_if false x q e = cc
-
 -- words put into a list leave its length
 put_length : (first : ℕ) (ws old : List ℕ) → first + length ws ≤ length old → length (take first old ++ ws ++ drop (first + length ws) old) ≡ length old
 put_length first ws old h =
@@ -186,15 +183,15 @@ put_length first ws old h =
 -- words put into a memory leave each memory's length
 pub put_lengths : (m : Mem) (at : ℕ) (ws : List ℕ) (p q : Memories) (sram sdram : ℕ) → stored m at ws p ≡ Some q → HasLengths p sram sdram → HasLengths q sram sdram
 put_lengths Sram at ws p q sram sdram e h =
-    let f = some_if (leb (at + length ws) (length p.sram)) _ q e in
+    let f = cond_some (leb (at + length ws) (length p.sram)) _ q e in
     let inside = leb-true (at + length ws) (length p.sram) f.0 in
     subst (λ r. HasLengths r sram sdram) f.1 (record { sram_words = put_length at ws p.sram inside ∙ h.sram_words; sdram_words = h.sdram_words; scratch_words = h.scratch_words })
 put_lengths Sdram at ws p q sram sdram e h =
-    let f = some_if (leb (2 * at + length ws) (length p.sdram)) _ q e in
+    let f = cond_some (leb (2 * at + length ws) (length p.sdram)) _ q e in
     let inside = leb-true (2 * at + length ws) (length p.sdram) f.0 in
     subst (λ r. HasLengths r sram sdram) f.1 (record { sram_words = h.sram_words; sdram_words = put_length (2 * at) ws p.sdram inside ∙ h.sdram_words; scratch_words = h.scratch_words })
 put_lengths Scratch at ws p q sram sdram e h =
-    let f = some_if (leb (at + length ws) (length p.scratch)) _ q e in
+    let f = cond_some (leb (at + length ws) (length p.scratch)) _ q e in
     let inside = leb-true (at + length ws) (length p.scratch) f.0 in
     subst (λ r. HasLengths r sram sdram) f.1 (record { sram_words = h.sram_words; sdram_words = h.sdram_words; scratch_words = put_length at ws p.scratch inside ∙ h.scratch_words })
 

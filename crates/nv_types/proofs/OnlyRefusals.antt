@@ -9,7 +9,7 @@ use Rattle.type_rules.specs.declared.error.TypeError.{TypeError}
 use Rattle.type_rules.specs.declared.error.TypeError.TheVariants.{NoMemory, Fault, TooLarge}
 use Rattle.nv_types.specs.Refusals.{IsRefusal}
 
-typed_faultless : (p : ProgramTree) (kind : ℕ) (place : Span) → IsTyped p → IsFault p kind place → ⊥
+pub typed_faultless : (p : ProgramTree) (kind : ℕ) (place : Span) → IsTyped p → IsFault p kind place → ⊥
 typed_faultless p kind place t h =
     let both : [] ≡ (kind, place) ∷ h.later = sym t ∙ h.first in
     cc

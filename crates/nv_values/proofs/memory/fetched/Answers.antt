@@ -1,8 +1,9 @@
 use Rattle.std.proofs.Common.{◌≡◌, ◌∙◌, ◌≤◌, ℕ, [], ◌∷◌, ap, sym, subst, take, length, Some, None}
 use Rattle.std.proofs.lemmas.List.{length-take-le}
+use Rattle.nv_base.proofs.Operands.{is_access}
 use Rattle.nv_base.specs.Memories.{IsAccess, fetched}
 use Rattle.nv_values.specs.Running.{Gives}
-use Rattle.nv_values.proofs.Access.{fetch-done, fetch-bad, is_access, at_most_eight}
+use Rattle.nv_values.proofs.Access.{fetch-done, fetch-bad, at_most_eight}
 use Rattle.nv_values.proofs.memory.fetched.Goals as goal
 
 -- as many words as were asked for
