@@ -14,7 +14,7 @@ use Rattle.nv_parser.specs.inner.Failing.{Bound, NoBound, AtMost, Within, HasRoo
 use Rattle.nv_parser.specs.inner.Phrases.{AType, SomeTypes, SomeParams, ALayout, AFun, ADecl, NextFun, AtEnd}
 use Rattle.nv_parser.specs.inner.ExprPhrases.{AnExpr, IsLow}
 use Rattle.nv_parser.proofs.Bounds.{within_max, max_left, max_right, within_zero}
-use Rattle.nv_parser.proofs.Follow.{Above, rank}
+use Rattle.nv_parser.proofs.Follow.{Above, rank, decl_front}
 use Rattle.nv_parser.proofs.Sequence.{front_same, same_first, same_front, Fills, Carries, Rule, Listed, one_none, one_fills, one_carries, then_fills, many_fills, then_carries, carries_anything, sign_ahead, not_sort}
 use Rattle.nv_parser.proofs.LayoutRules.{layout_fills}
 use Rattle.nv_parser.proofs.TypeRules.{type_fills, types_fills, params_fills}
@@ -319,11 +319,6 @@ decl_none (group d e) f g h = f refl
 pub decl_starts_none : {ts : List Token} → NotKey 2 ts → NotKey 0 ts → NotKey 1 ts → StartsNone ADecl ts
 decl_starts_none {ts = ts} f g h = record { none = λ us k s d. decl_none d.spelled (front_same _ ts us s f) (front_same _ ts us s g) (front_same _ ts us s h) }
 
-decl_above : {x : DeclTree} {us k : List Token} → IsDecl x us k → Above 0 us
-decl_above (layout_decl d) = omega arith
-decl_above (exception_decl d) = omega arith
-decl_above (group d e) = omega arith
-
 -- ---- decl*
 empty_end : {x : DeclTree} {us k : List Token} (vs : List Token) → IsDecl x us k → SameFront us vs → vs ≡ [] → ⊥
 empty_end [] (layout_decl d) s e = s
@@ -333,7 +328,7 @@ empty_end (v ∷ vs) d s e = let h : ⊥ = cc in h
 
 pub decls_listed : Listed ADecl (Above 0) AtEnd
 decls_listed = record {
-  starts = λ b ts k d. decl_above d.spelled;
+  starts = λ b ts k d. decl_front d.spelled;
   ends = λ b ts us k d s e. empty_end us d.spelled s e;
   over = λ k e. subst (λ z. Above 0 z) (sym e) tt;
 }

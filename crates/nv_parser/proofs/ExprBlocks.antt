@@ -20,8 +20,8 @@ use Rattle.nv_parser.proofs.Follow.{level_first, tail_no_statement}
 use Rattle.nv_parser.proofs.Sequence.{same_front}
 use Rattle.nv_parser.proofs.ExprLow.{low_of, free_low, low_one, low_max, low_left, low_right, low_node, low_child, low_none, height_pos, statement_two, rest_tall, dots_tall}
 use Rattle.nv_parser.proofs.Steps.{Stands, Step, step_fails, step_reads}
-use Rattle.nv_parser.proofs.ExprSteps.{fetch_rule, store_rule}
 use Rattle.nv_parser.proofs.ExprStarts.{nowhere, una_of, level_of_una, expr_of_una, tail_starts, let_ready, mem_ready, expr_fills}
+use Rattle.nv_parser.proofs.ExprRules.{store_rule, fetch_rule}
 
 -- ---- what begins a statement begins no tail
 

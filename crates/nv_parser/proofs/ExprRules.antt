@@ -22,10 +22,10 @@ block_of d b t e = rw (e, b.whole) (block (next_statement d b.list) t)
 pub let_of : {p : PatternTree} {e : Tree} (s t u : Span) {ts us vs ws ys k : List Token} → ts ≡ key_let s ∷ us → IsPattern p us vs → vs ≡ sign_is t ∷ ws → IsTail e ws ys → ys ≡ sign_semicolon u ∷ k → IsStatement (LetStatement (to s u) p e) ts k
 let_of {p = p} {e = x} s t u {us = us} {ws = ws} e d f g h = rw e (let_statement (subst (λ z. IsPattern p us z) f d) (subst (λ z. IsTail x ws z) h g))
 
-store_mem : (m : Mem) {a e : Tree} (s t u v w : Span) {us vs k : List Token} → IsExpr a us (sign_close u ∷ sign_arrow v ∷ vs) → IsTail e vs (sign_semicolon w ∷ k) → IsStatement (StoreStatement (to s w) m a e) (at s (Key (mem_key m)) ∷ sign_open t ∷ us) k
-store_mem Sram s t u v w d e = store_sram d e
-store_mem Sdram s t u v w d e = store_sdram d e
-store_mem Scratch s t u v w d e = store_scratch d e
+pub store_rule : (m : Mem) {a e : Tree} (s t u v w : Span) {us vs k : List Token} → IsExpr a us (sign_close u ∷ sign_arrow v ∷ vs) → IsTail e vs (sign_semicolon w ∷ k) → IsStatement (StoreStatement (to s w) m a e) (at s (Key (mem_key m)) ∷ sign_open t ∷ us) k
+store_rule Sram s t u v w d e = store_sram d e
+store_rule Sdram s t u v w d e = store_sdram d e
+store_rule Scratch s t u v w d e = store_scratch d e
 
 pub raise_of : {x : List ℕ} {es : Trees} {y : Tree} (s t u v : Span) {ts us vs ws k : List Token} → ts ≡ a_name t x ∷ us → us ≡ sign_open_bracket u ∷ vs → IsArgs es vs ws → ws ≡ sign_close_bracket v ∷ k → y ≡ RaiseTree (to s v) x es → IsTail y (key_raise s ∷ ts) k
 raise_of {es = es} s t u v {vs = vs} e f d g h = rw (h, e, f) (raise (subst (λ z. IsArgs es vs z) g d))
@@ -65,10 +65,10 @@ paren_of {e = e} s t {us = us} d f g = rw g (paren (subst (λ z. IsExpr e us z) 
 pub fields_of : {e y : Tree} {all : NamedTrees} {x : List ℕ} (s t u v : Span) {ts us vs ws xs k : List Token} → ts ≡ a_name t x ∷ us → us ≡ sign_is u ∷ vs → IsExpr e vs ws → MembersBehind x e all ws xs → xs ≡ sign_close_brace v ∷ k → y ≡ FieldsTree (to s v) all → IsAtom y (sign_open_brace s ∷ ts) k
 fields_of s t u v {ws = ws} e f d b g h = rw (h, b.whole, e, f) (fields d (subst (λ z. IsMoreMembers b.new ws z) g b.list))
 
-fetch_mem : (m : Mem) {n : ℕ} {e : Tree} (s t u v w y : Span) {us k : List Token} → IsExpr e us (sign_close y ∷ k) → IsAtom (FetchTree (to s y) m n e) (at s (Key (mem_key m)) ∷ sign_open_bracket t ∷ a_number u n ∷ sign_close_bracket v ∷ sign_open w ∷ us) k
-fetch_mem Sram s t u v w y d = fetch_sram d
-fetch_mem Sdram s t u v w y d = fetch_sdram d
-fetch_mem Scratch s t u v w y d = fetch_scratch d
+pub fetch_rule : (m : Mem) {n : ℕ} {e : Tree} (s t u v w y : Span) {us k : List Token} → IsExpr e us (sign_close y ∷ k) → IsAtom (FetchTree (to s y) m n e) (at s (Key (mem_key m)) ∷ sign_open_bracket t ∷ a_number u n ∷ sign_close_bracket v ∷ sign_open w ∷ us) k
+fetch_rule Sram s t u v w y d = fetch_sram d
+fetch_rule Sdram s t u v w y d = fetch_sdram d
+fetch_rule Scratch s t u v w y d = fetch_scratch d
 
 pub call_of : {es : Trees} {z : Tree} {x : List ℕ} (s t u : Span) {ts us vs ws k : List Token} → ts ≡ a_name s x ∷ us → us ≡ sign_open_bracket t ∷ vs → IsArgs es vs ws → ws ≡ sign_close_bracket u ∷ k → z ≡ CallTree (to s u) x es → IsAtom z ts k
 call_of {es = es} s t u {vs = vs} e f d g h = rw (h, e, f) (call (subst (λ z. IsArgs es vs z) g d))
@@ -83,7 +83,7 @@ name_of_brackets {x = x} s t u p q r = record { first = s; middle = t; last = u;
 
 pub store_of : (m : Mem) {a e : Tree} (s u v w : Span) {ts us vs ws k : List Token} → EnclosedBy 24 25 u a ts us → us ≡ sign_arrow v ∷ vs → IsTail e vs ws → ws ≡ sign_semicolon w ∷ k → IsStatement (StoreStatement (to s w) m a e) (at s (Key (mem_key m)) ∷ ts) k
 store_of m {a = a} {e = e} s u v w {vs = vs} d p t q =
-    rw d.split (store_mem m s d.first u v w (subst (λ z. IsExpr a d.inner (sign_close u ∷ z)) p d.read) (subst (λ z. IsTail e vs z) q t))
+    rw d.split (store_rule m s d.first u v w (subst (λ z. IsExpr a d.inner (sign_close u ∷ z)) p d.read) (subst (λ z. IsTail e vs z) q t))
 
 pub if_of : {c a b x : Tree} (s u v : Span) {ts us vs ws k : List Token} → EnclosedBy 24 25 u c ts us → IsExpr a us vs → vs ≡ key_else v ∷ ws → IsExpr b ws k → x ≡ IfTree (to s (span_of b)) c a b → IsTail x (key_if s ∷ ts) k
 if_of {a = a} s u v {us = us} d y p z q = rw (q, d.split) (if_else d.read (subst (λ w. IsExpr a us w) p y) z)
@@ -94,7 +94,7 @@ try_of {x = x} {ps = ps} {a = a} s u v w r z j {t4 = t4} d e1 e2 e3 p e5 f q =
     (subst (λ i. IsPatterns ps t4 i) (e5 ∙ ap (λ i. sign_close_bracket z ∷ i) f.split) p) f.read)
 
 pub fetch_of : (m : Mem) {n : ℕ} {e x : Tree} (s t u v y : Span) {t0 t1 t2 t3 k : List Token} → t0 ≡ sign_open_bracket t ∷ t1 → t1 ≡ a_number u n ∷ t2 → t2 ≡ sign_close_bracket v ∷ t3 → EnclosedBy 24 25 y e t3 k → x ≡ FetchTree (to s y) m n e → IsAtom x (at s (Key (mem_key m)) ∷ t0) k
-fetch_of m s t u v y e0 e1 e2 d q = rw (q, e0, e1, e2, d.split) (fetch_mem m s t u v d.first y d.read)
+fetch_of m s t u v y e0 e1 e2 d q = rw (q, e0, e1, e2, d.split) (fetch_rule m s t u v d.first y d.read)
 
 pub unpack_of : {e z : Tree} {x : List ℕ} (s y : Span) {ts us k : List Token} → NameInSquare x ts us → EnclosedBy 24 25 y e us k → z ≡ UnpackTree (to s y) x e → IsAtom z (key_unpack s ∷ ts) k
 unpack_of s y n d g = rw (g, n.split, d.split) (unpack d.read)

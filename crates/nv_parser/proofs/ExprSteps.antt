@@ -8,7 +8,7 @@ use Rattle.nv_ast.specs.declared.token.Sort.{Sort}
 use Rattle.nv_ast.specs.declared.token.Sort.TheVariants.{Word, Number, Key, Sign}
 use Rattle.nv_ast.specs.declared.tree.Op.{Op}
 use Rattle.nv_ast.specs.declared.tree.ShiftOp.{ShiftOp}
-use Rattle.nv_ast.specs.Tokens.{at, to, a_name, a_number, sign_of, level_of, shift_sign_of, mem_key, key_let, key_if, key_else, key_raise, key_try, key_handle, key_unpack, key_pack, key_sram, key_sdram, key_scratch, sign_tilde, sign_bang, sign_is, sign_arrow, sign_semicolon, sign_comma, sign_dot, sign_open, sign_close, sign_open_brace, sign_close_brace, sign_open_bracket, sign_close_bracket}
+use Rattle.nv_ast.specs.Tokens.{at, to, a_name, a_number, sign_of, level_of, shift_sign_of, mem_key, key_let, key_if, key_else, key_raise, key_try, key_handle, key_unpack, key_pack, key_sram, key_sdram, key_scratch, sign_tilde, sign_bang, sign_is, sign_arrow, sign_semicolon, sign_comma, sign_dot, sign_open, sign_close, sign_open_brace, sign_close_brace, sign_open_bracket}
 use Rattle.nv_ast.specs.Tree.{Tree, NumberTree, VarTree, ParenTree, TupleTree, FieldsTree, DotTree, InvertTree, NegateTree, BinaryTree, ShiftTree, CallTree, UnpackTree, PackTree, RaiseTree, IfTree, TryTree, FetchTree, BlockTree, Trees, no_trees, tree_and, NamedTrees, no_named_trees, named_tree_and, StatementTree, LetStatement, StoreStatement, StatementTrees, no_statements, statement_and, PatternTree, PatternTrees, span_of, statement_span}
 use Rattle.nv_ast.specs.Height.{height, pattern_inside, highest, pattern_inside_all, highest_named, pattern_inside_named, statement_height, pattern_inside_statement, highest_statement, pattern_inside_statements, pattern_height, highest_pattern}
 use Rattle.nv_ast.specs.Grammar.{IsExpr, IsStatements, IsStatement, IsTail, IsArgs, IsMoreExprs, IsLevel, IsRest, IsUna, IsDots, IsAtom, IsMoreMembers, IsPattern, IsPatterns, tail_alone, block, no_statement, next_statement, let_statement, store_sram, store_sdram, store_scratch, if_else, raise, operators, try_handle, empty_args, some_args, no_expr, next_expr, una, chain, no_operator, operator, comparison, shift, invert, negate, post, no_dot, dot, number, truth, falsehood, variable, call, unit, paren, tuple, fields, unpack, pack, fetch_sram, fetch_sdram, fetch_scratch, no_member, next_member}
@@ -23,6 +23,7 @@ use Rattle.nv_parser.proofs.OneExpression.{det_level, det_atom}
 use Rattle.nv_parser.proofs.Sequence.{front_same}
 use Rattle.nv_parser.proofs.ExprLow.{free_low, low_of, lows, low_none, low_one, low_node, low_child, low_max, low_left, low_right, low_under, low_try, try_body, try_patterns, try_handler, low_let, let_pattern, let_value, rest_low, dots_low}
 use Rattle.nv_parser.proofs.Steps.{Stands, Step, Bind, Binds}
+use Rattle.nv_parser.proofs.ExprRules.{store_rule, fetch_rule}
 
 -- ---- rows
 
@@ -211,11 +212,6 @@ let_step s room ts h = record { make = λ low us k r. let_make low room s us k h
 
 abbrev pub StoreRow : Phrases
 StoreRow = Then (Enclosed 24 25) (Then (ASign 18) (Then ATail (ASign 20)))
-
-pub store_rule : (m : Mem) {a e : Tree} (s t u v w : Span) {us vs k : List Token} → IsExpr a us (sign_close u ∷ sign_arrow v ∷ vs) → IsTail e vs (sign_semicolon w ∷ k) → IsStatement (StoreStatement (to s w) m a e) (at s (Key (mem_key m)) ∷ sign_open t ∷ us) k
-store_rule Sram s t u v w d e = store_sram d e
-store_rule Sdram s t u v w d e = store_sdram d e
-store_rule Scratch s t u v w d e = store_scratch d e
 
 store_make : (m : Mem) (low : Bool) (room : ℕ) (s : Span) (us k : List Token) → 1 ≤ room → StoreRow (bound_of low (room - 1)) us k → AStatement (bound_of low room) (at s (Key (mem_key m)) ∷ us) k
 store_make m low room s us k h r =
@@ -491,11 +487,6 @@ pack_step s room ts h = record { make = λ low us k r. pack_make low room s us k
 
 abbrev pub FetchRow : Phrases
 FetchRow = Then (ASign 28) (Then ANumber (Then (ASign 29) (Enclosed 24 25)))
-
-pub fetch_rule : (m : Mem) {n : ℕ} {e : Tree} (s t u v w y : Span) {us k : List Token} → IsExpr e us (sign_close y ∷ k) → IsAtom (FetchTree (to s y) m n e) (at s (Key (mem_key m)) ∷ sign_open_bracket t ∷ a_number u n ∷ sign_close_bracket v ∷ sign_open w ∷ us) k
-fetch_rule Sram s t u v w y d = fetch_sram d
-fetch_rule Sdram s t u v w y d = fetch_sdram d
-fetch_rule Scratch s t u v w y d = fetch_scratch d
 
 fetch_make : (m : Mem) (low : Bool) (room : ℕ) (s : Span) (us k : List Token) → 1 ≤ room → FetchRow (bound_of low (room - 1)) us k → AnAtom (bound_of low room) (at s (Key (mem_key m)) ∷ us) k
 fetch_make m low room s us k h r =

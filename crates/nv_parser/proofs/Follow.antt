@@ -332,7 +332,7 @@ tail_no_statement (try_handle d f g) e = try_no_statement e
 pub decl_some : {x : DeclTree} {k : List Token} → IsDecl x [] k → ⊥
 decl_some d = elim d [ ]
 
-decl_front : {x : DeclTree} {ts k : List Token} → IsDecl x ts k → Above 0 ts
+pub decl_front : {x : DeclTree} {ts k : List Token} → IsDecl x ts k → Above 0 ts
 decl_front (layout_decl d) = omega arith
 decl_front (exception_decl d) = omega arith
 decl_front (group d e) = omega arith

@@ -11,6 +11,7 @@ use Rattle.nv_parser.specs.declared.cursor.Failure.TheVariants.{NoMemory, Syntax
 use Rattle.nv_parser.specs.inner.Cursor.{Front, NotSign, NotKey, NotName, NotNumber, IsSyntax, IsSyntaxOrMemory}
 use Rattle.nv_parser.specs.inner.Failing.{Bound, NoBound, AtMost, HasRoom, Part, Same, Inside, Alone, room_of, part_of, bound_of, Phrases, Follow, Anything, Ahead, One, ASign, AKey, AName, ANumber, Then, Many, none, next, Behind, SameFront, Completes, Starts, StartsNone, Reads, GoesOn, ReadMany, read_none, read_next, Fails, FailsAs, no_memory, syntax, deep}
 use Rattle.nv_parser.proofs.Follow.{Above, above_weaken, rank}
+use Rattle.nv_parser.proofs.Bounds.{room_here}
 
 -- ---- the token in front
 
@@ -207,7 +208,7 @@ past_dead {Q = Q} {room = room} {us = us} low p seen left e c dead vs k h r g =
     let i : r.middle ≡ seen ++ vs = p.only low (seen ++ vs) r.middle (same_behind seen left vs us h e) (rw append_assoc at r.first) (c.on (bound_of low room) r.middle k r.second g) in
     dead vs k h (subst (λ z. Q (bound_of low room) z k) i r.second) g
 
-past_split : (pre us seen left ts : List Token) → ts ≡ pre ++ us → us ≡ seen ++ left → ts ≡ (pre ++ seen) ++ left
+pub past_split : (pre us seen left ts : List Token) → ts ≡ pre ++ us → us ≡ seen ++ left → ts ≡ (pre ++ seen) ++ left
 past_split pre us seen left ts e f = e ∙ (ap (λ z. pre ++ z) f ∙ sym (append_assoc pre seen left))
 
 past_starts : {P Q : Phrases} {F : Follow} {room : ℕ} {ts us : List Token} (p : Reads P F room ts us) (seen left : List Token) → Starts (Behind seen Q) left → Starts (Behind (p.seen ++ seen) (Then P Q)) left
@@ -317,13 +318,9 @@ in_part Inside true room = refl
 in_part Alone false room = refl
 in_part Alone true room = refl
 
-has_room : (low : Bool) (room : ℕ) → 1 ≤ room → HasRoom (bound_of low room)
-has_room false room h = tt
-has_room true room h = h
-
 pub rule_at : {part : Part} {pre : List Token} {Row P : Phrases} {G F : Follow} {ts : List Token} → Rule part pre Row G P F ts → (room : ℕ) → 1 ≤ room → RuleAt room (room_of part room) pre Row G P F ts
 rule_at {part = part} {Row = Row} r room h = record {
-  make = λ low us k d. r.make (bound_of low room) (has_room low room h) us k (subst (λ z. Row z us k) (sym (in_part part low room)) d);
+  make = λ low us k d. r.make (bound_of low room) (room_here low room h) us k (subst (λ z. Row z us k) (sym (in_part part low room)) d);
   row = λ low us k s d f. subst (λ z. Row z us k) (in_part part low room) (r.parts (bound_of low room) us k s d f).0;
   follow = λ low us k s d f. (r.parts (bound_of low room) us k s d f).1;
 }

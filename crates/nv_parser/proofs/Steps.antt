@@ -7,7 +7,7 @@ use Rattle.nv_parser.specs.declared.cursor.Failure.TheVariants.{NoMemory, Syntax
 use Rattle.std.specs.Borrow.{Bor}
 use Rattle.nv_parser.specs.inner.Failing.{Bound, NoBound, AtMost, bound_of, Phrases, Follow, Phrase, Behind, SameFront, Completes, Starts, Reads, GoesOn, Fails, FailsAs, no_memory, syntax, deep}
 use Rattle.nv_parser.specs.inner.ExprPhrases.{rebound, At, Onward}
-use Rattle.nv_parser.proofs.Sequence.{same_front, same_behind, Fills}
+use Rattle.nv_parser.proofs.Sequence.{same_front, same_behind, Fills, past_split}
 use Rattle.nv_parser.proofs.Frames.{Frame}
 
 -- ---- steps
@@ -22,13 +22,10 @@ pub record Step (pre : List Token) (Row : Phrases) (inner : ℕ) (G : Follow) (P
   pub make : (low : Bool) (us k : List Token) → Row (bound_of low inner) us k → P (bound_of low room) (pre ++ us) k
   pub parts : (low : Bool) (us k : List Token) → SameFront ts us → P (bound_of low room) (pre ++ us) k → F k → Stands Row G (bound_of low inner) us k
 
-joined_split : (pre us seen left ts : List Token) → ts ≡ pre ++ us → us ≡ seen ++ left → ts ≡ (pre ++ seen) ++ left
-joined_split pre us seen left ts e f = e ∙ (ap (λ z. pre ++ z) f ∙ sym (append_assoc pre seen left))
-
 pub step_reads : {pre : List Token} {Row P : Phrases} {G F : Follow} {inner room : ℕ} {us rest : List Token} → Step pre Row inner G P room F us → (ts : List Token) → ts ≡ pre ++ us → Reads Row G inner us rest → Reads P F room ts rest
 step_reads {pre = pre} {us = us} {rest = rest} s ts e d = record {
   seen = pre ++ d.seen;
-  split = joined_split pre us d.seen rest ts e d.split;
+  split = past_split pre us d.seen rest ts e d.split;
   again = λ low k. rw append_assoc (s.make low (d.seen ++ k) k (d.again low k));
   only = λ low vs k h w f.
       let p = s.parts low (d.seen ++ vs) k (same_behind d.seen rest vs us h d.split) (rw append_assoc at w) f in
@@ -57,14 +54,14 @@ pub step_fails : {pre : List Token} {Row P : Phrases} {G F : Follow} {inner room
 step_fails s ts h no_memory = no_memory
 step_fails {pre = pre} {us = us} s ts h (syntax {left = left} d) = syntax (record {
   seen = pre ++ d.seen;
-  split = joined_split pre us d.seen left.now ts h d.split;
+  split = past_split pre us d.seen left.now ts h d.split;
   begins = step_completes true s d.seen d.begins;
   goes_on = tt;
   dead = step_dead false s d.seen left.now d.split d.dead;
 })
 step_fails {pre = pre} {us = us} s ts h (deep {left = left} d) = deep (record {
   seen = pre ++ d.seen;
-  split = joined_split pre us d.seen left.now ts h d.split;
+  split = past_split pre us d.seen left.now ts h d.split;
   begins = step_completes true s d.seen d.begins;
   goes_on = step_starts s d.seen left.now d.goes_on;
   dead = step_dead true s d.seen left.now d.split d.dead;
