@@ -8,9 +8,9 @@ use Rattle.ssu_ir.specs.Slots.{Placed, times_all, weight_all, Slots, occupied, f
 use Rattle.ssu_ir.specs.Build.{Rooted, ids, rooted, rooted_all, Forest, AreDifferentRoots}
 use Rattle.ssu_ir.proofs.Trees.{split, times_all-append, weight_all-append, all_stand_front, all_stand_back}
 
-all_stand_both : (slots : Slots) (a b : List Placed) → AllStand slots a → AllStand slots b → AllStand slots (a ++ b)
-all_stand_both slots [] b h g = g
-all_stand_both slots (p ∷ a) b h g = (h.0, all_stand_both slots a b h.1 g)
+pub all_stand-append : (slots : Slots) (a b : List Placed) → AllStand slots a → AllStand slots b → AllStand slots (a ++ b)
+all_stand-append slots [] b h g = g
+all_stand-append slots (p ∷ a) b h g = (h.0, all_stand-append slots a b h.1 g)
 
 rooted_all-append : (a b : List Placed) → rooted_all (a ++ b) ≡ rooted_all a ++ rooted_all b
 rooted_all-append [] b = refl
@@ -33,8 +33,8 @@ brought slots a b c f =
           ∙ ap (λ l. b ++ (l ++ rooted_all t.back)) s.is_front
           ∙ ap (λ l. b ++ (a ++ l)) t.is_back;
       stand =
-          all_stand_both slots t.front (s.front ++ t.back) (all_stand_front slots t.front t.back later)
-          (all_stand_both slots s.front t.back (all_stand_front slots s.front (t.front ++ t.back) stand) (all_stand_back slots t.front t.back later));
+          all_stand-append slots t.front (s.front ++ t.back) (all_stand_front slots t.front t.back later)
+          (all_stand-append slots s.front t.back (all_stand_front slots s.front (t.front ++ t.back) stand) (all_stand_back slots t.front t.back later));
       once = λ i.
           let all : times_all i (s.front ++ (t.front ++ t.back)) ≡ occupied slots i = ap (times_all i) (sym whole) ∙ f.once i in
           omega (arith, all, times_all-append i s.front (t.front ++ t.back), times_all-append i t.front t.back, times_all-append i t.front (s.front ++ t.back), times_all-append i s.front t.back);

@@ -272,14 +272,6 @@ pub by_passing : (a b g r : Bool) → a ≡ true → r ≡ b → (a && b) ≡ g 
 by_passing true b g r e k h = k ∙ h
 by_passing false b g r e k h = absurd (false≢true e)
 
-pub not-of_true : (a : Bool) → a ≡ true → not a ≡ false
-not-of_true true e = refl
-not-of_true false e = absurd (false≢true e)
-
-pub not-of_false : (a : Bool) → a ≡ false → not a ≡ true
-not-of_false true e = absurd (false≢true (sym e))
-not-of_false false e = refl
-
 -- where what is carried is a list and then perhaps the name itself
 pub gone_name : (a g b h : Bool) → a ≡ false → g ≡ true → (a || (not g && b)) ≡ h → false ≡ h
 gone_name true g b h d e f = absurd (false≢true (sym d))

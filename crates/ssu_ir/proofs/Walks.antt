@@ -13,6 +13,7 @@ use Rattle.ssu_ir.specs.View.{placed_of, with_bodies, labels_view}
 use Rattle.ssu_ir.specs.Work.{nums, tops, Todo}
 use Rattle.ssu_ir.proofs.Trees.{arity}
 use Rattle.ssu_ir.proofs.Reading.{read_in, Below, there_is, below}
+use Rattle.ssu_ir.proofs.Arranged.{all_stand-append}
 
 pub tops_push : (xs : List NodeId) (x : NodeId) → tops (xs ++ x ∷ []) ≡ x.0 ∷ tops xs
 tops_push xs x = ap nums (reverse-append xs (x ∷ []))
@@ -46,10 +47,6 @@ preorder_all-append (p ∷ a) b = ap (λ l. preorder p ++ l) (preorder_all-appen
 pub roots_of-append : (a b : List Placed) → roots_of (a ++ b) ≡ roots_of a ++ roots_of b
 roots_of-append [] b = refl
 roots_of-append (p ∷ a) b = ap (λ l. root p ∷ l) (roots_of-append a b)
-
-pub all_stand-append : (slots : Slots) (a b : List Placed) → AllStand slots a → AllStand slots b → AllStand slots (a ++ b)
-all_stand-append slots [] b h g = g
-all_stand-append slots (p ∷ a) b h g = (h.0, all_stand-append slots a b h.1 g)
 
 -- the work at the start
 abbrev pub todo_start : (slots : Slots) (is : List ℕ) → Formed slots is → Todo slots is
