@@ -266,7 +266,7 @@ entry-formed funs f tab e j t =
     (ap (λ ds. all_different (f.params ++ ds)) (tree-defined tab f.body)
     ∙ different-join f.params (defines f.body) parts.0 (defines-different f.body parts.1) (λ y i. out-inside y (defines f.body) (defined f.body) (defines-defined f.body) (parts.2 y i)))
 
-some-label : (a b : flow.Label) → Some a ≡ Some b → a ≡ b
+pub some-label : (a b : flow.Label) → Some a ≡ Some b → a ≡ b
 some-label a b e = same_Some a b e
 
 -- the label of the flow for the label at an index

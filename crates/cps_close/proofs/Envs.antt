@@ -1,12 +1,13 @@
 -- Environments behind assignments.
-use Rattle.std.proofs.Common.{◌≡◌, ℕ, suc, Bool, true, false, nat_eq, ◌||◌, List, [], ◌∷◌, ◌++◌, refl, sym, ap, subst, ◌∙◌, if◌then◌else◌, length, arith}
-use Rattle.std.proofs.lemmas.Bool.{or_left, or_right, eq-eqb, false≢true}
+use Rattle.std.proofs.Common.{◌≡◌, ℕ, Bool, true, false, nat_eq, ◌||◌, List, [], ◌∷◌, ◌++◌, refl, sym, ap, subst, ◌∙◌, if◌then◌else◌, length, arith}
+use Rattle.std.proofs.lemmas.Bool.{or_right, false≢true}
 use Rattle.nv_base.specs.declared.term.Atom.{Atom}
 use Rattle.nv_base.specs.Words.{Env, assigned, assigned_all, atom_word, atom_words}
 use Rattle.nv_base.specs.Sets.{is_in, AgreeOn}
 use Rattle.nv_base.proofs.Sets.{same-number}
 use Rattle.cps_close.specs.inner.Closed.{operands}
 use Rattle.cps_close.proofs.Ready.{Apart}
+use Rattle.cps_close.proofs.Members.{in-first}
 
 other-at : (b : Bool) (u v : ℕ) → (b ≡ true → ⊥) → u ≡ (if b then v else u)
 other-at true u v h = absurd (h refl)
@@ -16,14 +17,11 @@ other-at false u v h = refl
 pub unassigned : (known : List ℕ) (env : Env) (x w : ℕ) → is_in x known ≡ false → AgreeOn known env (assigned env x w)
 unassigned known env x w out = λ y e. other-at (nat_eq y x) (env y) w (λ s. false≢true (sym out ∙ subst (λ z. is_in z known ≡ true) (same-number y x s) e))
 
-first-in : (x : ℕ) (xs : List ℕ) → is_in x (x ∷ xs) ≡ true
-first-in x xs = or_left (nat_eq x x) (is_in x xs) (eq-eqb x x refl)
-
 rest-apart : (x : ℕ) (xs known : List ℕ) → Apart (x ∷ xs) known → Apart xs known
 rest-apart x xs known h = λ y e. h y (or_right (nat_eq y x) (is_in y xs) e)
 
 first-apart : (x : ℕ) (xs known : List ℕ) → Apart (x ∷ xs) known → is_in x known ≡ false
-first-apart x xs known h = h x (first-in x xs)
+first-apart x xs known h = h x (in-first x xs)
 
 pub unassigned-all : (xs ws known : List ℕ) (env : Env) → Apart xs known → AgreeOn known env (assigned_all env xs ws)
 unassigned-all [] ws known env h = λ y e. refl
@@ -54,7 +52,3 @@ assigned-operands (v ∷ vs) env now y =
 pub words-append : (env : Env) (as' bs : List Atom) → atom_words env (as' ++ bs) ≡ atom_words env as' ++ atom_words env bs
 words-append env [] bs = refl
 words-append env (a ∷ as') bs = ap (λ ws. atom_word env a ∷ ws) (words-append env as' bs)
-
-pub length-words : (env : Env) (as' : List Atom) → length (atom_words env as') ≡ length as'
-length-words env [] = refl
-length-words env (a ∷ as') = ap suc (length-words env as')

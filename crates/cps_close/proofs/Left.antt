@@ -3,7 +3,7 @@ use Rattle.std.proofs.Common.{◌≡◌, ℕ, zero, suc, ◌+◌, ◌<◌, ◌�
 use Rattle.std.specs.List.{list_all}
 use Rattle.std.proofs.lemmas.Bool.{and_parts, and_from, cases_eq, not-true, false≢true}
 use Rattle.std.proofs.lemmas.Bool.Decides.{nat_tests}
-use Rattle.std.proofs.lemmas.Option.{none-some, same_Some}
+use Rattle.std.proofs.lemmas.Option.{none-some, same_Some, slice_get_within}
 use Rattle.nv_base.specs.Memories.{Memories}
 use Rattle.nv_base.specs.Meanings.{FullOutcome}
 use Rattle.nv_base.specs.Measures.{Bulk, IsAtMost, nothing, both, a_label, a_node, let_wide, operands_wide, entry_wide}
@@ -98,11 +98,6 @@ entry-at : (o : Option Label) → is_entry o ≡ true → (x : Label) × (o ≡ 
 entry-at (Some x) e = (x, refl)
 entry-at None e = absurd (false≢true e)
 
-within : (gs : List Label) (l : ℕ) (x : Label) → slice_get gs l ≡ Some x → l < length gs
-within [] l x e = absurd (none-some x e)
-within (g ∷ gs) zero x e = omega arith
-within (g ∷ gs) (suc l) x e = let lt : l < length gs = within gs l x e in omega arith
-
 test-at : (test : Label → Bool) (gs : List Label) (l : ℕ) (x : Label) → list_all test gs ≡ true → slice_get gs l ≡ Some x → test x ≡ true
 test-at test [] l x h e = absurd (none-some x e)
 test-at test (g ∷ gs) zero x h e = let same : g ≡ x = same_Some g x e in subst (λ z. test z ≡ true) same (and_parts (test g) (list_all test gs) h).0
@@ -193,7 +188,7 @@ fourth a b c d e = (and_parts c d (and_parts b (c && d) (and_parts a (b && (c &&
 module _ (out : List Bool) (to : ℕ → ℕ) (ls : List Label) (formed : is_flow ls ≡ true) (first : is_out out 0 ≡ false) (closed : all_go_on out 0 ls ≡ true) (ranked : (i : ℕ) → i < length ls → to i ≡ rank out i) where
   found : (l : ℕ) (x : Label) → slice_get ls l ≡ Some x → is_out out l ≡ false → slice_get (left out to 0 ls) (to l) ≡ Some (relabelled to x)
   found l x e stays =
-      let r : to l ≡ rank out l = ranked l (within ls l x e) in
+      let r : to l ≡ rank out l = ranked l (slice_get_within ls l x e) in
       let none : rank out 0 ≡ 0 = refl in
       left-at out to ls 0 l l (to l) x e (omega arith) stays (omega (arith, r, none))
 
@@ -205,7 +200,7 @@ module _ (out : List Bool) (to : ℕ → ℕ) (ls : List Label) (formed : is_flo
   entry = entry-at (slice_get ls 0) (and_parts (list_all (is_label ls) ls) (is_entry (slice_get ls 0)) formed).1
 
   to-first : to 0 ≡ 0
-  to-first = ranked 0 (within ls 0 entry.0 entry.1)
+  to-first = ranked 0 (slice_get_within ls 0 entry.0 entry.1)
 
   found-first : slice_get (left out to 0 ls) 0 ≡ Some (relabelled to entry.0)
   found-first = ap (slice_get (left out to 0 ls)) (sym to-first) ∙ found 0 entry.0 entry.1 first
@@ -257,7 +252,7 @@ module _ (out : List Bool) (to : ℕ → ℕ) (ls : List Label) (formed : is_flo
 
   to-positive : (l : ℕ) (x : Label) → slice_get ls l ≡ Some x → nat_le 1 l ≡ true → nat_le 1 (to l) ≡ true
   to-positive l x e le =
-      let r : to l ≡ rank out l = ranked l (within ls l x e) in
+      let r : to l ≡ rank out l = ranked l (slice_get_within ls l x e) in
       let one : rank out 1 ≡ 1 = rank-in out 0 first in
       let more : rank out 1 ≤ rank out l = rank-more out l 1 (grind (arith, nat_tests)) in
       let least : 1 ≤ to l = omega (arith, r, one, more) in

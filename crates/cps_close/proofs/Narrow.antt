@@ -1,13 +1,13 @@
 -- A flow is at most as wide as its function. A jump's words are as many as its label's parameters, so where the label begins is as wide.
-use Rattle.std.proofs.Common.{◌≡◌, ℕ, zero, suc, ◌+◌, ◌≤◌, max, Bool, true, false, nat_eq, ◌==◌, List, [], ◌∷◌, ◌++◌, Option, Some, refl, sym, ap, subst, ◌∙◌, if◌then◌else◌, length, length-append, slice_get, arith}
-use Rattle.std.proofs.lemmas.Bool.{eq-eqb, eqb-true, false≢true}
-use Rattle.std.proofs.lemmas.Option.{none-some, same_Some}
+use Rattle.std.proofs.Common.{◌≡◌, ℕ, zero, suc, ◌+◌, ◌≤◌, max, Bool, true, false, nat_eq, List, [], ◌∷◌, ◌++◌, Option, Some, refl, sym, subst, ◌∙◌, if◌then◌else◌, length, length-append, slice_get, arith}
+use Rattle.std.proofs.lemmas.Bool.{eqb-true, false≢true}
 use Rattle.nv_base.specs.declared.term.Atom.{Atom}
 use Rattle.nv_base.specs.Words.{prim_vars}
 use Rattle.nv_base.specs.Sets.{without, different, Within}
 use Rattle.nv_base.specs.Measures.{operands_wide, let_wide, entry_wide, Widths}
 use Rattle.nv_base.proofs.Sets.{same-number, different-below, different-all, within-behind_same, within-without_same, within-both}
 use Rattle.nv_base.proofs.Measures.{operands-more, let-more}
+use Rattle.cps_ir.proofs.Widths.{greatest-of}
 use Rattle.cps_ir.specs.Term.{Term, Let, Read, Write, If, Fix, Call, Return, Throw, Jump, Halt, Labels, none, label, Fun}
 use Rattle.cps_ir.specs.View.{Seen}
 use Rattle.cps_ir.specs.Formed.{Scoped, scoped, arity, takes, takes_as_many, is_function}
@@ -23,7 +23,7 @@ use Rattle.cps_close.proofs.Places.{Setting, Place, Places, let-place, read-plac
 use Rattle.cps_close.proofs.Settles.{Settled, AllSettled, jump-takes, live-wanted}
 use Rattle.cps_close.proofs.Tables.{closed-from}
 use Rattle.cps_close.proofs.Reached.{setting, place-of, kept-reached, all-settled}
-use Rattle.cps_close.proofs.Closes.{AllSeen, seen-join, seen-at, length-operands, closed-wanted}
+use Rattle.cps_close.proofs.Closes.{AllSeen, seen-join, seen-at, length-operands, closed-wanted, some-label}
 
 -- ---- the greatest of two
 
@@ -38,9 +38,6 @@ max-second a b m h = omega arith
 
 at-most : (a b m : ℕ) → a ≤ b → b ≤ m → a ≤ m
 at-most a b m h g = omega arith
-
-max-right : (a b : ℕ) → b ≤ max a b
-max-right a b = omega arith
 
 -- ---- jumps
 
@@ -185,9 +182,6 @@ wide-at : (ls : List flow.Label) (m : ℕ) → ((i : ℕ) (l : flow.Label) → s
 wide-at [] m h = omega arith
 wide-at (l ∷ ls) m h = max-both (label_wide l) (behind.wide ls) m (h 0 l refl) (wide-at ls m (λ i k e. h (suc i) k e))
 
-some-label : (a b : flow.Label) → Some a ≡ Some b → a ≡ b
-some-label a b e = same_Some a b e
-
 no-entries : (tab : Table) (m : ℕ) → Entries tab [] m
 no-entries tab m l k e = absurd (false≢true e)
 
@@ -212,22 +206,10 @@ flow-at funs w f tab e j t (suc i) l q =
     let same : with_wanted tab from.0 (wanted tab from.0.label) ≡ l = some-label (with_wanted tab from.0 (wanted tab from.0.label)) l (sym here ∙ q) in
     subst (λ z. label_wide z ≤ function_wide funs w f) same one.by
 
-if-least : (b : Bool) (a c r m : ℕ) → b ≡ true → a ≤ c → a ≤ max (if b then c else 0) r
-if-least true a c r m e h = omega arith
-if-least false a c r m e h = absurd (false≢true e)
-
-greatest-has : (funs : List Fun) (w : Widths) (fs : List Fun) (i : ℕ) (f : Fun) → slice_get fs i ≡ Some f → function_wide funs w f ≤ greatest_wide funs w f.group fs
-greatest-has funs w [] i f e = absurd (none-some f e)
-greatest-has funs w (g ∷ fs) zero f e =
-    let same : g ≡ f = same_Some g f e in
-    let here : function_wide funs w f ≤ function_wide funs w g = subst (λ z. function_wide funs w z ≤ function_wide funs w g) same (let r : function_wide funs w g ≤ function_wide funs w g = omega arith in r) in
-    if-least (g.group == f.group) (function_wide funs w f) (function_wide funs w g) (greatest_wide funs w f.group fs) 0 (eq-eqb g.group f.group (ap (λ (z : Fun). z.group) same)) here
-greatest-has funs w (g ∷ fs) (suc i) f e = let rest = greatest-has funs w fs i f e in at-most (function_wide funs w f) (greatest_wide funs w f.group fs) (max (if g.group == f.group then function_wide funs w g else 0) (greatest_wide funs w f.group fs)) rest (max-right (if g.group == f.group then function_wide funs w g else 0) (greatest_wide funs w f.group fs))
-
 -- the flow of a program's main function is at most as wide as the program
 pub flow-narrow : (funs : List Fun) (main : ℕ) (f : Fun) (tab : Table) → slice_get funs main ≡ Some f → is_function funs f ≡ true → only_jumps f.body ≡ true → IsTable (labels_in f.body) tab → behind.wide (closed tab f) ≤ before.wide funs main
 flow-narrow funs main f tab here e j t =
     let w = widths_within funs f.group in
     let le : behind.wide (closed tab f) ≤ function_wide funs (widths_within funs f.group) f = wide-at (closed tab f) (function_wide funs (widths_within funs f.group) f) (flow-at funs (widths_within funs f.group) f tab e j t) in
     subst (λ o. behind.wide (closed tab f) ≤ main_wide funs o) (sym here)
-    (at-most (behind.wide (closed tab f)) (function_wide funs (widths_within funs f.group) f) (greatest_wide funs (widths_within funs f.group) f.group funs) le (greatest-has funs (widths_within funs f.group) funs main f here))
+    (at-most (behind.wide (closed tab f)) (function_wide funs (widths_within funs f.group) f) (greatest_wide funs (widths_within funs f.group) f.group funs) le (greatest-of funs (widths_within funs f.group) funs main f here))

@@ -24,9 +24,6 @@ in-one y x us e = or_left (nat_eq y x) (is_in y us) e
 out-one : (y x : ℕ) → (nat_eq y x ≡ true → ⊥) → is_in y (x ∷ []) ≡ false
 out-one y x h = or_from (nat_eq y x) false (false_from_ne_true (nat_eq y x) h) refl
 
-some-same : (c d : Seen) → Some c ≡ Some d → c ≡ d
-some-same c d e = same_Some c d e
-
 joins : (b : Bool) (ws : List ℕ) (x y : ℕ) (gone : List ℕ) → is_in x (gone ++ ws) ≡ b → is_in y (if b then ws else ws ++ x ∷ []) ≡ true → (is_in y ws ≡ true → ⊥) → (nat_eq y x ≡ true) × (is_in x gone ≡ false)
 joins true ws x y gone i e h = absurd (h e)
 joins false ws x y gone i e h = either y ws (x ∷ []) e (λ q. absurd (h q)) (λ q. first-or-rest y x [] q (λ r. (r, (out-both x gone ws i).0)) (λ r. absurd (false≢true r)))
@@ -205,7 +202,7 @@ kept-step funs f tab i c e j at k =
       neat = λ n b there.
           set-any (λ ws. Neat (bound b) ws) tab.lists i n v (k.neat n b there)
           (λ (q : i ≡ n).
-          let same : c ≡ b = some-same c b (sym at ∙ ap (slice_get cs) q ∙ there) in
+          let same : c ≡ b = same_Some c b (sym at ∙ ap (slice_get cs) q ∙ there) in
           subst (λ (z : Seen). Neat (bound z) v) same (noted-neat (bound c) (used tab c.body) (or_nothing (slice_get tab.lists i)) (k.neat i c at)));
       least =
           everywhere-join (Least tab) (Uses tab) (Least (step tab c i)) cs
@@ -214,7 +211,7 @@ kept-step funs f tab i c e j at k =
           let now : Within (or_nothing (slice_get (slice_set tab.lists i v) there.0)) held =
           set-any (λ ws. Within ws held) tab.lists i there.0 v was
           (λ (q : i ≡ there.0).
-          let same : b ≡ c = some-same b c (sym there.1 ∙ ap (slice_get cs) (sym q) ∙ at) in
+          let same : b ≡ c = same_Some b c (sym there.1 ∙ ap (slice_get cs) (sym q) ∙ at) in
           λ x m.
           noted-from (bound c) (used tab c.body) (or_nothing (slice_get tab.lists i)) x (is_in x held ≡ true) m
           (λ r. was x (subst (λ n. is_in x (or_nothing (slice_get tab.lists n)) ≡ true) q r))

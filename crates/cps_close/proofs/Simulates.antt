@@ -1,6 +1,6 @@
 -- A closed term does what the term does, at each number of jumps.
 use Rattle.std.proofs.Common.{◌≡◌, ℕ, zero, suc, Bool, true, false, nat_eq, List, [], ◌∷◌, ◌++◌, Option, Some, None, refl, sym, ap, subst, ◌∙◌, ⊎_elim, if◌then◌else◌, length, slice_get}
-use Rattle.std.proofs.lemmas.Bool.{or_cases, or_right, false≢true, eqb-true}
+use Rattle.std.proofs.lemmas.Bool.{or_cases, false≢true, eqb-true}
 use Rattle.std.proofs.lemmas.Option.{none-some, same_Some}
 use Rattle.nv_base.specs.Memories.{Memories}
 use Rattle.nv_base.specs.Meanings.{FullOutcome}
@@ -9,7 +9,8 @@ use Rattle.nv_base.specs.World.{World, begun, over, ended, read_words, write_wor
 use Rattle.nv_base.specs.Sets.{is_in, all_vars, without, Within, AgreeOn}
 use Rattle.nv_base.proofs.Kept.{IsKept, kept-read, kept-write, kept-if}
 use Rattle.nv_base.proofs.Operands.{atom-same, atoms-same, prim-same}
-use Rattle.nv_base.proofs.Sets.{same-number, in-append, agree-left, agree-right, agree-behind, agree-all, within-left}
+use Rattle.nv_base.proofs.Sets.{same-number, in-append, agree-left, agree-right, agree-behind, agree-all, within-left, within-right}
+use Rattle.nv_base.proofs.WordLemmas.{length-words}
 use Rattle.cps_ir.specs.Term as cps
 use Rattle.cps_ir.specs.View.{Seen}
 use Rattle.cps_ir.specs.Formed.{Scoped, scoped, arity, takes, takes_as_many}
@@ -21,7 +22,7 @@ use Rattle.flow_ir.specs.Meaning.{flow_meaning}
 use Rattle.flow_ir.specs.Meaning as flow_run
 use Rattle.cps_close.specs.inner.Closed.{Table, wanted, number, operands, tree_of}
 use Rattle.cps_close.proofs.Ready.{Apart, LabelReady, Ready, AllReady, Along}
-use Rattle.cps_close.proofs.Envs.{unassigned, unassigned-all, assigned-append, assigned-operands, words-append, length-words}
+use Rattle.cps_close.proofs.Envs.{unassigned, unassigned-all, assigned-append, assigned-operands, words-append}
 
 -- ---- labels in scope
 
@@ -74,23 +75,20 @@ abbrev pub Follows : List flow.Label → Table → cps_run.Next → flow_run.Nex
 Follows labels tab f g = (l : ℕ) (ws : List ℕ) (sc : Scope) (fr : Frames) (w : World) (ss : Scoped) (known : List ℕ) (env : Env) → Along labels tab sc ss known env → takes ss l (length ws) ≡ true
     → f (ToLabel l ws sc fr) w ≡ g (number tab l) (ws ++ atom_words env (operands (wanted tab l))) w
 
-within-more : (xs known : List ℕ) → Within known (xs ++ known)
-within-more xs known = λ y e. in-append y xs known ∙ or_right (is_in y xs) (is_in y known) e
-
 module _ (labels : List flow.Label) (tab : Table) (f : cps_run.Next) (g : flow_run.Next) (h : Follows labels tab f g) where
   pub does-same : (t : cps.Term) (env env' : Env) (sc : Scope) (fr : Frames) (ss : Scoped) (known : List ℕ) (w : World) → Ready labels tab ss known t → Along labels tab sc ss known env → AgreeOn (live (tree_of tab t)) env env'
       → cps_run.does f t env sc fr w ≡ flow_run.does g (tree_of tab t) env' w
   does-same (cps.Let x a t) env env' sc fr ss known w r along q =
       let v = prim_word env a in
       does-same t (assigned env x v) (assigned env' x v) sc fr ss (x ∷ known) w r.1
-      (along-more labels tab sc ss known (x ∷ known) env (assigned env x v) (within-more (x ∷ []) known) (unassigned known env x v r.0) along)
+      (along-more labels tab sc ss known (x ∷ known) env (assigned env x v) (within-right (x ∷ []) known) (unassigned known env x v r.0) along)
       (agree-behind (live (tree_of tab t)) (x ∷ []) (v ∷ []) env env' (agree-right (prim_vars a) (without (live (tree_of tab t)) (x ∷ [])) env env' q))
       ∙ ap (λ u. flow_run.does g (tree_of tab t) (assigned env' x u) w) (prim-same env env' a (agree-left (prim_vars a) (without (live (tree_of tab t)) (x ∷ [])) env env' q))
   does-same (cps.Read m xs a t) env env' sc fr ss known w r along q =
       kept-read Equal equal-kept m (atom_word env a) (length xs) w (λ ws. cps_run.does f t (assigned_all env xs ws) sc fr w) (λ ws. flow_run.does g (tree_of tab t) (assigned_all env' xs ws) w)
       (λ ws.
       does-same t (assigned_all env xs ws) (assigned_all env' xs ws) sc fr ss (xs ++ known) w r.1
-      (along-more labels tab sc ss known (xs ++ known) env (assigned_all env xs ws) (within-more xs known) (unassigned-all xs ws known env r.0) along)
+      (along-more labels tab sc ss known (xs ++ known) env (assigned_all env xs ws) (within-right xs known) (unassigned-all xs ws known env r.0) along)
       (agree-behind (live (tree_of tab t)) xs ws env env' (agree-right (atom_vars a) (without (live (tree_of tab t)) xs) env env' q)))
       ∙ ap (λ at. read_words m at (length xs) w (λ ws. flow_run.does g (tree_of tab t) (assigned_all env' xs ws) w)) (atom-same env env' a (agree-left (atom_vars a) (without (live (tree_of tab t)) xs) env env' q))
   does-same (cps.Write m a bs t) env env' sc fr ss known w r along q =
@@ -157,7 +155,7 @@ module _ (labels : List flow.Label) (tab : Table) (f : cps_run.Next) (g : flow_r
       let n : length b.params ≡ length ws = as-many (length ws) b (arity l outer) (subst (λ o. takes_as_many (length ws) o ≡ true) (arity-in ls l outer (Some b) e) many) in
       let apart : Apart b.params before = both.0.apart in
       at-label (record { label = l; params = b.params; body = b.term }) ls ws before inner now sc fr (scoped ls ++ outer) w both.0 both.1
-      (outer, before, record { scopes = refl; ready = ready; within = within-more b.params before; agrees = unassigned-all b.params ws before inner apart }, along) n q
+      (outer, before, record { scopes = refl; ready = ready; within = within-right b.params before; agrees = unassigned-all b.params ws before inner apart }, along) n q
   enter-at None sc ls inner l ws fr w outer before now e ready along q many next = next (subst (λ o. takes_as_many (length ws) o ≡ true) (arity-in ls l outer None e) many)
 
   pub enter-same : (sc : Scope) (l : ℕ) (ws : List ℕ) (fr : Frames) (w : World) (ss : Scoped) (known : List ℕ) (env now : Env) → Along labels tab sc ss known env → AgreeOn known env now → takes ss l (length ws) ≡ true

@@ -1,7 +1,7 @@
 -- What the loops of the code do, one step at a time.
 use Rattle.std.proofs.Common.{◌≡◌, ℕ, zero, suc, ◌+◌, ◌<◌, ◌≤◌, Bool, true, false, nat_eq, ◌==◌, ◌&&◌, List, [], ◌∷◌, ◌++◌, Option, Some, None, refl, sym, ap, subst, ◌∙◌, ⊎_elim, if◌then◌else◌, length, length-append, slice_get, slice_set, append_assoc, append-nil, arith}
 use Rattle.std.proofs.lemmas.Bool.{and_parts, cases_lt, eqb-true}
-use Rattle.std.proofs.lemmas.Option.{none-some, same_Some}
+use Rattle.std.proofs.lemmas.Option.{same_Some, slice_get_within}
 use Rattle.nv_base.specs.declared.term.Atom.{Atom}
 use Rattle.nv_base.specs.Words.{atom_vars, prim_vars}
 use Rattle.nv_base.specs.Sets.{is_in, all_vars}
@@ -128,11 +128,5 @@ swept-step cs tab next same kept c i at is k s = record {
       λ j lt. subst (λ t. IsStill cs t j) back (still-at cs tab c i j at n lt (s.still parts.0));
 }
 
--- past the end there is no label
-past : (cs : List Seen) (i : ℕ) (c : Seen) → slice_get cs i ≡ Some c → i < length cs
-past [] i c e = absurd (none-some c e)
-past (d ∷ cs) zero c e = omega arith
-past (d ∷ cs) (suc i) c e = let h = past cs i c e in omega arith
-
 pub swept-all : (cs : List Seen) (tab : Table) (same : Bool) → Swept cs tab same (length cs) → same ≡ true → (i : ℕ) → IsStill cs tab i
-swept-all cs tab same s e i c at = s.still e i (past cs i c at) c at
+swept-all cs tab same s e i c at = s.still e i (slice_get_within cs i c at) c at

@@ -4,7 +4,7 @@ use Rattle.std.proofs.lemmas.Bool.{and_parts, false≢true}
 use Rattle.nv_base.specs.Words.{atom_vars, prim_vars}
 use Rattle.nv_base.specs.Sets.{without, all_vars, Within}
 use Rattle.nv_base.specs.Access.{is_known, all_known, is_primitive, can_move, is_address}
-use Rattle.nv_base.proofs.Sets.{within-both, within-without}
+use Rattle.nv_base.proofs.Sets.{within-both, within-without, within-left}
 use Rattle.nv_base.proofs.Operands.{atom-known, atoms-known, prim-known}
 use Rattle.cps_ir.specs.Term.{Term, Let, Read, Write, If, Fix, Call, Return, Throw, Jump, Halt, Labels, none, label, Fun}
 use Rattle.cps_ir.specs.Callless.{only_jumps, labels_only_jump}
@@ -22,9 +22,6 @@ pub with-more : (ls : Labels) (phi phi' : Wants) (vs vs' extra : List ℕ) → (
 with-more none phi phi' vs vs' extra h g m = h m
 with-more (label l xs t ls) phi phi' vs vs' extra h g m = with-more-at (nat_eq l m) m (with_wants phi ls vs m) vs (with_wants phi' ls vs' m) vs' extra g (with-more ls phi phi' vs vs' extra h g m)
 
-same-more : (a extra : List ℕ) → Within a (a ++ extra)
-same-more a extra = λ x e. in-left x a extra e
-
 mutual
   pub wants-more : (t : Term) (phi phi' : Wants) (extra : List ℕ) → only_jumps t ≡ true → ((m : ℕ) → Within (phi' m) (phi m ++ extra)) → Within (wants phi' t) (wants phi t ++ extra)
   wants-more (Let x a t) phi phi' extra j h = front-more (prim_vars a) (without (wants phi t) (x ∷ [])) (without (wants phi' t) (x ∷ [])) extra (gone-more (x ∷ []) (wants phi t) (wants phi' t) extra (wants-more t phi phi' extra j h))
@@ -40,10 +37,10 @@ mutual
       wants-more t (inside phi ls) (inside phi' ls) extra parts.1
       (with-more ls phi phi' (labels_want (with_wants phi ls []) ls) (labels_want (with_wants phi' ls []) ls) extra h (labels-want-more ls (with_wants phi ls []) (with_wants phi' ls []) extra parts.0 first))
   wants-more (Call f bs k hs) phi phi' extra j h = absurd (false≢true j)
-  wants-more (Return bs) phi phi' extra j h = same-more (all_vars bs) extra
-  wants-more (Throw e bs) phi phi' extra j h = same-more (all_vars bs) extra
+  wants-more (Return bs) phi phi' extra j h = within-left (all_vars bs) extra
+  wants-more (Throw e bs) phi phi' extra j h = within-left (all_vars bs) extra
   wants-more (Jump l bs) phi phi' extra j h = front-more (all_vars bs) (phi l) (phi' l) extra (h l)
-  wants-more (Halt e bs) phi phi' extra j h = same-more (all_vars bs) extra
+  wants-more (Halt e bs) phi phi' extra j h = within-left (all_vars bs) extra
 
   pub labels-want-more : (ls : Labels) (phi phi' : Wants) (extra : List ℕ) → labels_only_jump ls ≡ true → ((m : ℕ) → Within (phi' m) (phi m ++ extra)) → Within (labels_want phi' ls) (labels_want phi ls ++ extra)
   labels-want-more none phi phi' extra j h = λ x e. absurd (false≢true e)

@@ -65,11 +65,11 @@ first-at : (b : Bool) (m r : ℕ) → b ≡ true → m ≤ max (if b then m else
 first-at true m r e = omega arith
 first-at false m r e = cc
 
-rest-at : (m n r : ℕ) → m ≤ r → m ≤ max n r
+pub rest-at : (m n r : ℕ) → m ≤ r → m ≤ max n r
 rest-at m n r le = omega arith
 
 -- a function of the group is at most as wide as the greatest
-greatest-of : (funs : List Fun) (v : Widths) (fs : List Fun) (i : ℕ) (f : Fun) → slice_get fs i ≡ Some f → function_wide funs v f ≤ greatest_wide funs v f.group fs
+pub greatest-of : (funs : List Fun) (v : Widths) (fs : List Fun) (i : ℕ) (f : Fun) → slice_get fs i ≡ Some f → function_wide funs v f ≤ greatest_wide funs v f.group fs
 greatest-of funs v [] i f s = cc
 greatest-of funs v (g ∷ fs) zero f s =
     let same : g ≡ f = cc in

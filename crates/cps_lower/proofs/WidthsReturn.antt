@@ -1,11 +1,12 @@
 -- The label that returns the words of last calls: it wants nothing, and is at most as wide as any of these calls.
-use Rattle.std.proofs.Common.{◌≡◌, ℕ, zero, suc, ◌+◌, ◌≤◌, max, Bool, true, false, nat_le, nat_lt, ◌==◌, ◌&&◌, List, [], ◌∷◌, ◌++◌, length, Option, Some, None, slice_get, if◌then◌else◌, refl, sym, ap, subst, ⊎_elim, arith}
+use Rattle.std.proofs.Common.{◌≡◌, ℕ, ◌+◌, ◌≤◌, max, Bool, true, false, nat_le, nat_lt, ◌==◌, ◌&&◌, List, [], ◌∷◌, ◌++◌, length, Option, Some, None, slice_get, if◌then◌else◌, refl, sym, ap, subst, ⊎_elim, arith}
 use Rattle.std.proofs.lemmas.Bool.{and_parts, or_cases, eqb-true, false≢true}
 use Rattle.nv_base.specs.declared.term.Atom.{Atom}
 use Rattle.nv_base.specs.Access.{is_known, all_known, is_primitive, can_move, is_address}
 use Rattle.nv_base.specs.Sets.{different, without, all_vars}
 use Rattle.nv_base.specs.Measures.{operands_wide, entry_wide, Widths}
 use Rattle.nv_base.proofs.Sets.{different-below}
+use Rattle.cps_ir.proofs.Widths.{rest-at}
 use Rattle.flat_ir.specs.declared.flat.Flat.{Flat}
 use Rattle.flat_ir.specs.declared.flat.Flat.TheVariants.{Let', Fetch', Store', If', Bind', Call, Raise, Try', Give}
 use Rattle.flat_ir.specs.declared.flat.FlatFun.{FlatFun}
@@ -15,20 +16,13 @@ use Rattle.cps_ir.specs.Term.{Fun}
 use Rattle.cps_ir.specs.Wide.{Wants, labels_want, labels_wide}
 use Rattle.cps_lower.specs.inner.Lowered.{is_earlier, hands_on, variables, operands, returning}
 use Rattle.cps_lower.proofs.WidthsSets.{IsWithin, within-both, within-nil, within-none}
+use Rattle.cps_lower.proofs.Returning.{length-operands, length-variables}
 
 -- ---- the label
 
 operands-vars : (xs : List ℕ) → all_vars (operands xs) ≡ xs
 operands-vars [] = refl
 operands-vars (x ∷ xs) = ap (λ l. x ∷ l) (operands-vars xs)
-
-operands-length : (xs : List ℕ) → length (operands xs) ≡ length xs
-operands-length [] = refl
-operands-length (x ∷ xs) = ap suc (operands-length xs)
-
-variables-length : (i m : ℕ) → length (variables i m) ≡ m
-variables-length i zero = refl
-variables-length i (suc m) = ap suc (variables-length (i + 1) m)
 
 pub returning-wants : (phi : Wants) (xs : List ℕ) → IsWithin (labels_want phi (returning xs)) []
 returning-wants phi xs = within-both (subst (λ l. IsWithin (without l xs) []) (sym (operands-vars xs)) (within-none xs)) (within-nil [])
@@ -43,17 +37,14 @@ label-at d n r x y = omega arith
 pub returning-wide : (funs : List Fun) (w : Widths) (own : ℕ) (phi : Wants) (held : List ℕ) (i m : ℕ) → IsWithin held [] → labels_wide funs w own phi held (returning (variables i m)) ≤ m + 1
 returning-wide funs w own phi held i m h =
     let xs = variables i m in
-    let many : length xs ≡ m = variables-length i m in
-    let words : length (operands xs) ≡ length xs = operands-length xs in
+    let many : length xs ≡ m = length-variables i m in
+    let words : length (operands xs) ≡ length xs = length-operands xs in
     let ret : operands_wide [] (operands xs) ≤ length (operands xs) + 1 = return-wide (operands xs) in
     let ret' : operands_wide [] (operands xs) ≤ length xs + 1 = subst (λ k. operands_wide [] (operands xs) ≤ k + 1) words ret in
     let all : max (max (different held + (length xs + 1)) (operands_wide [] (operands xs))) 0 ≤ length xs + 1 = label-at (different held) (length xs) (operands_wide [] (operands xs)) (different-below held [] h.has) ret' in
     subst (λ k. max (max (different held + (length xs + 1)) (operands_wide [] (operands xs))) 0 ≤ k + 1) many all
 
 -- ---- any last call of an earlier group counts the words that come back
-
-rest-at : (m n r : ℕ) → m ≤ r → m ≤ max n r
-rest-at m n r le = omega arith
 
 first-at : (m n r : ℕ) → m ≤ n → m ≤ max n r
 first-at m n r le = omega arith

@@ -28,7 +28,7 @@ use Rattle.cps_rules.proofs.Means.{AreOwn, own_more, own_var, own_list}
 use Rattle.cps_rules.proofs.Members.{either, in-left, in-right, in-first, in-rest, in-not-out, out-both, stayed}
 use Rattle.cps_rules.proofs.Renaming.{image_known, prim_image, atom_alike, all_alike, prim_alike, AllSound, answered_uses}
 use Rattle.cps_rules.proofs.Scopes.{not_same, fits_apart, fits_uses, uses_live}
-use Rattle.cps_rules.proofs.Way.{alike, fewer_defined, live_image}
+use Rattle.cps_rules.proofs.Way.{alike, fewer_defined, live_image, not_in}
 
 -- ρ says of all that a tree doesn't define what τ says
 abbrev pub Outside : Tree → Names → Names → Type 0
@@ -68,18 +68,15 @@ on_start A t σ M scoped = record {
   used = λ S v h k. k;
 }
 
-still_out : (y : ℕ) (a b : List ℕ) → Within a b → is_in y b ≡ false → is_in y a ≡ false
-still_out y a b h e = false_from_ne_true (is_in y a) (λ i. in-not-out y b (h y i) e)
-
 pub on_push : {A : Answers} {whole : Tree} {σ0 : Names} {M0 : Set} {cur : Tree} {σ : Names} {M : Set} {ss : List Step} (rest : Tree) (τ : Names) (N : Set) (s : Step) (ss' : List Step) → On A whole σ0 M0 cur σ M ss → Goes A cur rest σ τ M N s → ss' ≡ ss ++ s ∷ [] → On A whole σ0 M0 rest τ N ss'
 on_push {A} {whole} {σ0} {M0} {cur} {σ} {M} {ss} rest τ N s ss' on goes e = record {
   scoped = goes.scoped;
   within = λ y i. on.within y (goes.within y i);
-  named = λ y i. goes.named y (still_out y (defined cur) (defined whole) on.within i) ∙ on.named y i;
+  named = λ y i. goes.named y (not_in y (defined cur) (defined whole) on.within i) ∙ on.named y i;
   down =
       λ ρ o S v h.
       subst (Simplified A ρ whole) (sym (kept_last S ss ss' s v e))
-      (on.down ρ (λ y i. o y (still_out y (defined rest) (defined cur) goes.within i) ∙ goes.named y i) S (kept_one S s v) (goes.one ρ o S v h));
+      (on.down ρ (λ y i. o y (not_in y (defined rest) (defined cur) goes.within i) ∙ goes.named y i) S (kept_one S s v) (goes.one ρ o S v h));
   firsts = subst (AreFirsts N) (sym e) (firsts_push N ss s (firsts_more M N ss goes.marks on.firsts) goes.first);
   marks = λ y i. goes.marks y (on.marks y i);
   grown =
@@ -131,7 +128,7 @@ on_same {A} {whole} {σ0} {M0} {x} {p} {rest} {σ} {M} {ss} sound τ a ss' on an
           let_scoped a on.scoped named
           (λ y i. in-rest y x on.scoped.known (image_known σ (prim_vars p) on.scoped.known on.scoped.fits.0 on.scoped.own y (prim_image σ p y (answered_uses A sound (prim_renamed σ p) (Same a) answered y i))));
       within = λ y i. on.within y (in-rest y x (defined rest) i);
-      named = λ y i. named_other named y (or_parts (nat_eq y x) (is_in y (defined rest)) (still_out y (x ∷ defined rest) (defined whole) on.within i)).0 ∙ on.named y i;
+      named = λ y i. named_other named y (or_parts (nat_eq y x) (is_in y (defined rest)) (not_in y (x ∷ defined rest) (defined whole) on.within i)).0 ∙ on.named y i;
       down =
           λ ρ o S v h.
           on.down ρ (λ y i. let parts = or_parts (nat_eq y x) (is_in y (defined rest)) i in o y parts.1 ∙ named_other named y parts.0) S v

@@ -36,9 +36,6 @@ made_kept a b c m n k first e second = keeps-trans a b c m n k first (equal_kept
 
 -- ---- bounds grow with width and bulk
 
-pub at_most : (a b c : ℕ) → a ≤ b → b ≤ c → a ≤ c
-at_most a b c p q = omega arith
-
 size_sums : (l l' j j' n n' d d' u u' : ℕ) → l ≤ l' → j ≤ j' → n ≤ n' → d ≤ d' → u ≤ u' → l + (j + (n + 2 * d + 9 * u)) ≤ l' + (j' + (n' + 2 * d' + 9 * u'))
 size_sums l l' j j' n n' d d' u u' p q r s t = omega arith
 

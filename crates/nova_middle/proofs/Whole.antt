@@ -23,7 +23,3 @@ all_small a b c d e p q r s = most-trans e d a s (most-trans d c a r (most-trans
 pub if_ok : {T E : Type 0} (r : Result T E) (P Q : T → Type 0) → ((v : T) → P v → Q v) → IfOk r P → IfOk r Q
 if_ok (Ok v) P Q f h = f v h
 if_ok (Err e) P Q f h = tt
-
-pub if_ok_both : {T E : Type 0} (r : Result T E) (P Q R : T → Type 0) → ((v : T) → P v → Q v → R v) → IfOk r P → IfOk r Q → IfOk r R
-if_ok_both (Ok v) P Q R f h k = f v h k
-if_ok_both (Err e) P Q R f h k = tt

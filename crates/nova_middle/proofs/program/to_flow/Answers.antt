@@ -1,5 +1,6 @@
-use Rattle.nova_middle.proofs.Whole.{all_kept, all_narrow, all_small, if_ok, if_ok_both}
+use Rattle.nova_middle.proofs.Whole.{all_kept, all_narrow, all_small, if_ok}
 use Rattle.nova_middle.proofs.program.to_flow.Goals as goal
+use Rattle.cps_rules.proofs.Along.{if_ok_both}
 
 pub returns-clause-kept : goal.returns-clause-kept
 returns-clause-kept c =
