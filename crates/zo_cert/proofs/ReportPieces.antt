@@ -2,9 +2,10 @@
 use Rattle.std.proofs.Common.{◌≡◌, ℕ, suc, ◌+◌, ◌<◌, ◌≤◌, List, [], ◌∷◌, ◌++◌, length, get_or, take, refl, sym, ap, ◌∙◌, append_assoc, codes, decimal, Bool, true, false, arith, zero-add, Result, Ok, Err, OnOk, is_ok, cond}
 use Rattle.std.proofs.lemmas.List.{append-nil, length-take-le, take_all}
 use Rattle.std.specs.List.{flat_map}
+use Rattle.std.proofs.lemmas.List.Concat.{flat_map-append}
 use Rattle.line_text.specs.Line.{text_of}
 use Rattle.line_text.proofs.SplitLaws.{text_of-append}
-use Rattle.zo_model.proofs.Pieces.{flat_map-append, listed_pieces, take_next, join2, join3}
+use Rattle.zo_model.proofs.Pieces.{listed_pieces, take_next, join2, join3}
 use Rattle.zo_cert.specs.ReportText.{ones_from, x_line}
 
 pub ones-append : (i : ℕ) (xs ys : List Bool) → ones_from i (xs ++ ys) ≡ ones_from i xs ++ ones_from (length xs + i) ys

@@ -17,6 +17,7 @@ use Rattle.zo_leaf.specs.inner.NodeLine.{IsNodeLine}
 use Rattle.zo_cert.specs.inner.ReportLine.{IsNodeFault}
 use Rattle.zo_cert.specs.inner.ReportPart.{AreFrontLines, AreTreeLines, IsStop}
 use Rattle.zo_cert.proofs.ReportFormat.{counted_lacks}
+use Rattle.zo_cert.proofs.ReportLines.{two_lines}
 
 -- a next line that isn't of the kind that has to come
 pub stop_made : (Part : List (List ℕ) → Type 0) (Kind : List ℕ → Type 0) (bytes rest : List ℕ) (number number' : ℕ) (front : List (List ℕ)) (next : List ℕ) (e : ZoError) → bytes ≡ text_of front ++ rest → number' ≡ number + length front → Begins Part (front ++ next ∷ []) → ((line : List ℕ) → Begins Part (front ++ line ∷ []) → Kind line) → IsLineFault Kind rest number' e → IsStop Part bytes number e
@@ -48,9 +49,6 @@ IsBudget line = (b : ℕ) × (1 ≤ b) × (b ≤ 1000000) × (line ≡ counted_l
 
 budget_is : (s : ℕ) (line : List ℕ) → Begins AreFrontLines (codes "novareport 1" ∷ counted_line (codes "slots") s ∷ line ∷ []) → IsBudget line
 budget_is s line b = let f = b.whole.lines in (b.whole.budget, b.whole.budget_low, b.whole.budget_high, cc (f))
-
-two_lines : (bytes r1 r2 a b : List ℕ) → bytes ≡ a ++ 10 ∷ r1 → r1 ≡ b ++ 10 ∷ r2 → bytes ≡ text_of (a ∷ b ∷ []) ++ r2
-two_lines bytes r1 r2 a b e f = spelled_more bytes r1 r2 (a ∷ []) (b ∷ []) (e ∙ one_line_text a r1) (f ∙ one_line_text b r2)
 
 pub budget_stop : (bytes r1 r2 : List ℕ) (number number' s : ℕ) (e : ZoError) → s ≤ 128 → bytes ≡ codes "novareport 1" ++ 10 ∷ r1 → r1 ≡ counted_line (codes "slots") s ++ 10 ∷ r2 → number' ≡ number + 2 → IsLineFault IsBudget r2 number' e → IsStop AreFrontLines bytes number e
 budget_stop bytes r1 r2 number number' s e few first second counted h =

@@ -2,10 +2,10 @@
 use Rattle.std.proofs.Common.{◌≡◌, ◌≢◌, ℕ, zero, suc, ◌+◌, ◌*◌, ◌-◌, ◌<◌, ◌≤◌, ◌^◌, List, [], ◌∷◌, length, drop, set, get_or, Bool, true, false, nat_eq, inl, inr, ◌⊎◌, Option, Some, None, slice_get, ℤ, pos, ◌+ℤ◌, ◌-ℤ◌, ◌*ℤ◌, refl, sym, ◌∙◌, ap, subst, arith, add-one, drop-cons}
 use Rattle.std.specs.List.{All}
 use Rattle.std.proofs.Math.Nat.{mul-le-mul}
-use Rattle.std.proofs.lemmas.Bool.Decides.{nat_tests}
 use Rattle.std.proofs.lemmas.Int.{ints, clamps}
 use Rattle.std.proofs.lemmas.List.{get_or-set_same, get_or-set_other, drop_all}
 use Rattle.std.proofs.lemmas.List.Elements.{All-nil, All-cons, All-head, All-tail, All-get_or}
+use Rattle.std.proofs.lemmas.Bool.{ne_eqb}
 use Rattle.zo_model.specs.Program.{sum_below, where_one, columns, costs_of, AtMost}
 use Rattle.zo_model.specs.declared.program.ZeroOne.{ZeroOne}
 use Rattle.zo_model.proofs.Sums.{sum_below-same, sum_below-add}
@@ -97,15 +97,12 @@ avoids_none j ts i le = rw (drop_all i ts le) (All-nil (λ (t : ℕ × ℤ). t.0
 abbrev pub AvoidsRows : ZeroOne → ℕ → List (ℕ × ℕ) → Type 0
 AvoidsRows z j ms = All (λ m. Avoids j (terms_of (slice_get z.rows.items m.0))) ms
 
-eq_no : (c j : ℕ) → c ≢ j → nat_eq c j ≡ false
-eq_no c j h = grind (arith, nat_tests)
-
 coefficient_avoided : (ts : List (ℕ × ℤ)) (j : ℕ) → Avoids j ts → coefficient ts j ≡ pos 0
 unfolding coefficient
 coefficient_avoided [] j h = refl
 coefficient_avoided (t ∷ ts) j h =
     let ih : coefficient ts j ≡ pos 0 = coefficient_avoided ts j (All-tail (λ t. t.0 ≢ j) t ts h) in
-    let other : nat_eq t.0 j ≡ false = eq_no t.0 j (All-head (λ t. t.0 ≢ j) t ts h) in
+    let other : nat_eq t.0 j ≡ false = ne_eqb t.0 j (All-head (λ t. t.0 ≢ j) t ts h) in
     let here : where_one (nat_eq t.0 j) t.1 ≡ pos 0 = ap (λ b. where_one b t.1) other in
     omega (arith, ints)
 

@@ -11,6 +11,7 @@ use Rattle.std.proofs.Common.{set, get_or, replicate, ◌≢◌}
 use Rattle.std.proofs.lemmas.List.{get_or-set_same, get_or-set_other}
 use Rattle.std.proofs.lemmas.Option.{slice_get_within}
 use Rattle.std.proofs.lemmas.Int.{by_lt_z}
+use Rattle.std.proofs.lemmas.Bool.{eq-eqb}
 use Rattle.zo_leaf.specs.Certificate.{Closes, ClaimAt, Holds, Tree, leaf, branch, EachNode, OfLeaf, Proves, unfixed}
 use Rattle.zo_model.specs.Program.{IsRow, IsValid}
 use Rattle.zo_leaf.specs.declared.cert.CertNode.{CertNode}
@@ -24,20 +25,17 @@ use Rattle.zo_leaf.proofs.Paths.{none_fixed}
 use Rattle.zo_model.proofs.Sums.{sum_below-same, sum_below-le, sum_below-add}
 use Rattle.zo_model.proofs.Scale.{scale-add, scale-zero, scale-le}
 
-eq_yes : (c : ℕ) → nat_eq c c ≡ true
-eq_yes c = grind (arith, nat_tests)
-
 eq_no : (c n : ℕ) → n < c → nat_eq c n ≡ false
 eq_no c n h = grind (arith, nat_tests)
 
 eq_no_above : (c n : ℕ) → c < n → nat_eq c n ≡ false
 eq_no_above c n h = grind (arith, nat_tests)
 
-where_one-zero : (b : Bool) → where_one b (pos 0) ≡ pos 0
+pub where_one-zero : (b : Bool) → where_one b (pos 0) ≡ pos 0
 where_one-zero true = refl
 where_one-zero false = refl
 
-where_one-add : (b : Bool) (u v : ℤ) → where_one b (u +ℤ v) ≡ where_one b u +ℤ where_one b v
+pub where_one-add : (b : Bool) (u v : ℤ) → where_one b (u +ℤ v) ≡ where_one b u +ℤ where_one b v
 where_one-add true u v = refl
 where_one-add false u v = refl
 
@@ -68,7 +66,7 @@ single (suc n) c a x h = elim (split c n h) [
       omega (arith, ints)
   | inr e ↦
       let before : sum_below n (λ j. where_one (x j) (where_one (nat_eq c j) a)) ≡ pos 0 = single_none n c a x (omega arith) in
-      let here : where_one (x n) (where_one (nat_eq c n) a) ≡ where_one (x n) a = rw (e, eq_yes n) in
+      let here : where_one (x n) (where_one (nat_eq c n) a) ≡ where_one (x n) a = rw (e, eq-eqb n n refl) in
       let at : where_one (x n) a ≡ where_one (x c) a = rw e in
       omega (arith, ints)
 ]

@@ -1,8 +1,7 @@
 -- the loops that compute the bound of a leaf
-use Rattle.std.proofs.Common.{◌≡◌, ◌≢◌, ℕ, ◌+◌, ◌*◌, ◌<◌, ◌≤◌, ◌^◌, List, [], length, take, set, get_or, true, false, nat_eq, inl, inr, ◌⊎◌, ℤ, pos, ◌+ℤ◌, ◌*ℤ◌, refl, sym, ◌∙◌, ap, subst, arith}
+use Rattle.std.proofs.Common.{◌≡◌, ℕ, ◌+◌, ◌*◌, ◌<◌, ◌≤◌, ◌^◌, List, [], length, take, set, get_or, true, false, nat_eq, inl, inr, ℤ, pos, ◌+ℤ◌, ◌*ℤ◌, refl, sym, ◌∙◌, ap, subst, arith}
 use Rattle.std.specs.List.{All}
 use Rattle.std.proofs.lemmas.Int.{ints}
-use Rattle.std.proofs.lemmas.Bool.Decides.{nat_tests}
 use Rattle.std.proofs.lemmas.List.{get_or-set_same, get_or-set_other}
 use Rattle.std.proofs.lemmas.List.Elements.{All-set, All-weaker, All-get_or}
 use Rattle.zo_model.specs.Program.{where_one, AtMost}
@@ -10,6 +9,7 @@ use Rattle.std.proofs.Common.{Some, slice_get}
 use Rattle.zo_model.specs.declared.program.Row.{Row}
 use Rattle.zo_model.specs.declared.program.ZeroOne.{ZeroOne}
 use Rattle.std.proofs.lemmas.Option.{slice_get_read}
+use Rattle.std.proofs.lemmas.Bool.{cases_eq, eq-eqb, ne_eqb}
 use Rattle.zo_model.specs.Program.{columns, IsValid, IsRow, Rise}
 use Rattle.zo_model.proofs.Rows.{rise_at, rise_length}
 use Rattle.zo_leaf.specs.Certificate.{coefficient, weight, least_sum, terms_of, least_of}
@@ -24,25 +24,16 @@ pub coefficient-more : (ts : List (ℕ × ℤ)) (j i : ℕ) → i < length ts �
 unfolding coefficient
 coefficient-more ts j i h = total-more (λ t. where_one (nat_eq t.0 j) t.1) ts i (0, pos 0) h
 
-same_or : (k j : ℕ) → (k ≡ j) ⊎ (k ≢ j)
-same_or k j = grind arith
-
-eq_yes : (c : ℕ) → nat_eq c c ≡ true
-eq_yes c = grind (arith, nat_tests)
-
-eq_no : (c j : ℕ) → j ≢ c → nat_eq c j ≡ false
-eq_no c j h = grind (arith, nat_tests)
-
 -- ---- one row is added to the weights
 
 pub added_step : (old w : List ℤ) (ts : List (ℕ × ℤ)) (m i c : ℕ) (a p x : ℤ) → i < length ts → c ≡ (get_or ts i (0, pos 0)).0 → a ≡ (get_or ts i (0, pos 0)).1 → p ≡ pos m *ℤ a → c < length w → x ≡ get_or w c (pos 0) +ℤ p → ((j : ℕ) → j < length old → get_or w j (pos 0) ≡ get_or old j (pos 0) +ℤ pos m *ℤ coefficient (take i ts) j) → (j : ℕ) → j < length old → get_or (set w c x) j (pos 0) ≡ get_or old j (pos 0) +ℤ pos m *ℤ coefficient (take (i + 1) ts) j
-added_step old w ts m i c a p x it ce ae pe inside xe h j lt = elim (same_or j c) [
+added_step old w ts m i c a p x it ce ae pe inside xe h j lt = elim (cases_eq j c) [
   | inl same ↦
       let here : get_or (set w c x) j (pos 0) ≡ x = rw same (get_or-set_same w c x (pos 0) inside) in
       let at : get_or w j (pos 0) ≡ get_or w c (pos 0) = rw same in
       let was : get_or w j (pos 0) ≡ get_or old j (pos 0) +ℤ pos m *ℤ coefficient (take i ts) j = h j lt in
       let more = coefficient-more ts j i it in
-      let yes : nat_eq (get_or ts i (0, pos 0)).0 j ≡ true = rw (sym ce, same) (eq_yes c) in
+      let yes : nat_eq (get_or ts i (0, pos 0)).0 j ≡ true = rw (sym ce, same) (eq-eqb c c refl) in
       let one : where_one (nat_eq (get_or ts i (0, pos 0)).0 j) (get_or ts i (0, pos 0)).1 ≡ a = rw yes (sym ae) in
       let whole : coefficient (take (i + 1) ts) j ≡ coefficient (take i ts) j +ℤ a = more ∙ ap (λ v. coefficient (take i ts) j +ℤ v) one in
       let scaled : pos m *ℤ coefficient (take (i + 1) ts) j ≡ pos m *ℤ coefficient (take i ts) j +ℤ pos m *ℤ a = ap (λ v. pos m *ℤ v) whole ∙ scale-add m (coefficient (take i ts) j) a in
@@ -50,7 +41,7 @@ added_step old w ts m i c a p x it ce ae pe inside xe h j lt = elim (same_or j c
   | inr ne ↦
       let here : get_or (set w c x) j (pos 0) ≡ get_or w j (pos 0) = get_or-set_other w c j x (pos 0) ne in
       let more = coefficient-more ts j i it in
-      let no : nat_eq (get_or ts i (0, pos 0)).0 j ≡ false = rw (sym ce) (eq_no c j ne) in
+      let no : nat_eq (get_or ts i (0, pos 0)).0 j ≡ false = rw (sym ce) (ne_eqb c j (λ e. ne (sym e))) in
       let zero : where_one (nat_eq (get_or ts i (0, pos 0)).0 j) (get_or ts i (0, pos 0)).1 ≡ pos 0 = rw no refl in
       let same : coefficient (take (i + 1) ts) j ≡ coefficient (take i ts) j = omega (arith, ints) in
       here ∙ h j lt ∙ ap (λ v. get_or old j (pos 0) +ℤ pos m *ℤ v) (sym same)

@@ -7,6 +7,7 @@ use Rattle.line_text.specs.Line.{Lacks}
 use Rattle.line_text.proofs.SplitLaws.{split_one, lacks_not}
 use Rattle.line_text.proofs.NumberLaws.{Lacks-decimal}
 use Rattle.line_text.proofs.NumberLemmas.{decimal_one}
+use Rattle.zo_model.proofs.TermLemmas.{all_between}
 use Rattle.zo_model.specs.Program.{Rise}
 use Rattle.zo_leaf.specs.Node.{multiplier_text}
 use Rattle.zo_leaf.proofs.ReadMultipliers.{ReadsMultipliers}
@@ -31,11 +32,6 @@ pub multiplier_one : (m n : ℕ × ℕ) → m.0 < 2 ^ 64 → n.0 < 2 ^ 64 → m.
 multiplier_one m n a b c d e =
     let p = split_one 58 (decimal m.0) (decimal m.1) (decimal n.0) (decimal n.1) (Lacks-decimal 58 m.0 (lit≤ tt) a) (Lacks-decimal 58 n.0 (lit≤ tt) b) e in
     λ j. (decimal_one m.0 n.0 a b p.0 j, decimal_one m.1 n.1 c d p.1 j)
-
--- what is true of lists in front and behind is true of the element between
-all_between : {X : Type 0} (P : X → Type 0) (xs ys : List X) (x : X) → All P (xs ++ x ∷ ys) → P x
-all_between P [] ys x h = All-head P x ys h
-all_between P (y ∷ xs) ys x h = all_between P xs ys x (All-tail P y (xs ++ x ∷ ys) h)
 
 -- multipliers whose texts begin with those of others begin with them
 pub multipliers_front : (lo lo' : ℕ) (done ms : List (ℕ × ℕ)) (rest : List (List ℕ)) → Rise lo (2 ^ 26) done → All (λ m. m.1 < 2 ^ 32) done → Rise lo' (2 ^ 26) ms → All (λ m. m.1 < 2 ^ 32) ms → map multiplier_text ms ≡ map multiplier_text done ++ rest → (more : List (ℕ × ℕ)) × (ms ≡ done ++ more) × (rest ≡ map multiplier_text more)

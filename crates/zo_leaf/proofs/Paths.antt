@@ -12,6 +12,7 @@ use Rattle.std.proofs.Math.Seq.{drop-cons, take-length}
 use Rattle.std.proofs.Common.{◌^◌, replicate, add-one}
 use Rattle.std.proofs.lemmas.List.{get_or-set_same, get_or-set_other, get_or-replicate, get_or_past, length-replicate}
 use Rattle.std.proofs.lemmas.List.Elements.{All-get_or, All-replicate}
+use Rattle.std.proofs.lemmas.Bool.{cases_lt}
 use Rattle.zo_model.specs.Program.{cost_below, cost_where, costs_of, IsValid}
 use Rattle.zo_model.specs.declared.program.ZeroOne.{ZeroOne}
 use Rattle.zo_leaf.specs.Fixing.{is_one, ones}
@@ -19,13 +20,10 @@ use Rattle.zo_leaf.specs.inner.Path.{later, IsFixed, FixesExactly, Pending, open
 
 -- no column of a new walk is fixed
 pub none_fixed : (n j : ℕ) → get_or {A = Option Bool} (replicate n None) j None ≡ None
-none_fixed n j = elim (side j n) [
+none_fixed n j = elim (cases_lt j n) [
   | inl lt ↦ get_or-replicate n j None None lt
   | inr le ↦ get_or_past (replicate n None) j None (rw length-replicate le)
 ]
-  where
-    side : (j n : ℕ) → (j < n) ⊎ (n ≤ j)
-    side j n = grind arith
 
 pub get_set : {A : Type 0} (xs : List A) (j : ℕ) (a : A) → j < length xs → slice_get (set xs j a) j ≡ Some a
 get_set [] j a h = absurd (omega arith)

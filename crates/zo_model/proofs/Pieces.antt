@@ -1,25 +1,15 @@
 -- Texts that are written piece by piece.
 use Rattle.std.proofs.Common.{◌≡◌, ℕ, zero, suc, ◌+◌, ◌<◌, ◌≤◌, List, [], ◌∷◌, ◌++◌, length, get_or, take, map, refl, sym, ap, ◌∙◌, append_assoc, codes, decimal}
-use Rattle.std.proofs.lemmas.List.{append-nil}
+use Rattle.std.proofs.lemmas.List.{append-nil, map-append}
 use Rattle.std.proofs.lemmas.Grind.{take_at_read}
 use Rattle.std.specs.Fmt.{signed_decimal}
 use Rattle.std.specs.List.{flat_map}
+use Rattle.std.proofs.lemmas.List.Concat.{flat_map-append}
+use Rattle.std.proofs.lemmas.List.Folds.{flat_map-map}
 use Rattle.line_text.specs.Line.{text_of, parted}
 use Rattle.line_text.proofs.SplitLaws.{parted-cons, text_of-append}
 use Rattle.zo_model.specs.Contents.{RowContents}
 use Rattle.zo_model.specs.ProgramText.{term_text, row_line, cost_line}
-
-pub flat_map-append : {X A : Type 0} (f : X → List A) (xs ys : List X) → flat_map f (xs ++ ys) ≡ flat_map f xs ++ flat_map f ys
-flat_map-append f [] ys = refl
-flat_map-append f (x ∷ xs) ys = ap (λ t. f x ++ t) (flat_map-append f xs ys) ∙ sym (append_assoc (f x) (flat_map f xs) (flat_map f ys))
-
-pub flat_map-map : {X Y A : Type 0} (g : X → Y) (f : Y → List A) (xs : List X) → flat_map f (map g xs) ≡ flat_map (λ x. f (g x)) xs
-flat_map-map g f [] = refl
-flat_map-map g f (x ∷ xs) = ap (λ t. f (g x) ++ t) (flat_map-map g f xs)
-
-pub map-append' : {X Y : Type 0} (f : X → Y) (xs ys : List X) → map f (xs ++ ys) ≡ map f xs ++ map f ys
-map-append' f [] ys = refl
-map-append' f (x ∷ xs) ys = ap (λ t. f x ∷ t) (map-append' f xs ys)
 
 -- one element more
 pub take_next : {X : Type 0} (xs : List X) (i : ℕ) (d x : X) → i < length xs → x ≡ get_or xs i d → take (i + 1) xs ≡ take i xs ++ x ∷ []
@@ -38,7 +28,7 @@ line_more g f start xs i d x lt e =
     ∙ ap (λ t. start ++ t) (
     ap (λ t. text_of (map f (map g (take i xs))) ++ t) (sym (append-nil (f (g x) ++ 10 ∷ [])))
     ∙ (sym (text_of-append (map f (map g (take i xs))) (f (g x) ∷ []))
-    ∙ ap text_of (sym (ap (map f) (ap (map g) (take_next xs i d x lt e) ∙ map-append' g (take i xs) (x ∷ [])) ∙ map-append' f (map g (take i xs)) (g x ∷ [])))))
+    ∙ ap text_of (sym (ap (map f) (ap (map g) (take_next xs i d x lt e) ∙ map-append g (take i xs) (x ∷ [])) ∙ map-append f (map g (take i xs)) (g x ∷ [])))))
 
 pub map_same : {X : Type 0} (xs : List X) → map (λ (x : X). x) xs ≡ xs
 map_same [] = refl
@@ -63,7 +53,7 @@ join4 i j k l m a b c d e f g h = join2 i j m a (b ++ (c ++ d)) e (join3 j k l m
 pub listed_pieces : {X : Type 0} (p : List ℕ) (f : X → List ℕ) (xs : List X) → p ++ (flat_map (λ x. 32 ∷ f x) xs ++ 10 ∷ []) ≡ parted (p ∷ map f xs) ++ 10 ∷ []
 listed_pieces p f xs =
     sym (append_assoc p (flat_map (λ x. 32 ∷ f x) xs) (10 ∷ []))
-    ∙ ap (λ t. t ++ 10 ∷ []) (ap (λ t. p ++ t) (sym (flat_map-map f (λ q. 32 ∷ q) xs)) ∙ sym (parted-cons p (map f xs)))
+    ∙ ap (λ t. t ++ 10 ∷ []) (ap (λ t. p ++ t) (sym (flat_map-map (λ (q : List ℕ). 32 ∷ q) f xs)) ∙ sym (parted-cons p (map f xs)))
 
 -- the pieces of a row's line
 pub row_pieces : (r : RowContents) → codes "r " ++ (signed_decimal r.least ++ (flat_map (λ t. 32 ∷ term_text t) r.terms ++ 10 ∷ [])) ≡ row_line r ++ 10 ∷ []

@@ -69,7 +69,7 @@ term_one s t a b c d e =
     λ j. (decimal_one s.0 t.0 a b p.0 j, signed_one s.1 t.1 c d p.1 j)
 
 -- what is true of lists in front and behind is true of the element between
-all_between : {X : Type 0} (P : X → Type 0) (xs ys : List X) (x : X) → All P (xs ++ x ∷ ys) → P x
+pub all_between : {X : Type 0} (P : X → Type 0) (xs ys : List X) (x : X) → All P (xs ++ x ∷ ys) → P x
 all_between P [] ys x h = All-head P x ys h
 all_between P (y ∷ xs) ys x h = all_between P xs ys x (All-tail P y (xs ++ x ∷ ys) h)
 

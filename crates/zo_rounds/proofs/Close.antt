@@ -1,8 +1,7 @@
 -- leaves that close what is met and what is out of reach, and the unfixed column of an open node
-use Rattle.std.proofs.Common.{◌≡◌, ◌≢◌, ℕ, zero, suc, ◌+◌, ◌*◌, ◌<◌, ◌≤◌, ◌^◌, List, [], ◌∷◌, length, get_or, Bool, true, false, nat_eq, inl, inr, ◌⊎◌, Option, Some, None, slice_get, replicate, ℤ, pos, ◌+ℤ◌, ◌-ℤ◌, ◌*ℤ◌, ◌≤ℤ◌, ◌<ℤ◌, refl, sym, ◌∙◌, ap, subst, arith}
+use Rattle.std.proofs.Common.{◌≡◌, ℕ, zero, suc, ◌+◌, ◌*◌, ◌<◌, ◌≤◌, ◌^◌, List, [], ◌∷◌, length, get_or, Bool, true, false, nat_eq, inl, inr, ◌⊎◌, Option, Some, None, slice_get, replicate, ℤ, pos, ◌+ℤ◌, ◌-ℤ◌, ◌*ℤ◌, ◌≤ℤ◌, ◌<ℤ◌, refl, sym, ◌∙◌, ap, subst, arith}
 use Rattle.std.specs.List.{All}
 use Rattle.std.specs.Prelude.{IfSome}
-use Rattle.std.proofs.lemmas.Bool.Decides.{nat_tests}
 use Rattle.std.proofs.lemmas.Int.{ints, clamps, by_lt_z}
 use Rattle.std.proofs.lemmas.List.{get_or-replicate}
 use Rattle.std.proofs.lemmas.List.Elements.{All-head, All-tail, All-cons, All-nil}
@@ -22,27 +21,21 @@ use Rattle.zo_leaf.specs.declared.cert.Claim.TheVariants.{Least, Nothing}
 use Rattle.zo_leaf.proofs.Drain.{bound_is, changes_clear, sum_below-change}
 use Rattle.zo_leaf.proofs.Duality.{sum_zero}
 use Rattle.std.proofs.lemmas.Option.{get_or_from_slice_get}
+use Rattle.std.proofs.lemmas.Bool.{eq-eqb, ne_eqb}
+use Rattle.zo_leaf.proofs.Leaves.{weight-none, least_sum-none}
 use Rattle.zo_state.specs.Pick.{HasFree}
 use Rattle.zo_state.specs.inner.Better.{CostsAsMuch}
 use Rattle.zo_rounds.specs.inner.Node.{IsPlainBound, IsClashOf}
 
 -- ---- a bound of no row is the cost of the columns fixed at 1
 
-no_weight : (z : ZeroOne) (j : ℕ) → weight z [] j ≡ pos 0
-unfolding weight
-no_weight z j = refl
-
-no_least : (z : ZeroOne) → least_sum z [] ≡ pos 0
-unfolding least_sum
-no_least z = refl
-
 plain_bound : (z : ZeroOne) (fixed : List (Option Bool)) → bound z 1 [] fixed ≡ pos (cost_of z (ones fixed))
 plain_bound z fixed =
     let ws : List ℤ = replicate (columns z) (pos 0) in
     let zero : (j : ℕ) → j < columns z → get_or ws j (pos 0) ≡ pos 0 = λ j lt. get_or-replicate (columns z) j (pos 0) (pos 0) lt in
-    let b = bound_is z 1 [] ws fixed (λ j lt. zero j lt ∙ sym (no_weight z j)) in
+    let b = bound_is z 1 [] ws fixed (λ j lt. zero j lt ∙ sym (weight-none z j)) in
     let n = changes_clear z.costs.items 1 ws fixed (columns z) zero in
-    let l = no_least z in
+    let l = least_sum-none z in
     omega (arith, ints)
 
 pub plain_closes : (z : ZeroOne) (claim : Claim) (fixed : List (Option Bool)) (n : CertNode) → IsPlainBound n → CostsAsMuch claim (cost_of z (ones fixed)) → Closes z claim fixed n
@@ -81,18 +74,12 @@ reach_zero None = omega (arith, ints, clamps)
 reach_zero (Some true) = refl
 reach_zero (Some false) = refl
 
-eq_yes : (c : ℕ) → nat_eq c c ≡ true
-eq_yes c = grind (arith, nat_tests)
-
-eq_no : (c j : ℕ) → j ≢ c → nat_eq c j ≡ false
-eq_no c j h = grind (arith, nat_tests)
-
 -- one term, column by column
 reach_single : (n c : ℕ) (a : ℤ) (fixed : List (Option Bool)) → c < n → sum_below n (λ j. reach_part (get_or fixed j None) (where_one (nat_eq c j) a)) ≡ reach_part (get_or fixed c None) a
 reach_single n c a fixed lt =
     let f : ℕ → ℤ = λ j. reach_part (get_or fixed j None) (where_one (nat_eq c j) a) in
-    let e : sum_below n f +ℤ pos 0 ≡ sum_below n (λ j. pos 0) +ℤ f c = sum_below-change n c f (λ j. pos 0) lt (λ j ne. ap (λ b. reach_part (get_or fixed j None) (where_one b a)) (eq_no c j ne) ∙ reach_zero (get_or fixed j None)) in
-    let here : f c ≡ reach_part (get_or fixed c None) a = ap (λ b. reach_part (get_or fixed c None) (where_one b a)) (eq_yes c) in
+    let e : sum_below n f +ℤ pos 0 ≡ sum_below n (λ j. pos 0) +ℤ f c = sum_below-change n c f (λ j. pos 0) lt (λ j ne. ap (λ b. reach_part (get_or fixed j None) (where_one b a)) (ne_eqb c j (λ e. ne (sym e))) ∙ reach_zero (get_or fixed j None)) in
+    let here : f c ≡ reach_part (get_or fixed c None) a = ap (λ b. reach_part (get_or fixed c None) (where_one b a)) (eq-eqb c c refl) in
     let none = sum_zero n in
     omega (arith, ints)
 

@@ -1,12 +1,12 @@
 -- how the sums of rows change where one column goes from one place to another
-use Rattle.std.proofs.Common.{◌≡◌, ◌≢◌, ℕ, ◌+◌, ◌*◌, ◌<◌, ◌^◌, List, [], ◌∷◌, ◌++◌, length, take, get_or, set, Bool, true, false, nat_eq, Option, Some, None, slice_get, ℤ, pos, ◌+ℤ◌, ◌-ℤ◌, refl, sym, ◌∙◌, ap, inl, inr, ◌⊎◌, arith}
+use Rattle.std.proofs.Common.{◌≡◌, ℕ, ◌+◌, ◌*◌, ◌<◌, ◌^◌, List, [], ◌∷◌, ◌++◌, length, take, get_or, set, Bool, true, false, nat_eq, Option, Some, None, slice_get, ℤ, pos, ◌+ℤ◌, ◌-ℤ◌, refl, sym, ◌∙◌, ap, inl, inr, arith}
 use Rattle.std.specs.List.{All}
 use Rattle.std.proofs.lemmas.List.Elements.{All-head, All-tail, All-take}
 use Rattle.std.proofs.lemmas.Int.{ints, int_max_is}
 use Rattle.std.specs.Int.{int_max}
-use Rattle.std.proofs.lemmas.Bool.Decides.{nat_tests}
 use Rattle.std.proofs.lemmas.List.{get_or-set_same, get_or-set_other, length-take-le}
 use Rattle.std.proofs.lemmas.Option.{get_or_from_slice_get, slice_get_within}
+use Rattle.std.proofs.lemmas.Bool.{cases_eq, eq-eqb, ne_eqb}
 use mathlib.Core.Path.{fun_ext}
 use Rattle.zo_model.specs.Program.{AtMost, total, where_one, terms_sum}
 use Rattle.zo_model.proofs.Sums.{total-append, total-more}
@@ -29,15 +29,6 @@ along-push k g ps r a =
     let e = total-append (λ (p : ℕ × ℤ). where_one (nat_eq p.0 k) (g p.1)) ps ((r, a) ∷ []) in
     omega (arith, ints, e)
 
-pub same_or : (k j : ℕ) → (k ≡ j) ⊎ (k ≢ j)
-same_or k j = grind arith
-
-pub eq_yes : (c : ℕ) → nat_eq c c ≡ true
-eq_yes c = grind (arith, nat_tests)
-
-pub eq_no : (c j : ℕ) → c ≢ j → nat_eq c j ≡ false
-eq_no c j h = grind (arith, nat_tests)
-
 -- ---- a sum of parts, each by its column's place
 
 abbrev sum_parts : (Option Bool → ℤ → ℤ) → List (Option Bool) → List (ℕ × ℤ) → ℤ
@@ -47,11 +38,11 @@ parts_set : (part : Option Bool → ℤ → ℤ) (fixed : List (Option Bool)) (j
 parts_set part fixed j old new [] e = omega (arith, ints)
 parts_set part fixed j old new (t ∷ ts) e =
     let ih : sum_parts part (set fixed j new) ts ≡ sum_parts part fixed ts +ℤ total (λ t. where_one (nat_eq t.0 j) (part new t.1 -ℤ part old t.1)) ts = parts_set part fixed j old new ts e in
-    elim (same_or t.0 j) [
+    elim (cases_eq t.0 j) [
       | inl same ↦
           let here : get_or (set fixed j new) t.0 None ≡ new = rw same (get_or-set_same fixed j new None (slice_get_within fixed j old e)) in
           let was : get_or fixed t.0 None ≡ old = rw same (get_or_from_slice_get fixed j old None e) in
-          let yes : nat_eq t.0 j ≡ true = rw same (eq_yes j) in
+          let yes : nat_eq t.0 j ≡ true = rw same (eq-eqb j j refl) in
           let one : part (get_or (set fixed j new) t.0 None) t.1 ≡ part new t.1 = ap (λ o. part o t.1) here in
           let two : part (get_or fixed t.0 None) t.1 ≡ part old t.1 = ap (λ o. part o t.1) was in
           let by : where_one (nat_eq t.0 j) (part new t.1 -ℤ part old t.1) ≡ part new t.1 -ℤ part old t.1 = ap (λ b. where_one b (part new t.1 -ℤ part old t.1)) yes in
@@ -59,7 +50,7 @@ parts_set part fixed j old new (t ∷ ts) e =
       | inr ne ↦
           let here : get_or (set fixed j new) t.0 None ≡ get_or fixed t.0 None = get_or-set_other fixed j t.0 new None ne in
           let one : part (get_or (set fixed j new) t.0 None) t.1 ≡ part (get_or fixed t.0 None) t.1 = ap (λ o. part o t.1) here in
-          let by : where_one (nat_eq t.0 j) (part new t.1 -ℤ part old t.1) ≡ pos 0 = ap (λ b. where_one b (part new t.1 -ℤ part old t.1)) (eq_no t.0 j ne) in
+          let by : where_one (nat_eq t.0 j) (part new t.1 -ℤ part old t.1) ≡ pos 0 = ap (λ b. where_one b (part new t.1 -ℤ part old t.1)) (ne_eqb t.0 j ne) in
           omega (arith, ints)
     ]
 
@@ -132,20 +123,20 @@ sum_bounded x ts h = total_bounded (λ t. where_one (x t.0) t.1) ts (λ t a. par
 -- ---- one step along a column
 
 pub moved_step : (old w : List ℤ) (es : List (ℕ × ℤ)) (g : ℤ → ℤ) (k c : ℕ) (a p x : ℤ) → k < length es → c ≡ (get_or es k (0, pos 0)).0 → a ≡ (get_or es k (0, pos 0)).1 → p ≡ g a → c < length w → x ≡ get_or w c (pos 0) +ℤ p → ((i : ℕ) → i < length old → get_or w i (pos 0) ≡ get_or old i (pos 0) +ℤ along i g (take k es)) → (i : ℕ) → i < length old → get_or (set w c x) i (pos 0) ≡ get_or old i (pos 0) +ℤ along i g (take (k + 1) es)
-moved_step old w es g k c a p x it ce ae pe inside xe h i lt = elim (same_or c i) [
+moved_step old w es g k c a p x it ce ae pe inside xe h i lt = elim (cases_eq c i) [
   | inl same ↦
       let here : get_or (set w c x) i (pos 0) ≡ x = rw (sym same) (get_or-set_same w c x (pos 0) inside) in
       let at : get_or w i (pos 0) ≡ get_or w c (pos 0) = rw same in
       let was : get_or w i (pos 0) ≡ get_or old i (pos 0) +ℤ along i g (take k es) = h i lt in
       let more = along-more i g es k it in
-      let yes : nat_eq (get_or es k (0, pos 0)).0 i ≡ true = rw (sym ce, same) (eq_yes i) in
+      let yes : nat_eq (get_or es k (0, pos 0)).0 i ≡ true = rw (sym ce, same) (eq-eqb i i refl) in
       let one : where_one (nat_eq (get_or es k (0, pos 0)).0 i) (g (get_or es k (0, pos 0)).1) ≡ p = ap (λ b. where_one b (g (get_or es k (0, pos 0)).1)) yes ∙ ap g (sym ae) ∙ sym pe in
       omega (arith, ints)
   | inr ne ↦
       let here : get_or (set w c x) i (pos 0) ≡ get_or w i (pos 0) = get_or-set_other w c i x (pos 0) (λ e. ne (sym e)) in
       let was : get_or w i (pos 0) ≡ get_or old i (pos 0) +ℤ along i g (take k es) = h i lt in
       let more = along-more i g es k it in
-      let apart : nat_eq (get_or es k (0, pos 0)).0 i ≡ false = rw (sym ce) (eq_no c i ne) in
+      let apart : nat_eq (get_or es k (0, pos 0)).0 i ≡ false = rw (sym ce) (ne_eqb c i ne) in
       let zero : where_one (nat_eq (get_or es k (0, pos 0)).0 i) (g (get_or es k (0, pos 0)).1) ≡ pos 0 = ap (λ b. where_one b (g (get_or es k (0, pos 0)).1)) apart in
       omega (arith, ints)
 ]

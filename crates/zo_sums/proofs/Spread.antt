@@ -1,19 +1,21 @@
 -- how the rows of a program are put into the lists of its columns
-use Rattle.std.proofs.Common.{◌≡◌, ◌≢◌, ℕ, zero, suc, ◌+◌, ◌<◌, ◌≤◌, ◌^◌, List, [], ◌∷◌, ◌++◌, length, take, get_or, set, Bool, true, false, nat_eq, Some, None, slice_get, ℤ, pos, ◌+ℤ◌, refl, sym, ◌∙◌, ap, subst, inl, inr, arith, add-one, length-append}
+use Rattle.std.proofs.Common.{◌≡◌, ◌≢◌, ℕ, zero, suc, ◌+◌, ◌<◌, ◌≤◌, ◌^◌, List, [], ◌∷◌, ◌++◌, length, take, get_or, set, true, false, nat_eq, Some, None, slice_get, ℤ, pos, ◌+ℤ◌, refl, sym, ◌∙◌, ap, subst, inl, inr, arith, add-one, length-append}
 use Rattle.std.specs.List.{All}
 use Rattle.std.specs.Global.{Vec}
 use Rattle.std.proofs.lemmas.Int.{ints}
 use Rattle.std.proofs.lemmas.List.{get_or_append_left, get_or_push, length-take, take_all}
 use Rattle.std.proofs.lemmas.List.Elements.{All-get_or, All-head, All-nil, All-push, All-tail, All-weaker}
 use Rattle.std.proofs.lemmas.Option.{slice_get_past, slice_get_read}
+use Rattle.std.proofs.lemmas.Bool.{cases_eq, eq-eqb, ne_eqb}
 use Rattle.zo_model.specs.Program.{AreSmallTerms, AtMost, IsRow, IsValid, columns, where_one}
 use Rattle.zo_model.specs.declared.program.ZeroOne.{ZeroOne}
 use Rattle.zo_model.proofs.Rows.{terms_small}
 use Rattle.zo_model.specs.declared.program.Row.{Row}
 use Rattle.zo_leaf.specs.Certificate.{terms_of}
 use Rattle.zo_leaf.proofs.Paths.{get_set}
+use Rattle.zo_leaf.proofs.Duality.{where_one-add, where_one-zero}
 use Rattle.zo_sums.specs.inner.Keeping.{AreEntries, IsSpread, IsTranspose, along, entries_of}
-use Rattle.zo_sums.proofs.Along.{along-more, along-none, along-push, eq_no, eq_yes, same_or}
+use Rattle.zo_sums.proofs.Along.{along-more, along-none, along-push}
 
 get_set_other : {A : Type 0} (xs : List A) (j k : ℕ) (a : A) → k ≢ j → slice_get (set xs j a) k ≡ slice_get xs k
 get_set_other [] j k a ne = refl
@@ -22,31 +24,23 @@ get_set_other (x ∷ xs) zero (suc k) a ne = refl
 get_set_other (x ∷ xs) (suc j) zero a ne = refl
 get_set_other (x ∷ xs) (suc j) (suc k) a ne = get_set_other xs j k a (λ e. ne (ap suc e))
 
-where_add : (b : Bool) (x y : ℤ) → where_one b (x +ℤ y) ≡ where_one b x +ℤ where_one b y
-where_add true x y = refl
-where_add false x y = omega (arith, ints)
-
-where_zero : (b : Bool) → where_one b (pos 0) ≡ pos 0
-where_zero true = refl
-where_zero false = refl
-
 -- one term more has come to its column
 pub spread_step : (old cs : List (Vec (ℕ × ℤ))) (v new : Vec (ℕ × ℤ)) (ts : List (ℕ × ℤ)) (row k c : ℕ) (a : ℤ) → k < length ts → c ≡ (get_or ts k (0, pos 0)).0 → a ≡ (get_or ts k (0, pos 0)).1 → c < length cs → slice_get cs c ≡ Some v → new.items ≡ v.items ++ (row, a) ∷ [] → ((i j : ℕ) (g : ℤ → ℤ) → j < length old → along i g (entries_of (slice_get cs j)) ≡ along i g (entries_of (slice_get old j)) +ℤ where_one (nat_eq row i) (along j g (take k ts))) → (i j : ℕ) (g : ℤ → ℤ) → j < length old → along i g (entries_of (slice_get (set cs c new) j)) ≡ along i g (entries_of (slice_get old j)) +ℤ where_one (nat_eq row i) (along j g (take (k + 1) ts))
-spread_step old cs v new ts row k c a lt ce ae inside was is h i j g there = elim (same_or c j) [
+spread_step old cs v new ts row k c a lt ce ae inside was is h i j g there = elim (cases_eq c j) [
   | inl same ↦
       let here : slice_get (set cs c new) j ≡ Some new = subst (λ n. slice_get (set cs c new) n ≡ Some new) same (get_set cs c new inside) in
       let before : slice_get cs j ≡ Some v = subst (λ n. slice_get cs n ≡ Some v) same was in
       let one : along i g (entries_of (slice_get (set cs c new) j)) ≡ along i g v.items +ℤ where_one (nat_eq row i) (g a) = ap (λ o. along i g (entries_of o)) here ∙ ap (along i g) is ∙ along-push i g v.items row a in
       let two : along i g v.items ≡ along i g (entries_of (slice_get old j)) +ℤ where_one (nat_eq row i) (along j g (take k ts)) = ap (λ o. along i g (entries_of o)) (sym before) ∙ h i j g there in
-      let yes : nat_eq (get_or ts k (0, pos 0)).0 j ≡ true = ap (λ n. nat_eq n j) (sym ce ∙ same) ∙ eq_yes j in
+      let yes : nat_eq (get_or ts k (0, pos 0)).0 j ≡ true = ap (λ n. nat_eq n j) (sym ce ∙ same) ∙ eq-eqb j j refl in
       let step : along j g (take (k + 1) ts) ≡ along j g (take k ts) +ℤ g a = along-more j g ts k lt ∙ ap (λ b. along j g (take k ts) +ℤ where_one b (g (get_or ts k (0, pos 0)).1)) yes ∙ ap (λ n. along j g (take k ts) +ℤ g n) (sym ae) in
-      let three : where_one (nat_eq row i) (along j g (take (k + 1) ts)) ≡ where_one (nat_eq row i) (along j g (take k ts)) +ℤ where_one (nat_eq row i) (g a) = ap (where_one (nat_eq row i)) step ∙ where_add (nat_eq row i) (along j g (take k ts)) (g a) in
+      let three : where_one (nat_eq row i) (along j g (take (k + 1) ts)) ≡ where_one (nat_eq row i) (along j g (take k ts)) +ℤ where_one (nat_eq row i) (g a) = ap (where_one (nat_eq row i)) step ∙ where_one-add (nat_eq row i) (along j g (take k ts)) (g a) in
       omega (arith, ints)
   | inr ne ↦
       let here : slice_get (set cs c new) j ≡ slice_get cs j = get_set_other cs c j new (λ e. ne (sym e)) in
       let one : along i g (entries_of (slice_get (set cs c new) j)) ≡ along i g (entries_of (slice_get cs j)) = ap (λ o. along i g (entries_of o)) here in
       let two : along i g (entries_of (slice_get cs j)) ≡ along i g (entries_of (slice_get old j)) +ℤ where_one (nat_eq row i) (along j g (take k ts)) = h i j g there in
-      let apart : nat_eq (get_or ts k (0, pos 0)).0 j ≡ false = ap (λ n. nat_eq n j) (sym ce) ∙ eq_no c j ne in
+      let apart : nat_eq (get_or ts k (0, pos 0)).0 j ≡ false = ap (λ n. nat_eq n j) (sym ce) ∙ ne_eqb c j ne in
       let step : along j g (take (k + 1) ts) ≡ along j g (take k ts) +ℤ pos 0 = along-more j g ts k lt ∙ ap (λ b. along j g (take k ts) +ℤ where_one b (g (get_or ts k (0, pos 0)).1)) apart in
       let three : where_one (nat_eq row i) (along j g (take (k + 1) ts)) ≡ where_one (nat_eq row i) (along j g (take k ts)) = ap (where_one (nat_eq row i)) (step ∙ omega (arith, ints)) in
       omega (arith, ints)
@@ -54,7 +48,7 @@ spread_step old cs v new ts row k c a lt ce ae inside was is h i j g there = eli
 
 pub spread_none : (v : ℤ) (row i j : ℕ) (g : ℤ → ℤ) → v ≡ v +ℤ where_one (nat_eq row i) (along j g [])
 spread_none v row i j g =
-    let e : where_one (nat_eq row i) (along j g []) ≡ pos 0 = ap (where_one (nat_eq row i)) (along-none j g) ∙ where_zero (nat_eq row i) in
+    let e : where_one (nat_eq row i) (along j g []) ≡ pos 0 = ap (where_one (nat_eq row i)) (along-none j g) ∙ where_one-zero (nat_eq row i) in
     omega (arith, ints)
 
 -- a row and its coefficient more in the list of a column
@@ -92,16 +86,16 @@ take_short xs k i le = omega (arith, length-take k xs)
 
 -- the columns have what the rows so far have
 pub row_more : (rows : List Row) (k i j : ℕ) (g : ℤ → ℤ) (r : Row) (was now : ℤ) → slice_get rows k ≡ Some r → was ≡ along j g (terms_of (slice_get (take k rows) i)) → now ≡ was +ℤ where_one (nat_eq k i) (along j g r.terms.items) → now ≡ along j g (terms_of (slice_get (take (k + 1) rows) i))
-row_more rows k i j g r was now e h step = elim (same_or k i) [
+row_more rows k i j g r was now e h step = elim (cases_eq k i) [
   | inl same ↦
       let there : slice_get (take (k + 1) rows) i ≡ Some r = subst (λ n. slice_get (take (k + 1) rows) n ≡ Some r) same (row_taken rows k r e) in
       let past : slice_get (take k rows) i ≡ None = slice_get_past (take k rows) i (take_short rows k i (omega (arith, same))) in
       let none : was ≡ pos 0 = h ∙ ap (λ o. along j g (terms_of o)) past ∙ along-none j g in
-      let yes : where_one (nat_eq k i) (along j g r.terms.items) ≡ along j g r.terms.items = ap (λ b. where_one b (along j g r.terms.items)) (ap (λ n. nat_eq n i) same ∙ eq_yes i) in
+      let yes : where_one (nat_eq k i) (along j g r.terms.items) ≡ along j g r.terms.items = ap (λ b. where_one b (along j g r.terms.items)) (ap (λ n. nat_eq n i) same ∙ eq-eqb i i refl) in
       let goal : along j g (terms_of (slice_get (take (k + 1) rows) i)) ≡ along j g r.terms.items = ap (λ o. along j g (terms_of o)) there in
       omega (arith, ints)
   | inr ne ↦
-      let apart : where_one (nat_eq k i) (along j g r.terms.items) ≡ pos 0 = ap (λ b. where_one b (along j g r.terms.items)) (eq_no k i ne) in
+      let apart : where_one (nat_eq k i) (along j g r.terms.items) ≡ pos 0 = ap (λ b. where_one b (along j g r.terms.items)) (ne_eqb k i ne) in
       let same : slice_get (take (k + 1) rows) i ≡ slice_get (take k rows) i = take_other rows k i ne in
       let goal : along j g (terms_of (slice_get (take (k + 1) rows) i)) ≡ along j g (terms_of (slice_get (take k rows) i)) = ap (λ o. along j g (terms_of o)) same in
       omega (arith, ints)
@@ -155,7 +149,7 @@ so_far_whole z k cs le h = record {
 -- ---- a list of sums
 
 pub pushed_each : (f : ℕ → ℤ) (xs new : List ℤ) (i : ℕ) (x : ℤ) → length xs ≡ i → new ≡ xs ++ x ∷ [] → x ≡ f i → ((k : ℕ) → k < i → get_or xs k (pos 0) ≡ f k) → (k : ℕ) → k < i + 1 → get_or new k (pos 0) ≡ f k
-pushed_each f xs new i x len e xe h k lt = elim (same_or i k) [
+pushed_each f xs new i x len e xe h k lt = elim (cases_eq i k) [
   | inl same ↦ ap (λ l. get_or l k (pos 0)) e ∙ get_or_push xs x (pos 0) k (len ∙ same) ∙ xe ∙ ap f same
   | inr ne ↦ ap (λ l. get_or l k (pos 0)) e ∙ get_or_append_left xs (x ∷ []) (pos 0) k (omega arith) ∙ h k (omega arith)
 ]

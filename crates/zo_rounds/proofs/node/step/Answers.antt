@@ -1,5 +1,6 @@
 use Rattle.std.proofs.Common.{◌≡◌, ◌∙◌, ◌<◌, ap, sym, subst, false, slice_get, length, arith}
-use Rattle.std.specs.Prelude.{IfSome, IsTrue}
+use Rattle.std.specs.Prelude.{IfSome}
+use Rattle.std.proofs.lemmas.Bool.{false≢true}
 use Rattle.zo_model.specs.Program.{cost_of, costs_of}
 use Rattle.zo_model.specs.declared.program.ZeroOne.{ZeroOne}
 use Rattle.zo_leaf.specs.Fixing.{ones}
@@ -10,9 +11,6 @@ use Rattle.zo_state.specs.inner.Better.{CostsAsMuch}
 use Rattle.zo_rounds.proofs.Close.{clash_closes, clash_node, plain_closes, plain_node}
 use Rattle.zo_rounds.proofs.Steps.{closed_steps, no_better_met, no_better_open}
 use Rattle.zo_rounds.proofs.node.step.Goals as goal
-
-not_true : IsTrue false → ⊥
-not_true h = cc
 
 pub returns-then-is_met-clause-steps : goal.returns-then-is_met-clause-steps
 returns-then-is_met-clause-steps g c =
@@ -27,7 +25,7 @@ pub returns-in-Some-clause-steps : goal.returns-in-Some-clause-steps
 returns-in-Some-clause-steps g c =
     let at : c.follow.new.self.fixed ≡ current c.args.path.now.fixings = ap (λ (s : SumsOf). s.fixed) c.follow.ensures ∙ c.deref.ensures.value ∙ c.fixed.ensures.first in
     let of : c.follow.new.self.program ≡ c.args.z.now = ap (λ (s : SumsOf). s.program) c.follow.ensures ∙ c.requires.program in
-    let not_met : IsMet c.args.z.now (current c.args.path.now.fixings) → ⊥ = λ m. not_true (c.if-is_met.ensures.1 (subst (λ (z : ZeroOne). IsMet z c.follow.new.self.fixed) (sym of) (subst (IsMet c.args.z.now) (sym at) m))) in
+    let not_met : IsMet c.args.z.now (current c.args.path.now.fixings) → ⊥ = λ m. false≢true (c.if-is_met.ensures.1 (subst (λ (z : ZeroOne). IsMet z c.follow.new.self.fixed) (sym of) (subst (IsMet c.args.z.now) (sym at) m))) in
     let out : IfSome (slice_get c.args.z.now.rows.items c.in-Some.row) (λ r. IsInReach (current c.args.path.now.fixings) r → ⊥) = subst (λ f. IfSome (slice_get c.args.z.now.rows.items c.in-Some.row) (λ r. IsInReach f r → ⊥)) at (subst (λ (z : ZeroOne). IfSome (slice_get z.rows.items c.in-Some.row) (λ r. IsInReach c.follow.new.self.fixed r → ⊥)) of c.in-Some.ensures.some) in
     let lt : c.in-Some.row < length c.args.z.now.rows.items = subst (λ (z : ZeroOne). c.in-Some.row < length z.rows.items) of c.in-Some.ensures.there in
     closed_steps c.args.z.now c.args.best.now.start _ c.args.best.now.claim c.in_ok-clash_leaf.field-0 c.args.path.now c.put-in-Some.new.path c.args.nodes.now.items c.put-in-Some.new.nodes.items c.args.left c.in_ok-put-2.ensures c.requires.more

@@ -1,6 +1,7 @@
 use Rattle.std.proofs.Common.{◌≡◌, ◌∙◌, ◌<◌, ap, sym, subst, false, None, Some, slice_get, length, arith, rules}
-use Rattle.std.specs.Prelude.{IfSome, IsTrue}
+use Rattle.std.specs.Prelude.{IfSome}
 use Rattle.std.proofs.lemmas.Option.{slice_get_within}
+use Rattle.std.proofs.lemmas.Bool.{false≢true}
 use Rattle.zo_model.specs.Program.{cost_of, costs_of, columns}
 use Rattle.zo_leaf.specs.Certificate.{Closes}
 use Rattle.zo_leaf.specs.Fixing.{ones}
@@ -12,9 +13,6 @@ use Rattle.zo_state.specs.inner.Better.{CostsAsMuch}
 use Rattle.zo_rounds.proofs.Close.{open_free, plain_closes, plain_node}
 use Rattle.zo_rounds.proofs.Steps.{answers_at, branch_steps, closed_steps, costs_less, left_steps, no_better_open}
 use Rattle.zo_rounds.proofs.node.step_open.Goals as goal
-
-not_true : IsTrue false → ⊥
-not_true h = cc
 
 pub returns-then-costs_as_much-clause-steps : goal.returns-then-costs_as_much-clause-steps
 returns-then-costs_as_much-clause-steps g c =
@@ -35,7 +33,7 @@ returns-in-Some-clause-steps g c =
 pub returns-then-left-eq0-clause-steps : goal.returns-then-left-eq0-clause-steps
 returns-then-left-eq0-clause-steps g c =
     let spent : c.spent.result ≡ cost_of c.args.z.now (ones (current c.args.path.now.fixings)) = c.spent.ensures.cost ∙ ap (λ cs. costs_of cs (ones (current c.args.path.now.fixings))) c.requires.path in
-    let less : CostsLess c.args.z.now c.args.best.now.start (current c.args.path.now.fixings) = costs_less c.args.z.now c.args.best.now.start c.args.best.now.claim (current c.args.path.now.fixings) c.requires.best.no_dearer (λ k. not_true (c.if-costs_as_much.ensures.1 (subst (CostsAsMuch c.args.best.now.claim) (sym spent) k))) in
+    let less : CostsLess c.args.z.now c.args.best.now.start (current c.args.path.now.fixings) = costs_less c.args.z.now c.args.best.now.start c.args.best.now.claim (current c.args.path.now.fixings) c.requires.best.no_dearer (λ k. false≢true (c.if-costs_as_much.ensures.1 (subst (CostsAsMuch c.args.best.now.claim) (sym spent) k))) in
     left_steps c.args.z.now c.args.best.now.start _ c.args.best.now.claim c.args.path.now c.put-then-left-eq0.new.path c.args.nodes.now.items c.put-then-left-eq0.new.nodes.items c.args.left c.in_ok-put-3.ensures c.requires.more c.requires.open_ less (omega arith)
 
 pub column-column-requires-clause-free : goal.column-column-requires-clause-free
@@ -46,7 +44,7 @@ column-column-requires-clause-free g c =
 pub returns-clause-steps : goal.returns-clause-steps
 returns-clause-steps g c =
     let spent : c.spent.result ≡ cost_of c.args.z.now (ones (current c.args.path.now.fixings)) = c.spent.ensures.cost ∙ ap (λ cs. costs_of cs (ones (current c.args.path.now.fixings))) c.requires.path in
-    let less : CostsLess c.args.z.now c.args.best.now.start (current c.args.path.now.fixings) = costs_less c.args.z.now c.args.best.now.start c.args.best.now.claim (current c.args.path.now.fixings) c.requires.best.no_dearer (λ k. not_true (c.if-costs_as_much.ensures.1 (subst (CostsAsMuch c.args.best.now.claim) (sym spent) k))) in
+    let less : CostsLess c.args.z.now c.args.best.now.start (current c.args.path.now.fixings) = costs_less c.args.z.now c.args.best.now.start c.args.best.now.claim (current c.args.path.now.fixings) c.requires.best.no_dearer (λ k. false≢true (c.if-costs_as_much.ensures.1 (subst (CostsAsMuch c.args.best.now.claim) (sym spent) k))) in
     let free : slice_get (current c.args.path.now.fixings) c.column-column.result ≡ Some None = subst (λ f. slice_get f c.column-column.result ≡ Some None) c.fixed.ensures.first c.column-column.ensures.free in
     let within : c.column-column.result < length c.fixed.result.now.at.items = slice_get_within c.fixed.result.now.at.items c.column-column.result None c.column-column.ensures.free in
     let many : length c.fixed.result.now.at.items ≡ columns c.args.z.now = c.fixed.ensures.length ∙ ap length c.requires.path in
