@@ -1,10 +1,11 @@
 -- Texts that are written piece by piece.
-use Rattle.std.proofs.Common.{◌≡◌, ℕ, ◌+◌, ◌-◌, ◌*◌, ◌<◌, ◌≤◌, List, [], ◌∷◌, ◌++◌, length, get_or, take, drop, map, refl, sym, ap, ◌∙◌, arith, append_assoc, decimal, add-one, true, false, eqb, Result, OnOk}
+use Rattle.std.proofs.Common.{◌≡◌, ℕ, ◌+◌, ◌-◌, ◌*◌, ◌<◌, ◌≤◌, List, [], ◌∷◌, ◌++◌, length, get_or, take, drop, map, sym, ap, ◌∙◌, arith, append_assoc, decimal, add-one, true, false, eqb, Result, OnOk}
 use Rattle.std.proofs.lemmas.Result.{on_ok_weaker}
 use Rattle.std.proofs.lemmas.List.{append-nil, take_all, length-drop}
 use Rattle.std.proofs.lemmas.Grind.{take_at_read}
 use Rattle.std.specs.List.{flat_map, list_all}
 use Rattle.std.proofs.lemmas.List.Concat.{flat_map-append}
+use Rattle.std.proofs.lemmas.List.Folds.{flat_map-map}
 use Rattle.line_text.specs.Line.{text_of, parted}
 use Rattle.line_text.specs.Number.{hex_word}
 use Rattle.line_text.proofs.SplitLaws.{parted-cons, text_of-append}
@@ -12,10 +13,6 @@ use Rattle.nv_base.specs.declared.term.Mem.{Mem}
 use Rattle.mem_lines.specs.Spelling.{name_of}
 use Rattle.mem_lines.specs.Places.{stretch_start}
 use Rattle.nv_memtext.specs.OutcomeText.{stretch_line, stretch_lines, stretch_words, numbers_below}
-
-pub flat_map-map : {X Y : Type 0} (g : X → Y) (f : Y → List ℕ) (xs : List X) → flat_map f (map g xs) ≡ flat_map (λ x. f (g x)) xs
-flat_map-map g f [] = refl
-flat_map-map g f (x ∷ xs) = ap (λ t. f (g x) ++ t) (flat_map-map g f xs)
 
 -- one piece more
 pub piece_more : {X : Type 0} (f : X → List ℕ) (start : List ℕ) (xs : List X) (i : ℕ) (x : X) → i < length xs → get_or xs i x ≡ x → (start ++ flat_map f (take i xs)) ++ f x ≡ start ++ flat_map f (take (i + 1) xs)
@@ -25,7 +22,7 @@ piece_more f start xs i x lt e =
 
 -- a line of words, each behind a space
 pub words_line : (p : List ℕ) (ws : List ℕ) → parted (p ∷ map hex_word ws) ≡ p ++ flat_map (λ w. 32 ∷ hex_word w) ws
-words_line p ws = parted-cons p (map hex_word ws) ∙ ap (λ t. p ++ t) (flat_map-map hex_word (λ q. 32 ∷ q) ws)
+words_line p ws = parted-cons p (map hex_word ws) ∙ ap (λ t. p ++ t) (flat_map-map (λ (q : List ℕ). 32 ∷ q) hex_word ws)
 
 pub all_pieces : {X : Type 0} (f : X → List ℕ) (start : List ℕ) (xs : List X) (i : ℕ) → length xs ≤ i → start ++ flat_map f (take i xs) ≡ start ++ flat_map f xs
 all_pieces f start xs i le = ap (λ t. start ++ flat_map f t) (take_all i xs le)

@@ -19,9 +19,6 @@ either P false xs ys h k = k
 abbrev seven : List ℕ
 seven = 0 ∷ 0 ∷ 0 ∷ 0 ∷ 0 ∷ 0 ∷ 0 ∷ []
 
-within : (n m : ℕ) → n ≤ m → (0 ≤ n) × (n ≤ m)
-within n m h = (omega arith, h)
-
 zeros-fit : (kind : ℕ) → kind ≤ 6 → Fit (row_columns kind 0) (kind ∷ seven)
 zeros-fit kind h = grind (arith)
 
