@@ -4,12 +4,12 @@ use Rattle.std.specs.Prelude.{slice_get}
 use Rattle.std.specs.List.{AllByRecursion, IsDistinct}
 use Rattle.std.proofs.lemmas.Bool.{false≢true}
 use Rattle.std.proofs.lemmas.Slice.Eq.{bytes_eq-Decides}
+use Rattle.std.proofs.lemmas.Option.{same_Some}
 use Rattle.flat_code.specs.inner.Bounded.{AreOnce}
-use Rattle.flat_code.proofs.NoFaults.{some-same}
 
 no-later : (k : Bor (List ℕ)) (ks : List (Bor (List ℕ))) → AllByRecursion (λ y. bytes_eq k.now y.now ≡ false) ks → (i : ℕ) → slice_get (map (λ y. y.now) ks) i ≡ Some k.now → ⊥
 no-later k [] a i e = cc
-no-later k (y ∷ ks) a zero e = false≢true (sym a.0 ∙ (bytes_eq-Decides k.now y.now).1 (sym (some-same _ _ e)))
+no-later k (y ∷ ks) a zero e = false≢true (sym a.0 ∙ (bytes_eq-Decides k.now y.now).1 (sym (same_Some _ _ e)))
 no-later k (y ∷ ks) a (suc i) e = no-later k ks a.1 i e
 
 pub named-once : (ks : List (Bor (List ℕ))) → IsDistinct (λ a b. bytes_eq a.now b.now) ks → AreOnce (map (λ y. y.now) ks)

@@ -13,12 +13,12 @@ use Rattle.flat_code.specs.inner.Made.{IsMade, AreMade, AllMade, IsPlaced, ArePl
 use Rattle.flat_code.specs.inner.Well.{AreCalled}
 use Rattle.flat_code.proofs.WellProgram.{AreFound, found-first, found-more}
 use Rattle.std.proofs.lemmas.List.{map-append}
-use Rattle.flat_code.proofs.NoFaults.{some-same}
+use Rattle.std.proofs.lemmas.Option.{same_Some, slice_get_within}
 use Rattle.flat_code.proofs.CallArms.{get-append}
 
 slice-mapped : (ks : List (Bor (List ℕ))) (i : ℕ) (k : Bor (List ℕ)) → slice_get ks i ≡ Some k → slice_get (map (λ y. y.now) ks) i ≡ Some k.now
 slice-mapped [] i k e = cc
-slice-mapped (y ∷ ks) zero k e = ap (λ z. Some z.now) (some-same _ _ e)
+slice-mapped (y ∷ ks) zero k e = ap (λ z. Some z.now) (same_Some _ _ e)
 slice-mapped (y ∷ ks) (suc i) k e = slice-mapped ks i k e
 
 -- the number of a name
@@ -48,7 +48,7 @@ pub record Seen {A : Type 0} (xs : List A) (last : A) (i : ℕ) (x : A) : Type 0
   pub here : i ≡ length xs → x ≡ last
 
 pub slice-last : {A : Type 0} (xs : List A) (last : A) (i : ℕ) (x : A) → slice_get (xs ++ last ∷ []) i ≡ Some x → Seen xs last i x
-slice-last [] last zero x e = record { place = omega arith; before = λ h. absurd (omega arith); here = λ h. sym (some-same _ _ e) }
+slice-last [] last zero x e = record { place = omega arith; before = λ h. absurd (omega arith); here = λ h. sym (same_Some _ _ e) }
 slice-last [] last (suc i) x e = absurd (cc)
 slice-last (y ∷ xs) last zero x e = record { place = omega arith; before = λ h. e; here = λ h. absurd (omega arith) }
 slice-last (y ∷ xs) last (suc i) x e =
@@ -60,11 +60,6 @@ pub slice-there : {A : Type 0} (xs : List A) (i : ℕ) → i < length xs → (x 
 slice-there [] i h = absurd (omega arith)
 slice-there (y ∷ xs) zero h = (y, refl)
 slice-there (y ∷ xs) (suc i) h = slice-there xs i (omega arith)
-
-pub slice-below : {A : Type 0} (xs : List A) (i : ℕ) (x : A) → slice_get xs i ≡ Some x → i < length xs
-slice-below [] i x e = absurd (cc)
-slice-below (y ∷ xs) zero x e = omega arith
-slice-below (y ∷ xs) (suc i) x e = let h : i < length xs = slice-below xs i x e in omega arith
 
 pub slice-past : {A : Type 0} (xs : List A) (i : ℕ) → slice_get xs i ≡ None → length xs ≤ i
 slice-past [] i e = omega arith
@@ -130,7 +125,7 @@ made-more w main name names new funs funs' fun so named more made placed calling
 }
   where
     inside : length funs < length names
-    inside = slice-below names (length funs) name named
+    inside = slice_get_within names (length funs) name named
 
     longer : (xs ys : Names) → length (xs ++ ys) ≡ length xs + length ys
     longer [] ys = omega arith
@@ -150,7 +145,7 @@ made-more w main name names new funs funs' fun so named more made placed calling
     earlier : (i : ℕ) → i < length names → (f : List ℕ) → slice_get new i ≡ Some f → slice_get names i ≡ Some f
     earlier i h f e =
         let r = slice-there names i h in
-        let same : r.0 ≡ f = some-same _ _ (sym (ap (λ l. slice_get l i) more.1 ∙ get-append names more.0 i r.0 r.1) ∙ e) in
+        let same : r.0 ≡ f = same_Some _ _ (sym (ap (λ l. slice_get l i) more.1 ∙ get-append names more.0 i r.0 r.1) ∙ e) in
         r.1 ∙ ap (λ x. Some x) same
 
     by : (i : ℕ) (f : List ℕ) (g : FunTree) (d : FlatFun) → slice_get new i ≡ Some f → function_in w.declared.functions f ≡ Some g → slice_get funs' i ≡ Some d → IsMade w new g d
@@ -163,7 +158,7 @@ made-more w main name names new funs funs' fun so named more made placed calling
           | inl below ↦ more-names w names new g d more (so.made.by i f g d named' found (s.before below))
           | inr past ↦ (
               let here : i ≡ length funs = omega arith in
-              let same : name ≡ f = some-same _ _ (sym named ∙ ap (slice_get names) (sym here) ∙ named') in
+              let same : name ≡ f = same_Some _ _ (sym named ∙ ap (slice_get names) (sym here) ∙ named') in
               subst (IsMade w new g) (sym (s.here here)) (made g (ap (function_in w.declared.functions) same ∙ found)))
         ]
 
@@ -177,7 +172,7 @@ made-more w main name names new funs funs' fun so named more made placed calling
           | inl below ↦ so.placed.by i f d named' (s.before below)
           | inr past ↦ (
               let here : i ≡ length funs = omega arith in
-              let same : name ≡ f = some-same _ _ (sym named ∙ ap (slice_get names) (sym here) ∙ named') in
+              let same : name ≡ f = same_Some _ _ (sym named ∙ ap (slice_get names) (sym here) ∙ named') in
               subst (λ x. IsPlaced w x d) same (subst (IsPlaced w name) (sym (s.here here)) placed))
         ]
 
@@ -185,7 +180,7 @@ made-more w main name names new funs funs' fun so named more made placed calling
 pub all-made : (w : Whole) (main : List ℕ) (names : Names) (funs : List FlatFun) → MadeSoFar w main names funs → slice_get names (length funs) ≡ None → AllMade w names funs
 all-made w main names funs so none = record {
   by = λ i f g named found.
-      let below : i < length names = slice-below names i f named in
+      let below : i < length names = slice_get_within names i f named in
       let past : length names ≤ length funs = slice-past names (length funs) none in
       let r = slice-there funs i (omega arith) in
       (r.0, r.1, so.made.by i f g r.0 named found r.1);

@@ -1,10 +1,10 @@
 -- What an expression without faults says of itself and its types.
-use Rattle.std.proofs.Common.{◌≡◌, ℕ, Bool, true, false, not, ◌&&◌, ◌||◌, if◌then◌else◌, List, [], ◌∷◌, ◌++◌, All, Option, Some, None, is_none, option_map, bytes_eq, refl, sym, ap, ◌∙◌, subst, true≢false}
+use Rattle.std.proofs.Common.{◌≡◌, ℕ, Bool, true, false, ◌&&◌, ◌||◌, if◌then◌else◌, List, [], ◌∷◌, ◌++◌, All, Option, Some, None, is_none, option_map, bytes_eq, refl, sym, ap, ◌∙◌, subst, true≢false}
 use Rattle.std.specs.List.{list_any}
 use Rattle.std.proofs.lemmas.List.Elements.{All-nil, All-cons, All-head, All-tail}
 use Rattle.std.proofs.lemmas.Slice.Eq.{bytes_eq-Decides}
 use Rattle.nv_ast.specs.Tree.{Tree, NumberTree, TruthTree, VarTree, ParenTree, TupleTree, FieldsTree, DotTree, InvertTree, NegateTree, BinaryTree, ShiftTree, CallTree, UnpackTree, PackTree, RaiseTree, IfTree, TryTree, FetchTree, BlockTree, Trees, no_trees, tree_and, NamedTrees, no_named_trees, named_tree_and, span_of}
-use Rattle.nv_ast.specs.Tests.{where_true, is_among, names_of, look_up}
+use Rattle.nv_ast.specs.Tests.{is_among, names_of, look_up}
 use Rattle.nv_ast.specs.Types.{Ty, WordTy, BoolTy, TupleTy, RecordTy, Tys, no_tys, ty_and, NamedTys, no_named_tys, named_ty_and, same_type, same_types, same_named_types, words_ty, unpacked_ty, packed_ty}
 use Rattle.nv_ast.specs.Scope.{Place, inside, with_vars, bind_raised}
 use Rattle.nv_ast.specs.Typing.{field_ty, and_ty, and_named_ty, operand_ty, result_ty, type_at, types_at, named_types_at, vars_behind}
@@ -12,22 +12,13 @@ use Rattle.nv_ast.specs.Faults.{Wanted, anything, a_value, of_type, same_as, at_
 use Rattle.flat_code.specs.inner.Code.{is_given}
 use Rattle.std.proofs.lemmas.Bool.{and_parts}
 use Rattle.nv_ast.proofs.Faultless.{no_front, no_rest, no_kinds, not_where}
+use Rattle.nv_layout.proofs.Sound.{where_not}
 
 -- ---- lists of faults
-
-pub set : (b : Bool) (k : ℕ) → where_true (not b) k ≡ [] → b ≡ true
-set true k h = refl
-set false k h = cc
 
 pub given : {A : Type 0} (o : Option A) → is_none o ≡ false → (a : A) × (o ≡ Some a)
 given None h = absurd (true≢false h)
 given (Some a) h = (a, refl)
-
-pub some-same : {A : Type 0} (a b : A) → Some a ≡ Some b → a ≡ b
-some-same a b h = cc
-
-pub none-some : {A : Type 0} (a : A) → None ≡ Some a → ⊥
-none-some a h = cc
 
 pub is-name : (x y : List ℕ) → bytes_eq x y ≡ true → x ≡ y
 is-name x y h = (bytes_eq-Decides x y).0 h
@@ -123,7 +114,7 @@ is-value w (Some t) v h = (t, refl)
 
 -- a type of which a right one is wanted is right
 pub is-right : (w : Wanted) (o : Option Ty) (t : Ty) → other_type w o ≡ [] → o ≡ Some t → w.right t ≡ true
-is-right w o t h e = set (w.right t) 14 (subst (λ u. other_type w u ≡ []) e h)
+is-right w o t h e = where_not (w.right t) 14 (subst (λ u. other_type w u ≡ []) e h)
 
 pub value-has-type : (p : Place) (wanted : Wanted) (e : Tree) → wanted.value ≡ true → faults p wanted e ≡ [] → (t : Ty) × (type_at p.known p.vars e ≡ Some t)
 value-has-type p wanted e v h = is-value wanted (type_at p.known p.vars e) v (clean p wanted e h).value
@@ -173,7 +164,7 @@ all-typed p (ty_and t ts) (tree_and e es) n h =
 
 pub arguments-typed : (p : Place) (ts : Tys) (es : Trees) → list_faults p (wanted_arguments (Some ts) es) es ≡ [] → wrong_number (Some ts) es ≡ [] → types_at p.known p.vars es ≡ Some ts
 arguments-typed p ts es h n =
-    let many : as_many ts es ≡ true = set (as_many ts es) 13 n in
+    let many : as_many ts es ≡ true = where_not (as_many ts es) 13 n in
     all-typed p ts es many (subst (λ b. list_faults p (if b then all_wanted ts else []) es ≡ []) many h)
 
 -- ---- names that are known
@@ -208,10 +199,10 @@ given-has-type p w (BinaryTree s op a b) h g = (result_ty op, refl)
 given-has-type p w (ShiftTree s op e n) h g = (WordTy, refl)
 given-has-type p w (CallTree s f es) h g = absurd (true≢false (sym g))
 given-has-type p w (UnpackTree s l e) h g =
-    let o = among-known l p.known.layouts (set (is_among l (names_of p.known.layouts)) 3 (clean p w (UnpackTree s l e) h).low) in
+    let o = among-known l p.known.layouts (where_not (is_among l (names_of p.known.layouts)) 3 (clean p w (UnpackTree s l e) h).low) in
     (unpacked_ty o.0, ap (option_map unpacked_ty) o.1)
 given-has-type p w (PackTree s l e) h g =
-    let o = among-known l p.known.layouts (set (is_among l (names_of p.known.layouts)) 3 (clean p w (PackTree s l e) h).low) in
+    let o = among-known l p.known.layouts (where_not (is_among l (names_of p.known.layouts)) 3 (clean p w (PackTree s l e) h).low) in
     (packed_ty o.0, ap (option_map packed_ty) o.1)
 given-has-type p w (RaiseTree s x es) h g = absurd (true≢false (sym g))
 given-has-type p w (IfTree s c a b) h g = absurd (true≢false (sym g))

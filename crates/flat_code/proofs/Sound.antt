@@ -2,6 +2,7 @@
 use Rattle.std.proofs.Common.{◌≡◌, ℕ, ◌≤◌, true, false, not, if◌then◌else◌, List, [], ◌∷◌, Option, Some, None, is_none, option_map, refl, sym, ap, ◌∙◌, subst}
 use Rattle.std.specs.Prelude.{nat_lt}
 use Rattle.std.proofs.lemmas.Bool.{ltb-false}
+use Rattle.std.proofs.lemmas.Option.{same_Some}
 use Rattle.nv_base.specs.Memories.{HasSizes}
 use Rattle.nv_base.specs.Words.{word, word_not}
 use Rattle.nv_base.proofs.WordLemmas.{word-fits as sum-fits}
@@ -19,12 +20,13 @@ use Rattle.nv_meaning.specs.Running.{Running, Result, Gives, Raises, GoesOn, bef
 use Rattle.nv_meaning.specs.Meaning.{Calls, eval, eval_all, eval_named, run_one, run_all, shifted}
 use Rattle.flat_code.specs.inner.Whole.{Whole, IsPart, raised_tys}
 use Rattle.flat_code.specs.inner.Soundness.{value_ty, value_tys, ComesTo, CallsTyped, scope_tys, AreWords, ScopeWords}
-use Rattle.flat_code.proofs.NoFaults.{given, clean, set, some-same, among-known}
+use Rattle.flat_code.proofs.NoFaults.{given, clean, among-known}
 use Rattle.flat_code.proofs.SoundWords.{no-words, word-fits, variable-type, variable-words, field-type, field-words, matched-types, matched-words, all-matched-types, all-matched-words, unpacked-type, unpacked-words, packed-type, packed-value-words}
 use Rattle.flat_code.proofs.SoundArms.{AllComeTo, NamedComeTo, StatedComesTo, as-type, gives-word, gives-truth, then-typed, all-typed, named-typed, stated-typed, further-typed, more-typed, more-named-typed, then-stated-typed, before-typed, before-named-typed, first-typed, second-typed, choice-typed, binary-typed, handled-typed, fetch-typed, store-typed, shifted-fits, not-fits}
 use Rattle.nv_ast.proofs.Faultless.{no_front, no_rest, no_kinds, not_where}
 -- expressions without faults have types
 pub use Rattle.flat_code.proofs.NoFaults.{value-has-type, wanted-type, given-has-type, values-have-types, arguments-are-values, fields-have-types, arguments-typed}
+use Rattle.nv_layout.proofs.Sound.{where_not}
 
 -- a place of a body, with values of its variables
 pub record Inside (w : Whole) (own : ℕ) (p : Place) (scope : Scope) : Type 0 where
@@ -62,7 +64,7 @@ handled-there w own p x ps s part h =
 arguments-there : (p : Place) (o : Option Tys) (ts us : Tys) (es : Trees) → o ≡ Some ts → list_faults (inside p) (wanted_arguments o es) es ≡ [] → wrong_number o es ≡ [] → types_at p.known p.vars es ≡ Some us → us ≡ ts
 arguments-there p o ts us es is h n typed =
     let there : types_at p.known p.vars es ≡ Some ts = arguments-typed (inside p) ts es (subst (λ a. list_faults (inside p) (wanted_arguments a es) es ≡ []) is h) (subst (λ a. wrong_number a es ≡ []) is n) in
-    some-same us ts (sym typed ∙ there)
+    same_Some us ts (sym typed ∙ there)
 
 -- a call of a known function with values of its parameters' types
 call-typed : (w : Whole) (own : ℕ) (call : Calls) (p : Place) (f : List ℕ) (g : Signature) (vs : Values) (now : Running) → CallsTyped w call → IsPart w own p.known → look_up f (callable p.known) ≡ Some g
@@ -122,13 +124,13 @@ module _ (w : Whole) (own : ℕ) (call : Calls) (typed : CallsTyped w call) wher
         (all-eval-typed es (inside p) (wanted_arguments (params_of p.known g) es) scope now (inner p scope i) z arguments)
         (λ vs next e words sizes. call-typed w own call p g known.0 vs next typed i.part known.1 (arguments-there p (params_of p.known g) (plain_tys known.0.params) (value_tys vs) es (ap (option_map (λ (q : Signature). plain_tys q.params)) known.1) arguments many e) words sizes)
     eval-typed (UnpackTree s l e) p t scope now i z h =
-        let o = among-known l p.known.layouts (set (is_among l (names_of p.known.layouts)) 3 (clean p t (UnpackTree s l e) h).low) in
+        let o = among-known l p.known.layouts (where_not (is_among l (names_of p.known.layouts)) 3 (clean p t (UnpackTree s l e) h).low) in
         let is : outline w.declared.layouts (NamedLayout l) ≡ o.0 = (i.part.layouts l o.0 o.1).0 in
         then-typed w (type_at p.known p.vars e) (option_map unpacked_ty (look_up l p.known.layouts)) (eval w.declared call e scope now) (λ v last. Gives (unpacked_value (outline w.declared.layouts (NamedLayout l)) v) last)
         (eval-typed e (inside p) (wanted_packed (look_up l p.known.layouts)) scope now (inner p scope i) z (no_front (faults (inside p) (wanted_packed (look_up l p.known.layouts)) e) _ h))
         (λ v last tv g sizes. (ap (option_map unpacked_ty) o.1 ∙ ap (λ a. Some (unpacked_ty a)) (sym is) ∙ ap (λ a. Some a) (sym (unpacked-type (outline w.declared.layouts (NamedLayout l)) v)), unpacked-words (outline w.declared.layouts (NamedLayout l)) v, sizes))
     eval-typed (PackTree s l e) p t scope now i z h =
-        let o = among-known l p.known.layouts (set (is_among l (names_of p.known.layouts)) 3 (clean p t (PackTree s l e) h).low) in
+        let o = among-known l p.known.layouts (where_not (is_among l (names_of p.known.layouts)) 3 (clean p t (PackTree s l e) h).low) in
         let is : outline w.declared.layouts (NamedLayout l) ≡ o.0 = (i.part.layouts l o.0 o.1).0 in
         then-typed w (type_at p.known p.vars e) (option_map packed_ty (look_up l p.known.layouts)) (eval w.declared call e scope now) (λ v last. Gives (packed_value (outline w.declared.layouts (NamedLayout l)) v) last)
         (eval-typed e (inside p) (wanted_unpacked (look_up l p.known.layouts)) scope now (inner p scope i) z (no_front (faults (inside p) (wanted_unpacked (look_up l p.known.layouts)) e) _ h))
@@ -166,7 +168,7 @@ module _ (w : Whole) (own : ℕ) (call : Calls) (typed : CallsTyped w call) wher
           words = all-matched-words ps vs scope words i.words;
         }) sizes handler)
     eval-typed (FetchTree s m n a) p t scope now i z h =
-        let can : can_move m n ≡ true = set (can_move m n) 19 (no_front (wrong_access m n) _ (clean p t (FetchTree s m n a) h).middle) in
+        let can : can_move m n ≡ true = where_not (can_move m n) 19 (no_front (wrong_access m n) _ (clean p t (FetchTree s m n a) h).middle) in
         then-typed w (Some WordTy) (Some (words_ty n)) (eval w.declared call a scope now) (λ v next. fetch m n (word_of v) next)
         (wanted-typed w (inside p) WordTy a (eval w.declared call a scope now) (no_front (faults (inside p) (of_type WordTy) a) _ h) (eval-typed a (inside p) (of_type WordTy) scope now (inner p scope i) z (no_front (faults (inside p) (of_type WordTy) a) _ h)))
         (λ v next tv g sizes. fetch-typed w m n (word_of v) next can sizes)

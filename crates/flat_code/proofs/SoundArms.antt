@@ -1,5 +1,6 @@
 -- What each kind of expression comes to, of what its parts come to.
 use Rattle.std.proofs.Common.{◌≡◌, ℕ, zero, suc, ◌*◌, ◌^◌, ◌<◌, ◌≤◌, ◌/◌, ◌==◌, Bool, true, false, if◌then◌else◌, List, [], length, Option, Some, None, refl, sym, ap, ◌∙◌, subst, true≢false, arith, eqb-true, div-le_self}
+use Rattle.std.proofs.lemmas.Option.{none-some, same_Some}
 use Rattle.nv_base.specs.declared.term.Bin.TheVariants as bin
 use Rattle.nv_base.specs.declared.term.Una.TheVariants as una
 use Rattle.nv_base.specs.declared.term.Mem.{Mem}
@@ -20,7 +21,7 @@ use Rattle.nv_meaning.specs.Running.{Running, Result, Gives, Raises, Stops, Resu
 use Rattle.nv_meaning.specs.Meaning.{combined, binary, shifted}
 use Rattle.flat_code.specs.inner.Whole.{Whole, raised_tys}
 use Rattle.flat_code.specs.inner.Soundness.{value_ty, value_tys, named_value_tys, scope_tys, AreWords, ScopeWords, ComesTo}
-use Rattle.flat_code.proofs.NoFaults.{same-is, some-same, is-right}
+use Rattle.flat_code.proofs.NoFaults.{same-is, is-right}
 use Rattle.flat_code.proofs.SoundWords.{one-word, words-after, truth-words, word-fits, words-value-type, words-value-fits}
 
 -- ---- expressions one after another have these types, or what breaks them off has no value
@@ -41,9 +42,6 @@ module _ (w : Whole) where
   -- what has no value has any type
   pub any-type : (t : Option Ty) (r : Result) → ComesTo w None r → ComesTo w t r
   any-type t (Gives v now) h = let never : None ≡ Some (value_ty v) = h.0 in absurd (none-some (value_ty v) never)
-    where
-      none-some : (u : Ty) → None ≡ Some u → ⊥
-      none-some u e = cc
   any-type t (Raises k vs now) h = h
   any-type t (Stops how now) h = tt
 
@@ -181,7 +179,7 @@ module _ (w : Whole) where
       by : (b : Bool) → (j == k) ≡ b → ComesTo w (or_ty t u) (if b then handler vs now else Raises j vs now)
       by true is =
           let number : j ≡ k = eqb-true j k is in
-          second-typed t u (handler vs now) o (next vs now (some-same ts (value_tys vs) (sym e ∙ ap (raised_tys w) (sym number) ∙ h.0)) h.1 h.2)
+          second-typed t u (handler vs now) o (next vs now (same_Some ts (value_tys vs) (sym e ∙ ap (raised_tys w) (sym number) ∙ h.0)) h.1 h.2)
       by false is = h
 
   -- ---- accesses

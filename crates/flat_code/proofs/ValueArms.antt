@@ -1,5 +1,6 @@
 -- One lemma for each expression whose value needs no words in memory: its steps and its symbolic value.
 use Rattle.std.proofs.Common.{◌≡◌, ◌∙◌, refl, ap, sym, subst, ℕ, zero, suc, ◌+◌, ◌<◌, ◌≤◌, ◌^◌, ◌==◌, Bool, true, false, not, if◌then◌else◌, List, [], ◌∷◌, ◌++◌, Option, Some, None, bytes_eq, bit_xor, arith}
+use Rattle.std.proofs.lemmas.Option.{same_Some, none-some}
 use Rattle.nv_base.specs.declared.term.Atom.TheVariants.{Var, Lit}
 use Rattle.nv_base.specs.declared.term.Bin.TheVariants as bin
 use Rattle.nv_base.specs.declared.term.Una.TheVariants as una
@@ -27,7 +28,6 @@ use Rattle.flat_code.specs.inner.Runs.{flat_run, onward}
 use Rattle.flat_code.specs.inner.Whole.{Whole, Stands}
 use Rattle.flat_code.specs.inner.Simulation.{Names, Done, HasForm, IsValue}
 use Rattle.flat_code.proofs.Keeping.{older-left, older-right, older-later, begins-done}
-use Rattle.flat_code.proofs.NoFaults.{some-same, none-some}
 use Rattle.flat_code.proofs.Following.{onward-then, steps-then, stands-inside, word-of, truth-of, truth-fits, one-older, assigned-here, defined}
 use Rattle.nv_ast.proofs.Faultless.{no_front}
 
@@ -36,7 +36,7 @@ module _ (w : Whole) (names : Names) (low high : ℕ) (scope : SymbolScope) wher
   pub number-value : (sp : Span) (n : ℕ) → IsValue w names low high scope (NumberTree sp n) [] (Word (Lit n))
   number-value sp n = record {
     simulates = record { by = λ own p wanted stands none older c env now begins rest next same. same env now (begins-done low env scope now (Fits env (Word (Lit n))) begins (word-fits n)) };
-    formed = record { by = λ own p wanted stands none t is. some-same WordTy t is };
+    formed = record { by = λ own p wanted stands none t is. same_Some WordTy t is };
     older = λ o. one-older high (Lit n) tt;
   }
 
@@ -55,7 +55,7 @@ module _ (w : Whole) (names : Names) (low high : ℕ) (scope : SymbolScope) wher
           same env now (begins-done low env scope now (Fits env (Truth (Lit (if b then 1 else 0)))) begins (bit-fits b))
           ∙ ap (λ x. next (meaning.Truth x) now) (bit-is b);
     };
-    formed = record { by = λ own p wanted stands none t is. some-same BoolTy t is };
+    formed = record { by = λ own p wanted stands none t is. same_Some BoolTy t is };
     older = λ o. one-older high (Lit (if b then 1 else 0)) tt;
   }
 
@@ -88,7 +88,7 @@ module _ (w : Whole) (names : Names) (low high : ℕ) (scope : SymbolScope) wher
   variable-older n ((y, s) ∷ m) x o = choose-older n (bytes_eq x y) s (symbol_in m x) o.0 (variable-older n m x o.1)
 
   choose-form : (b : Bool) (s r : Symbol) (u : Option Ty) (t : Ty) → (u ≡ Some t → form r ≡ t) → (if b then Some (form s) else u) ≡ Some t → form (if b then s else r) ≡ t
-  choose-form true s r u t more e = some-same (form s) t e
+  choose-form true s r u t more e = same_Some (form s) t e
   choose-form false s r u t more e = more e
 
   variable-form : (m : SymbolScope) (x : List ℕ) (t : Ty) → look_up x (vars_of m) ≡ Some t → form (symbol_in m x) ≡ t
@@ -186,7 +186,7 @@ field-older n x (Tuple ss) o = one-older n (Lit 0) tt
 field-older n x (Record fs) o = among-older n x fs o
 
 choose-field_form : (b : Bool) (s r : Symbol) (u : Option Ty) (t : Ty) → (u ≡ Some t → form r ≡ t) → (if b then Some (form s) else u) ≡ Some t → form (if b then s else r) ≡ t
-choose-field_form true s r u t more e = some-same (form s) t e
+choose-field_form true s r u t more e = same_Some (form s) t e
 choose-field_form false s r u t more e = more e
 
 among-form : (x : List ℕ) (fs : NamedSymbols) (t : Ty) → look_up x (fields_of_ty (named_forms fs)) ≡ Some t → form (field_named x fs) ≡ t
@@ -247,7 +247,7 @@ module _ (w : Whole) (names : Names) (low high : ℕ) (scope : SymbolScope) wher
       defined low high env new last (Fits new s) made (Word (Var high)) (meaning.Word (word_not (word_of (value_in new s)))) rest next le done
       (ap (λ x. meaning.Word x) (assigned-here new high made) ∙ ap (λ x. meaning.Word (word_not x)) (sym (word-of new s)))
       (subst (λ x. x < 2 ^ 32) (sym (assigned-here new high made)) (not-word (atom_word new (word_operand s)))) same)
-      (record { by = λ own p wanted stands none t is. some-same WordTy t is })
+      (record { by = λ own p wanted stands none t is. same_Some WordTy t is })
       (λ o. one-older (high + 1) (Var high) (omega arith))
 
   pub negate-value : (sp : Span) (a : Tree) (ss : List Step) (s : Symbol) → low ≤ high → IsValue w names low high scope a ss s → IsValue w names low (high + 1) scope (NegateTree sp a) (ss ++ Let high (BinOf bin.Xor (truth_operand s) (Lit 1)) ∷ []) (Truth (Var high))
@@ -259,5 +259,5 @@ module _ (w : Whole) (names : Names) (low high : ℕ) (scope : SymbolScope) wher
       defined low high env new last (Fits new s) (bit_xor x 1) (Truth (Var high)) (meaning.Truth (not (truth_of (value_in new s)))) rest next le done
       (ap (λ y. meaning.Truth (not (y == 0))) (assigned-here new high (bit_xor x 1)) ∙ ap (λ y. meaning.Truth y) (turned-is x (truth-fits new s done.fits)) ∙ ap (λ y. meaning.Truth (not y)) (sym (truth-of new s)))
       (subst (λ y. y ≤ 1) (sym (assigned-here new high (bit_xor x 1))) (turned-truth x (truth-fits new s done.fits))) same)
-      (record { by = λ own p wanted stands none t is. some-same BoolTy t is })
+      (record { by = λ own p wanted stands none t is. same_Some BoolTy t is })
       (λ o. one-older (high + 1) (Var high) (omega arith))

@@ -1,5 +1,6 @@
 -- Which expressions are done in which way.
-use Rattle.std.proofs.Common.{◌≡◌, Bool, true, false, not, refl}
+use Rattle.std.proofs.Common.{◌≡◌, true, false, refl}
+use Rattle.std.proofs.lemmas.Bool.{not-true}
 use Rattle.nv_ast.specs.declared.tree.Op.{Op}
 use Rattle.nv_ast.specs.declared.tree.Op.TheVariants.{Add, Sub, And, Or, Xor, Eq, Ne, Lt, Le, Gt, Ge, Both, Either}
 use Rattle.nv_ast.specs.Tree.{Tree, NumberTree, TruthTree, VarTree, ParenTree, TupleTree, FieldsTree, DotTree, InvertTree, NegateTree, BinaryTree, ShiftTree, CallTree, UnpackTree, PackTree, RaiseTree, IfTree, TryTree, FetchTree, BlockTree}
@@ -41,12 +42,9 @@ either-op Gt e = cc
 either-op Ge e = cc
 
 -- ---- what gets names isn't given by its steps, and no number
-turned : (b : Bool) → not b ≡ true → b ≡ false
-turned true e = cc
-turned false e = refl
 
 pub named-given : (e : Tree) → is_named e ≡ true → is_given e ≡ false
-named-given (BinaryTree s op a b) h = turned (gives (ends_of op)) h
+named-given (BinaryTree s op a b) h = not-true (gives (ends_of op)) h
 named-given (CallTree s f es) h = refl
 named-given (RaiseTree s x es) h = refl
 named-given (IfTree s c a b) h = refl

@@ -2,7 +2,7 @@
 use Rattle.std.proofs.Common.{◌≡◌, ℕ, zero, suc, ◌<◌, ◌≤◌, ◌==◌, Bool, true, false, nat_eq, nat_le, ◌&&◌, List, [], ◌∷◌, ◌++◌, refl, sym, ap, subst, ◌∙◌, append-nil, ⊎_elim, Option, Some, length, slice_get, if◌then◌else◌, arith}
 use Rattle.std.specs.List.{list_all}
 use Rattle.std.proofs.lemmas.Bool.{and_parts, and_from, or_cases, eq-eqb, eqb-true, le-leb, leb-true, ltb-true, false≢true, cases_lt}
-use Rattle.std.proofs.lemmas.Option.{slice_get_within}
+use Rattle.std.proofs.lemmas.Option.{slice_get_within, same_Some}
 use Rattle.nv_ast.specs.Tree.{Tree}
 use Rattle.nv_ast.specs.Types.{Tys, total_words}
 use Rattle.nv_ast.specs.Scope.{Place}
@@ -22,7 +22,6 @@ use Rattle.flat_ir.specs.Reached.{calls, Reached, itself, called, AreReached}
 use Rattle.flat_code.specs.inner.Well.{FunsMatch, AreShort, Linked, ScopeKnown, Rises, IsRaised, RaisedMatch, GivesWords, IsWellEnd, IsWellFun, AreCalled}
 use Rattle.flat_code.proofs.WellBasics.{rises-append, rises-numbers, rises-different, raised-both}
 use Rattle.flat_code.proofs.WellSteps.{linked-fewer}
-use Rattle.flat_code.proofs.NoFaults.{some-same}
 use Rattle.flat_code.proofs.CallArms.{get-append}
 
 -- ---- functions
@@ -129,7 +128,7 @@ abbrev AreFormed : List FlatFun → Type 0
 AreFormed funs = (i : ℕ) (fun : FlatFun) → slice_get funs i ≡ Some fun → is_formed funs fun.group true fun.results fun.params.items fun.body ≡ true
 
 reached-results : (funs : List FlatFun) (main : FlatFun) → AreFormed funs → slice_get funs 0 ≡ Some main → (i : ℕ) → Reached funs 0 i → (g : FlatFun) → slice_get funs i ≡ Some g → (g.group ≤ main.group) × (g.group ≡ main.group → g.results ≡ main.results)
-reached-results funs main formed first i itself g at = let same : g ≡ main = some-same g main (sym at ∙ first) in subst (λ x. (x.group ≤ main.group) × (x.group ≡ main.group → x.results ≡ main.results)) (sym same) (omega arith, λ e. refl)
+reached-results funs main formed first i itself g at = let same : g ≡ main = same_Some g main (sym at ∙ first) in subst (λ x. (x.group ≤ main.group) × (x.group ≡ main.group → x.results ≡ main.results)) (sym same) (omega arith, λ e. refl)
 reached-results funs main formed first i (called k j f reached there calling) g at =
     let before = reached-results funs main formed first k reached f there in
     let call = calls-formed funs f.group true f.results f.params.items f.body i g at (formed k f there) calling in
@@ -144,7 +143,7 @@ agree-if false m n h = refl
 
 same-raised : (w : Whole) (r : ℕ × ℕ) (k n : ℕ) (ts : Tys) → raised_tys w k ≡ Some ts → n ≡ total_words ts → IsRaised w r → (r.0 == k) ≡ true → r.1 ≡ n
 same-raised w r k n ts found many h e =
-    let same : h.0 ≡ ts = some-same h.0 ts (sym h.1 ∙ ap (raised_tys w) (eqb-true r.0 k e) ∙ found) in
+    let same : h.0 ≡ ts = same_Some h.0 ts (sym h.1 ∙ ap (raised_tys w) (eqb-true r.0 k e) ∙ found) in
     h.2 ∙ ap total_words same ∙ sym many
 
 agree-one : (w : Whole) (k n : ℕ) (ts : Tys) (rest : List (ℕ × ℕ)) → raised_tys w k ≡ Some ts → n ≡ total_words ts → RaisedMatch w rest → list_all (λ r. if r.0 == k then r.1 == n else true) rest ≡ true

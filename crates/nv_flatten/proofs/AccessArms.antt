@@ -1,5 +1,6 @@
 -- Fetches, and packed values.
 use Rattle.std.proofs.Common.{◌≡◌, ◌∙◌, refl, ap, sym, subst, ℕ, zero, suc, ◌+◌, ◌≤◌, ◌==◌, ◌||◌, true, false, if◌then◌else◌, List, [], ◌∷◌, ◌++◌, length, length-append, Option, Some, None, option_map, arith, rules, tests}
+use Rattle.std.proofs.lemmas.Option.{same_Some}
 use Rattle.nv_base.specs.declared.term.Atom.{Atom}
 use Rattle.nv_base.specs.declared.term.Mem.{Mem}
 use Rattle.nv_base.specs.Words.{Env, atom_word, atom_words, assigned_all}
@@ -30,12 +31,13 @@ use Rattle.flat_code.specs.inner.Whole.{Whole}
 use Rattle.flat_code.specs.inner.Simulation.{Names, Done, IsValue}
 use Rattle.flat_code.proofs.Keeping.{keeps-then, words-fit, are-words}
 use Rattle.flat_code.proofs.Fresh.{numbers-keep, numbers-older, words-read, words-read-fit}
-use Rattle.flat_code.proofs.NoFaults.{set, some-same, value-has-type, clean as is-clean, is-right, wanted-type, among-known}
+use Rattle.flat_code.proofs.NoFaults.{value-has-type, clean as is-clean, is-right, wanted-type, among-known}
 use Rattle.flat_code.proofs.Following.{stands-inside, word-of}
 use Rattle.flat_code.proofs.ValueArms.{unary}
 use Rattle.flat_code.proofs.PackedWords.{symbol-operands}
 use Rattle.flat_code.proofs.WellBasics.{words-ty-words}
 use Rattle.nv_ast.proofs.Faultless.{no_front}
+use Rattle.nv_layout.proofs.Sound.{where_not}
 
 -- ---- how many operands a symbolic value has
 mutual
@@ -100,22 +102,22 @@ module _ (w : Whole) (names : Names) (low high : ℕ) (scope : SymbolScope) (sp 
       unary w names low high (high + n) scope (FetchTree sp m n a) a ss (step ∷ []) s (words_symbol (variables (numbers_from high n))) (λ y last. fetch m n (word_of y) last) (λ p. of_type WordTy) v
       (λ call m' now. refl) (λ p wanted. refl)
       (λ own p wanted stands none o call env new last done rest next same.
-      let moves = set (can_move m n) 19 (no_front (wrong_access m n) (wrong_scratch m a n) (is-clean p wanted (FetchTree sp m n a) none).middle) in
+      let moves = where_not (can_move m n) 19 (no_front (wrong_access m n) (wrong_scratch m a n) (is-clean p wanted (FetchTree sp m n a) none).middle) in
       let at = atom_word new (word_operand s) in
       fetches call rest new (flat_run last)
       ∙ read-any low high m at env new last (Fits new s) rest next le done n (fetched m at n last.packet) (λ ws e. fetched-words m at n last.packet ws done.sizes e) same
       ∙ ap (λ r. onward r next) (sym (may-fetch m n at last moves))
       ∙ ap (λ i. onward (fetch m n i last) next) (sym (word-of new s)))
-      (record { by = λ own p wanted stands none t is. words-form high n ∙ some-same (words_ty n) t is })
+      (record { by = λ own p wanted stands none t is. words-form high n ∙ same_Some (words_ty n) t is })
       (λ o. subst (λ l. AreOlder (high + n) l) (sym (symbol-operands (variables (numbers_from high n)))) (numbers-older (high + n) high n (omega arith)))
 
 -- ---- a layout that is known
 
 unpack-known : (p : Place) (wanted : Wanted) (sp : Span) (l : List ℕ) (a : Tree) → faults p wanted (UnpackTree sp l a) ≡ [] → (o : OutlineTree) × (look_up l p.known.layouts ≡ Some o)
-unpack-known p wanted sp l a none = among-known l p.known.layouts (set (is_among l (names_of p.known.layouts)) 3 (is-clean p wanted (UnpackTree sp l a) none).low)
+unpack-known p wanted sp l a none = among-known l p.known.layouts (where_not (is_among l (names_of p.known.layouts)) 3 (is-clean p wanted (UnpackTree sp l a) none).low)
 
 pack-known : (p : Place) (wanted : Wanted) (sp : Span) (l : List ℕ) (a : Tree) → faults p wanted (PackTree sp l a) ≡ [] → (o : OutlineTree) × (look_up l p.known.layouts ≡ Some o)
-pack-known p wanted sp l a none = among-known l p.known.layouts (set (is_among l (names_of p.known.layouts)) 3 (is-clean p wanted (PackTree sp l a) none).low)
+pack-known p wanted sp l a none = among-known l p.known.layouts (where_not (is_among l (names_of p.known.layouts)) 3 (is-clean p wanted (PackTree sp l a) none).low)
 
 -- ---- packing and unpacking by a layout
 module _ (w : Whole) (names : Names) (low mid high : ℕ) (scope : SymbolScope) (sp : Span) (l : List ℕ) (a : Tree) (ss ts : List Step) (s r : Symbol) where
@@ -145,7 +147,7 @@ module _ (w : Whole) (names : Names) (low mid high : ℕ) (scope : SymbolScope) 
         by = λ own p wanted stands none t is.
             let found = unpack-known p wanted sp l a none in
             let known = stands.part.layouts l found.0 found.1 in
-            formed ∙ ap unpacked_ty known.0 ∙ some-same (unpacked_ty found.0) t (sym (ap (option_map unpacked_ty) found.1) ∙ is);
+            formed ∙ ap unpacked_ty known.0 ∙ same_Some (unpacked_ty found.0) t (sym (ap (option_map unpacked_ty) found.1) ∙ is);
       })
       (λ o. older (v.older o))
 
@@ -173,6 +175,6 @@ module _ (w : Whole) (names : Names) (low mid high : ℕ) (scope : SymbolScope) 
         by = λ own p wanted stands none t is.
             let found = pack-known p wanted sp l a none in
             let known = stands.part.layouts l found.0 found.1 in
-            formed ∙ ap packed_ty known.0 ∙ some-same (packed_ty found.0) t (sym (ap (option_map packed_ty) found.1) ∙ is);
+            formed ∙ ap packed_ty known.0 ∙ same_Some (packed_ty found.0) t (sym (ap (option_map packed_ty) found.1) ∙ is);
       })
       (λ o. older (v.older o))

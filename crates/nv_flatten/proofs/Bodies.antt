@@ -11,14 +11,14 @@ use Rattle.nv_ast.specs.Types.{Tys, type_of, types_of, named_types_of, total_wor
 use Rattle.nv_ast.specs.Sizes.{main_words, signature_words}
 use Rattle.nv_ast.specs.Scope.{Signature, signature, signatures, Known, nothing_known, in_group, known_after}
 use Rattle.nv_ast.specs.Faults.{types_faults, wide_exception, declared_before, signature_faults, signatures_faults, bodies_faults, body_faults, name_faults, decl_faults, decls_faults, known_behind, main_name, no_main, program_faults}
-use Rattle.nv_layout.proofs.Sound.{layout_sound}
+use Rattle.nv_layout.proofs.Sound.{layout_sound, where_not}
 use Rattle.nv_meaning.specs.Meaning.{Declared, with_decl, with_decls, function_in}
 use Rattle.nv_meaning.specs.Running.{exception_number}
 use Rattle.nv_meaning.specs.inner.Tables.{place_from}
 use Rattle.flat_code.specs.inner.Whole.{Whole, whole_of, raised_tys, raised_in, groups_from, group_of, group_at, IsCallable, IsPart}
-use Rattle.nv_flatten.proofs.Knowing.{where_not, at_most, value-found, sound-found, types-stay, params-stay, result-stays, signatures-stay, function-front, function-behind, signature-found, signature-there, function-among, among-function, signatures-append, AllAre, are-also, are-both, are-replicate, slice-behind, grouped, group-behind, numbered, names-append, AllNarrow, narrow-append, narrow-found, with-layouts, with-exceptions, with-functions}
+use Rattle.nv_flatten.proofs.Knowing.{at_most, value-found, sound-found, types-stay, params-stay, result-stays, signatures-stay, function-front, function-behind, signature-found, signature-there, function-among, among-function, signatures-append, AllAre, are-also, are-both, are-replicate, slice-behind, grouped, group-behind, numbered, names-append, AllNarrow, narrow-append, narrow-found, with-layouts, with-exceptions, with-functions}
 use Rattle.std.proofs.lemmas.List.{map-append, length-append, length-replicate}
-use Rattle.flat_code.proofs.NoFaults.{some-same}
+use Rattle.std.proofs.lemmas.Option.{same_Some}
 use Rattle.nv_ast.proofs.Faultless.{no_front, no_rest, no_kinds}
 
 -- what is declared by what is known and some functions
@@ -165,7 +165,7 @@ part-of w k funs gs n fs ds so h = record { layouts = layouts; exceptions = exce
 
         by : (o : Option FunTree) → function_in funs f ≡ o → IsCallable w n (is_among f (names_of (signatures k.layouts fs))) f s
         by (Some g) q =
-            let same : found.0 ≡ g = some-same _ _ (sym found.1 ∙ function-front funs fs f g q) in
+            let same : found.0 ≡ g = same_Some _ _ (sym found.1 ∙ function-front funs fs f g q) in
             callable-of w n (is_among f (names_of (signatures k.layouts fs))) f s g funs (fs ++ front.0) gs (groups_from n (GroupDecl fs ∷ ds)) (λ m. m < n)
             (front.1 ∙ append_assoc funs fs front.0) so.groups so.as_many so.below q (subst (λ d. signature w.declared.layouts d ≡ s) same found.2)
             (early-before (is_among f (names_of (signatures k.layouts fs))) n)
@@ -191,7 +191,7 @@ body-found k [] f g h e = absurd (cc)
 body-found k (d ∷ fs) f g h e = by (bytes_eq f d.name) refl (λ q. body-found k fs f g (no_rest (body_faults k d) (bodies_faults k fs) h) q)
   where
     by : (b : Bool) → bytes_eq f d.name ≡ b → (function_in fs f ≡ Some g → body_faults k g ≡ []) → body_faults k g ≡ []
-    by true q next = subst (λ c. body_faults k c ≡ []) (some-same _ _ (sym (ap (λ b. if b then Some d else function_in fs f) q) ∙ e)) (no_front (body_faults k d) (bodies_faults k fs) h)
+    by true q next = subst (λ c. body_faults k c ≡ []) (same_Some _ _ (sym (ap (λ b. if b then Some d else function_in fs f) q) ∙ e)) (no_front (body_faults k d) (bodies_faults k fs) h)
     by false q next = next (sym (ap (λ b. if b then Some d else function_in fs f) q) ∙ e)
 
 pub signed-found : (k : Layouts) (fs : List FunTree) (f : List ℕ) (g : FunTree) → signatures_faults k fs ≡ [] → function_in fs f ≡ Some g → signature_faults k g ≡ []
@@ -199,7 +199,7 @@ signed-found k [] f g h e = absurd (cc)
 signed-found k (d ∷ fs) f g h e = by (bytes_eq f d.name) refl (λ q. signed-found k fs f g (no_rest (signature_faults k d) (signatures_faults k fs) h) q)
   where
     by : (b : Bool) → bytes_eq f d.name ≡ b → (function_in fs f ≡ Some g → signature_faults k g ≡ []) → signature_faults k g ≡ []
-    by true q next = subst (λ c. signature_faults k c ≡ []) (some-same _ _ (sym (ap (λ b. if b then Some d else function_in fs f) q) ∙ e)) (no_front (signature_faults k d) (signatures_faults k fs) h)
+    by true q next = subst (λ c. signature_faults k c ≡ []) (same_Some _ _ (sym (ap (λ b. if b then Some d else function_in fs f) q) ∙ e)) (no_front (signature_faults k d) (signatures_faults k fs) h)
     by false q next = next (sym (ap (λ b. if b then Some d else function_in fs f) q) ∙ e)
 
 -- the group of a function that stands in this one first
@@ -251,7 +251,7 @@ bodies-from w k funs gs n (GroupDecl fs ∷ ds) so h f g none found =
     by (Some d) q next =
         let front = functions-front w k funs gs n fs ds so in
         let there : function_in w.declared.functions f ≡ Some d = ap (λ l. function_in l f) front.1 ∙ function-front (funs ++ fs) front.0 f d (function-behind funs fs f none ∙ q) in
-        subst (IsBody w f) (some-same _ _ (sym there ∙ found)) (group-body w k funs gs n fs ds so own f d none q)
+        subst (IsBody w f) (same_Some _ _ (sym there ∙ found)) (group-body w k funs gs n fs ds so own f d none q)
     by None q next = next (function-behind funs fs f none ∙ q)
 
 pub at-first : (t : ProgramTree) → SoFar (whole_of t) nothing_known [] [] 0 t.decls

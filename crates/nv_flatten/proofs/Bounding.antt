@@ -3,6 +3,7 @@ use Rattle.std.proofs.Common.{◌≡◌, ◌∙◌, sym, ap, subst, ℕ, ◌<◌
 use Rattle.std.specs.Prelude.{slice_get}
 use Rattle.std.proofs.lemmas.Bool.{cases_lt}
 use Rattle.std.proofs.lemmas.Slice.Eq.{bytes_eq-Decides}
+use Rattle.std.proofs.lemmas.Option.{same_Some, slice_get_within}
 use Rattle.nv_ast.specs.Tree.{FunTree, NamedTypes, ProgramTree}
 use Rattle.nv_ast.specs.Types.{named_types_of, total_named_words}
 use Rattle.nv_ast.specs.Faults.{main_name, program_faults}
@@ -21,12 +22,11 @@ use Rattle.flat_code.specs.inner.Small.{IsSmallEnd, IsSmallFun}
 use Rattle.flat_code.specs.inner.Bounded.{AreOnce, AreSmallFound, IsBounded}
 use Rattle.flat_code.proofs.Fresh.{numbers-length}
 use Rattle.nv_flatten.proofs.Knowing.{function-named}
-use Rattle.flat_code.proofs.Naming.{Added, MadeSoFar, made-first, made-more, all-made, slice-last, slice-there, slice-below}
+use Rattle.flat_code.proofs.Naming.{Added, MadeSoFar, made-first, made-more, all-made, slice-last, slice-there}
 use Rattle.flat_code.proofs.WellProgram.{found-reached}
 use Rattle.nv_flatten.proofs.Bodies.{has-main}
 use Rattle.nv_flatten.proofs.NarrowFuns.{funs-none, funs-more}
 use Rattle.nv_flatten.proofs.NarrowProgram.{wide-enough}
-use Rattle.flat_code.proofs.NoFaults.{some-same}
 use Rattle.flat_code.proofs.CallArms.{get-append}
 use Rattle.flat_code.proofs.Keeping.{extends-then}
 
@@ -49,17 +49,17 @@ small-one : (w : Whole) (name : List ℕ) (names new : Names) (funs : List FlatF
     → ((g : FunTree) → function_in w.declared.functions name ≡ Some g → IsSmallFun w new name g fun) → AreSmallFound w names funs → AreSmallFound w new (funs ++ fun ∷ [])
 small-one w name names new funs fun named more small so = record {
   by = λ i f g d called found there.
-      let inside : length funs < length names = slice-below names (length funs) name named in
+      let inside : length funs < length names = slice_get_within names (length funs) name named in
       let s = slice-last funs fun i d there in
       let p : i ≤ length funs = s.place in
       let r = slice-there names i (omega arith) in
-      let same : r.0 ≡ f = some-same _ _ (sym (ap (λ l. slice_get l i) more.1 ∙ get-append names more.0 i r.0 r.1) ∙ called) in
+      let same : r.0 ≡ f = same_Some _ _ (sym (ap (λ l. slice_get l i) more.1 ∙ get-append names more.0 i r.0 r.1) ∙ called) in
       let named' : slice_get names i ≡ Some f = r.1 ∙ ap (λ x. Some x) same in
       elim (cases_lt i (length funs)) [
         | inl below ↦ small-names w names new f g d more (so.by i f g d named' found (s.before below))
         | inr past ↦ (
             let here : i ≡ length funs = omega arith in
-            let is : name ≡ f = some-same _ _ (sym named ∙ ap (slice_get names) (sym here) ∙ named') in
+            let is : name ≡ f = same_Some _ _ (sym named ∙ ap (slice_get names) (sym here) ∙ named') in
             subst (λ x. IsSmallFun w new f g x) (sym (s.here here)) (subst (λ x. IsSmallFun w new x g fun) is (small g (ap (function_in w.declared.functions) is ∙ found))))
       ];
 }
@@ -138,7 +138,7 @@ empty-made w names x (Some g) fun none e = absurd (cc)
 
 -- the function that was found is the one that is made
 pub small-found : (w : Whole) (name : List ℕ) (names : Names) (f g : FunTree) (fun : FlatFun) → function_in w.declared.functions name ≡ Some f → IsSmallFun w names name f fun → function_in w.declared.functions name ≡ Some g → IsSmallFun w names name g fun
-small-found w name names f g fun found m e = subst (λ d. IsSmallFun w names name d fun) (some-same _ _ (sym found ∙ e)) m
+small-found w name names f g fun found m e = subst (λ d. IsSmallFun w names name d fun) (same_Some _ _ (sym found ∙ e)) m
 
 pub narrow-found : (w : Whole) (name : List ℕ) (names : Names) (f : FunTree) (fun : FlatFun) → function_in w.declared.functions name ≡ Some f → IsNarrowFun w names name f fun → IsNarrowOf w names name (function_in w.declared.functions name) fun
 narrow-found w name names f fun found m = subst (λ o. IsNarrowOf w names name o fun) (sym found) m

@@ -1,5 +1,5 @@
 -- A function is entered with values of its parameters' types.
-use Rattle.std.proofs.Common.{◌≡◌, ◌∙◌, refl, sym, ap, ℕ, zero, suc, ◌+◌, ◌≤◌, true, false, ◌&&◌, ◌||◌, List, [], ◌∷◌, ◌++◌, length, take, drop, bytes_eq, arith, slice_index}
+use Rattle.std.proofs.Common.{◌≡◌, ◌∙◌, refl, sym, ap, ℕ, zero, suc, ◌+◌, ◌≤◌, true, false, ◌&&◌, List, [], ◌∷◌, ◌++◌, length, take, drop, bytes_eq, arith, slice_index}
 use Rattle.nv_base.specs.Words.{Env}
 use Rattle.nv_ast.specs.Outline.{Layouts}
 use Rattle.nv_ast.specs.Tree.{NamedTypes, no_named_types, named_type_and}
@@ -174,10 +174,6 @@ mutual
       ap (λ l. l ++ all_named_words (named_values_from ts (drop (words t) ws))) (from-words t ws ((or_parts (has_bool t) (some_named_bool ts) b).0) (omega arith))
       ∙ ap (λ l. take (words t) ws ++ l) (named-from-words ts (drop (words t) ws) ((or_parts (has_bool t) (some_named_bool ts) b).1) (short (words t) (total_named_words ts) ws h))
       ∙ take-sum (words t) (total_named_words ts) ws
-
-pub plain-bool : (ts : NamedTys) → some_bool (plain_tys ts) ≡ some_named_bool ts
-plain-bool no_named_tys = refl
-plain-bool (named_ty_and x t ts) = ap (λ b. has_bool t || b) (plain-bool ts)
 
 pub take-whole : (n : ℕ) (ws : List ℕ) → length ws ≤ n → take n ws ≡ ws
 take-whole zero [] h = refl

@@ -1,6 +1,7 @@
 -- The flat program of a typed one is well formed.
 use Rattle.std.proofs.Common.{◌≡◌, ◌∙◌, refl, sym, ap, subst, ℕ, ◌+◌, ◌<◌, ◌≤◌, true, List, [], ◌∷◌, ◌++◌, append-nil, length, Option, Some, None, arith}
 use Rattle.std.specs.Prelude.{slice_get}
+use Rattle.std.proofs.lemmas.Option.{same_Some, slice_get_within}
 use Rattle.flat_ir.specs.declared.flat.FlatFun.{FlatFun}
 use Rattle.nv_base.specs.Access.{all_known}
 use Rattle.flat_ir.specs.Formed.{is_program}
@@ -20,11 +21,10 @@ use Rattle.flat_code.specs.inner.Well.{FunsMatch, ScopeKnown, GivesWords, IsWell
 use Rattle.flat_code.proofs.Fresh.{numbers-append, numbers-length, variables-append, fresh-operands}
 use Rattle.flat_code.proofs.WellBasics.{knows-left, knows-right, knows-variables}
 use Rattle.flat_code.proofs.WellProgram.{walked-fun, fun-names, program-formed}
-use Rattle.flat_code.proofs.Naming.{slice-there, slice-below}
+use Rattle.flat_code.proofs.Naming.{slice-there}
 use Rattle.nv_flatten.proofs.Bodies.{IsBody, bodies, narrow-raised, has-main}
 use Rattle.nv_flatten.proofs.Entering.{type-same, params-types}
 use Rattle.nv_flatten.proofs.Lockstep.{body_place, body_wanted, main-narrow}
-use Rattle.flat_code.proofs.NoFaults.{some-same}
 use Rattle.nv_flatten.proofs.WellTypes.{right-of}
 
 -- ---- the parameters are known in a body
@@ -76,7 +76,7 @@ pub all-well : (t : ProgramTree) → program_faults t ≡ [] → (main : List �
 all-well t h main funs c i fun here = by (function_in (whole_of t).declared.functions name.0) refl
   where
     name : (f : List ℕ) × (slice_get c.all i ≡ Some f)
-    name = let below : i < length funs = slice-below funs i fun here in let many : length funs ≤ length c.all = c.many in slice-there c.all i (omega arith)
+    name = let below : i < length funs = slice_get_within funs i fun here in let many : length funs ≤ length c.all = c.many in slice-there c.all i (omega arith)
 
     placed : IsPlaced (whole_of t) name.0 fun
     placed = c.placed.by i name.0 fun name.1 here
@@ -85,7 +85,7 @@ all-well t h main funs c i fun here = by (function_in (whole_of t).declared.func
     by None q = placed.absent q c.all
     by (Some g) q =
         let r = c.made.by i name.0 g name.1 q in
-        let same : r.0 ≡ fun = some-same _ _ (sym r.1 ∙ here) in
+        let same : r.0 ≡ fun = same_Some _ _ (sym r.1 ∙ here) in
         made-well (whole_of t) name.0 g (bodies t h name.0 g q) q c.all fun (subst (IsMade (whole_of t) c.all g) same r.2) placed
 
 abbrev pub IsCompleteMain : ProgramTree → List FlatFun → Type 0

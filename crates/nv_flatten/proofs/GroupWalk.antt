@@ -1,6 +1,7 @@
 -- Where each function of a program stands: in a group, with a number for each group before it, such as its size.
 use Rattle.std.proofs.Common.{◌≡◌, ◌∙◌, refl, sym, ap, subst, ℕ, suc, ◌+◌, ◌<◌, ◌≤◌, Bool, true, false, List, [], ◌∷◌, ◌++◌, map, length, get_or, Option, Some, None, bytes_eq, arith, if◌then◌else◌}
 use Rattle.std.specs.Prelude.{slice_get, replicate}
+use Rattle.std.proofs.lemmas.Option.{same_Some}
 use Rattle.nv_ast.specs.Tests.{value_at, names_of}
 use Rattle.nv_ast.specs.Tree.{FunTree, DeclTree, LayoutDecl, ExceptionDecl, GroupDecl, ProgramTree}
 use Rattle.nv_ast.specs.Types.{named_types_of}
@@ -12,7 +13,6 @@ use Rattle.nv_meaning.specs.inner.Tables.{place_from}
 use Rattle.flat_code.specs.inner.Whole.{Whole, whole_of, groups_from, group_of, group_at, IsPart}
 use Rattle.nv_flatten.proofs.Knowing.{params-stay, function-front, function-behind, with-functions}
 use Rattle.nv_flatten.proofs.Bodies.{SoFar, so_far, numbers, at-first, layouts-front, functions-front, layout-step, exception-step, group-step, part-of, body-found, signed-found, group-exact}
-use Rattle.flat_code.proofs.NoFaults.{some-same}
 use Rattle.nv_ast.proofs.Faultless.{no_front, no_rest}
 
 -- a group: the numbers of the groups before, what is known in its bodies, and its functions
@@ -109,7 +109,7 @@ tag-of w v k funs gs n ds so f g found m grouped =
     let z : 0 + r.place ≡ r.place = omega arith in
     let there : group_of w f ≡ Some r.group =
     ap (λ l. group_at w (place_from 0 f (map (λ h. h.name) l))) functions ∙ (ap (group_at w) r.stands ∙ (ap (slice_get w.groups) z ∙ (ap (λ l. slice_get l r.place) so.groups ∙ r.grouped))) in
-    r.tag ∙ ap v (some-same _ _ (sym there ∙ grouped))
+    r.tag ∙ ap v (same_Some _ _ (sym there ∙ grouped))
 
 -- a function that isn't there so far is in a later group
 later-group : (w : Whole) (k : Known) (funs : List FunTree) (gs : List ℕ) (n : ℕ) (ds : List DeclTree) → SoFar w k funs gs n ds → decls_faults k ds ≡ [] → (f : List ℕ) (g : FunTree) → function_in funs f ≡ None → function_in w.declared.functions f ≡ Some g
@@ -182,7 +182,7 @@ in-this w count at nums k funs gs n fs ds so groups all f g none found =
     earlier x d m there grouped before (Some c) q = ap (value_at 0 x) groups.tags ∙ tag-of w (λ i. number_of count (at i)) k funs gs n (GroupDecl fs ∷ ds) so x c q m grouped
     earlier x d m there grouped before None q =
         let r = later-group w k funs gs n (GroupDecl fs ∷ ds) so all x d q there in
-        let same : r.0 ≡ m = some-same _ _ (sym r.1 ∙ grouped) in
+        let same : r.0 ≡ m = same_Some _ _ (sym r.1 ∙ grouped) in
         let le : n ≤ r.0 = r.2 in
         absurd (omega arith)
 
@@ -206,7 +206,7 @@ in-from w count at nums k funs gs n (GroupDecl fs ∷ ds) so groups h f g none f
     by (Some d) q next =
         let front = functions-front w k funs gs n fs ds so in
         let there : function_in w.declared.functions f ≡ Some d = ap (λ l. function_in l f) front.1 ∙ function-front (funs ++ fs) front.0 f d (function-behind funs fs f none ∙ q) in
-        subst (IsIn w count at f) (some-same _ _ (sym there ∙ found)) (in-this w count at nums k funs gs n fs ds so groups h f d none q)
+        subst (IsIn w count at f) (same_Some _ _ (sym there ∙ found)) (in-this w count at nums k funs gs n fs ds so groups h f d none q)
     by None q next = next (function-behind funs fs f none ∙ q)
 
 -- ---- all numbers together

@@ -1,7 +1,8 @@
 -- What is known behind some declarations of a program without faults.
-use Rattle.std.proofs.Common.{◌≡◌, ◌∙◌, refl, sym, ap, subst, ℕ, zero, suc, ◌+◌, ◌≤◌, Bool, true, false, not, ◌||◌, List, [], ◌∷◌, ◌++◌, map, length, All, Some, None, bytes_eq, append_assoc, append-nil, arith, if◌then◌else◌}
+use Rattle.std.proofs.Common.{◌≡◌, ◌∙◌, refl, sym, ap, subst, ℕ, zero, suc, ◌+◌, ◌≤◌, Bool, true, false, ◌||◌, List, [], ◌∷◌, ◌++◌, map, length, All, Some, None, bytes_eq, append_assoc, append-nil, arith, if◌then◌else◌}
 use Rattle.std.specs.Prelude.{nat_lt, slice_get, replicate}
 use Rattle.std.proofs.lemmas.Bool.{ltb-false}
+use Rattle.std.proofs.lemmas.Option.{same_Some}
 use Rattle.nv_ast.specs.Tests.{where_true, is_among, names_of, look_up, value_at}
 use Rattle.nv_ast.specs.Outline.{OutlineTree, PartsOutline, no_named_outlines, Layouts, outline, IsSound}
 use Rattle.nv_ast.specs.Tree.{TypeTree, WordType, BoolType, PackedType, UnpackedType, TupleType, RecordType, TypeTrees, no_types, type_and, NamedTypes, no_named_types, named_type_and, NamedLayout, FunTree, DeclTree, LayoutDecl, ExceptionDecl, GroupDecl}
@@ -11,18 +12,10 @@ use Rattle.nv_ast.specs.Faults.{type_faults, types_faults, named_types_faults, t
 use Rattle.nv_meaning.specs.Meaning.{Declared, with_decl, with_decls, function_in}
 use Rattle.nv_meaning.specs.Running.{number_from}
 use Rattle.nv_meaning.specs.inner.Tables.{place_from}
-use Rattle.flat_code.proofs.NoFaults.{some-same}
-use Rattle.nv_ast.proofs.Faultless.{no_front, no_rest, no_kinds}
+use Rattle.nv_ast.proofs.Faultless.{no_front, no_rest, no_kinds, not_where}
+use Rattle.nv_layout.proofs.Sound.{where_not}
 
 -- ---- no faults
-
-pub not_where : {A : Type 0} (b : Bool) (x : A) → where_true b x ≡ [] → b ≡ false
-not_where true x e = cc
-not_where false x e = refl
-
-pub where_not : {A : Type 0} (b : Bool) (x : A) → where_true (not b) x ≡ [] → b ≡ true
-where_not true x e = refl
-where_not false x e = cc
 
 pub at_most : (m n : ℕ) → where_true {A = ℕ} (nat_lt m n) 23 ≡ [] → n ≤ m
 at_most m n e = ltb-false m n (not_where {A = ℕ} (nat_lt m n) 23 e)
@@ -41,7 +34,7 @@ value-found none x [] more o h = cc
 value-found none x ((y, p) ∷ k) more o h = by (bytes_eq x y) refl (λ g. value-found none x k more o g)
   where
     by : (b : Bool) → bytes_eq x y ≡ b → (look_up x k ≡ Some o → value_at none x (k ++ more) ≡ o) → value_at none x ((y, p) ∷ k ++ more) ≡ o
-    by true e next = ap (λ b. if b then p else value_at none x (k ++ more)) e ∙ some-same _ _ (sym (ap (λ b. if b then Some p else look_up x k) e) ∙ h)
+    by true e next = ap (λ b. if b then p else value_at none x (k ++ more)) e ∙ same_Some _ _ (sym (ap (λ b. if b then Some p else look_up x k) e) ∙ h)
     by false e next = ap (λ b. if b then p else value_at none x (k ++ more)) e ∙ next (sym (ap (λ b. if b then Some p else look_up x k) e) ∙ h)
 
 pub sound-found : (x : List ℕ) (k : Layouts) (o : OutlineTree) → All (λ p. IsSound p.1) k → look_up x k ≡ Some o → IsSound o
@@ -49,7 +42,7 @@ sound-found x [] o s h = absurd (cc)
 sound-found x ((y, p) ∷ k) o s h = by (bytes_eq x y) refl (λ g. sound-found x k o (λ i d l. s (suc i) d (omega arith)) g)
   where
     by : (b : Bool) → bytes_eq x y ≡ b → (look_up x k ≡ Some o → IsSound o) → IsSound o
-    by true e next = subst IsSound (some-same _ _ (sym (ap (λ b. if b then Some p else look_up x k) e) ∙ h)) (s 0 (y, p) (omega arith))
+    by true e next = subst IsSound (same_Some _ _ (sym (ap (λ b. if b then Some p else look_up x k) e) ∙ h)) (s 0 (y, p) (omega arith))
     by false e next = next (sym (ap (λ b. if b then Some p else look_up x k) e) ∙ h)
 
 -- ---- types in the text without faults stay what they are
@@ -114,7 +107,7 @@ function-named [] f g h = cc
 function-named (h' ∷ fs) f g h = by (bytes_eq f h'.name) refl (λ e. function-named fs f g e)
   where
     by : (b : Bool) → bytes_eq f h'.name ≡ b → (function_in fs f ≡ Some g → bytes_eq f g.name ≡ true) → bytes_eq f g.name ≡ true
-    by true e next = subst (λ k. bytes_eq f k.name ≡ true) (some-same _ _ (sym (ap (λ b. if b then Some h' else function_in fs f) e) ∙ h)) e
+    by true e next = subst (λ k. bytes_eq f k.name ≡ true) (same_Some _ _ (sym (ap (λ b. if b then Some h' else function_in fs f) e) ∙ h)) e
     by false e next = next (sym (ap (λ b. if b then Some h' else function_in fs f) e) ∙ h)
 
 -- what is looked up among signatures is a function's
@@ -123,7 +116,7 @@ signature-found k [] f s h = absurd (cc)
 signature-found k (h' ∷ fs) f s h = by (bytes_eq f h'.name) refl (λ e. signature-found k fs f s e)
   where
     by : (b : Bool) → bytes_eq f h'.name ≡ b → (look_up f (signatures k fs) ≡ Some s → (g : FunTree) × (function_in fs f ≡ Some g) × (signature k g ≡ s)) → (g : FunTree) × (function_in (h' ∷ fs) f ≡ Some g) × (signature k g ≡ s)
-    by true e next = (h', ap (λ b. if b then Some h' else function_in fs f) e, some-same _ _ (sym (ap (λ b. if b then Some (signature k h') else look_up f (signatures k fs)) e) ∙ h))
+    by true e next = (h', ap (λ b. if b then Some h' else function_in fs f) e, same_Some _ _ (sym (ap (λ b. if b then Some (signature k h') else look_up f (signatures k fs)) e) ∙ h))
     by false e next = let r = next (sym (ap (λ b. if b then Some (signature k h') else look_up f (signatures k fs)) e) ∙ h) in (r.0, ap (λ b. if b then Some h' else function_in fs f) e ∙ r.1, r.2)
 
 pub signature-there : (k : Layouts) (fs : List FunTree) (f : List ℕ) (g : FunTree) → function_in fs f ≡ Some g → look_up f (signatures k fs) ≡ Some (signature k g)
@@ -131,7 +124,7 @@ signature-there k [] f g h = cc
 signature-there k (h' ∷ fs) f g h = by (bytes_eq f h'.name) refl (λ e. signature-there k fs f g e)
   where
     by : (b : Bool) → bytes_eq f h'.name ≡ b → (function_in fs f ≡ Some g → look_up f (signatures k fs) ≡ Some (signature k g)) → look_up f (signatures k (h' ∷ fs)) ≡ Some (signature k g)
-    by true e next = ap (λ b. if b then Some (signature k h') else look_up f (signatures k fs)) e ∙ ap (λ d. Some (signature k d)) (some-same _ _ (sym (ap (λ b. if b then Some h' else function_in fs f) e) ∙ h))
+    by true e next = ap (λ b. if b then Some (signature k h') else look_up f (signatures k fs)) e ∙ ap (λ d. Some (signature k d)) (same_Some _ _ (sym (ap (λ b. if b then Some h' else function_in fs f) e) ∙ h))
     by false e next = ap (λ b. if b then Some (signature k h') else look_up f (signatures k fs)) e ∙ next (sym (ap (λ b. if b then Some h' else function_in fs f) e) ∙ h)
 
 -- a function that is found is among the names
@@ -262,7 +255,7 @@ narrow-append (e ∷ es) x ts a h = (a.0, narrow-append es x ts a.1 h)
 
 pub narrow-found : (es : List (List ℕ × Tys)) (i : ℕ) (ts : Tys) → AllNarrow es → slice_get (map (λ e. e.1) es ++ []) i ≡ Some ts → total_words ts ≤ 8
 narrow-found [] i ts a h = absurd (cc)
-narrow-found (e ∷ es) zero ts a h = subst (λ us. total_words us ≤ 8) (some-same _ _ h) a.0
+narrow-found (e ∷ es) zero ts a h = subst (λ us. total_words us ≤ 8) (same_Some _ _ h) a.0
 narrow-found (e ∷ es) (suc i) ts a h = narrow-found es i ts a.1 h
 
 -- ---- what declarations add stands behind what was there

@@ -1,6 +1,7 @@
 -- Expressions one after another, with and without names: tuples and records.
 use Rattle.std.proofs.Common.{◌≡◌, ◌∙◌, refl, ap, sym, subst, ℕ, ◌≤◌, List, [], ◌∷◌, ◌++◌, append_assoc, append-nil, Option, Some, None, option_map, arith}
 use Rattle.std.proofs.lemmas.List.Elements.{All-nil, All-append}
+use Rattle.std.proofs.lemmas.Option.{same_Some, none-some}
 use Rattle.nv_ast.specs.declared.token.Span.{Span}
 use Rattle.nv_ast.specs.declared.tree.Expr.{Expr}
 use Rattle.nv_ast.specs.ExprView.{tree_of, list_trees, list_named_trees}
@@ -23,7 +24,7 @@ use Rattle.flat_code.specs.inner.Runs.{flat_run, onward}
 use Rattle.flat_code.specs.inner.Whole.{Whole}
 use Rattle.flat_code.specs.inner.Simulation.{Names, Extends, IsValue, AreValues, AreFields, onward_all, onward_named}
 use Rattle.flat_code.proofs.Keeping.{older-later, scope-later, keeps-value, keeps-fit, keeps-scope, begins-then, begins-done, done-then, extends-itself, extends-then}
-use Rattle.flat_code.proofs.NoFaults.{some-same, none-some, value-has-type}
+use Rattle.flat_code.proofs.NoFaults.{value-has-type}
 use Rattle.flat_code.proofs.Following.{onward-all, onward-named, steps-then, stands-inside, fewer}
 use Rattle.nv_ast.proofs.Faultless.{no_front, no_rest}
 
@@ -62,13 +63,13 @@ list-split p (w ∷ ws) e es = refl
 and-typed : (s : Symbol) (ss : Symbols) (o : Option Ty) (q : Option Tys) (ts : Tys) → ((t : Ty) → o ≡ Some t → form s ≡ t) → ((us : Tys) → q ≡ Some us → forms ss ≡ us) → and_ty o q ≡ Some ts → ty_and (form s) (forms ss) ≡ ts
 and-typed s ss None q ts h k e = absurd (none-some ts e)
 and-typed s ss (Some t) None ts h k e = absurd (none-some ts e)
-and-typed s ss (Some t) (Some us) ts h k e = ap (λ x. ty_and x (forms ss)) (h t refl) ∙ ap (ty_and t) (k us refl) ∙ some-same (ty_and t us) ts e
+and-typed s ss (Some t) (Some us) ts h k e = ap (λ x. ty_and x (forms ss)) (h t refl) ∙ ap (ty_and t) (k us refl) ∙ same_Some (ty_and t us) ts e
 
 module _ (w : Whole) (names more : Names) (low mid high : ℕ) (scope : SymbolScope) where
   pub values-none : AreValues w names low high scope no_trees [] no_symbols
   values-none = record {
     simulate = λ own p wanted stands none older c env now begins rest next never same. same env now (begins-done low env scope now (AllFit env no_symbols) begins tt);
-    formed = λ own p wanted stands none ts is. some-same no_tys ts is;
+    formed = λ own p wanted stands none ts is. same_Some no_tys ts is;
     older = λ o. All-nil (IsOlder high);
   }
 
@@ -138,7 +139,7 @@ module _ (w : Whole) (names more : Names) (low mid high : ℕ) (scope : SymbolSc
 -- ---- a tuple and a record of them
 tuple-typed : (ss : Symbols) (o : Option Tys) (t : Ty) → ((ts : Tys) → o ≡ Some ts → forms ss ≡ ts) → option_map TupleTy o ≡ Some t → TupleTy (forms ss) ≡ t
 tuple-typed ss None t h e = absurd (none-some t e)
-tuple-typed ss (Some ts) t h e = ap (λ x. TupleTy x) (h ts refl) ∙ some-same (TupleTy ts) t e
+tuple-typed ss (Some ts) t h e = ap (λ x. TupleTy x) (h ts refl) ∙ same_Some (TupleTy ts) t e
 
 module _ (w : Whole) (names : Names) (low high : ℕ) (scope : SymbolScope) where
   pub tuple-value : (sp : Span) (es : Trees) (steps : List Step) (ss : Symbols) → AreValues w names low high scope es steps ss → IsValue w names low high scope (TupleTree sp es) steps (Tuple ss)
@@ -168,7 +169,7 @@ module _ (w : Whole) (names : Names) (low high : ℕ) (scope : SymbolScope) wher
     formed = record {
       by = λ own p wanted stands none t is.
           let clean = no_front (named_faults (inside p) es) (node_faults p wanted (FieldsTree sp es)) none in
-          some-same (RecordTy (named_forms fs)) t (sym (ap (option_map RecordTy) (vs.formed own (inside p) (stands-inside w own scope p stands) clean)) ∙ is);
+          same_Some (RecordTy (named_forms fs)) t (sym (ap (option_map RecordTy) (vs.formed own (inside p) (stands-inside w own scope p stands) clean)) ∙ is);
     };
     older = vs.older;
   }

@@ -3,6 +3,7 @@ use Rattle.std.proofs.Common.{◌≡◌, ◌∙◌, refl, sym, ap, subst, ℕ, z
 use Rattle.std.specs.Prelude.{nat_lt, slice_get}
 use Rattle.std.proofs.lemmas.Bool.{ltb-false, or_parts}
 use Rattle.std.proofs.lemmas.Slice.Eq.{bytes_eq-Decides}
+use Rattle.std.proofs.lemmas.Option.{same_Some}
 use Rattle.nv_base.specs.Words.{Env, assigned_all}
 use Rattle.nv_base.specs.Memories.{Memories, HasSizes}
 use Rattle.nv_base.specs.Meanings.{KeepsOutcomes, seen, AreEqual}
@@ -29,13 +30,12 @@ use Rattle.flat_code.specs.inner.Made.{params_in, entry, IsMade, AllMade, IsComp
 use Rattle.flat_ir.specs.Reached as flattened
 use Rattle.flat_code.proofs.Fresh.{fresh-values, all-fresh-fit, numbers-length}
 use Rattle.flat_code.proofs.Sound.{typed-eval}
-use Rattle.nv_flatten.proofs.Knowing.{not_where, function-named}
+use Rattle.nv_flatten.proofs.Knowing.{function-named}
 use Rattle.nv_flatten.proofs.Bodies.{IsBody, bodies, narrow-raised, has-main}
-use Rattle.nv_flatten.proofs.Entering.{type-same, word-count, all-word-count, entered-types, entered-words, params-values, params-types, params-fit, params-older, arguments-scope, from-types, all-from-words, plain-bool, take-whole}
-use Rattle.flat_code.proofs.NoFaults.{some-same}
+use Rattle.nv_flatten.proofs.Entering.{type-same, word-count, all-word-count, entered-types, entered-words, params-values, params-types, params-fit, params-older, arguments-scope, from-types, all-from-words, take-whole}
 use Rattle.nv_flatten.proofs.WellTypes.{right-of}
-use Rattle.nv_ast.proofs.Faultless.{no_rest, no_kinds}
-use Rattle.nv_ast.proofs.TypeWords.{plain_words}
+use Rattle.nv_ast.proofs.Faultless.{no_rest, no_kinds, not_where}
+use Rattle.nv_ast.proofs.TypeWords.{plain_words, plain_bool}
 
 -- ---- an expression without faults has a type that is right
 
@@ -140,7 +140,7 @@ lockstep w bs all funs made (suc depth) =
 -- ---- main
 closed-same : (w : Whole) (t : Ty) → words t ≤ 8 → ((k : ℕ) (ts : Tys) → raised_tys w k ≡ Some ts → total_words ts ≤ 8) → (r : Result) → ComesTo w (Some t) r → closed r ≡ flat.closed (ended r)
 closed-same w t few narrow (Gives v now) c =
-    let same : t ≡ value_ty v = some-same _ _ c.0 in
+    let same : t ≡ value_ty v = same_Some _ _ c.0 in
     let count : length (words_of v) ≡ words t = word-count v ∙ ap words (sym same) in
     ap (λ ws. record { outcome = outcome.Ended ws; packet = now.packet; writes = now.writes }) (take-whole 8 (words_of v) (omega arith))
 closed-same w t few narrow (Raises k vs now) c =
@@ -185,7 +185,7 @@ main-same t h all funs made g fun found there m args p count are sizes n =
     let types : value_tys vs ≡ plain_tys (params_in w g) = from-types (plain_tys (params_in w g)) args in
     let plain : total_words (plain_tys (params_in w g)) ≡ total_named_words (params_in w g) = plain_words (params_in w g) in
     let spelled : all_words vs ≡ args =
-    all-from-words (plain_tys (params_in w g)) args (plain-bool (params_in w g) ∙ narrow.bools) (omega arith)
+    all-from-words (plain_tys (params_in w g)) args (plain_bool (params_in w g) ∙ narrow.bools) (omega arith)
     ∙ take-whole (total_words (plain_tys (params_in w g))) args (omega arith) in
     let fit : AreWords (all_words vs) = subst AreWords (sym spelled) are in
     let r : Result = eval w.declared (calls_within n w.declared) g.body (entered g.params vs []) (begun n p) in

@@ -1,6 +1,7 @@
 -- Flat functions as they are put together.
 use Rattle.std.proofs.Common.{◌≡◌, ◌∙◌, sym, ap, subst, ℕ, ◌+◌, List, [], append-nil, Option, Some, None, arith}
 use Rattle.std.specs.Prelude.{Result, Ok, Err, IfOk}
+use Rattle.std.proofs.lemmas.Option.{same_Some}
 use Rattle.nv_ast.specs.Tree.{FunTree, NamedTypes}
 use Rattle.nv_ast.specs.Types.{type_of, named_types_of, words, total_named_words}
 use Rattle.nv_meaning.specs.Meaning.{function_in}
@@ -10,7 +11,6 @@ use Rattle.flat_code.specs.inner.Whole.{Whole, group_of}
 use Rattle.flat_code.specs.inner.Simulation.{Names, IsEnd}
 use Rattle.flat_code.specs.inner.Made.{IsMade, IsPlaced}
 use Rattle.flat_code.specs.inner.Well.{IsWellEnd}
-use Rattle.flat_code.proofs.NoFaults.{some-same}
 
 -- what holds where there is an answer
 pub if-ok : {A E : Type 0} (r : Result A E) (P Q : A → Type 0) → ((a : A) → P a → Q a) → IfOk r P → IfOk r Q
@@ -41,7 +41,7 @@ made-of w g fun old names low high scope form types same scopes lows params end 
 
 -- the function that was found is the one that is made
 pub made-found : (w : Whole) (name : List ℕ) (names : Names) (f g : FunTree) (fun : FlatFun) → function_in w.declared.functions name ≡ Some f → IsMade w names f fun → function_in w.declared.functions name ≡ Some g → IsMade w names g fun
-made-found w name names f g fun found m e = subst (λ d. IsMade w names d fun) (some-same _ _ (sym found ∙ e)) m
+made-found w name names f g fun found m e = subst (λ d. IsMade w names d fun) (same_Some _ _ (sym found ∙ e)) m
 
 pub none-found : {A : Type 0} (o : Option FunTree) (g : FunTree) → o ≡ None → o ≡ Some g → A
 none-found o g e f = absurd (no (sym e ∙ f))
@@ -52,6 +52,6 @@ none-found o g e f = absurd (no (sym e ∙ f))
 -- the function that was found is in its group
 pub placed-found : (w : Whole) (name : List ℕ) (f : FunTree) (group : ℕ) (fun : FlatFun) → function_in w.declared.functions name ≡ Some f → group_of w name ≡ Some group → fun.group ≡ group → IsPlaced w name fun
 placed-found w name f group fun found numbered same = record {
-  group = λ g n e at. same ∙ some-same _ _ (sym numbered ∙ at);
+  group = λ g n e at. same ∙ same_Some _ _ (sym numbered ∙ at);
   absent = λ none. none-found (function_in w.declared.functions name) f none found;
 }

@@ -1,5 +1,6 @@
 -- How wide calls, exceptions and handlers are, and what unpacks and packs.
 use Rattle.std.proofs.Common.{◌≡◌, ℕ, ◌+◌, ◌≤◌, max, true, List, [], ◌∷◌, ◌++◌, refl, sym, ap, subst, ◌∙◌, length, Option, Some, None, option_map, slice_get, unwrap_or, arith}
+use Rattle.std.proofs.lemmas.Option.{same_Some}
 use Rattle.nv_ast.specs.declared.token.Span.{Span}
 use Rattle.nv_ast.specs.Tree.{NamedLayout, Tree, CallTree, UnpackTree, PackTree, RaiseTree, TryTree, Trees, PatternTrees, FunTree}
 use Rattle.nv_ast.specs.Tests.{look_up, value_at}
@@ -148,10 +149,7 @@ module _ (w : Whole) (names : Names) (scope : SymbolScope) (sp : Span) (a : Tree
 -- ---- bits
 layout-form : (f : OutlineTree → Ty) (o : Option OutlineTree) (u : OutlineTree) (t : Ty) → ((q : OutlineTree) → o ≡ Some q → u ≡ q) → option_map f o ≡ Some t → f u ≡ t
 layout-form f None u t h e = cc
-layout-form f (Some q) u t h e = ap f (h q refl) ∙ some-same (f q) t e
-  where
-    some-same : (a b : Ty) → Some a ≡ Some b → a ≡ b
-    some-same a b e = cc
+layout-form f (Some q) u t h e = ap f (h q refl) ∙ same_Some (f q) t e
 
 pub unpack-form : (w : Whole) (scope : SymbolScope) (sp : Span) (l : List ℕ) (a : Tree) (r : Symbol) → form r ≡ unpacked_ty (outline w.declared.layouts (NamedLayout l)) → HasForm w scope (UnpackTree sp l a) r
 unpack-form w scope sp l a r e = record { by = λ own p wanted stands none t is. e ∙ layout-form unpacked_ty (look_up l p.known.layouts) (outline w.declared.layouts (NamedLayout l)) t (λ q h. (stands.part.layouts l q h).0) is }

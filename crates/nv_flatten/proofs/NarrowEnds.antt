@@ -2,6 +2,7 @@
 use Rattle.std.proofs.Common.{◌≡◌, ℕ, ◌+◌, ◌≤◌, true, List, [], ◌∷◌, ◌++◌, refl, sym, ap, subst, ◌∙◌, All, length, Option, Some, None, arith}
 use Rattle.std.specs.Prelude.{All}
 use Rattle.std.proofs.lemmas.Bool.{false≢true}
+use Rattle.std.proofs.lemmas.Option.{same_Some}
 use Rattle.nv_base.specs.declared.term.Atom.{Atom}
 use Rattle.nv_base.specs.declared.term.Atom.TheVariants.{Lit}
 use Rattle.nv_base.specs.declared.term.Cmp.{Cmp}
@@ -32,7 +33,6 @@ use Rattle.flat_code.proofs.Within.{itself, of-none, one, both, unions, together
 use Rattle.flat_code.proofs.NarrowSteps.{last, beside, joined, recast-code, give-code, if-code}
 use Rattle.flat_code.proofs.NarrowFacts.{written-append, counted-given, words-of-forms, truth-operand-within, need-least}
 use Rattle.nv_flatten.proofs.NarrowValues.{roomier, less-behind, operands-narrow, result-words}
-use Rattle.flat_code.proofs.NoFaults.{some-same}
 use Rattle.flat_code.proofs.Following.{stands-inside}
 use Rattle.nv_ast.proofs.Faultless.{no_front, no_rest}
 
@@ -75,7 +75,7 @@ words-of-types : (k : Known) (vars : Vars) (es : Trees) (ts : Tys) → types_at 
 words-of-types k vars no_trees ts e = empty ts e
   where
     empty : (ts : Tys) → types_at k vars no_trees ≡ Some ts → 0 ≡ total_words ts
-    empty ts e = ap total_words (some-same no_tys ts e)
+    empty ts e = ap total_words (same_Some no_tys ts e)
 words-of-types k vars (tree_and x es) ts e = words-and (type_at k vars x) (types_at k vars es) ts (words_all k vars es) (λ u h. words-of-types k vars es u h) e
 
 -- the words of arguments are their operands

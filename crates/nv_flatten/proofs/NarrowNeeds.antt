@@ -1,5 +1,6 @@
 -- The needs of a program's groups: of each function the needs of the groups before, by which its body's need is counted.
 use Rattle.std.proofs.Common.{◌≡◌, ◌∙◌, refl, sym, ap, subst, ℕ, ◌+◌, ◌<◌, ◌≤◌, max, Bool, true, false, List, [], ◌∷◌, Some, bytes_eq, arith, if◌then◌else◌}
+use Rattle.std.proofs.lemmas.Option.{same_Some}
 use Rattle.nv_ast.specs.Tests.{value_at}
 use Rattle.nv_ast.specs.Tree.{FunTree, DeclTree, LayoutDecl, ExceptionDecl, GroupDecl, ProgramTree}
 use Rattle.nv_ast.specs.Types.{named_types_of}
@@ -9,7 +10,6 @@ use Rattle.nv_ast.specs.Faults.{body_faults, program_faults}
 use Rattle.nv_meaning.specs.Meaning.{function_in}
 use Rattle.flat_code.specs.inner.Whole.{Whole, whole_of, group_of, IsPart}
 use Rattle.nv_flatten.proofs.GroupWalk.{Group, group_in, number_of, with_group, numbers_behind, stands-in, number-in}
-use Rattle.flat_code.proofs.NoFaults.{some-same}
 
 -- ---- a function's body and the needs of the groups before
 pub record IsNeeded (w : Whole) (v : ℕ → ℕ) (f : List ℕ) (g : FunTree) : Type 0 where
@@ -31,7 +31,7 @@ need-found needs k (d ∷ fs) f g e = by (bytes_eq f d.name) refl (λ q. need-fo
         → param_words k g + need needs k (body_vars k g) g.body ≤ max (param_words k d + need needs k (body_vars k d) d.body) (group_need needs k fs)
     by true q next =
         subst (λ c. param_words k c + need needs k (body_vars k c) c.body ≤ max (param_words k d + need needs k (body_vars k d) d.body) (group_need needs k fs))
-        (some-same _ _ (sym (ap (λ b. if b then Some d else function_in fs f) q) ∙ e)) (omega arith)
+        (same_Some _ _ (sym (ap (λ b. if b then Some d else function_in fs f) q) ∙ e)) (omega arith)
     by false q next = let le = next (sym (ap (λ b. if b then Some d else function_in fs f) q) ∙ e) in omega arith
 
 -- ---- of a whole program

@@ -2,6 +2,7 @@
 use Rattle.std.proofs.Common.{◌≡◌, ◌∙◌, refl, sym, ap, subst, ℕ, ◌+◌, ◌≤◌, max, true, List, [], ◌∷◌, ◌++◌, length, Option, Some, None, bytes_eq, if◌then◌else◌, arith}
 use Rattle.std.specs.Prelude.{slice_get}
 use Rattle.std.proofs.lemmas.Bool.{ltb-true}
+use Rattle.std.proofs.lemmas.Option.{same_Some}
 use Rattle.nv_ast.specs.Tests.{value_at}
 use Rattle.nv_ast.specs.Tree.{FunTree, ProgramTree}
 use Rattle.nv_ast.specs.Types.{RecordTy, NamedTys, words, total_named_words, named_types_of, type_of}
@@ -26,7 +27,6 @@ use Rattle.nv_flatten.proofs.Bodies.{has-main}
 use Rattle.flat_code.proofs.Within.{itself, of-none, one, both, unions, together, through, behind-same, at-most, all-vars-append, vars-length}
 use Rattle.flat_code.proofs.NarrowFacts.{words-of-named, need-least}
 use Rattle.nv_flatten.proofs.NarrowNeeds.{IsNeeded, need_of_group, needed, need-of}
-use Rattle.flat_code.proofs.NoFaults.{some-same}
 use Rattle.nv_flatten.proofs.Bound.{choice-of}
 
 -- ---- the variables in scope where a body begins are those of the parameters
@@ -71,14 +71,14 @@ need-there t h f g m found grouped =
     let least = need-least n.needs n.known (body_vars n.known g) g.body in
     let enough = n.enough in
     let some : 2 ≤ need_of_group t n.own = omega arith in
-    subst (λ i. 2 ≤ need_of_group t i) (some-same _ _ (sym n.grouped ∙ grouped)) some
+    subst (λ i. 2 ≤ need_of_group t i) (same_Some _ _ (sym n.grouped ∙ grouped)) some
 
 module _ (t : ProgramTree) (h : program_faults t ≡ []) (all : Names) (funs : List FlatFun) (made : AreNarrowFuns (whole_of t) all funs) where
   -- the flat function of a function's number
   made-of : (i : ℕ) (f : List ℕ) (g : FunTree) (fun : FlatFun) → slice_get all i ≡ Some f → function_in (whole_of t).declared.functions f ≡ Some g → slice_get funs i ≡ Some fun → IsNarrowFun (whole_of t) all f g fun
   made-of i f g fun named found there =
       let r = made.by i fun there in
-      let same : r.0 ≡ f = some-same _ _ (sym r.1 ∙ named) in
+      let same : r.0 ≡ f = same_Some _ _ (sym r.1 ∙ named) in
       let at : IsNarrowOf (whole_of t) all f (function_in (whole_of t).declared.functions f) fun = subst (λ x. IsNarrowOf (whole_of t) all x (function_in (whole_of t).declared.functions x) fun) same r.2 in
       subst (λ o. IsNarrowOf (whole_of t) all f o fun) found at
 
@@ -96,7 +96,7 @@ module _ (t : ProgramTree) (h : program_faults t ≡ []) (all : Names) (funs : L
   body-wide f g fun found m =
       let w = whole_of t in
       let n = needed t h f g found in
-      let own : n.own ≡ fun.group = some-same _ _ (sym n.grouped ∙ m.group) in
+      let own : n.own ≡ fun.group = same_Some _ _ (sym n.grouped ∙ m.group) in
       let p : Place = record { known = n.known; vars = param_vars (named_types_of n.known.layouts g.params) []; tail = true } in
       let wanted : Wanted = same_as (Some (type_of n.known.layouts g.result)) in
       let stands : Stands w n.own (entry w g) p = record { part = n.part; vars = ap (λ ts. param_vars ts []) n.params ∙ sym (params-types 0 (params_in w g) []) } in

@@ -1,6 +1,7 @@
 -- The flat program of a typed one is at most as large as the program's expanded size.
 use Rattle.std.proofs.Common.{◌≡◌, ◌∙◌, refl, sym, ap, ℕ, zero, suc, ◌<◌, ◌≤◌, true, List, [], ◌∷◌, append-nil, length, Option, Some, None, arith}
 use Rattle.std.specs.Prelude.{slice_get}
+use Rattle.std.proofs.lemmas.Option.{same_Some, slice_get_within}
 use Rattle.nv_ast.specs.Tree.{FunTree, ProgramTree}
 use Rattle.nv_ast.specs.Sizes.{expanded_size}
 use Rattle.nv_ast.specs.Faults.{program_faults, main_name}
@@ -15,13 +16,12 @@ use Rattle.flat_code.specs.inner.Well.{Linked}
 use Rattle.flat_code.specs.inner.Made.{IsComplete}
 use Rattle.flat_code.specs.inner.Small.{AreSmallFuns}
 use Rattle.flat_code.specs.inner.Bounded.{IsBounded}
-use Rattle.flat_code.proofs.Naming.{slice-there, slice-below}
+use Rattle.flat_code.proofs.Naming.{slice-there}
 use Rattle.nv_flatten.proofs.Bodies.{narrow-raised, has-main}
 use Rattle.flat_code.proofs.WellProgram.{calls-formed}
 use Rattle.nv_flatten.proofs.FormedProgram.{matched, all-well}
 use Rattle.nv_flatten.proofs.SmallProgram.{small-enough-size}
 use Rattle.nv_flatten.proofs.Bounding.{IsBoundedMain}
-use Rattle.flat_code.proofs.NoFaults.{some-same}
 
 -- ---- another function in place of that of a number
 abbrev replaced : ℕ → FlatFun → List FlatFun → List FlatFun
@@ -59,7 +59,7 @@ module _ (t : ProgramTree) (h : program_faults t ≡ []) (funs : List FlatFun) (
           let r = (matched (whole_of t) main_name funs c).found j y g n there found at in
           record {
             fun = r.fun;
-            there = replaced-other funs i j x (λ same. no-function (function_in (whole_of t).declared.functions y) g (ap (function_in (whole_of t).declared.functions) (some-same _ _ (sym there ∙ ap (slice_get c.all) same ∙ named)) ∙ none) found) ∙ r.there;
+            there = replaced-other funs i j x (λ same. no-function (function_in (whole_of t).declared.functions y) g (ap (function_in (whole_of t).declared.functions) (same_Some _ _ (sym there ∙ ap (slice_get c.all) same ∙ named)) ∙ none) found) ∙ r.there;
             params = r.params;
             results = r.results;
             group = r.group;
@@ -80,7 +80,7 @@ module _ (t : ProgramTree) (h : program_faults t ≡ []) (funs : List FlatFun) (
 
   -- a flat function is made of a function of the program
   has-function : (i : ℕ) (f : List ℕ) (fun : FlatFun) → slice_get c.all i ≡ Some f → slice_get funs i ≡ Some fun → Reached funs 0 i → (g : FunTree) × (function_in (whole_of t).declared.functions f ≡ Some g)
-  has-function i f fun named here itself = let m = has-main t h in (m.fun, ap (function_in (whole_of t).declared.functions) (some-same _ _ (sym named ∙ c.first)) ∙ m.found)
+  has-function i f fun named here itself = let m = has-main t h in (m.fun, ap (function_in (whole_of t).declared.functions) (same_Some _ _ (sym named ∙ c.first)) ∙ m.found)
   has-function i f fun named here (called k j d reached there calling) = by (function_in (whole_of t).declared.functions f) refl
     where
       by : (o : Option FunTree) → function_in (whole_of t).declared.functions f ≡ o → (g : FunTree) × (function_in (whole_of t).declared.functions f ≡ Some g)
@@ -91,7 +91,7 @@ small-funs : (t : ProgramTree) → program_faults t ≡ [] → (funs : List Flat
 small-funs t h funs b = record {
   by = λ i fun there.
       let c = b.complete in
-      let below : i < length funs = slice-below funs i fun there in
+      let below : i < length funs = slice_get_within funs i fun there in
       let many : length funs ≤ length c.all = c.many in
       let name = slice-there c.all i (omega arith) in
       let g = has-function t h funs c i name.0 fun name.1 there (c.reached i below) in

@@ -2,6 +2,7 @@
 use Rattle.std.proofs.Common.{◌≡◌, ◌∙◌, refl, sym, ap, subst, ℕ, ◌+◌, ◌≤◌, min, true, List, [], Option, Some, None, arith}
 use Rattle.std.specs.Prelude.{slice_get}
 use Rattle.std.proofs.lemmas.Bool.{ltb-true}
+use Rattle.std.proofs.lemmas.Option.{same_Some}
 use Rattle.nv_ast.specs.Tests.{value_at}
 use Rattle.nv_ast.specs.Tree.{FunTree, ProgramTree}
 use Rattle.nv_ast.specs.Types.{words, named_types_of, type_of}
@@ -23,7 +24,6 @@ use Rattle.nv_flatten.proofs.Entering.{params-types}
 use Rattle.nv_flatten.proofs.GroupWalk.{IsIn}
 use Rattle.nv_flatten.proofs.SmallSizes.{picked, picked-below, part-found, size_at, size_of_group, group_parts, group-total, sized, size-there, size-of}
 use Rattle.nv_flatten.proofs.SmallSums.{of_group, group-more, group-called, group-begun, size-none, function-within, group-sum}
-use Rattle.flat_code.proofs.NoFaults.{some-same}
 
 abbrev bulks_of : ProgramTree → Bulks
 bulks_of t i = of_group (size_of_group t i)
@@ -33,7 +33,7 @@ module _ (t : ProgramTree) (h : program_faults t ≡ []) (all : Names) (funs : L
   group-at : (i : ℕ) (f : List ℕ) (fun : FlatFun) → slice_get all i ≡ Some f → slice_get funs i ≡ Some fun → group_of (whole_of t) f ≡ Some fun.group
   group-at i f fun named there =
       let r = made.by i fun there in
-      subst (λ x. group_of (whole_of t) x ≡ Some fun.group) (some-same _ _ (sym r.2 ∙ named)) r.4.group
+      subst (λ x. group_of (whole_of t) x ≡ Some fun.group) (same_Some _ _ (sym r.2 ∙ named)) r.4.group
 
   calls-small : (f : List ℕ) (g : FunTree) (n : IsIn (whole_of t) group_size (size_at t) f g) → CallsSmall (whole_of t) all n.own (size_at t n.own).before funs (bulks_of t)
   calls-small f g n = record {
@@ -50,7 +50,7 @@ module _ (t : ProgramTree) (h : program_faults t ≡ []) (all : Names) (funs : L
       let w = whole_of t in
       let n = sized t h f g found in
       let d = size_at t n.own in
-      let own : n.own ≡ fun.group = some-same _ _ (sym n.grouped ∙ m.group) in
+      let own : n.own ≡ fun.group = same_Some _ _ (sym n.grouped ∙ m.group) in
       let p : Place = record { known = d.known; vars = param_vars (named_types_of d.known.layouts g.params) []; tail = true } in
       let wanted : Wanted = same_as (Some (type_of d.known.layouts g.result)) in
       let stands : Stands w n.own (entry w g) p = record { part = n.part; vars = ap (λ ts. param_vars ts []) n.params ∙ sym (params-types 0 (params_in w g) []) } in
@@ -82,7 +82,7 @@ module _ (t : ProgramTree) (h : program_faults t ≡ []) (all : Names) (funs : L
   main-small named None there = size-none (value_at 0 main_name (sizes_behind [] nothing_known t.decls))
   main-small named (Some fun) there =
       let r = made.by 0 fun there in
-      let found : function_in (whole_of t).declared.functions main_name ≡ Some r.1 = subst (λ x. function_in (whole_of t).declared.functions x ≡ Some r.1) (some-same _ _ (sym r.2 ∙ named)) r.3 in
+      let found : function_in (whole_of t).declared.functions main_name ≡ Some r.1 = subst (λ x. function_in (whole_of t).declared.functions x ≡ Some r.1) (same_Some _ _ (sym r.2 ∙ named)) r.3 in
       let grouped : group_of (whole_of t) main_name ≡ Some fun.group = group-at 0 main_name fun named there in
       let same : value_at 0 main_name (sizes_behind [] nothing_known t.decls) ≡ size_of_group t fun.group = size-of t h main_name r.1 found fun.group grouped in
       let bound : IsAtMost (main_bulk funs (Some fun)) (both (both a_label a_jump) (of_group (size_of_group t fun.group))) =

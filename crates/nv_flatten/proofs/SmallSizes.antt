@@ -2,6 +2,7 @@
 use Rattle.std.proofs.Common.{◌≡◌, ◌∙◌, refl, sym, ap, subst, ℕ, suc, ◌+◌, ◌≤◌, Bool, true, false, List, [], ◌∷◌, Some, bytes_eq, arith, if◌then◌else◌}
 use Rattle.std.specs.Prelude.{slice_get}
 use Rattle.std.proofs.lemmas.Slice.Eq.{bytes_eq-Decides}
+use Rattle.std.proofs.lemmas.Option.{same_Some}
 use Rattle.nv_ast.specs.Tests.{value_at}
 use Rattle.nv_ast.specs.Tree.{FunTree, DeclTree, LayoutDecl, ExceptionDecl, GroupDecl, ProgramTree}
 use Rattle.nv_ast.specs.Sizes.{GroupNumbers, param_words, body_vars, expanded, group_size, sizes_behind}
@@ -11,7 +12,6 @@ use Rattle.nv_meaning.specs.Meaning.{function_in}
 use Rattle.flat_code.specs.inner.Whole.{whole_of, group_of}
 use Rattle.flat_code.specs.inner.Simulation.{Names}
 use Rattle.nv_flatten.proofs.GroupWalk.{Group, IsIn, group_in, number_of, with_group, numbers_behind, stands-in, number-in}
-use Rattle.flat_code.proofs.NoFaults.{some-same}
 
 -- ---- the parts of a group's size, one for each function
 abbrev pub part : GroupNumbers → Known → FunTree → ℕ
@@ -35,7 +35,7 @@ part-found sizes k [] f g e = absurd (cc)
 part-found sizes k (d ∷ fs) f g e = by (bytes_eq f d.name) refl (λ q. part-found sizes k fs f g q)
   where
     by : (b : Bool) → bytes_eq f d.name ≡ b → (function_in fs f ≡ Some g → value_at 0 f (parts_of sizes k fs) ≡ part sizes k g) → value_at 0 f (parts_of sizes k (d ∷ fs)) ≡ part sizes k g
-    by true q next = ap (λ b. if b then part sizes k d else value_at 0 f (parts_of sizes k fs)) q ∙ ap (part sizes k) (some-same _ _ (sym (ap (λ b. if b then Some d else function_in fs f) q) ∙ e))
+    by true q next = ap (λ b. if b then part sizes k d else value_at 0 f (parts_of sizes k fs)) q ∙ ap (part sizes k) (same_Some _ _ (sym (ap (λ b. if b then Some d else function_in fs f) q) ∙ e))
     by false q next = ap (λ b. if b then part sizes k d else value_at 0 f (parts_of sizes k fs)) q ∙ next (sym (ap (λ b. if b then Some d else function_in fs f) q) ∙ e)
 
 -- one number is at most all together
@@ -135,7 +135,7 @@ size-there t h f g m found grouped =
     let below = value-below (group_parts t n.own) f in
     let total = group-total t n.own in
     let some : 1 ≤ size_of_group t n.own = omega (arith, here, below, total) in
-    subst (λ i. 1 ≤ size_of_group t i) (some-same _ _ (sym n.grouped ∙ grouped)) some
+    subst (λ i. 1 ≤ size_of_group t i) (same_Some _ _ (sym n.grouped ∙ grouped)) some
 
 sizes-same : (sizes : GroupNumbers) (k : Known) (ds : List DeclTree) → sizes_behind sizes k ds ≡ numbers_behind group_size sizes k ds
 sizes-same sizes k [] = refl

@@ -2,6 +2,7 @@
 use Rattle.std.proofs.Common.{◌≡◌, sym, subst, ℕ, suc, ◌+◌, ◌-◌, ◌*◌, ◌≤◌, Bool, true, false, ◌==◌, List, [], ◌∷◌, refl, if◌then◌else◌, Some, arith}
 use Rattle.std.specs.Prelude.{slice_get}
 use Rattle.std.proofs.lemmas.Bool.{eqb-true}
+use Rattle.std.proofs.lemmas.Option.{same_Some}
 use Rattle.nv_ast.specs.Tests.{value_at}
 use Rattle.nv_ast.specs.Sizes.{GroupNumbers}
 use Rattle.flat_ir.specs.declared.flat.FlatFun.{FlatFun}
@@ -10,7 +11,6 @@ use Rattle.flat_ir.specs.Bulk.{Bulks, function_bulk, sum_bulk}
 use Rattle.flat_code.specs.inner.Simulation.{Names}
 use Rattle.flat_code.specs.inner.Small.{of_parts, uses}
 use Rattle.nv_flatten.proofs.SmallSizes.{picked}
-use Rattle.flat_code.proofs.NoFaults.{some-same}
 
 -- what a group of this size may have, besides the label and the jump of a call of it
 abbrev pub of_group : ℕ → Bulk
@@ -80,7 +80,7 @@ group-sum funs w group parts names [] h = group-none (picked parts names)
 group-sum funs w group parts [] (fun ∷ fs) h = let r = h 0 fun refl in absurd (no-name r.0 r.1)
 group-sum funs w group parts (x ∷ names) (fun ∷ fs) h =
     let r = h 0 fun refl in
-    let same : x ≡ r.0 = some-same _ _ r.1 in
+    let same : x ≡ r.0 = same_Some _ _ r.1 in
     add-one (fun.group == group) (function_bulk funs w fun) (sum_bulk funs w group fs) (value_at 0 x parts) (picked parts names)
     (λ e. subst (λ y. IsAtMost (both (both a_label a_jump) (function_bulk funs w fun)) (of_parts (value_at 0 y parts))) (sym same) (r.2 (eqb-true fun.group group e)))
     (group-sum funs w group parts names fs (λ i d e. h (suc i) d e))

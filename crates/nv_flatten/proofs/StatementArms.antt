@@ -26,11 +26,12 @@ use Rattle.flat_code.specs.inner.Whole.{Whole, Stands}
 use Rattle.flat_code.specs.inner.Simulation.{Names, Extends, Done, IsValue, IsStated, onward_stated}
 use Rattle.flat_code.proofs.Keeping.{scope-later, keeps-value, keeps-scope, keeps-scope_fits, begins-then, begins-done, done-then, words-fit, are-words, extends-itself, extends-then}
 use Rattle.flat_code.proofs.Fresh.{bound-values, bound-types, bound-fits, bound-older}
-use Rattle.flat_code.proofs.NoFaults.{set, value-has-type}
+use Rattle.flat_code.proofs.NoFaults.{value-has-type}
 use Rattle.flat_code.proofs.Following.{onward-stated, onward-further, steps-then, stands-inside, fewer, word-of}
 use Rattle.nv_flatten.proofs.AccessArms.{operands-count}
 use Rattle.nv_base.proofs.WordLemmas.{length-words}
 use Rattle.nv_ast.proofs.Faultless.{no_front, no_rest, no_kinds}
+use Rattle.nv_layout.proofs.Sound.{where_not}
 
 -- ---- what follows a statement
 onward-alone : (r : Stated) (next : Scope → Running → flat.Result) (never : Value → Running → flat.Result) → onward_stated (and_further r (λ m now. GoesOn m now)) next never ≡ onward_stated r next never
@@ -113,7 +114,7 @@ module _ (w : Whole) (names more : Names) (low mid high : ℕ) (scope : SymbolSc
   moves-words p t none is =
       let n = words_of_value (type_at p.known p.vars e) in
       let kinds = no_kinds sp (wrong_access m n ++ wrong_scratch m a n) (no_rest (faults p wanted_stored e) (access_faults p) (behind-address p none)) in
-      ap (λ o. can_move m (words_of_value o)) (sym is) ∙ (set (can_move m n) 19 (no_front (wrong_access m n) (wrong_scratch m a n) kinds))
+      ap (λ o. can_move m (words_of_value o)) (sym is) ∙ (where_not (can_move m n) 19 (no_front (wrong_access m n) (wrong_scratch m a n) kinds))
 
   pub store-stated : StoresTo m (word_operand s) (operands u) step → Extends names more → low ≤ mid → mid ≤ high → IsValue w names low mid scope a ss s → IsValue w more mid high scope e ts u
       → IsStated w more low high scope the_store ((ss ++ ts) ++ step ∷ []) scope

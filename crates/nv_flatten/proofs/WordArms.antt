@@ -1,5 +1,6 @@
 -- Shifts, and operators on two words.
 use Rattle.std.proofs.Common.{◌≡◌, ◌∙◌, refl, ap, sym, subst, ℕ, zero, suc, ◌+◌, ◌<◌, ◌≤◌, ◌^◌, false, List, [], ◌∷◌, ◌++◌, append_assoc, Some, nat_lt, arith, rules, tests}
+use Rattle.std.proofs.lemmas.Option.{same_Some, none-some}
 use Rattle.nv_base.specs.declared.term.Atom.{Atom}
 use Rattle.nv_base.specs.declared.term.Atom.TheVariants.{Var, Lit}
 use Rattle.nv_base.specs.declared.term.Bin.{Bin}
@@ -31,7 +32,7 @@ use Rattle.flat_code.specs.inner.Runs.{flat_run, onward}
 use Rattle.flat_code.specs.inner.Whole.{Whole}
 use Rattle.flat_code.specs.inner.Simulation.{Names, Extends, IsValue}
 use Rattle.flat_code.proofs.Keeping.{scope-later, keeps-value, keeps-fit, keeps-scope, begins-then, done-then}
-use Rattle.flat_code.proofs.NoFaults.{some-same, none-some, clean as is-clean}
+use Rattle.flat_code.proofs.NoFaults.{clean as is-clean}
 use Rattle.flat_code.proofs.Following.{onward-then, steps-then, stands-inside, fewer, word-of, word-fits, one-older, assigned-here, defined}
 use Rattle.flat_code.proofs.ValueArms.{unary}
 use Rattle.nv_ast.proofs.Faultless.{no_front, no_rest, not_where}
@@ -81,7 +82,7 @@ module _ (w : Whole) (names : Names) (low high : ℕ) (scope : SymbolScope) (sp 
           ∙ ap (λ x. next (meaning.Word x) last) (sym (shift-nothing op (atom_word new (word_operand s)) small) ∙ ap (λ x. shifted op 0 x) (sym (word-of new s)) ∙ ap (λ i. shifted op i (word_of (value_in new s))) (sym nothing)))
           ∙ sym (onward-then (eval w.declared c.call a (scope_in env scope) now) k next);
     };
-    formed = record { by = λ own p wanted stands none t is. some-same WordTy t is };
+    formed = record { by = λ own p wanted stands none t is. same_Some WordTy t is };
     older = λ o. operand-older high s (v.older o);
   }
     where
@@ -100,7 +101,7 @@ module _ (w : Whole) (names : Names) (low high : ℕ) (scope : SymbolScope) (sp 
       defined low high env new last (Fits new s) made (Word (Var high)) (meaning.Word (shifted op n (word_of (value_in new s)))) rest next le done
       (ap (λ y. meaning.Word y) (assigned-here new high made ∙ is) ∙ ap (λ y. meaning.Word (shifted op n y)) (sym (word-of new s)))
       (subst (λ y. y < 2 ^ 32) (sym (assigned-here new high made ∙ is)) (shift-fits op n x some (few p wanted none) (word-fits new s done.fits))) same)
-      (record { by = λ own p wanted stands none t is. some-same WordTy t is })
+      (record { by = λ own p wanted stands none t is. same_Some WordTy t is })
       (λ o. one-older (high + 1) (Var high) (omega arith))
 
 -- ---- operators on two words
@@ -108,11 +109,11 @@ abbrev both_words : Bin → Value → Value → Running → Result
 both_words b x y last = Gives (meaning.Word (bin_word b (word_of x) (word_of y))) last
 
 arithmetic-is : (op : Op) (b : Bin) (left : Result) (right : Running → Result) → arithmetic_of op ≡ Some b → binary op left right ≡ and_then left (λ x now. and_then (right now) (both_words b x))
-arithmetic-is Add b left right e = ap (λ i. and_then left (λ x now. and_then (right now) (both_words i x))) (some-same bin.Add b e)
-arithmetic-is Sub b left right e = ap (λ i. and_then left (λ x now. and_then (right now) (both_words i x))) (some-same bin.Sub b e)
-arithmetic-is And b left right e = ap (λ i. and_then left (λ x now. and_then (right now) (both_words i x))) (some-same bin.And b e)
-arithmetic-is Or b left right e = ap (λ i. and_then left (λ x now. and_then (right now) (both_words i x))) (some-same bin.Or b e)
-arithmetic-is Xor b left right e = ap (λ i. and_then left (λ x now. and_then (right now) (both_words i x))) (some-same bin.Xor b e)
+arithmetic-is Add b left right e = ap (λ i. and_then left (λ x now. and_then (right now) (both_words i x))) (same_Some bin.Add b e)
+arithmetic-is Sub b left right e = ap (λ i. and_then left (λ x now. and_then (right now) (both_words i x))) (same_Some bin.Sub b e)
+arithmetic-is And b left right e = ap (λ i. and_then left (λ x now. and_then (right now) (both_words i x))) (same_Some bin.And b e)
+arithmetic-is Or b left right e = ap (λ i. and_then left (λ x now. and_then (right now) (both_words i x))) (same_Some bin.Or b e)
+arithmetic-is Xor b left right e = ap (λ i. and_then left (λ x now. and_then (right now) (both_words i x))) (same_Some bin.Xor b e)
 arithmetic-is Eq b left right e = absurd (none-some b e)
 arithmetic-is Ne b left right e = absurd (none-some b e)
 arithmetic-is Lt b left right e = absurd (none-some b e)
@@ -174,6 +175,6 @@ module _ (w : Whole) (names more : Names) (low mid high : ℕ) (scope : SymbolSc
           ∙ sym (onward-then (eval w.declared c.call x m now) (λ i last. and_then (right last) (both_words b i)) next)
           ∙ ap (λ r. onward r next) (sym (arithmetic-is op b (eval w.declared c.call x m now) right is));
     };
-    formed = record { by = λ own p wanted stands none t e. sym (arithmetic-type op b is) ∙ some-same (result_ty op) t e };
+    formed = record { by = λ own p wanted stands none t e. sym (arithmetic-type op b is) ∙ same_Some (result_ty op) t e };
     older = λ o. one-older (high + 1) (Var high) (omega arith);
   }
