@@ -1,7 +1,8 @@
 -- Packing writes at most as many fields as a layout has, and as a record that it packs has words.
 use Rattle.std.proofs.Common.{◌≡◌, ◌∙◌, refl, ap, sym, ℕ, ◌+◌, ◌<◌, ◌≤◌, Bool, true, false, ◌&&◌, if◌then◌else◌, bytes_eq, List, [], ◌∷◌, ◌++◌, take, drop, length, get_or, length-append, arith}
-use Rattle.std.proofs.lemmas.Bool.{false≢true, and_parts, or_parts, false_from_ne_true}
+use Rattle.std.proofs.lemmas.Bool.{false≢true, and_parts, or_parts}
 use Rattle.std.proofs.lemmas.Slice.Eq.{bytes_eq-Decides}
+use Rattle.std.specs.Cmp.Lexicographic.{nat_list_eq_equiv}
 use Rattle.nv_base.specs.declared.term.Atom.TheVariants.{Lit}
 use Rattle.nv_ast.specs.declared.tree.LayoutText.{LayoutText}
 use Rattle.nv_ast.specs.LayoutView.{layout_tree, field_tree}
@@ -112,15 +113,11 @@ mutual
   joined-forms-listed (outline_and o os) =
       ap (λ fs. fs +++ joined_forms os) (record-forms-listed o) ∙ ap (λ fs. listed_forms (record_of o) +++ fs) (joined-forms-listed os) ∙ sym (forms-append (record_of o) (records_of os))
 
--- a field of another name
-other-name : (x y : List ℕ) → bytes_eq x y ≡ false → bytes_eq y x ≡ false
-other-name x y e = false_from_ne_true (bytes_eq y x) (λ (f : bytes_eq y x ≡ true). false≢true (sym e ∙ (bytes_eq-Decides x y).1 (sym ((bytes_eq-Decides y x).0 f))))
-
 skipped : (l : List (List ℕ × OutlineTree)) (x : List ℕ) (r : Symbol) (rs : NamedSymbols) → is_among x (names_of l) ≡ false → listed l (named_symbol_and x r rs) ≡ listed l rs
 skipped [] x r rs e = refl
 skipped ((y, o) ∷ l) x r rs e =
     let p = or_parts (bytes_eq x y) (is_among x (names_of l)) e in
-    let here : field_named y (named_symbol_and x r rs) ≡ field_named y rs = if-false (bytes_eq y x) r (field_named y rs) (other-name x y p.0) in
+    let here : field_named y (named_symbol_and x r rs) ≡ field_named y rs = if-false (bytes_eq y x) r (field_named y rs) (nat_list_eq_equiv.symm y x ∙ p.0) in
     omega (arith, ap (packed_fields o) here, skipped l x r rs p.1)
 
 list-fine : (l : List (List ℕ × OutlineTree)) → AllFine l → has_twice (names_of l) ≡ false → (ss : NamedSymbols) → can_pack_all (listed_forms l) (named_forms ss) ≡ true → listed l ss ≤ length (named_operands ss)

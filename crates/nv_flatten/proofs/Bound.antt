@@ -1,8 +1,9 @@
 -- The variables that names stand for behind a pattern, and how many more they are.
-use Rattle.std.proofs.Common.{◌≡◌, ℕ, ◌+◌, Bool, true, false, ◌||◌, if◌then◌else◌, List, [], ◌∷◌, ◌++◌, refl, sym, ap, subst, ◌∙◌, length, bytes_eq, arith, tests, rules}
+use Rattle.std.proofs.Common.{◌≡◌, ℕ, ◌+◌, Bool, true, false, ◌||◌, if◌then◌else◌, List, [], ◌∷◌, ◌++◌, refl, sym, ap, subst, ◌∙◌, length, bytes_eq, arith, tests}
 use Rattle.std.specs.List.{list_any}
-use Rattle.std.proofs.lemmas.Bool.{false≢true, or_parts, or_from, false_from_ne_true}
+use Rattle.std.proofs.lemmas.Bool.{or_parts, or_from}
 use Rattle.std.proofs.lemmas.List.Folds.{list_any-append}
+use Rattle.std.specs.Cmp.Lexicographic.{nat_list_eq_equiv}
 use Rattle.nv_ast.specs.Tree.{PatternTree, NamePattern, AnyPattern, TuplePattern, PatternTrees, no_patterns, pattern_and}
 use Rattle.nv_ast.specs.Tests.{is_among}
 use Rattle.nv_ast.specs.Scope.{names_in, names_in_all}
@@ -63,18 +64,9 @@ written-bound q s scope (x ∷ names) =
 
 -- ---- a name that the pattern doesn't have stands for what it did
 
-other-name : (x y : List ℕ) → bytes_eq y x ≡ false → bytes_eq x y ≡ false
-other-name x y e = false_from_ne_true (bytes_eq x y) (λ f. false≢true (sym e ∙ same y x (sym (same-list x y f))))
-  where
-    same-list : (x y : List ℕ) → bytes_eq x y ≡ true → x ≡ y
-    same-list x y f = search (tests, rules)
-
-    same : (y x : List ℕ) → y ≡ x → bytes_eq y x ≡ true
-    same y x f = search (tests, rules)
-
 mutual
   name-kept : (q : PatternTree) (s : Symbol) (scope : SymbolScope) (x : List ℕ) → list_any (λ y. bytes_eq y x) (names_in q) ≡ false → symbol_in (bound q s scope) x ≡ symbol_in scope x
-  name-kept (NamePattern y) s scope x e = ap (λ b. if b then s else symbol_in scope x) (other-name x y (or_parts (bytes_eq y x) false e).0)
+  name-kept (NamePattern y) s scope x e = ap (λ b. if b then s else symbol_in scope x) (nat_list_eq_equiv.symm x y ∙ (or_parts (bytes_eq y x) false e).0)
   name-kept AnyPattern s scope x e = refl
   name-kept (TuplePattern ps) (Tuple ss) scope x e = name-all-kept ps ss scope x e
   name-kept (TuplePattern ps) (Word a) scope x e = refl

@@ -10,7 +10,6 @@ use Rattle.nv_ast.specs.declared.token.Span.{Span}
 use Rattle.nv_ast.specs.declared.tree.Op.{Op}
 use Rattle.nv_ast.specs.declared.tree.Op.TheVariants.{Add, Sub, And, Or, Xor, Eq, Ne, Lt, Le, Gt, Ge, Both, Either}
 use Rattle.nv_ast.specs.declared.tree.ShiftOp.{ShiftOp}
-use Rattle.nv_ast.specs.declared.tree.ShiftOp.TheVariants.{Left, Right, Rotate}
 use Rattle.nv_ast.specs.Tree.{Tree, NumberTree, TruthTree, VarTree, ParenTree, TupleTree, FieldsTree, DotTree, InvertTree, NegateTree, BinaryTree, ShiftTree, FetchTree, Trees, NamedTrees}
 use Rattle.nv_ast.specs.Types.{WordTy, BoolTy, words, words_of_value, words_ty}
 use Rattle.nv_ast.specs.Scope.{Place, inside}
@@ -38,6 +37,7 @@ use Rattle.flat_code.proofs.Following.{stands-inside}
 use Rattle.flat_code.proofs.Keeping.{extends-then}
 use Rattle.flat_code.proofs.WellBasics.{words-ty-words}
 use Rattle.nv_ast.proofs.Faultless.{no_front, no_rest}
+use Rattle.flat_code.proofs.WordSteps.{shift-vars}
 
 -- ---- steps and then a primitive of their results
 prim-length : (q : Primitive) → length (prim_vars q) ≤ 2
@@ -163,11 +163,6 @@ module _ (w : Whole) (names : Names) (scope : SymbolScope) where
         (v.by c (inside p) (of_type BoolTy) (stands-inside w c.own scope p stands) (no_front (faults (inside p) (of_type BoolTy) a) (node_faults p wanted (NegateTree sp a)) none))
         (together (atom_vars (truth_operand s)) [] (all_vars (operands s)) (truth-operand-within s) (of-none (all_vars (operands s)))) (omega arith);
   }
-
-  shift-vars : (op : ShiftOp) (n : ℕ) (a : Atom) → prim_vars (shift_of op n a) ≡ atom_vars a
-  shift-vars Left n a = refl
-  shift-vars Right n a = refl
-  shift-vars Rotate n a = refl
 
   -- by no place, and by some
   pub shift-none-narrow : (sp : Span) (op : ShiftOp) (a : Tree) (n : ℕ) (ss : List Step) (s : Symbol) → IsNarrowValue w names scope a ss s → IsNarrowValue w names scope (ShiftTree sp op a n) ss (Word (word_operand s))

@@ -23,7 +23,7 @@ use Rattle.nv_parser.specs.inner.Starts.{sort_starts, starts_expr}
 use Rattle.nv_parser.specs.inner.Failing.{Bound, NoBound, AtMost, bound_of, Phrases, Follow, Anything, Ahead, Phrase, One, ASign, AKey, AName, ANumber, Then, Many, none, next, SameFront, Completes, Starts, Reads, Fails, FailsAs, no_memory, syntax, deep}
 use Rattle.nv_parser.specs.inner.ExprPhrases.{IsLow, LowExpr, LowExprs, AnExpr, ATail, AStatement, ALevel, ARest, AnUna, SomeDots, AnAtom, SomeArgs, NextExpr, NextMember, NotMem, NoPlainAtom, BeginsName, begins_name, LayoutInBrackets, Onward}
 use Rattle.nv_parser.proofs.Follow.{rank_of, shift_rank, same_op, same_shift, no_shift, level_not_one, close_starts_no_expr}
-use Rattle.nv_parser.proofs.Sequence.{front_same, Carries, carries_anything, then_carries, one_carries, Fills, then_fills, one_fills, first_fails, many_carries, then_reads, one_reads, one_then, sign_fails, key_fails, name_fails, number_fails, sign_listed, Listed}
+use Rattle.nv_parser.proofs.Sequence.{front_same, Carries, carries_anything, then_carries, one_carries, Fills, then_fills, one_fills, first_fails, many_carries, then_reads, one_reads, one_then, sign_fails, key_fails, name_fails, number_fails, sign_listed, Listed, sign_ahead}
 use Rattle.nv_parser.proofs.ExprLow.{low_of, free_low, low_none, low_one, low_node, low_max, low_under, low_child, lows, no_room, height_pos, rest_tall, dots_tall}
 use Rattle.nv_parser.proofs.Steps.{stops_at, deep_at, step_deep, step_completes, step_reads, step_fails, reads_here, bind_fails, bind_step, onward_start, onward_step}
 use Rattle.nv_parser.proofs.ExprSteps.{LevelRow, level_step, level_binds, operand_step, operand_binds, comparison_step, shift_step, dot_step, if_step, try_step, let_step, unpack_step, pack_step, fetch_step, record_step, invert_step, negate_step, bracket_parts, no_bracket}
@@ -79,9 +79,6 @@ before_key n m h = then_carries (one_carries m (λ x. h)) carries_anything
 
 pub sign_above : (n m : ℕ) {G : Follow} → m < sign_rank n → Carries (ASign n) G (Above m)
 sign_above n m h = one_carries m (λ x. h)
-
-pub sign_has : (n : ℕ) {G : Follow} → Carries (ASign n) G (Ahead n)
-sign_has n = record { on = λ b ts k r g. subst (Ahead n) (sym r.split) refl }
 
 -- ---- lists of expressions
 
@@ -363,7 +360,7 @@ dot_stops a s (Deep left) m h q f = absurd f
 -- ---- what stands behind parts
 
 pub has_before : {Q : Phrases} {G : Follow} → Carries (Then (ASign 29) Q) G (Ahead 29)
-has_before = then_carries (sign_has 29) carries_anything
+has_before = then_carries (sign_ahead 29) carries_anything
 
 pub exprs_before : (n : ℕ) {G : Follow} → 10 < sign_rank n → Carries (Then (Many NextExpr) (ASign n)) G (Above 9)
 exprs_before n h = then_carries (many_carries exprs_listed) (sign_above n 10 h)

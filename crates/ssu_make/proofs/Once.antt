@@ -309,7 +309,7 @@ laid-once base size c d xs n z laid le all =
     let none = lies_all-none base (λ y. size y + 1) xs z (λ y i. let l = laid.below y i in inr (omega arith)) in
     omega (arith, none)) (cases_lt z d)) (cases_lt z c)
 
-fresh-from : (a b : List ℕ) → all_different (a ++ b) ≡ true → Fresh a b
+pub fresh-from : (a b : List ℕ) → all_different (a ++ b) ≡ true → Fresh a b
 unfolding Fresh
 fresh-from a b h = λ y. let le = different-times (a ++ b) h y in omega (arith, times-append y a b)
 

@@ -23,12 +23,12 @@ use Rattle.ssu_make.specs.inner.Uses.{Counts, here, occurs, operands, outside, u
 use Rattle.ssu_make.specs.inner.Made.{literal, last_taken, names_taken, taken, all_taken, name, names, atom_literal, literals, value, clone_step, clones, prim_step, spent, most, made, Laid, variables, IsMade, AllMade}
 use Rattle.ssu_make.proofs.Assigned.{same-test}
 use Rattle.ssu_make.proofs.Clones.{clone_env, clones_env, value-is}
-use Rattle.ssu_make.proofs.Counting.{lies, lies-out, times, times-append, times-in, in-times, times-not, different-from, different-times, lies_all, lies_all-none, lies_all-once, lies_all-least}
+use Rattle.ssu_make.proofs.Counting.{lies, lies-out, times, times-append, times-in, in-times, times-not, different-from, lies_all, lies_all-none, lies_all-once, lies_all-least}
 use Rattle.ssu_make.proofs.Fitting.{Fits, fits-let, fits-read, fits-write, fits-first, fits-second, place-of, uses-all}
-use Rattle.ssu_make.proofs.Once.{Fresh, fresh-first, fresh-second, values-defined, in-either}
+use Rattle.ssu_make.proofs.Once.{Fresh, fresh-first, fresh-second, values-defined, in-either, fresh-from}
 use Rattle.ssu_make.proofs.Scoped.{param-at}
 use Rattle.ssu_make.proofs.Equal.{label-fits}
-use Rattle.ssu_make.proofs.Results.{clones-names, used-prim, live-used, vars-occur}
+use Rattle.ssu_make.proofs.Results.{clones-names, used-prim, live-used, vars-occur, different-before}
 use Rattle.ssu_make.proofs.Held.{Sees, sees-weaker, sees-behind, valued, behind, used-of, IsOf, filter-fewer, filter-among, different-map, names-of, literals-of, fresh-apart}
 
 -- ---- one more value above
@@ -610,21 +610,15 @@ label-peak labels k c d l s f is =
     let sees = sees-behind base size c n vs is.laid r xs rest own own place sized fits.within fits.defs apart start in
     let small = small-behind base size c n vs is.laid r xs own sized fits.within (λ y lt. absurd (param-at (is_in y xs) labels xs l.body y 0 refl parts.0 lt)) in
     let empty : Sits base size [] n (spent l.body + 0) (xs ++ rest) = record { once = λ z. omega arith; clear = λ v i. absurd (false≢true i) } in
-    let sits = sits-behind base size c n vs is.laid r xs rest [] [] n (spent l.body) 0 empty (λ z. omega arith) (omega arith) sized fits.within fits.defs (different-front xs rest parts.1) apart in
+    let sits = sits-behind base size c n vs is.laid r xs rest [] [] n (spent l.body) 0 empty (λ z. omega arith) (omega arith) sized fits.within fits.defs (different-before xs rest parts.1) apart in
     let body = peak-made labels base size c n vs is.laid l.body xs n (valued base r xs own) (clones_env base r xs own) (map (value base r) xs) fits fresh (omega arith) sees small sits in
     let whole = clones-peak base r xs T own (map (value base r) xs) (tree_wide l.body) body in
     let p : length s.params ≡ length xs = ap (λ (z : ssu.Label). length z.params) is.is ∙ length-map xs (value base r) in
     let q : most_held (tree_points own s.params s.body) ≡ most_held (tree_points own (map (value base r) xs) (clones base r xs T)) = ap (λ (z : ssu.Label). most_held (tree_points own z.params z.body)) is.is in
     omega (arith, whole, p, q)
   where
-    fresh-from : (a b : List ℕ) → all_different (a ++ b) ≡ true → Fresh a b
-    fresh-from a b h = λ y. let le = different-times (a ++ b) h y in omega (arith, times-append y a b)
-
     fresh-not : (xs rest : List ℕ) → Fresh xs rest → (y : ℕ) → is_in y rest ≡ true → is_in y xs ≡ false
     fresh-not xs rest f y i = let le = f y in let p = times-in y rest i in times-not y xs (omega arith)
-
-    different-front : (a b : List ℕ) → all_different (a ++ b) ≡ true → all_different a ≡ true
-    different-front a b h = different-from a (λ z. let le = different-times (a ++ b) h z in omega (arith, times-append z a b))
 
 labels-peak : (labels : List Label) (k c : ℕ) (ls : List Label) (ss : List ssu.Label) → list_all (is_label labels) ls ≡ true → AllMade c ls ss → most_held (points_from k ss) ≤ wide ls
 labels-peak labels k c [] [] f m = omega arith

@@ -26,9 +26,10 @@ use Rattle.type_rules.proofs.Firsts.{first_append, judges_behind}
 use Rattle.type_table.proofs.Staying.{value_stays}
 use Rattle.type_steps.proofs.Holding.{holds_stays, sees_stay, counts_stay, wanted_stays, Keeps-trans}
 use Rattle.type_steps.proofs.BlockStanding.{writes_trans}
-use Rattle.type_steps.proofs.BlockCosts.{two_are, cost_moved}
+use Rattle.type_steps.proofs.BlockCosts.{cost_moved}
 use Rattle.type_steps.proofs.BlockNodes.{node_checks}
 use Rattle.type_steps.proofs.WalkNodes.{failed}
+use Rattle.type_steps.proofs.WalkCosts.{two_parts}
 
 -- where the first of two parts has a value, the type of that, else of the other
 pub first_value : (s : Store) (a b v : Option ℕ) (t u : Option Ty) → IsValue s a t → IsValue s b u → v ≡ option_or a b → IsValue s v (or_ty t u)
@@ -96,7 +97,7 @@ choice_checks c c1 c2 c3 tail wanted other s x a b f g h value parts r h1 h2 is_
       words = words_at k vars x + (words_at k vars a + words_at k vars b);
       size = expanded sizes k vars x + (expanded sizes k vars a + expanded sizes k vars b);
       most_need = max (need needs k vars x) (max (need needs k vars a) (need needs k vars b));
-      are = cost_moved parts (two_costs f.cost (two_costs g.cost h.cost)) _ _ _ of_parts (two_are f.cost (two_costs g.cost h.cost) _ _ _ _ _ _ cost1 (two_are g.cost h.cost _ _ _ _ _ _ cost2 cost3));
+      are = cost_moved parts (two_costs f.cost (two_costs g.cost h.cost)) _ _ _ of_parts (two_parts f.cost (two_costs g.cost h.cost) _ _ _ _ _ _ cost1 (two_parts g.cost h.cost _ _ _ _ _ _ cost2 cost3));
       of_size = refl;
       of_need = refl;
     })

@@ -30,10 +30,11 @@ use Rattle.type_rules.proofs.Firsts.{first_append, judges_behind}
 use Rattle.type_table.proofs.Staying.{value_stays, parts_stay}
 use Rattle.type_steps.proofs.Holding.{holds_stays, sees_stay, counts_stay, wanted_stays, declared_trans}
 use Rattle.type_steps.proofs.BlockStanding.{scope_left, writes_trans, written_same}
-use Rattle.type_steps.proofs.BlockCosts.{two_are, cost_same, cost_moved}
+use Rattle.type_steps.proofs.BlockCosts.{cost_same, cost_moved}
 use Rattle.type_steps.proofs.BlockNodes.{node_checks}
 use Rattle.type_steps.proofs.BlockChoices.{first_value}
 use Rattle.type_steps.proofs.WalkNodes.{failed}
+use Rattle.type_steps.proofs.WalkCosts.{two_parts}
 
 pub try_fails_at_body : (c new : Checker) (tail : Bool) (wanted : Wanted) (s : Span) (a : Tree) (x : List ℕ) (ps : PatternTrees) (h : Tree) (why : TypeError) → Checks c new false Anything a (Err why) → Checks c new tail wanted (TryTree s a x ps h) (Err why)
 try_fails_at_body c new tail wanted s a x ps h why g = failed c new tail wanted (TryTree s a x ps h) why (λ k vars w holds sees is. first_append _ _ why (g.judged k vars anything holds sees refl))
@@ -105,7 +106,7 @@ try_checks c c1 c2 c3 tail wanted other s a x ps h f g types mark left facts val
     let cost3 = h3.counted k (handler_vars k vars x ps) sizes needs q.holds q.sees counts2 in
     let at = hp.typed k holds1 in
     let whole = raised_is k at.0 (known at.0 (parts_stay c2.table c3.table h3.keeps.declared.grows types at.0 at.2)) at.1 in
-    let all = two_are raised (two_costs f.cost g.cost) _ _ _ _ _ _ whole (two_are f.cost g.cost _ _ _ _ _ _ cost1 cost3) in
+    let all = two_parts raised (two_costs f.cost g.cost) _ _ _ _ _ _ whole (two_parts f.cost g.cost _ _ _ _ _ _ cost1 cost3) in
     record {
       words = raised_words (look_up x k.exceptions) + (words_at k vars a + words_at k (handler_vars k vars x ps) h);
       size = expanded sizes k vars a + expanded sizes k (handler_vars k vars x ps) h;

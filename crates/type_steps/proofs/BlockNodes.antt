@@ -20,9 +20,9 @@ use Rattle.type_rules.specs.inner.Costs.{IsCost, node_cost}
 use Rattle.type_steps.specs.inner.Judging.{IsWanted}
 use Rattle.type_steps.specs.inner.Standing.{Holds, Sees, Counts, Keeps, place, written_in}
 use Rattle.type_steps.specs.inner.Walk.{Checks}
-use Rattle.type_steps.proofs.BlockStanding.{on_ok}
-use Rattle.type_steps.proofs.BlockCosts.{node_is}
 use Rattle.type_steps.proofs.WalkNodes.{failed}
+use Rattle.type_steps.proofs.WalkCosts.{node_costs}
+use Rattle.type_steps.proofs.Holding.{on_ok}
 
 -- want of memory
 pub wants_memory : (c new : Checker) (tail : Bool) (wanted : Wanted) (e : Tree) → Checks c new tail wanted e (Err NoMemory)
@@ -36,7 +36,7 @@ counted_so : (r : Result Found TypeError) (w : ℕ) (parts : Cost) (words size n
     → IfOk r (λ found. found.cost ≡ node_cost (still w) parts) → IfOk r (λ found. IsCost found.cost w s n)
 counted_so (Ok found) w parts words size need s n h e f g =
     subst (λ (cost : Cost). IsCost cost w s n) (sym g)
-    (subst (λ (m : ℕ). IsCost (node_cost (still w) parts) w s m) f (subst (λ (m : ℕ). IsCost (node_cost (still w) parts) w m ((2 + w) + (words + need))) e (node_is w parts words size need h)))
+    (subst (λ (m : ℕ). IsCost (node_cost (still w) parts) w s m) f (subst (λ (m : ℕ). IsCost (node_cost (still w) parts) w m ((2 + w) + (words + need))) e (node_costs parts w words size need h)))
 counted_so (Err why) w parts words size need s n h e f g = tt
 
 -- what the parts of an expression cost

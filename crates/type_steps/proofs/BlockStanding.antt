@@ -1,6 +1,5 @@
 -- What a walk wrote and bound, one step after another.
-use Rattle.std.proofs.Common.{◌≡◌, ◌∙◌, refl, ap, ℕ, ◌-◌, List, ◌++◌, drop, length, Result, Ok, Err, arith, length-append, append_assoc, Vec, Global}
-use Rattle.std.specs.Result.{OnOk}
+use Rattle.std.proofs.Common.{◌≡◌, ◌∙◌, refl, ap, ℕ, ◌-◌, List, ◌++◌, drop, length, arith, length-append, append_assoc, Vec, Global}
 use Rattle.std.specs.Borrow.{Bor}
 use Rattle.type_table.specs.inner.Named.{plain_names}
 use Rattle.std.proofs.lemmas.List.{drop_at}
@@ -14,10 +13,6 @@ scope_left old newer now left e f =
 
 pub writes_trans : (a b : List (List ℕ)) (c x y : List (List ℕ)) → b ≡ a ++ x → c ≡ b ++ y → c ≡ a ++ (x ++ y)
 writes_trans a b c x y f g = g ∙ ap (λ l. l ++ y) f ∙ append_assoc a x y
-
-pub on_ok : {T E P : Type 0} (r : Result T E) → P → OnOk r P
-on_ok (Ok x) p = p
-on_ok (Err e) p = tt
 
 pub written_same : (a b : Checker) → b.written ≡ a.written → written_in b ≡ written_in a
 written_same a b e = ap (λ (v : Vec (Bor (List ℕ)) Global). plain_names v.items) e

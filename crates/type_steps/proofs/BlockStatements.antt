@@ -34,7 +34,8 @@ use Rattle.type_steps.specs.inner.Walk.{Checks}
 use Rattle.type_rules.proofs.Firsts.{first_append, judges_behind, first_kind, then_kinds}
 use Rattle.type_steps.proofs.Holding.{holds_stays, sees_stay, counts_stay, declared_trans, Keeps-trans}
 use Rattle.type_steps.proofs.BlockStanding.{writes_trans, written_same}
-use Rattle.type_steps.proofs.BlockCosts.{still_sum, two_are, node_is, cost_moved}
+use Rattle.type_steps.proofs.BlockCosts.{still_sum, cost_moved}
+use Rattle.type_steps.proofs.WalkCosts.{node_costs, two_parts}
 
 pub statement_fails : (c new : Checker) (st : StatementTree) (why : TypeError) → ((k : Known) (vars : Vars) → Holds c k → Sees c vars → IsFirstOf (statement_faults (place k vars false) st) why) → ChecksStatement c new st (Err why)
 statement_fails c new st why h = record {
@@ -204,7 +205,7 @@ store_checks c c1 c2 s m a e f g n moves near parts step before size h1 h2 of_n 
   counted = λ k vars sizes needs holds sees counts.
       let cost1 = h1.counted k vars sizes needs holds sees counts in
       let cost2 = h2.counted k vars sizes needs (holds_stays c c1 k h1.keeps.declared holds) (sees_stay c c1 vars h1.keeps sees) (counts_stay c c1 sizes needs h1.keeps.declared counts) in
-      let all = node_is 0 (two_costs f.cost g.cost) _ _ _ (two_are f.cost g.cost _ _ _ _ _ _ cost1 cost2) in
+      let all = node_costs (two_costs f.cost g.cost) 0 _ _ _ (two_parts f.cost g.cost _ _ _ _ _ _ cost1 cost2) in
       let whole = cost_moved parts (node_cost 0 (two_costs f.cost g.cost)) _ _ _ of_parts all in
       (record { of_place = at ∙ as_many_names c.written.items; of_need = whole.of_need; of_let = refl }, of_size ∙ whole.of_size);
   declared = keeps.declared;

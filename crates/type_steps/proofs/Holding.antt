@@ -108,6 +108,10 @@ Keeps-written c v = record {
   same_scope = refl;
 }
 
+pub on_ok : {T E P : Type 0} (r : Result T E) → P → OnOk r P
+on_ok (Ok x) p = p
+on_ok (Err e) p = tt
+
 pub table_keeps : {T E : Type 0} (c : Checker) (table : Store) (r : Result T E) → OnOk r (Grows c.table table) → OnOk r (Keeps c (record c { table = table }))
 table_keeps c table (Ok x) g = Keeps-table c table g
 table_keeps c table (Err e) g = tt

@@ -1,6 +1,6 @@
 -- What the walk over a layout gives, arm by arm.
 use Rattle.std.proofs.Common.{◌≡◌, ◌∙◌, ap, sym, subst, ℕ, ◌≤◌, Bool, true, false, not, ◌&&◌, leb, leb-true, List, [], ◌++◌, arith, None, Some, Vec, Global, Result, Ok, Err}
-use Rattle.std.specs.Result.{IfOk, OnOk}
+use Rattle.std.specs.Result.{IfOk}
 use Rattle.std.specs.Borrow.{Bor}
 use Rattle.std.proofs.lemmas.Bool.{not-false}
 use Rattle.nv_ast.specs.declared.token.Span.{Span}
@@ -24,13 +24,9 @@ use Rattle.type_rules.specs.inner.Layouts.{IsShape, IsDeclared, IsMember, AreSha
 use Rattle.type_steps.specs.inner.Standing.{Holds, Keeps}
 use Rattle.type_steps.specs.inner.Texts.{ShapesLayout, ShapesWhole, ShapesField, ShapesFields}
 use Rattle.type_rules.proofs.Firsts.{first_kind, then_kinds}
-use Rattle.type_steps.proofs.Holding.{Keeps-refl, Keeps-trans, found_alike, absent_alike}
+use Rattle.type_steps.proofs.Holding.{Keeps-refl, Keeps-trans, found_alike, absent_alike, on_ok}
 use Rattle.type_steps.proofs.Shaping.{names_joined}
 use Rattle.type_steps.proofs.LayoutWalk.{text_names, at_none, where_none}
-
-pub on_ok : {T E : Type 0} (r : Result T E) (P : Type 0) → P → OnOk r P
-on_ok (Ok x) P h = h
-on_ok (Err e) P h = tt
 
 pub none_first : (faults : List (ℕ × Span)) → IsFirstOf faults NoMemory
 none_first faults = tt
@@ -61,7 +57,7 @@ pub whole_done : (c new : Checker) (s : Span) (l : LayoutTree) (shape : Shape) (
 whole_done c new s l shape r q judged fits = record {
   judged = λ k h. then_kinds s (layout_faults k.layouts l) (unfit (outline k.layouts l)) r (q.judged k h) (judged (outline k.layouts l) (q.shaped k h));
   shaped = λ k h. fits (outline k.layouts l) (q.shaped k h);
-  keeps = on_ok r (Keeps c new) q.keeps;
+  keeps = on_ok r q.keeps;
 }
 
 -- ---- a name

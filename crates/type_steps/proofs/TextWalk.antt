@@ -32,9 +32,8 @@ use Rattle.type_steps.specs.inner.Texts.{TypesText, TypesTexts, TypesNamed}
 use Rattle.type_rules.proofs.Entries.{named-append}
 use Rattle.type_table.proofs.Staying.{types_stay, named_stay}
 use Rattle.type_rules.proofs.Firsts.{first_kind, then_kinds}
-use Rattle.type_steps.proofs.Holding.{Keeps-refl, Keeps-trans, found_alike, absent_alike}
+use Rattle.type_steps.proofs.Holding.{Keeps-refl, Keeps-trans, found_alike, absent_alike, on_ok}
 use Rattle.type_steps.proofs.LayoutWalk.{at_none, first_within}
-use Rattle.type_steps.proofs.LayoutArms.{on_ok}
 use Rattle.type_steps.proofs.Params.{names_in_text}
 
 -- ---- vectors in the text
@@ -216,7 +215,7 @@ unpacked_found c new s x shape t r e keeps made judged same = record {
       let f = found_alike (IsDeclared c.table) (PartsOutline no_named_outlines) x shape c.layouts k.layouts h.of_layouts (sym e) in
       then_kinds s (no_layout k.layouts x) (too_large (type_of k.layouts (UnpackedType x))) r (ap (λ b. at_span s (where_true (not b) 8)) f.0) (judged (type_of k.layouts (UnpackedType x)) (is_type k h));
   typed = λ k h. same_number new.table t (type_of k.layouts (UnpackedType x)) r same (is_type k h);
-  keeps = on_ok r (Keeps c new) keeps;
+  keeps = on_ok r keeps;
 }
   where
     is_type : (k : Known) → Holds c k → IsType new.table t (type_of k.layouts (UnpackedType x))
@@ -238,7 +237,7 @@ pub tuple_done : (c mid new : Checker) (s : Span) (ts : TypeTrees) (parts t : �
 tuple_done c mid new s ts parts t r q keeps made judged same = record {
   judged = λ k h. then_kinds s (types_faults k.layouts ts) (too_large (type_of k.layouts (TupleType ts))) r (q.judged k h) (judged (TupleTy (types_of k.layouts ts)) (made (types_of k.layouts ts) (q.typed k h)));
   typed = λ k h. same_number new.table t (TupleTy (types_of k.layouts ts)) r same (made (types_of k.layouts ts) (q.typed k h));
-  keeps = on_ok r (Keeps c new) (Keeps-trans c mid new q.keeps keeps);
+  keeps = on_ok r (Keeps-trans c mid new q.keeps keeps);
 }
 
 -- ---- records

@@ -2,6 +2,7 @@
 use Rattle.std.proofs.Common.{◌≡◌, ◌∙◌, refl, ap, sym, subst, ℕ, ◌+◌, ◌<◌, List, [], ◌∷◌, drop, length, get_or, None, Some, slice_get, arith, true, false, eqb, is_none, rules, tests, ◌&&◌, suc, add-one}
 use Rattle.std.proofs.Math.Seq.{drop-cons}
 use Rattle.std.proofs.lemmas.Bool.{eq-eqb}
+use Rattle.std.proofs.lemmas.Option.{none-some, same_Some}
 use Rattle.nv_ast.specs.declared.tree.Pat
 use Rattle.nv_ast.specs.declared.tree.Pat.{Pat}
 use Rattle.nv_ast.specs.Tree.{no_patterns}
@@ -19,16 +20,10 @@ part_none s i (ty_and t ts) h e = let clash : Some (h.0, h.1) ≡ None = sym (ap
     not_none p q = cc
 
 pub part_some : (s : Store) → IsStore s → (i j rest : ℕ) (ts : Tys) → IsParts s i ts → part_of (slice_get s.cells i) ≡ Some (j, rest) → (t : Ty) × (us : Tys) × (ts ≡ ty_and t us) × IsType s j t × IsParts s rest us
-part_some s is i j rest no_tys h e = absurd (not_some (j, rest) (sym (ap (λ n. part_of (slice_get s.cells n)) h ∙ ap part_of is.no_parts) ∙ e))
-  where
-    not_some : (p : ℕ × ℕ) → None ≡ Some p → ⊥
-    not_some p q = cc
+part_some s is i j rest no_tys h e = absurd (none-some (j, rest) (sym (ap (λ n. part_of (slice_get s.cells n)) h ∙ ap part_of is.no_parts) ∙ e))
 part_some s is i j rest (ty_and t ts) h e =
-    let same = pair_same (h.0, h.1) (j, rest) (sym (ap part_of h.2) ∙ e) in
+    let same = same_Some (h.0, h.1) (j, rest) (sym (ap part_of h.2) ∙ e) in
     (t, ts, refl, subst (λ n. IsType s n t) (ap (λ (p : ℕ × ℕ). p.0) same) h.3, subst (λ n. IsParts s n ts) (ap (λ (p : ℕ × ℕ). p.1) same) h.4)
-  where
-    pair_same : (p q : ℕ × ℕ) → Some p ≡ Some q → p ≡ q
-    pair_same p q r = cc
 
 -- a list that was walked for so many types
 abbrev pub IsAfter : Store → ℕ → ℕ → ℕ → Type 0

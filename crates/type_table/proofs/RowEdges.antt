@@ -1,26 +1,21 @@
 -- Walks down the edges of a tree of fields.
 use Rattle.std.proofs.Common.{◌≡◌, ◌∙◌, refl, ap, sym, subst, ◌⊎◌, inl, inr, ℕ, ◌+◌, Bool, true, false, eqb, List, [], ◌∷◌, ◌++◌, append_assoc, append-nil, Option, None, Some, is_none, is_some, not, slice_get, arith, rules, tests}
 use Rattle.std.proofs.lemmas.Bool.{eqb-true, eq-eqb}
+use Rattle.std.proofs.lemmas.Option.{none-some, same_Some}
 use Rattle.type_table.specs.inner.Rows.{Row, one, both, depth, hung}
 use Rattle.type_table.specs.inner.Store.{Store, Stands, halves_of}
 use Rattle.type_table.specs.inner.Lists.{AreStacked}
 
-not_some : (p : ℕ × ℕ) → None ≡ Some p → ⊥
-not_some p e = cc
-
-same_pair : (p q : ℕ × ℕ) → Some p ≡ Some q → p ≡ q
-same_pair p q e = cc
-
 -- ---- a tree with two halves, and one without
 pub two_halves : (s : Store) (i j k : ℕ) (t : Row) → Stands s i t → halves_of (slice_get s.cells i) ≡ Some (j, k) → (v w : Row) × (t ≡ both v w) × Stands s j v × Stands s k w
-two_halves s i j k (one p) h e = absurd (not_some (j, k) (sym (ap halves_of h) ∙ e))
+two_halves s i j k (one p) h e = absurd (none-some (j, k) (sym (ap halves_of h) ∙ e))
 two_halves s i j k (both v w) h e =
-    let same = same_pair (h.0, h.1) (j, k) (sym (ap halves_of h.2) ∙ e) in
+    let same = same_Some (h.0, h.1) (j, k) (sym (ap halves_of h.2) ∙ e) in
     (v, w, refl, subst (λ n. Stands s n v) (ap (λ (p : ℕ × ℕ). p.0) same) h.3, subst (λ n. Stands s n w) (ap (λ (p : ℕ × ℕ). p.1) same) h.4)
 
 pub no_halves : (s : Store) (i : ℕ) (t : Row) → Stands s i t → halves_of (slice_get s.cells i) ≡ None → (p : ℕ × ℕ) × (t ≡ one p)
 no_halves s i (one p) h e = (p, refl)
-no_halves s i (both v w) h e = absurd (not_some (h.0, h.1) (sym e ∙ ap halves_of h.2))
+no_halves s i (both v w) h e = absurd (none-some (h.0, h.1) (sym e ∙ ap halves_of h.2))
 
 -- ---- along the left edge
 abbrev pub DeepSo : Store → ℕ → ℕ → ℕ → ℕ → Type 0

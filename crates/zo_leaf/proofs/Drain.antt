@@ -15,6 +15,7 @@ use Rattle.zo_leaf.specs.inner.Leaf.{Avoids, change, changes}
 use Rattle.zo_leaf.specs.Fixing.{is_one, ones}
 use Rattle.zo_leaf.specs.inner.Path.{HaveCosts}
 use Rattle.zo_leaf.proofs.Duality.{cost_is, sum-scale, sum_zero}
+use Rattle.zo_leaf.proofs.Paths.{below_or}
 
 -- ---- one column changes
 
@@ -31,9 +32,6 @@ sum_below-change (suc n) c f g lt h = elim (below_or c n lt) [
       let hg : g n ≡ g c = ap g (sym e) in
       omega (arith, ints)
 ]
-  where
-    below_or : (c n : ℕ) → c < suc n → (c < n) ⊎ (c ≡ n)
-    below_or c n h = grind arith
 
 change_zero : (o : Option Bool) (a : ℕ) → change o (pos a) (pos 0) ≡ pos 0
 change_zero None a = omega (arith, ints, clamps)

@@ -21,7 +21,7 @@ use Rattle.zo_leaf.specs.declared.cert.Claim.TheVariants.{Least, Nothing}
 use Rattle.zo_model.specs.declared.program.Row.{Row}
 use Rattle.zo_model.specs.declared.program.ZeroOne.{ZeroOne}
 use Rattle.zo_model.proofs.Rows.{rise_below}
-use Rattle.zo_leaf.proofs.Paths.{none_fixed}
+use Rattle.zo_leaf.proofs.Paths.{none_fixed, below_or}
 use Rattle.zo_model.proofs.Sums.{sum_below-same, sum_below-le, sum_below-add}
 use Rattle.zo_model.proofs.Scale.{scale-add, scale-zero, scale-le}
 
@@ -54,12 +54,9 @@ single_none (suc n) c a x h =
     let here : where_one (x n) (where_one (nat_eq c n) a) ≡ pos 0 = here_zero n c a x (eq_no c n (omega arith)) in
     omega (arith, ints)
 
-split : (c n : ℕ) → c < suc n → (c < n) ⊎ (c ≡ n)
-split c n h = grind arith
-
 single : (n c : ℕ) (a : ℤ) (x : ℕ → Bool) → c < n → sum_below n (λ j. where_one (x j) (where_one (nat_eq c j) a)) ≡ where_one (x c) a
 single zero c a x h = absurd (omega arith)
-single (suc n) c a x h = elim (split c n h) [
+single (suc n) c a x h = elim (below_or c n h) [
   | inl lt ↦
       let ih : sum_below n (λ j. where_one (x j) (where_one (nat_eq c j) a)) ≡ where_one (x c) a = single n c a x lt in
       let here : where_one (x n) (where_one (nat_eq c n) a) ≡ pos 0 = here_zero n c a x (eq_no_above c n lt) in

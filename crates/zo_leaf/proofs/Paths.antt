@@ -189,6 +189,9 @@ cost_below-same (suc n) costs x y h =
     let here : x n ≡ y n = h n (omega arith) in
     cc
 
+pub below_or : (c n : ℕ) → c < suc n → (c < n) ⊎ (c ≡ n)
+below_or c n h = grind arith
+
 pub cost_below-change : (n : ℕ) (costs : List ℕ) (x y : ℕ → Bool) (c : ℕ) → c < n → ((j : ℕ) → j ≢ c → x j ≡ y j) → cost_below n costs x + cost_where (y c) (get_or costs c 0) ≡ cost_below n costs y + cost_where (x c) (get_or costs c 0)
 cost_below-change zero costs x y c lt h = absurd (omega arith)
 cost_below-change (suc n) costs x y c lt h = elim (below_or c n lt) [
@@ -202,9 +205,6 @@ cost_below-change (suc n) costs x y c lt h = elim (below_or c n lt) [
       let hy : cost_where (y n) (get_or costs n 0) ≡ cost_where (y c) (get_or costs c 0) = ap (λ k. cost_where (y k) (get_or costs k 0)) (sym e) in
       omega arith
 ]
-  where
-    below_or : (c n : ℕ) → c < suc n → (c < n) ⊎ (c ≡ n)
-    below_or c n h = grind arith
 
 ones_same : (fixed : List (Option Bool)) (j : ℕ) (o : Option Bool) (k : ℕ) → k ≢ j → ones (set fixed j o) k ≡ ones fixed k
 ones_same fixed j o k ne = ap is_one (get_or-set_other fixed j k o None ne)

@@ -49,14 +49,11 @@ good_leaf z start answers claim fixed (Bound d ms) c w b = record { open_is_open
 good_leaf z start answers claim fixed (Clash ms) c w b = record { open_is_open = tt; no_better = b; closed = c; within = w; picked = tt; below = tt }
 good_leaf z start answers claim fixed Left c w b = absurd c
 
-closed_leaf : (z : ZeroOne) (claim : Claim) (fixed : List (Option Bool)) (n : CertNode) → Closes z claim fixed n → IsLeaf n
-closed_leaf z claim fixed (Branch j) c = absurd c
-closed_leaf z claim fixed (Bound d ms) c = tt
-closed_leaf z claim fixed (Clash ms) c = tt
-closed_leaf z claim fixed Left c = tt
-
-pub leaf_of : (z : ZeroOne) (claim : Claim) (fixed : List (Option Bool)) (n : CertNode) → Closes z claim fixed n → IsLeaf n
-leaf_of z claim fixed n c = closed_leaf z claim fixed n c
+leaf_of : (z : ZeroOne) (claim : Claim) (fixed : List (Option Bool)) (n : CertNode) → Closes z claim fixed n → IsLeaf n
+leaf_of z claim fixed (Branch j) c = absurd c
+leaf_of z claim fixed (Bound d ms) c = tt
+leaf_of z claim fixed (Clash ms) c = tt
+leaf_of z claim fixed Left c = tt
 
 closed_leaves_left : (z : ZeroOne) (claim : Claim) (fixed : List (Option Bool)) (n : CertNode) (left : ℕ) → Closes z claim fixed n → Leaves n left left
 closed_leaves_left z claim fixed (Branch j) left c = absurd c
@@ -68,7 +65,7 @@ pub closed_steps : (z : ZeroOne) (start : Option ℕ) (answers : List (Option Bo
 closed_steps z start answers claim n old new ns ns' left puts some c w b = record {
   node = n;
   longer = puts.longer;
-  may = may_leaf (IsGood z start answers claim) old.fixings n some (closed_leaf z claim (current old.fixings) n c) (good_leaf z start answers claim (current old.fixings) n c w b);
+  may = may_leaf (IsGood z start answers claim) old.fixings n some (leaf_of z claim (current old.fixings) n c) (good_leaf z start answers claim (current old.fixings) n c w b);
   next = ap (λ (p : Pending). p.fixings) puts.next;
   leaves = closed_leaves_left z claim (current old.fixings) n left c;
 }

@@ -7,14 +7,14 @@ use Rattle.nv_parser.specs.inner.Failing.{no_memory, syntax, deep, read_none, re
 use Rattle.nv_parser.specs.inner.ExprPhrases.{begins_name}
 use Rattle.nv_parser.proofs.Lists.{exprs_start, exprs_step, highest_one, highest_push, pattern_inside_all_one, pattern_inside_all_push, members_start, members_step, highest_named_one, highest_named_push, pattern_inside_named_one, pattern_inside_named_push, statements_start, statements_step, highest_statement_one, highest_statement_push, pattern_inside_statements_one, pattern_inside_statements_push}
 use Rattle.nv_parser.proofs.ExprRules.{block_of, let_of, store_of, if_of, raise_of, try_of, args_of, level_of_rest, level_pred, chain_step, comparison_of, tuple_of, paren_of, fields_of, fetch_of, unpack_of, pack_of, call_of, enclosed_of}
-use Rattle.nv_parser.proofs.Sequence.{carries_anything, then_fails, first_fails, then_reads, sign_fails, then_fills, many_fills, many_carries, many_ends, item_fails, read_many_reads, read_many_fails}
+use Rattle.nv_parser.proofs.Sequence.{carries_anything, then_fails, first_fails, then_reads, sign_fails, then_fills, many_fills, many_carries, many_ends, item_fails, read_many_reads, read_many_fails, sign_ahead}
 use Rattle.nv_parser.proofs.Steps.{step_reads, step_fails, at_reads, at_fails, bind_step, bind_fails, onward_start, onward_step}
 use Rattle.nv_ast.specs.ExprView.{tree_of}
 use Rattle.nv_parser.proofs.ExprLow.{low_found, not_same, five_not_one, height_pos}
 use Rattle.nv_parser.proofs.ExprSteps.{if_step, raise_step, try_step, operators_step, args_step, let_step, store_step, una_step, invert_step, negate_step, post_step, post_binds, call_step, bracket_step, record_step, unpack_step, pack_step, fetch_step}
 use Rattle.nv_parser.proofs.ExprStarts.{sign_fills, key_fills, name_fills, number_fills, expr_fills, tail_fills, enclosed_fills, args_fills, patterns_fills, pattern_fills}
 use Rattle.nv_parser.proofs.ExprBlocks.{mixed_reads, mixed_fails, expr_mixed, body_mixed, led_fails, led_step, expr_leads, body_leads}
-use Rattle.nv_parser.proofs.ExprExits.{read_sign, then_sign, then_key, then_name, then_number, past_sign, past_key, past_name, past_number, no_sign, no_key, no_name, no_number, before_sign, before_key, sign_above, sign_has, has_before, exprs_listed, exprs_before, members_listed, members_before, comma_here, no_comma, args_empty, args_stops, args_deep, unit_reads, bracket_stops, bracket_deep, number_reads, true_reads, false_reads, variable_reads, named_fails, atom_stops, if_deep, try_deep, tilde_deep, bang_deep, unpack_deep, pack_deep, fetch_deep, record_deep, statement_stops, chain_deep, comparison_deep, chain_ends, level_first_fails, level_rest_fails, level_reads, operand_fails, operand_onward, comparison_fails, comparison_reads, call_split, layout_name_fills}
+use Rattle.nv_parser.proofs.ExprExits.{read_sign, then_sign, then_key, then_name, then_number, past_sign, past_key, past_name, past_number, no_sign, no_key, no_name, no_number, before_sign, before_key, sign_above, has_before, exprs_listed, exprs_before, members_listed, members_before, comma_here, no_comma, args_empty, args_stops, args_deep, unit_reads, bracket_stops, bracket_deep, number_reads, true_reads, false_reads, variable_reads, named_fails, atom_stops, if_deep, try_deep, tilde_deep, bang_deep, unpack_deep, pack_deep, fetch_deep, record_deep, statement_stops, chain_deep, comparison_deep, chain_ends, level_first_fails, level_rest_fails, level_reads, operand_fails, operand_onward, comparison_fails, comparison_reads, call_split, layout_name_fills}
 use Rattle.nv_parser.proofs.+expressions.Goals as goal
 
 pub expressions::more_exprs-loop-after-init : goal.expressions::more_exprs-loop-after-init
@@ -240,13 +240,13 @@ pub expressions::raise-returns-in-Err-take_sign-clause-answers : goal.expression
 expressions::raise-returns-in-Err-take_sign-clause-answers t c = step_fails (raise_step _ _ _ (omega arith)) _ refl (past_name _ _ c.in-Ok.ensures (no_sign 28 _ (then_fills (args_fills _) (sign_fills 29 _)) c.in-Err-take_sign.ensures))
 
 pub expressions::raise-returns-in-Err-args-clause-answers : goal.expressions::raise-returns-in-Err-args-clause-answers
-expressions::raise-returns-in-Err-args-clause-answers t c = step_fails (raise_step _ _ _ (omega arith)) _ refl (past_name _ _ c.in-Ok.ensures (past_sign 28 _ c.in-Ok-take_sign.ensures (first_fails (sign_has 29) (sign_fills 29 _) c.in-Err-args.ensures.answers)))
+expressions::raise-returns-in-Err-args-clause-answers t c = step_fails (raise_step _ _ _ (omega arith)) _ refl (past_name _ _ c.in-Ok.ensures (past_sign 28 _ c.in-Ok-take_sign.ensures (first_fails (sign_ahead 29) (sign_fills 29 _) c.in-Err-args.ensures.answers)))
 
 pub expressions::raise-returns-in-Err-take_sign-2-clause-answers : goal.expressions::raise-returns-in-Err-take_sign-2-clause-answers
-expressions::raise-returns-in-Err-take_sign-2-clause-answers t c = step_fails (raise_step _ _ _ (omega arith)) _ refl (past_name _ _ c.in-Ok.ensures (past_sign 28 _ c.in-Ok-take_sign.ensures (then_fails (sign_has 29) c.in-Ok-args.ensures.answers (sign_fails 29 _ _ _ c.in-Err-take_sign-2.ensures))))
+expressions::raise-returns-in-Err-take_sign-2-clause-answers t c = step_fails (raise_step _ _ _ (omega arith)) _ refl (past_name _ _ c.in-Ok.ensures (past_sign 28 _ c.in-Ok-take_sign.ensures (then_fails (sign_ahead 29) c.in-Ok-args.ensures.answers (sign_fails 29 _ _ _ c.in-Err-take_sign-2.ensures))))
 
 pub expressions::raise-returns-clause-answers : goal.expressions::raise-returns-clause-answers
-expressions::raise-returns-clause-answers t c = step_reads (raise_step _ _ _ (omega arith)) _ refl (then_name _ _ c.in-Ok.ensures (then_sign 28 _ c.in-Ok-take_sign.ensures (then_reads (sign_has 29) c.in-Ok-args.ensures.answers (read_sign 29 _ _ c.in-Ok-take_sign-2.ensures))))
+expressions::raise-returns-clause-answers t c = step_reads (raise_step _ _ _ (omega arith)) _ refl (then_name _ _ c.in-Ok.ensures (then_sign 28 _ c.in-Ok-take_sign.ensures (then_reads (sign_ahead 29) c.in-Ok-args.ensures.answers (read_sign 29 _ _ c.in-Ok-take_sign-2.ensures))))
 
 pub expressions::try_handle-returns-in-Err-clause-answers : goal.expressions::try_handle-returns-in-Err-clause-answers
 expressions::try_handle-returns-in-Err-clause-answers t c = step_fails (try_step _ _ _ (omega arith)) _ refl (first_fails carries_anything (then_fills (key_fills 11 _) (then_fills (name_fills _) (then_fills (sign_fills 28 _) (then_fills (patterns_fills _) (then_fills (sign_fills 29 _) (enclosed_fills 26 27 _ (omega arith))))))) c.in-Err.ensures.answers)
@@ -558,13 +558,13 @@ pub operands::named-returns-in_default-clause-answers : goal.operands::named-ret
 operands::named-returns-in_default-clause-answers t c = variable_reads _ _ c.requires.room c.in-Ok.ensures c.in_default.ensures
 
 pub operands::named-returns-in-Err-args-clause-answers : goal.operands::named-returns-in-Err-args-clause-answers
-operands::named-returns-in-Err-args-clause-answers t c = step_fails (call_step _ _ _ _ _ (omega arith)) _ (call_split c.in-Ok.ensures c.in-Some.ensures) (first_fails (sign_has 29) (sign_fills 29 _) c.in-Err-args.ensures.answers)
+operands::named-returns-in-Err-args-clause-answers t c = step_fails (call_step _ _ _ _ _ (omega arith)) _ (call_split c.in-Ok.ensures c.in-Some.ensures) (first_fails (sign_ahead 29) (sign_fills 29 _) c.in-Err-args.ensures.answers)
 
 pub operands::named-returns-in-Err-take_sign-clause-answers : goal.operands::named-returns-in-Err-take_sign-clause-answers
-operands::named-returns-in-Err-take_sign-clause-answers t c = step_fails (call_step _ _ _ _ _ (omega arith)) _ (call_split c.in-Ok.ensures c.in-Some.ensures) (then_fails (sign_has 29) c.in-Ok-args.ensures.answers (sign_fails 29 _ _ _ c.in-Err-take_sign.ensures))
+operands::named-returns-in-Err-take_sign-clause-answers t c = step_fails (call_step _ _ _ _ _ (omega arith)) _ (call_split c.in-Ok.ensures c.in-Some.ensures) (then_fails (sign_ahead 29) c.in-Ok-args.ensures.answers (sign_fails 29 _ _ _ c.in-Err-take_sign.ensures))
 
 pub operands::named-returns-clause-answers : goal.operands::named-returns-clause-answers
-operands::named-returns-clause-answers t c = step_reads (call_step _ _ _ _ _ (omega arith)) _ (call_split c.in-Ok.ensures c.in-Some.ensures) (then_reads (sign_has 29) c.in-Ok-args.ensures.answers (read_sign 29 _ _ c.in-Ok-take_sign.ensures))
+operands::named-returns-clause-answers t c = step_reads (call_step _ _ _ _ _ (omega arith)) _ (call_split c.in-Ok.ensures c.in-Some.ensures) (then_reads (sign_ahead 29) c.in-Ok-args.ensures.answers (read_sign 29 _ _ c.in-Ok-take_sign.ensures))
 
 pub operands::bracket-returns-in-Some-clause-answers : goal.operands::bracket-returns-in-Some-clause-answers
 operands::bracket-returns-in-Some-clause-answers t c = unit_reads _ _ c.requires c.in-Some.ensures

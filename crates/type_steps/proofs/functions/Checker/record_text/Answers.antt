@@ -3,8 +3,7 @@ use Rattle.nv_ast.specs.Types.{RecordTy}
 use Rattle.nv_ast.specs.Faults.{too_large}
 use Rattle.type_table.specs.inner.Store.{field_names}
 use Rattle.type_table.proofs.Growing.{Grows-trans}
-use Rattle.type_steps.proofs.Holding.{Keeps-table}
-use Rattle.type_steps.proofs.LayoutArms.{on_ok}
+use Rattle.type_steps.proofs.Holding.{Keeps-table, on_ok}
 use Rattle.type_steps.proofs.TextWalk.{twice_first, twice_then, same_number}
 use Rattle.type_steps.proofs.functions.Checker.record_text.Goals as goal
 
@@ -26,4 +25,4 @@ returns-clause-typed c = λ ts h.
 
 pub returns-clause-keeps : goal.returns-clause-keeps
 returns-clause-keeps c =
-    on_ok c.without_excess.result _ (Keeps-table c.args.self.now c.record_of.new.self (Grows-trans c.args.self.now.table c.fields_of.new.self c.record_of.new.self c.in_ok-list.ensures.grows c.in_ok-t.ensures.grows))
+    on_ok c.without_excess.result (Keeps-table c.args.self.now c.record_of.new.self (Grows-trans c.args.self.now.table c.fields_of.new.self c.record_of.new.self c.in_ok-list.ensures.grows c.in_ok-t.ensures.grows))
