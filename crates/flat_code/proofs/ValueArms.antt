@@ -31,6 +31,23 @@ use Rattle.flat_code.proofs.Keeping.{older-left, older-right, older-later, begin
 use Rattle.flat_code.proofs.Following.{onward-then, steps-then, stands-inside, word-of, truth-of, truth-fits, one-older, assigned-here, defined}
 use Rattle.nv_ast.proofs.Faultless.{no_front}
 
+-- ---- one of two, and what is so of both
+choose-value : (env : Env) (b : Bool) (s t : Symbol) (v : Value) → value_in env t ≡ v → value_in env (if b then s else t) ≡ (if b then value_in env s else v)
+choose-value env true s t v e = refl
+choose-value env false s t v e = e
+
+choose-fits : (env : Env) (b : Bool) (s t : Symbol) → Fits env s → Fits env t → Fits env (if b then s else t)
+choose-fits env true s t f g = f
+choose-fits env false s t f g = g
+
+choose-older : (n : ℕ) (b : Bool) (s t : Symbol) → AreOlder n (operands s) → AreOlder n (operands t) → AreOlder n (operands (if b then s else t))
+choose-older n true s t f g = f
+choose-older n false s t f g = g
+
+choose-form : (b : Bool) (s r : Symbol) (u : Option Ty) (t : Ty) → (u ≡ Some t → form r ≡ t) → (if b then Some (form s) else u) ≡ Some t → form (if b then s else r) ≡ t
+choose-form true s r u t more e = same_Some (form s) t e
+choose-form false s r u t more e = more e
+
 -- ---- values without steps
 module _ (w : Whole) (names : Names) (low high : ℕ) (scope : SymbolScope) where
   pub number-value : (sp : Span) (n : ℕ) → IsValue w names low high scope (NumberTree sp n) [] (Word (Lit n))
@@ -60,36 +77,17 @@ module _ (w : Whole) (names : Names) (low high : ℕ) (scope : SymbolScope) wher
   }
 
   -- ---- a variable
-  abbrev chosen_value : Env → Bool → Symbol → Symbol → Value → Type 0
-  chosen_value env b s t v = value_in env (if b then s else t) ≡ (if b then value_in env s else v)
-
-  choose-value : (env : Env) (b : Bool) (s t : Symbol) (v : Value) → value_in env t ≡ v → chosen_value env b s t v
-  choose-value env true s t v e = refl
-  choose-value env false s t v e = e
-
   variable-value : (env : Env) (m : SymbolScope) (x : List ℕ) → value_in env (symbol_in m x) ≡ variable_in (scope_in env m) x
   variable-value env [] x = refl
   variable-value env ((y, s) ∷ m) x = choose-value env (bytes_eq x y) s (symbol_in m x) (variable_in (scope_in env m) x) (variable-value env m x)
-
-  choose-fits : (env : Env) (b : Bool) (s t : Symbol) → Fits env s → Fits env t → Fits env (if b then s else t)
-  choose-fits env true s t f g = f
-  choose-fits env false s t f g = g
 
   variable-fits : (env : Env) (m : SymbolScope) (x : List ℕ) → ScopeFits env m → Fits env (symbol_in m x)
   variable-fits env [] x f = omega arith
   variable-fits env ((y, s) ∷ m) x f = choose-fits env (bytes_eq x y) s (symbol_in m x) f.0 (variable-fits env m x f.1)
 
-  choose-older : (n : ℕ) (b : Bool) (s t : Symbol) → AreOlder n (operands s) → AreOlder n (operands t) → AreOlder n (operands (if b then s else t))
-  choose-older n true s t f g = f
-  choose-older n false s t f g = g
-
   variable-older : (n : ℕ) (m : SymbolScope) (x : List ℕ) → ScopeOlder n m → AreOlder n (operands (symbol_in m x))
   variable-older n [] x o = one-older n (Lit 0) tt
   variable-older n ((y, s) ∷ m) x o = choose-older n (bytes_eq x y) s (symbol_in m x) o.0 (variable-older n m x o.1)
-
-  choose-form : (b : Bool) (s r : Symbol) (u : Option Ty) (t : Ty) → (u ≡ Some t → form r ≡ t) → (if b then Some (form s) else u) ≡ Some t → form (if b then s else r) ≡ t
-  choose-form true s r u t more e = same_Some (form s) t e
-  choose-form false s r u t more e = more e
 
   variable-form : (m : SymbolScope) (x : List ℕ) (t : Ty) → look_up x (vars_of m) ≡ Some t → form (symbol_in m x) ≡ t
   variable-form [] x t e = absurd (none-some t e)
@@ -143,13 +141,9 @@ module _ (w : Whole) (names : Names) (low mid high : ℕ) (scope : SymbolScope) 
   }
 
 -- ---- a part of a record
-choose-field : (env : Env) (b : Bool) (s t : Symbol) (v : Value) → value_in env t ≡ v → value_in env (if b then s else t) ≡ (if b then value_in env s else v)
-choose-field env true s t v e = refl
-choose-field env false s t v e = e
-
 field-among : (env : Env) (x : List ℕ) (fs : NamedSymbols) → value_in env (field_named x fs) ≡ meaning.field_named x (named_values_in env fs)
 field-among env x no_named_symbols = refl
-field-among env x (named_symbol_and y s fs) = choose-field env (bytes_eq x y) s (field_named x fs) (meaning.field_named x (named_values_in env fs)) (field-among env x fs)
+field-among env x (named_symbol_and y s fs) = choose-value env (bytes_eq x y) s (field_named x fs) (meaning.field_named x (named_values_in env fs)) (field-among env x fs)
 
 pub field-value : (env : Env) (x : List ℕ) (s : Symbol) → value_in env (field_named x (fields_of s)) ≡ meaning.field_named x (meaning.fields_of (value_in env s))
 field-value env x (Word a) = refl
@@ -157,13 +151,9 @@ field-value env x (Truth a) = refl
 field-value env x (Tuple ss) = refl
 field-value env x (Record fs) = field-among env x fs
 
-choose-field_fits : (env : Env) (b : Bool) (s t : Symbol) → Fits env s → Fits env t → Fits env (if b then s else t)
-choose-field_fits env true s t f g = f
-choose-field_fits env false s t f g = g
-
 pub among-fits : (env : Env) (x : List ℕ) (fs : NamedSymbols) → NamedFit env fs → Fits env (field_named x fs)
 among-fits env x no_named_symbols f = omega arith
-among-fits env x (named_symbol_and y s fs) f = choose-field_fits env (bytes_eq x y) s (field_named x fs) f.0 (among-fits env x fs f.1)
+among-fits env x (named_symbol_and y s fs) f = choose-fits env (bytes_eq x y) s (field_named x fs) f.0 (among-fits env x fs f.1)
 
 pub field-fits : (env : Env) (x : List ℕ) (s : Symbol) → Fits env s → Fits env (field_named x (fields_of s))
 field-fits env x (Word a) f = omega arith
@@ -171,13 +161,9 @@ field-fits env x (Truth a) f = omega arith
 field-fits env x (Tuple ss) f = omega arith
 field-fits env x (Record fs) f = among-fits env x fs f
 
-choose-field_older : (n : ℕ) (b : Bool) (s t : Symbol) → AreOlder n (operands s) → AreOlder n (operands t) → AreOlder n (operands (if b then s else t))
-choose-field_older n true s t f g = f
-choose-field_older n false s t f g = g
-
 pub among-older : (n : ℕ) (x : List ℕ) (fs : NamedSymbols) → AreOlder n (named_operands fs) → AreOlder n (operands (field_named x fs))
 among-older n x no_named_symbols o = one-older n (Lit 0) tt
-among-older n x (named_symbol_and y s fs) o = choose-field_older n (bytes_eq x y) s (field_named x fs) (older-left n (operands s) (named_operands fs) o) (among-older n x fs (older-right n (operands s) (named_operands fs) o))
+among-older n x (named_symbol_and y s fs) o = choose-older n (bytes_eq x y) s (field_named x fs) (older-left n (operands s) (named_operands fs) o) (among-older n x fs (older-right n (operands s) (named_operands fs) o))
 
 pub field-older : (n : ℕ) (x : List ℕ) (s : Symbol) → AreOlder n (operands s) → AreOlder n (operands (field_named x (fields_of s)))
 field-older n x (Word a) o = one-older n (Lit 0) tt
@@ -185,13 +171,9 @@ field-older n x (Truth a) o = one-older n (Lit 0) tt
 field-older n x (Tuple ss) o = one-older n (Lit 0) tt
 field-older n x (Record fs) o = among-older n x fs o
 
-choose-field_form : (b : Bool) (s r : Symbol) (u : Option Ty) (t : Ty) → (u ≡ Some t → form r ≡ t) → (if b then Some (form s) else u) ≡ Some t → form (if b then s else r) ≡ t
-choose-field_form true s r u t more e = same_Some (form s) t e
-choose-field_form false s r u t more e = more e
-
 among-form : (x : List ℕ) (fs : NamedSymbols) (t : Ty) → look_up x (fields_of_ty (named_forms fs)) ≡ Some t → form (field_named x fs) ≡ t
 among-form x no_named_symbols t e = absurd (none-some t e)
-among-form x (named_symbol_and y s fs) t e = choose-field_form (bytes_eq x y) s (field_named x fs) (look_up x (fields_of_ty (named_forms fs))) t (among-form x fs t) e
+among-form x (named_symbol_and y s fs) t e = choose-form (bytes_eq x y) s (field_named x fs) (look_up x (fields_of_ty (named_forms fs))) t (among-form x fs t) e
 
 field-form : (x : List ℕ) (s : Symbol) (t : Ty) → field_ty x (Some (form s)) ≡ Some t → form (field_named x (fields_of s)) ≡ t
 field-form x (Word a) t e = absurd (none-some t e)
