@@ -2,11 +2,12 @@
 use Rattle.std.proofs.Common.{◌≡◌, ◌≢◌, ℕ, ◌+◌, ◌≤◌, Bool, true, false, List, [], ◌∷◌, ◌++◌, length, take, drop, refl, sym, ap, subst, ◌∙◌, arith, take-append-drop, length-take}
 use Rattle.std.specs.List.{prefix_len}
 use Rattle.std.proofs.lemmas.Bool.Decides.{nat_tests}
+use Rattle.std.proofs.lemmas.List.Sums.{prefix_len-le-length}
 use Rattle.nv_text.specs.declared.spelling.Class.TheVariants.{Line}
 use Rattle.nv_text.specs.inner.Classes.{in_class}
 use Rattle.nv_text.specs.Spelling.{Every}
 use Rattle.nv_text.specs.Tokens.{is_space, OneLine, EndsLine, Blank, space, comment}
-use Rattle.nv_text.proofs.Runs.{prefix_every, prefix_within, prefix_cons}
+use Rattle.nv_text.proofs.Runs.{prefix_every, prefix_cons}
 
 no_feed : (b : ℕ) → in_class Line b ≡ true → b ≢ 10
 no_feed b h = grind (arith, nat_tests)
@@ -28,7 +29,7 @@ ends_line (b ∷ us) = by_first (in_class Line b) refl (ends_line us)
 
 comment_sized : (us : List ℕ) (n : ℕ) → n ≡ prefix_len (in_class Line) us → Blank (47 ∷ 47 ∷ us) (2 + n)
 comment_sized us n e =
-    let within = prefix_within (in_class Line) us in
+    let within = prefix_len-le-length (in_class Line) us in
     let inside : n ≤ length us = omega arith in
     let size : length (take n us) ≡ n = omega (arith, length-take n us) in
     let all = prefix_every (in_class Line) us in

@@ -1,7 +1,8 @@
 -- Which bytes are the longest token in front.
-use Rattle.std.proofs.Common.{◌≡◌, ℕ, zero, suc, ◌+◌, ◌≤◌, ◌<◌, true, false, List, [], ◌∷◌, ◌++◌, length, take, drop, refl, sym, ap, ◌∙◌, arith, ◌-◌, length-take}
+use Rattle.std.proofs.Common.{◌≡◌, ℕ, zero, suc, ◌+◌, ◌≤◌, ◌<◌, true, false, List, [], ◌∷◌, ◌++◌, length, take, drop, refl, sym, ap, ◌∙◌, arith, ◌-◌}
 use Rattle.std.specs.Prelude.{Some, None}
 use Rattle.std.specs.List.{prefix_len}
+use Rattle.std.proofs.lemmas.List.Sums.{prefix_len-le-length}
 use Rattle.nv_ast.specs.Name.{IsWord}
 use Rattle.nv_ast.specs.declared.token.Sort.{Sort}
 use Rattle.nv_ast.specs.declared.token.Sort.TheVariants.{Word, Number, Key, Sign}
@@ -10,14 +11,14 @@ use Rattle.nv_text.specs.inner.Classes.{in_class, starts_word}
 use Rattle.nv_text.specs.Spelling.{is_digit, is_hexadecimal, number_after, SpellsNumber, decimal, hexadecimal, keyword_of, sign_of, Spells}
 use Rattle.nv_text.specs.Tokens.{Longest}
 use Rattle.nv_text.specs.inner.Front.{LongestSign, NoSign, NoSignOf, First}
-use Rattle.nv_text.proofs.Runs.{prefix_every, prefix_bound, prefix_within, prefix_cons}
+use Rattle.nv_text.proofs.Runs.{prefix_every, prefix_bound, prefix_cons}
 use Rattle.nv_text.proofs.Bytes.{in_word, word_passes, word_first, digit_no_letter, number_first, sign_first, sign_size, sign_no_letter, sign_no_digit, run_is_word}
 
 -- behind a letter, the run of word bytes is the longest token
 pub word_longest : (bytes : List ℕ) (s : Sort) → First starts_word bytes → Spells (take (prefix_len (in_class WordClass) bytes) bytes) s → Longest bytes s (prefix_len (in_class WordClass) bytes)
 word_longest [] s h g = absurd h
 word_longest (b ∷ us) s h g = record {
-  within = prefix_within in_word (b ∷ us);
+  within = prefix_len-le-length in_word (b ∷ us);
   spells = g;
   longest = longest;
 }
@@ -37,7 +38,7 @@ word_spells (b ∷ us) h = run_is_word (b ∷ us) us b refl h
 pub decimal_longest : (bytes : List ℕ) → First is_digit bytes → ((d : ℕ) (rest : List ℕ) → bytes ≡ 48 ∷ 120 ∷ d ∷ rest → is_hexadecimal d ≡ false) → Longest bytes (Number (number_after 10 0 (take (prefix_len is_digit bytes) bytes))) (prefix_len is_digit bytes)
 decimal_longest [] h none = absurd h
 decimal_longest (b ∷ us) h none = record {
-  within = prefix_within is_digit (b ∷ us);
+  within = prefix_len-le-length is_digit (b ∷ us);
   spells = rw (prefix_cons is_digit b us h) (decimal (h, prefix_every is_digit us));
   longest = longest;
 }
@@ -59,7 +60,7 @@ decimal_longest (b ∷ us) h none = record {
 hexadecimal_front : (us : List ℕ) (m n : ℕ) → prefix_len is_hexadecimal us ≡ suc m → n ≡ 2 + suc m → Longest (48 ∷ 120 ∷ us) (Number (number_after 16 0 (take (suc m) us))) n
 hexadecimal_front [] m n e g = let h : ⊥ = cc in absurd h
 hexadecimal_front (d ∷ us) m n e g = record {
-  within = let i = prefix_within is_hexadecimal (d ∷ us) in omega arith;
+  within = let i = prefix_len-le-length is_hexadecimal (d ∷ us) in omega arith;
   spells = let i : n ≡ suc (suc (suc m)) = omega arith in rw i (hexadecimal (let j = prefix_every is_hexadecimal (d ∷ us) in rw e at j));
   longest = longest;
 }
@@ -138,9 +139,6 @@ name_found bytes x n h e f g = rw e (word_longest bytes (Word x) h (word_spells 
 -- the bytes of the name in front
 pub name_bytes : (bytes : List ℕ) (n : ℕ) → First starts_word bytes → n ≡ prefix_len (in_class WordClass) bytes → IsWord (take n bytes)
 name_bytes bytes n h e = rw e (word_spells bytes h)
-
-pub name_size : (bytes : List ℕ) (n : ℕ) → n ≤ length bytes → length (take n bytes) ≡ n
-name_size bytes n h = omega (arith, length-take n bytes)
 
 -- the hexadecimal number in front
 pub hexadecimal_found : (bytes : List ℕ) (m v : ℕ) → bytes ≡ 48 ∷ 120 ∷ drop 2 bytes → 0 < m → m ≡ prefix_len is_hexadecimal (drop 2 bytes) → v ≡ number_after 16 0 (take (2 + m - 2) (drop 2 bytes)) → Longest bytes (Number v) (2 + m)

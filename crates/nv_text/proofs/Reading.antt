@@ -1,7 +1,8 @@
 -- How a text is read, and that there is one way.
-use Rattle.std.proofs.Common.{◌≡◌, ℕ, zero, suc, ◌+◌, ◌≤◌, ◌<◌, ◌^◌, Bool, true, false, List, [], ◌∷◌, ◌++◌, length, take, drop, refl, sym, ap, subst, ◌∙◌, arith, take-append-drop, length-take, append_assoc, append-nil, drop-drop, drop_of_length-le, take_all, length-drop, ◌-◌, ◌⊎◌, inl, inr}
+use Rattle.std.proofs.Common.{◌≡◌, ℕ, zero, suc, ◌+◌, ◌≤◌, ◌<◌, ◌^◌, Bool, true, false, List, [], ◌∷◌, ◌++◌, length, take, drop, refl, sym, ap, subst, ◌∙◌, arith, take-append-drop, length-take, append_assoc, append-nil, drop-drop, drop_of_length-le, length-drop, ◌-◌, ◌⊎◌, inl, inr}
 use Rattle.std.specs.Prelude.{Some, None, ◌||◌}
 use Rattle.std.proofs.lemmas.Bool.Decides.{nat_tests}
+use Rattle.std.proofs.lemmas.List.{nil_from_length}
 use Rattle.nv_ast.specs.declared.token.Sort.{Sort}
 use Rattle.nv_ast.specs.declared.token.Sort.TheVariants.{Word, Number as NumberSort, Key, Sign}
 use Rattle.nv_ast.specs.declared.token.Token.{Token}
@@ -105,12 +106,8 @@ record Final (left : List ℕ) : Type 0 where
 none_longest : (s : Sort) (n : ℕ) → Longest [] s n → ⊥
 none_longest s n l =
     let h : length (take n []) ≡ 0 = omega (arith, length-take n (let z : List ℕ = [] in z)) in
-    let e : take n [] ≡ [] = empty (take n []) h in
+    let e : take n [] ≡ [] = nil_from_length (take n []) h in
     some_bytes s (rw e at l.spells)
-  where
-    empty : (w : List ℕ) → length w ≡ 0 → w ≡ []
-    empty [] h = refl
-    empty (b ∷ w) h = absurd (omega arith)
 
 final_left : Final []
 final_left = record {
@@ -248,10 +245,6 @@ read_fault bytes done p e d f =
 pub longest_some : (bytes : List ℕ) (s : Sort) (n : ℕ) → Longest bytes s n → 0 < n
 longest_some bytes s zero l = absurd (some_bytes s l.spells)
 longest_some bytes s (suc n) l = omega arith
-
--- the bytes from a place on
-pub rest_is : (bytes : List ℕ) (p : ℕ) → take (length bytes - p) (drop p bytes) ≡ drop p bytes
-rest_is bytes p = take_all (length bytes - p) (drop p bytes) (omega (arith, length-drop p bytes))
 
 -- what is wrong in front is wrong with the text
 pub failed : (bytes rest : List ℕ) (done : List Token) (p : ℕ) (e : TextError) → rest ≡ drop p bytes → ReadTo bytes done p → MayFail rest p e → (e ≡ NoMemory) ⊎ TokenFault bytes e

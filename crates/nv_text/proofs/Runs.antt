@@ -1,5 +1,5 @@
 -- Runs of bytes that pass a test, and the numbers that digits give.
-use Rattle.std.proofs.Common.{◌≡◌, ℕ, suc, ◌+◌, ◌*◌, ◌≤◌, ◌<◌, Bool, true, false, List, [], ◌∷◌, ◌++◌, length, take, drop, get_or, cond, refl, ap, ◌∙◌, arith, drop-cons, add-one}
+use Rattle.std.proofs.Common.{◌≡◌, ℕ, suc, ◌+◌, ◌*◌, ◌≤◌, ◌<◌, Bool, true, false, List, [], ◌∷◌, ◌++◌, length, take, drop, get_or, refl, ap, ◌∙◌, arith, drop-cons, add-one}
 use Rattle.std.proofs.Math.Nat.{mul-le-mul_left}
 use Rattle.std.specs.List.{prefix_len}
 use Rattle.nv_text.specs.Spelling.{digit_value, number_after, Every}
@@ -15,15 +15,6 @@ prefix_stop p bytes i h e = rw (drop-cons bytes i 0, e) refl
 -- a run in front whose first byte passes
 pub prefix_cons : (p : ℕ → Bool) (b : ℕ) (bytes : List ℕ) → p b ≡ true → prefix_len p (b ∷ bytes) ≡ suc (prefix_len p bytes)
 prefix_cons p b bytes e = rw e (omega arith)
-
--- a run lies inside the bytes
-pub prefix_within : (p : ℕ → Bool) (bytes : List ℕ) → prefix_len p bytes ≤ length bytes
-prefix_within p [] = omega arith
-prefix_within p (b ∷ bs) = within (p b) (prefix_len p bs) (length bs) (prefix_within p bs)
-  where
-    within : (t : Bool) (n m : ℕ) → n ≤ m → cond t (1 + n) 0 ≤ suc m
-    within true n m h = omega arith
-    within false n m h = omega arith
 
 -- each byte of a run passes
 pub prefix_every : (p : ℕ → Bool) (bytes : List ℕ) → Every p (take (prefix_len p bytes) bytes)
