@@ -16,19 +16,11 @@ use Rattle.nv_meaning.specs.inner.Tables.{place_from, functions_in}
 use Rattle.nv_meaning.proofs.Places.{declared-functions}
 use Rattle.nv_meaning.proofs.Lists.{dropped-all}
 use Rattle.flat_code.specs.inner.Whole.{Whole, whole_of, groups_from, raised_in, raised_or_none, group_at, group_of}
-use Rattle.std.proofs.lemmas.List.{map-append, length-append, length-replicate, length-map}
+use Rattle.std.proofs.lemmas.List.{map-append, length-append, length-replicate, length-map, replicate_more}
 use Rattle.nv_ast.proofs.Items.{next_item}
 
--- a number more
-pub replicate-more : (i n : ℕ) → replicate i n ++ n ∷ [] ≡ replicate (i + 1) n
-replicate-more i n = at i ∙ ap (λ k. replicate k n) (sym (add-one i))
-  where
-    at : (i : ℕ) → replicate i n ++ n ∷ [] ≡ replicate (suc i) n
-    at zero = refl
-    at (suc i) = ap (λ l. n ∷ l) (at i)
-
 pub numbers-more : (old now new : List ℕ) (i n : ℕ) → now ≡ old ++ replicate i n → new ≡ now ++ n ∷ [] → new ≡ old ++ replicate (i + 1) n
-numbers-more old now new i n e f = f ∙ ap (λ l. l ++ n ∷ []) e ∙ append_assoc old (replicate i n) (n ∷ []) ∙ ap (λ l. old ++ l) (replicate-more i n)
+numbers-more old now new i n e f = f ∙ ap (λ l. l ++ n ∷ []) e ∙ append_assoc old (replicate i n) (n ∷ []) ∙ ap (λ l. old ++ l) (replicate_more i n)
 
 -- a declaration further
 pub groups-turn : (decls : List Decl) (i : ℕ) (d : Decl) (now new whole : List ℕ) (n m : ℕ) → i < length decls → d ≡ get_or decls i d

@@ -174,9 +174,3 @@ mutual
       ap (λ l. l ++ all_named_words (named_values_from ts (drop (words t) ws))) (from-words t ws ((or_parts (has_bool t) (some_named_bool ts) b).0) (omega arith))
       ∙ ap (λ l. take (words t) ws ++ l) (named-from-words ts (drop (words t) ws) ((or_parts (has_bool t) (some_named_bool ts) b).1) (short (words t) (total_named_words ts) ws h))
       ∙ take-sum (words t) (total_named_words ts) ws
-
-pub take-whole : (n : ℕ) (ws : List ℕ) → length ws ≤ n → take n ws ≡ ws
-take-whole zero [] h = refl
-take-whole zero (w ∷ ws) h = absurd (omega arith)
-take-whole (suc n) [] h = refl
-take-whole (suc n) (w ∷ ws) h = ap (λ l. w ∷ l) (take-whole n ws (omega arith))

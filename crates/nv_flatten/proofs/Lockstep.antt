@@ -4,6 +4,7 @@ use Rattle.std.specs.Prelude.{nat_lt, slice_get}
 use Rattle.std.proofs.lemmas.Bool.{ltb-false, or_parts}
 use Rattle.std.proofs.lemmas.Slice.Eq.{bytes_eq-Decides}
 use Rattle.std.proofs.lemmas.Option.{same_Some}
+use Rattle.std.proofs.lemmas.List.{take_all}
 use Rattle.nv_base.specs.Words.{Env, assigned_all}
 use Rattle.nv_base.specs.Memories.{Memories, HasSizes}
 use Rattle.nv_base.specs.Meanings.{KeepsOutcomes, seen, AreEqual}
@@ -32,7 +33,7 @@ use Rattle.flat_code.proofs.Fresh.{fresh-values, all-fresh-fit, numbers-length}
 use Rattle.flat_code.proofs.Sound.{typed-eval}
 use Rattle.nv_flatten.proofs.Knowing.{function-named}
 use Rattle.nv_flatten.proofs.Bodies.{IsBody, bodies, narrow-raised, has-main}
-use Rattle.nv_flatten.proofs.Entering.{type-same, word-count, all-word-count, entered-types, entered-words, params-values, params-types, params-fit, params-older, arguments-scope, from-types, all-from-words, take-whole}
+use Rattle.nv_flatten.proofs.Entering.{type-same, word-count, all-word-count, entered-types, entered-words, params-values, params-types, params-fit, params-older, arguments-scope, from-types, all-from-words}
 use Rattle.nv_flatten.proofs.WellTypes.{right-of}
 use Rattle.nv_ast.proofs.Faultless.{no_rest, no_kinds, not_where}
 use Rattle.nv_ast.proofs.TypeWords.{plain_words, plain_bool}
@@ -142,11 +143,11 @@ closed-same : (w : Whole) (t : Ty) → words t ≤ 8 → ((k : ℕ) (ts : Tys) �
 closed-same w t few narrow (Gives v now) c =
     let same : t ≡ value_ty v = same_Some _ _ c.0 in
     let count : length (words_of v) ≡ words t = word-count v ∙ ap words (sym same) in
-    ap (λ ws. record { outcome = outcome.Ended ws; packet = now.packet; writes = now.writes }) (take-whole 8 (words_of v) (omega arith))
+    ap (λ ws. record { outcome = outcome.Ended ws; packet = now.packet; writes = now.writes }) (take_all 8 (words_of v) (omega arith))
 closed-same w t few narrow (Raises k vs now) c =
     let count : length (all_words vs) ≡ total_words (value_tys vs) = all-word-count vs in
     let most : total_words (value_tys vs) ≤ 8 = narrow k (value_tys vs) c.0 in
-    ap (λ ws. record { outcome = outcome.Raised k ws; packet = now.packet; writes = now.writes }) (take-whole 8 (all_words vs) (omega arith))
+    ap (λ ws. record { outcome = outcome.Raised k ws; packet = now.packet; writes = now.writes }) (take_all 8 (all_words vs) (omega arith))
 closed-same w t few narrow (Stops how now) c = refl
 
 -- main's parameters and result
@@ -186,7 +187,7 @@ main-same t h all funs made g fun found there m args p count are sizes n =
     let plain : total_words (plain_tys (params_in w g)) ≡ total_named_words (params_in w g) = plain_words (params_in w g) in
     let spelled : all_words vs ≡ args =
     all-from-words (plain_tys (params_in w g)) args (plain_bool (params_in w g) ∙ narrow.bools) (omega arith)
-    ∙ take-whole (total_words (plain_tys (params_in w g))) args (omega arith) in
+    ∙ take_all (total_words (plain_tys (params_in w g))) args (omega arith) in
     let fit : AreWords (all_words vs) = subst AreWords (sym spelled) are in
     let r : Result = eval w.declared (calls_within n w.declared) g.body (entered g.params vs []) (begun n p) in
     let comes : ComesTo w (Some (type_of w.declared.layouts g.result)) r = body-typed w main_name g b (calls_within n w.declared) lock.typed vs (begun n p) types fit sizes in

@@ -1,7 +1,7 @@
 -- What a table of declarations finds.
 use Rattle.std.proofs.Common.{◌≡◌, ℕ, zero, suc, ◌+◌, ◌<◌, ◌≤◌, Bool, true, false, not, List, [], ◌∷◌, ◌++◌, refl, sym, ap, ◌∙◌, subst, length, take, drop, get_or, map, add-one, Option, Some, None, bytes_eq, if◌then◌else◌, append_assoc, append-nil, length-append, arith, Bor, cond}
 use Rattle.std.proofs.Math.Seq.{take-append_seam}
-use Rattle.std.proofs.lemmas.List.{take_all}
+use Rattle.std.proofs.lemmas.List.{take_all, length-map, map-append}
 use Rattle.std.proofs.lemmas.Bool.{cond-true, cond-false}
 use Rattle.std.proofs.lemmas.Slice.Eq.{bytes_eq-Decides}
 use Rattle.std.specs.Cmp.Lexicographic.{nat_list_eq_equiv}
@@ -102,15 +102,11 @@ place-stands i j x (y ∷ ys) h = by (bytes_eq x y) refl (λ k. place-stands (su
     by true e next = let k : i ≡ j = same_Some _ _ (sym (ap (λ b. if b then Some i else place_from (suc i) x ys) e) ∙ h) in record { from = omega arith; below = omega arith }
     by false e next = let r = next (sym (ap (λ b. if b then Some i else place_from (suc i) x ys) e) ∙ h) in record { from = (let k : suc i ≤ j = r.from in omega arith); below = (let k : j < suc i + length ys = r.below in omega arith) }
 
-length-mapped : {A B : Type 0} (f : A → B) (xs : List A) → length (map f xs) ≡ length xs
-length-mapped f [] = refl
-length-mapped f (x ∷ xs) = ap suc (length-mapped f xs)
-
 pub place-below : {A : Type 0} (name_of : A → List ℕ) (xs : List A) (x : List ℕ) (j : ℕ) → place_from 0 x (map name_of xs) ≡ Some j → j < length xs
 place-below name_of xs x j h =
     let r = place-stands 0 j x (map name_of xs) h in
     let s : j < 0 + length (map name_of xs) = r.below in
-    let e : length (map name_of xs) ≡ length xs = length-mapped name_of xs in
+    let e : length (map name_of xs) ≡ length xs = length-map xs name_of in
     omega arith
 
 -- ---- functions
@@ -171,10 +167,6 @@ laid-append known [] ms = refl
 laid-append known (l ∷ ls) ms = laid-append (known ++ (l.0, outline known l.1) ∷ []) ls ms
 
 -- ---- declarations one after another
-pub mapped : {A B : Type 0} (f : A → B) (xs ys : List A) → map f (xs ++ ys) ≡ map f xs ++ map f ys
-mapped f [] ys = refl
-mapped f (x ∷ xs) ys = ap (λ l. f x ∷ l) (mapped f xs ys)
-
 functions-append : (xs ys : List DeclTree) → functions_in (xs ++ ys) ≡ functions_in xs ++ functions_in ys
 functions-append [] ys = refl
 functions-append (LayoutDecl x l s ∷ xs) ys = functions-append xs ys
@@ -196,7 +188,7 @@ exceptions-append (GroupDecl fs ∷ xs) ys = exceptions-append xs ys
 -- a turn over the declarations
 module _ (ds : List Decl) (i : ℕ) (d : Decl) (h : i < length ds) (is : d ≡ get_or ds i d) where
   turn : map decl_tree (take (i + 1) ds) ≡ map decl_tree (take i ds) ++ decl_tree d ∷ []
-  turn = ap (λ l. map decl_tree l) (take_item ds i d h is) ∙ mapped decl_tree (take i ds) (d ∷ [])
+  turn = ap (λ l. map decl_tree l) (take_item ds i d h is) ∙ map-append decl_tree (take i ds) (d ∷ [])
 
   pub functions-turn : (old new b : List FunTree) → old ≡ functions_in (map decl_tree (take i ds)) → functions_in (decl_tree d ∷ []) ≡ b → new ≡ old ++ b → new ≡ functions_in (map decl_tree (take (i + 1) ds))
   functions-turn old new b before these n =
@@ -221,18 +213,18 @@ pub added-none : {A : Type 0} (xs : List A) → xs ≡ xs ++ []
 added-none xs = sym (append-nil xs)
 
 pub pairs-push : (xs ys : List (Bor (List ℕ) × Bor LayoutText)) → layout_pairs (xs ++ ys) ≡ layout_pairs xs ++ layout_pairs ys
-pairs-push xs ys = mapped (λ l. (l.0.now, layout_tree l.1.now)) xs ys
+pairs-push xs ys = map-append (λ l. (l.0.now, layout_tree l.1.now)) xs ys
 
 pub names-push : (xs ys : List (Bor (List ℕ))) → map (λ x. x.now) (xs ++ ys) ≡ map (λ x. x.now) xs ++ map (λ x. x.now) ys
-names-push xs ys = mapped (λ x. x.now) xs ys
+names-push xs ys = map-append (λ x. x.now) xs ys
 
 -- a turn over the functions of a group
 pub group-turn : (old now new : List (Bor Fun)) (group : List Fun) (i : ℕ) (f : Fun) (b : Bor Fun) → i < length group → f ≡ get_or group i f → trees_of now ≡ trees_of old ++ map fun_tree (take i group) → new ≡ now ++ b ∷ [] → b.now ≡ f → trees_of new ≡ trees_of old ++ map fun_tree (take (i + 1) group)
 group-turn old now new group i f b h is before n same =
-    ap trees_of n ∙ mapped (λ g. fun_tree g.now) now (b ∷ []) ∙ ap (λ l. l ++ fun_tree b.now ∷ []) before
+    ap trees_of n ∙ map-append (λ g. fun_tree g.now) now (b ∷ []) ∙ ap (λ l. l ++ fun_tree b.now ∷ []) before
     ∙ ap (λ g. (trees_of old ++ map fun_tree (take i group)) ++ fun_tree g ∷ []) same
     ∙ append_assoc (trees_of old) (map fun_tree (take i group)) (fun_tree f ∷ [])
-    ∙ ap (λ l. trees_of old ++ l) (sym (ap (λ l. map fun_tree l) (take_item group i f h is) ∙ mapped fun_tree (take i group) (f ∷ [])))
+    ∙ ap (λ l. trees_of old ++ l) (sym (ap (λ l. map fun_tree l) (take_item group i f h is) ∙ map-append fun_tree (take i group) (f ∷ [])))
 
 -- what the table declares is what the program does
 pub declared-is : (t : ProgramTree) (ls : List (List ℕ × LayoutTree)) (xs : List (List ℕ)) (fs : List FunTree) → ls ≡ layouts_in t.decls → xs ≡ exceptions_in t.decls → fs ≡ functions_in t.decls → record { layouts = laid [] ls; exceptions = xs; functions = fs } ≡ declared t
@@ -314,7 +306,7 @@ laid-firsts : (known : Layouts) (ls : List (List ℕ × LayoutTree)) → firsts 
 laid-firsts known [] = sym (append-nil (firsts known))
 laid-firsts known (l ∷ ls) =
     laid-firsts (known ++ (l.0, outline known l.1) ∷ []) ls
-    ∙ ap (λ k. k ++ firsts ls) (mapped (λ m. m.0) known ((l.0, outline known l.1) ∷ []))
+    ∙ ap (λ k. k ++ firsts ls) (map-append (λ m. m.0) known ((l.0, outline known l.1) ∷ []))
     ∙ append_assoc (firsts known) (l.0 ∷ []) (firsts ls)
 
 abbrev pub Item : Type 0
@@ -351,7 +343,7 @@ module _ (xs : List Item) (y : List ℕ) where
       let d : List ℕ × OutlineTree = (item.0.now, nothing) in
       let e : List ℕ × LayoutTree = (item.0.now, layout_tree item.1.now) in
       let some : j < length xs = place-below (λ l. l.0.now) xs y j h in
-      let long : length (layout_pairs xs) ≡ length xs = length-mapped (λ l. (l.0.now, layout_tree l.1.now)) xs in
+      let long : length (layout_pairs xs) ≡ length xs = length-map xs (λ l. (l.0.now, layout_tree l.1.now)) in
       let below : j < length (layout_pairs xs) = omega arith in
       value-found 0 j n y nothing laid_all d (ap (λ k. place_from 0 y k) all-firsts ∙ h ∙ ap (λ k. Some k) s) inside
       ∙ ap (λ p. p.1) (subst (λ k. LaidAt laid_all k (get_or (layout_pairs xs) j e) d) (sym s) (laid-at [] (layout_pairs xs) j e d below))
@@ -361,6 +353,6 @@ module _ (xs : List Item) (y : List ℕ) where
 -- all of them
 pub all-laid : (xs : List Item) (n : ℕ) → n ≡ length xs → take n (laid [] (layout_pairs xs)) ≡ laid [] (layout_pairs xs)
 all-laid xs n e =
-    let long : length (layout_pairs xs) ≡ length xs = length-mapped (λ l. (l.0.now, layout_tree l.1.now)) xs in
+    let long : length (layout_pairs xs) ≡ length xs = length-map xs (λ l. (l.0.now, layout_tree l.1.now)) in
     let whole : length (laid [] (layout_pairs xs)) ≡ 0 + length (layout_pairs xs) = laid-length [] (layout_pairs xs) in
     take_all n (laid [] (layout_pairs xs)) (omega arith)

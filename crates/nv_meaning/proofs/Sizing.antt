@@ -2,7 +2,7 @@
 use Rattle.std.proofs.Common.{inl, inr, ◌≡◌, ℕ, zero, suc, ◌+◌, ◌<◌, ◌≤◌, List, [], ◌∷◌, ◌++◌, refl, sym, ap, ◌∙◌, subst, length, take, get_or, map, min, Option, Some, None, length-append, arith}
 use Rattle.std.proofs.Math.Seq.{take-append_seam}
 use Rattle.std.proofs.Math.ListN.{get_or-map}
-use Rattle.std.proofs.lemmas.List.{take_all, take-map, get_or-take, get_or_past}
+use Rattle.std.proofs.lemmas.List.{take_all, take-map, get_or-take, get_or_past, map-append}
 use Rattle.std.proofs.lemmas.Bool.{cases_lt}
 use Rattle.std.below.core.specs.declared.int.u64.TheConstants.{MAX}
 use Rattle.nv_ast.specs.LayoutView.{layout_tree}
@@ -11,7 +11,7 @@ use Rattle.nv_ast.specs.Outline.{OutlineTree, Layouts, outline, size, PartsOutli
 use Rattle.nv_ast.specs.Tree.{LayoutTree}
 use Rattle.nv_meaning.specs.inner.Tables.{place_from, laid, layout_pairs}
 use Rattle.nv_meaning.specs.inner.Sizes.{sizes_of, size_at, AreSizes}
-use Rattle.nv_meaning.proofs.Places.{Item, firsts, laid-front, laid-append, mapped, pairs-push, value-found, value-beyond, value-none, all-firsts}
+use Rattle.nv_meaning.proofs.Places.{Item, firsts, laid-front, laid-append, pairs-push, value-found, value-beyond, value-none, all-firsts}
 use Rattle.nv_ast.proofs.Items.{take_item}
 
 -- the first outlines are those of the first layouts
@@ -91,4 +91,4 @@ sizes-turn xs i l old new n h is before this e =
     ∙ sym (ap (λ ys. sizes_of (laid [] (layout_pairs ys))) (take_item xs i l h is)
     ∙ ap (λ ys. sizes_of (laid [] ys)) (pairs-push (take i xs) (l ∷ []))
     ∙ ap sizes_of (laid-append [] (layout_pairs (take i xs)) (layout_pairs (l ∷ [])))
-    ∙ mapped bits_of known ((l.0.now, outline known (layout_tree l.1.now)) ∷ []))
+    ∙ map-append bits_of known ((l.0.now, outline known (layout_tree l.1.now)) ∷ []))

@@ -94,11 +94,8 @@ pub need_end : (first : ℕ) (xs : List (List ℕ)) (steps : List Step) (i last 
 need_end first xs steps i last need greatest waiting held past holds was w =
     let lets = lets_of (take i steps) in
     let here : waiting ≡ held_at first xs lets last = w ∙ ap still (holds last) in
-    let one : block_needs xs first lets (drop i steps) last need ≡ still (held_at first xs lets last + need) = ap (λ l. block_needs xs first lets l last need) (all_behind steps i past) in
+    let one : block_needs xs first lets (drop i steps) last need ≡ still (held_at first xs lets last + need) = ap (λ l. block_needs xs first lets l last need) (drop_all i steps past) in
     ap (λ n. max greatest (min (n + need) most)) here ∙ ap (λ n. max greatest n) (sym one) ∙ was
-  where
-    all_behind : (l : List Step) (k : ℕ) → length l ≤ k → drop k l ≡ []
-    all_behind l k h = drop_all k l h
 
 -- one more step: a let is held, anything else is not
 pub let_held : (first : ℕ) (xs : List (List ℕ)) (steps : List Step) (i : ℕ) (s : Step) (held new : List Held) (p : Bor Pat) (until : ℕ)

@@ -1,7 +1,8 @@
 -- Types of words alone, tested by how many they are; and numbers that stand still, tested against small ones.
-use Rattle.std.proofs.Common.{◌≡◌, ◌∙◌, refl, ap, sym, subst, ℕ, zero, suc, ◌+◌, ◌<◌, Bool, true, false, cond, ◌&&◌, eqb, None, Some, slice_get, arith, rules, tests}
+use Rattle.std.proofs.Common.{◌≡◌, ◌∙◌, refl, ap, sym, subst, ℕ, zero, suc, ◌+◌, ◌<◌, Bool, true, false, cond, ◌&&◌, eqb, Some, slice_get, arith, rules, tests}
 use Rattle.std.proofs.Math.Dec.{eqb-suc-suc, eqb-zero-suc, eqb-suc-zero}
 use Rattle.std.proofs.lemmas.Bool.{eqb-true, eq-eqb}
+use Rattle.std.proofs.lemmas.Option.{none-some, same_Some}
 use Rattle.nv_ast.specs.Types.{Ty, WordTy, BoolTy, TupleTy, RecordTy, Tys, no_tys, ty_and, same_type, same_types, total_words, word_parts, words_ty}
 use Rattle.nv_ast.specs.Faults.{words_alone, can_store}
 use Rattle.nv_ast.proofs.SameTypes.{same_itself, same_sound}
@@ -96,19 +97,7 @@ store_words n = by (eqb n 1)
 
 -- the parts of a tuple's type
 pub tuple_some : (s : Store) → IsStore s → (i j : ℕ) (u : Ty) → IsType s i u → tuple_of (slice_get s.cells i) ≡ Some j → (ts : Tys) × (u ≡ TupleTy ts) × IsParts s j ts
-tuple_some s is i j WordTy h e = absurd (not_some j (sym (ap (λ n. tuple_of (slice_get s.cells n)) h ∙ ap tuple_of is.word) ∙ e))
-  where
-    not_some : (n : ℕ) → None ≡ Some n → ⊥
-    not_some n q = cc
-tuple_some s is i j BoolTy h e = absurd (not_some j (sym (ap (λ n. tuple_of (slice_get s.cells n)) h ∙ ap tuple_of is.bool) ∙ e))
-  where
-    not_some : (n : ℕ) → None ≡ Some n → ⊥
-    not_some n q = cc
-tuple_some s is i j (TupleTy ts) h e = (ts, refl, subst (λ n. IsParts s n ts) (same h.0 j (sym (ap tuple_of h.1) ∙ e)) h.2)
-  where
-    same : (a b : ℕ) → Some a ≡ Some b → a ≡ b
-    same a b q = cc
-tuple_some s is i j (RecordTy ts) h e = absurd (not_some j (sym (ap tuple_of h.1) ∙ e))
-  where
-    not_some : (n : ℕ) → None ≡ Some n → ⊥
-    not_some n q = cc
+tuple_some s is i j WordTy h e = absurd (none-some j (sym (ap (λ n. tuple_of (slice_get s.cells n)) h ∙ ap tuple_of is.word) ∙ e))
+tuple_some s is i j BoolTy h e = absurd (none-some j (sym (ap (λ n. tuple_of (slice_get s.cells n)) h ∙ ap tuple_of is.bool) ∙ e))
+tuple_some s is i j (TupleTy ts) h e = (ts, refl, subst (λ n. IsParts s n ts) (same_Some h.0 j (sym (ap tuple_of h.1) ∙ e)) h.2)
+tuple_some s is i j (RecordTy ts) h e = absurd (none-some j (sym (ap tuple_of h.1) ∙ e))

@@ -1,7 +1,7 @@
 -- steps of a walk: which subtrees wait, and that the columns on the stack are those that are fixed
 use Rattle.std.proofs.Common.{◌≡◌, ◌≢◌, ℕ, zero, suc, ◌+◌, ◌*◌, ◌-◌, ◌<◌, ◌≤◌, List, [], ◌∷◌, length, set, drop, get_or, Bool, true, false, Option, Some, None, slice_get, refl, sym, ◌∙◌, ap, subst, arith, inl, inr, ◌⊎◌}
 use Rattle.std.specs.List.{All, sum_by}
-use Rattle.std.proofs.lemmas.List.{length-set, length-drop, drop-set, drop_all, append-nil}
+use Rattle.std.proofs.lemmas.List.{length-set, length-drop, drop-set, drop_all, append-nil, set-set}
 use Rattle.std.proofs.Common.{take, ◌++◌}
 use Rattle.std.proofs.lemmas.Grind.{get_or_default_zero}
 use Rattle.std.proofs.lemmas.List.Elements.{All-head, All-tail, All-from_get_or}
@@ -29,11 +29,6 @@ pub get_set : {A : Type 0} (xs : List A) (j : ℕ) (a : A) → j < length xs →
 get_set [] j a h = absurd (omega arith)
 get_set (x ∷ xs) zero a h = refl
 get_set (x ∷ xs) (suc j) a h = get_set xs j a (omega arith)
-
-pub set_set : {A : Type 0} (xs : List A) (j : ℕ) (a b : A) → set (set xs j a) j b ≡ set xs j b
-set_set [] j a b = refl
-set_set (x ∷ xs) zero a b = refl
-set_set (x ∷ xs) (suc j) a b = ap (λ ys. x ∷ ys) (set_set xs j a b)
 
 pub set_own : {A : Type 0} (xs : List A) (j : ℕ) (a : A) → slice_get xs j ≡ Some a → set xs j a ≡ xs
 set_own [] j a h = refl
@@ -97,12 +92,12 @@ has_room js fixed j h here =
 pub enter_exact : (fixed : List (Option Bool)) (j : ℕ) (js : List ℕ) → FixesExactly fixed js → slice_get fixed j ≡ Some None → FixesExactly (set fixed j (Some false)) (j ∷ js)
 enter_exact fixed j js h here =
     let lt : j < length fixed = slice_get_within fixed j None here in
-    (subst IsFixed (sym (get_set fixed j (Some false) lt)) tt, subst (λ f. FixesExactly f js) (sym (set_set fixed j (Some false) None ∙ set_own fixed j None here)) h)
+    (subst IsFixed (sym (get_set fixed j (Some false) lt)) tt, subst (λ f. FixesExactly f js) (sym (set-set fixed j (Some false) None ∙ set_own fixed j None here)) h)
 
 pub enter_later : (fixed : List (Option Bool)) (j : ℕ) (js : List ℕ) → slice_get fixed j ≡ Some None → later (set fixed j (Some false)) (j ∷ js) ≡ set fixed j (Some true) ∷ later fixed js
 enter_later fixed j js here =
     let lt : j < length fixed = slice_get_within fixed j None here in
-    rw (get_set fixed j (Some false) lt, set_set fixed j (Some false) (Some true), set_set fixed j (Some false) None, set_own fixed j None here)
+    rw (get_set fixed j (Some false) lt, set-set fixed j (Some false) (Some true), set-set fixed j (Some false) None, set_own fixed j None here)
 
 -- ---- out of a subtree
 
@@ -112,12 +107,12 @@ leave_later_one fixed j js here = rw here
 pub leave_later_zero : (fixed : List (Option Bool)) (j : ℕ) (js : List ℕ) → slice_get fixed j ≡ Some (Some false) → later fixed (j ∷ js) ≡ set fixed j (Some true) ∷ later (set fixed j (Some true)) (j ∷ js)
 leave_later_zero fixed j js here =
     let lt : j < length fixed = slice_get_within fixed j (Some false) here in
-    rw (here, get_set fixed j (Some true) lt, set_set fixed j (Some true) None)
+    rw (here, get_set fixed j (Some true) lt, set-set fixed j (Some true) None)
 
 pub leave_exact_zero : (fixed : List (Option Bool)) (j : ℕ) (js : List ℕ) → slice_get fixed j ≡ Some (Some false) → FixesExactly fixed (j ∷ js) → FixesExactly (set fixed j (Some true)) (j ∷ js)
 leave_exact_zero fixed j js here h =
     let lt : j < length fixed = slice_get_within fixed j (Some false) here in
-    (subst IsFixed (sym (get_set fixed j (Some true) lt)) tt, subst (λ f. FixesExactly f js) (sym (set_set fixed j (Some true) None)) h.1)
+    (subst IsFixed (sym (get_set fixed j (Some true) lt)) tt, subst (λ f. FixesExactly f js) (sym (set-set fixed j (Some true) None)) h.1)
 
 -- ---- the same at a stack that grows downward
 
