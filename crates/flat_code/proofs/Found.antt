@@ -1,7 +1,7 @@
 -- A field that is looked for by its name.
 use Rattle.std.proofs.Common.{◌≡◌, ◌∙◌, ap, ℕ, ◌+◌, ◌<◌, ◌≤◌, Bool, true, false, if◌then◌else◌, bytes_eq, List, drop, length, get_or}
+use Rattle.std.proofs.lemmas.List.{drop_all}
 use Rattle.nv_base.specs.declared.term.Atom.TheVariants.{Lit}
-use Rattle.nv_meaning.proofs.Lists.{dropped-all}
 use Rattle.flat_code.specs.inner.Symbols.{Word, field_named}
 use Rattle.flat_code.specs.inner.View.{Named, view, list_named_symbols}
 use Rattle.flat_code.specs.inner.Reads.{has_symbol}
@@ -21,7 +21,7 @@ module _ (x : List ℕ) (xs : List Named) (i : ℕ) where
   named-later p h e b = ap (λ l. field_named x (list_named_symbols l)) (next_item xs i p h e) ∙ ap (λ (t : Bool). if t then view p.1 else field_named x (list_named_symbols (drop (i + 1) xs))) b
 
   pub has-nowhere : length xs ≤ i → has_symbol x (list_named_symbols (drop i xs)) ≡ false
-  has-nowhere h = ap (λ l. has_symbol x (list_named_symbols l)) (dropped-all xs i h)
+  has-nowhere h = ap (λ l. has_symbol x (list_named_symbols l)) (drop_all i xs h)
 
   pub named-nowhere : length xs ≤ i → field_named x (list_named_symbols (drop i xs)) ≡ Word (Lit 0)
-  named-nowhere h = ap (λ l. field_named x (list_named_symbols l)) (dropped-all xs i h)
+  named-nowhere h = ap (λ l. field_named x (list_named_symbols l)) (drop_all i xs h)

@@ -14,9 +14,8 @@ use Rattle.nv_ast.specs.Types.{no_tys, types_of}
 use Rattle.nv_meaning.specs.Meaning.{Declared, declared}
 use Rattle.nv_meaning.specs.inner.Tables.{place_from, functions_in}
 use Rattle.nv_meaning.proofs.Places.{declared-functions}
-use Rattle.nv_meaning.proofs.Lists.{dropped-all}
 use Rattle.flat_code.specs.inner.Whole.{Whole, whole_of, groups_from, raised_in, raised_or_none, group_at, group_of}
-use Rattle.std.proofs.lemmas.List.{map-append, length-append, length-replicate, length-map, replicate_more}
+use Rattle.std.proofs.lemmas.List.{map-append, length-append, length-replicate, length-map, replicate_more, drop_all}
 use Rattle.nv_ast.proofs.Items.{next_item}
 
 pub numbers-more : (old now new : List ℕ) (i n : ℕ) → now ≡ old ++ replicate i n → new ≡ now ++ n ∷ [] → new ≡ old ++ replicate (i + 1) n
@@ -29,7 +28,7 @@ pub groups-turn : (decls : List Decl) (i : ℕ) (d : Decl) (now new whole : List
 groups-turn decls i d now new whole n m h is step before = step (map decl_tree (drop (i + 1) decls)) ∙ ap (λ l. now ++ groups_from n (map decl_tree l)) (sym (next_item decls i d h is)) ∙ before
 
 pub groups-done : (decls : List Decl) (i : ℕ) (now whole : List ℕ) (n : ℕ) → length decls ≤ i → now ++ groups_from n (map decl_tree (drop i decls)) ≡ whole → now ≡ whole
-groups-done decls i now whole n h before = sym (append-nil now) ∙ ap (λ l. now ++ groups_from n (map decl_tree l)) (sym (dropped-all decls i h)) ∙ before
+groups-done decls i now whole n h before = sym (append-nil now) ∙ ap (λ l. now ++ groups_from n (map decl_tree l)) (sym (drop_all i decls h)) ∙ before
 
 pub raised-turn : (decls : List Decl) (i : ℕ) (d : Decl) (now new whole : List TypeTrees) → i < length decls → d ≡ get_or decls i d
     → ((ds : List DeclTree) → new ++ raised_in ds ≡ now ++ raised_in (decl_tree d ∷ ds))
@@ -37,7 +36,7 @@ pub raised-turn : (decls : List Decl) (i : ℕ) (d : Decl) (now new whole : List
 raised-turn decls i d now new whole h is step before = step (map decl_tree (drop (i + 1) decls)) ∙ ap (λ l. now ++ raised_in (map decl_tree l)) (sym (next_item decls i d h is)) ∙ before
 
 pub raised-done : (decls : List Decl) (i : ℕ) (now whole : List TypeTrees) → length decls ≤ i → now ++ raised_in (map decl_tree (drop i decls)) ≡ whole → now ≡ whole
-raised-done decls i now whole h before = sym (append-nil now) ∙ ap (λ l. now ++ raised_in (map decl_tree l)) (sym (dropped-all decls i h)) ∙ before
+raised-done decls i now whole h before = sym (append-nil now) ∙ ap (λ l. now ++ raised_in (map decl_tree l)) (sym (drop_all i decls h)) ∙ before
 
 pub as-many : (n : ℕ) (ds : List DeclTree) → length (groups_from n ds) ≡ length (functions_in ds)
 as-many n [] = refl

@@ -1,6 +1,6 @@
 -- What the walk says of expressions and statements one after another.
 use Rattle.std.proofs.Common.{◌≡◌, refl, ap, sym, subst, ℕ, ◌+◌, ◌<◌, ◌≤◌, List, [], ◌∷◌, ◌++◌, length, drop, take, get_or}
-use Rattle.std.proofs.lemmas.List.{take_all}
+use Rattle.std.proofs.lemmas.List.{take_all, drop_all}
 use Rattle.nv_base.specs.declared.term.Mem.{Mem}
 use Rattle.nv_base.specs.Words.{atom_word, atom_words}
 use Rattle.nv_ast.specs.declared.token.Span.{Span}
@@ -30,7 +30,6 @@ use Rattle.nv_flatten.proofs.NarrowViews as narrow
 use Rattle.nv_flatten.proofs.SmallValues.{value-small-more}
 use Rattle.nv_flatten.proofs.SmallLists.{let-small, store-small}
 use Rattle.nv_flatten.proofs.SmallViews.{SmallFront, SmallFields, SmallLed, small-front-first, small-front-more, small-front-last, small-row-first, small-row-more, small-row-last, small-led-first, small-led-more, small-led-last}
-use Rattle.nv_meaning.proofs.Lists.{dropped-all}
 use Rattle.nv_ast.proofs.Items.{next_item}
 
 -- ---- statements
@@ -80,7 +79,7 @@ front-step w old names more low mid high l l' es i e ss ts ss' vs vs' v h is ste
 pub front-end : (w : Whole) (old names : Names) (low mid : ℕ) (scope : SymbolScope) (es : List Expr) (i : ℕ) (ss : List Step) (vs : List CodeSymbol) → length es ≤ i → FlatFront w old names low mid scope es i ss vs
     → AreFlatValues w old names low mid scope (list_trees es) ss (list_symbols vs)
 front-end w old names low mid scope es i ss vs h f = record {
-  same = front-all w low scope es names mid ss vs (drop i es) (dropped-all es i h) f.same;
+  same = front-all w low scope es names mid ss vs (drop i es) (drop_all i es h) f.same;
   well = each-end w old names low mid scope (take i es) es ss (list_symbols vs) (take_all i es h) f.well;
   narrow = front-last w scope es names i ss vs h f.narrow;
   small = small-front-last w scope es names i ss vs h f.small;
@@ -114,7 +113,7 @@ fields-step w old names more low mid high l l' es i e ss ts ss' fs fs' f name h 
 pub fields-last : (w : Whole) (old names : Names) (low mid : ℕ) (scope : SymbolScope) (es : List (List ℕ × Expr)) (i : ℕ) (ss : List Step) (fs : List Named) → length es ≤ i → FlatFields w old names low mid scope es i ss fs
     → AreFlatFields w old names low mid scope (list_named_trees es) ss (list_named_symbols fs)
 fields-last w old names low mid scope es i ss fs h f = record {
-  same = named-all w low scope es names mid ss fs (drop i es) (dropped-all es i h) f.same;
+  same = named-all w low scope es names mid ss fs (drop i es) (drop_all i es h) f.same;
   well = fields-end w old names low mid scope (take i es) es ss (list_named_symbols fs) (take_all i es h) f.well;
   narrow = row-last w scope es names i ss fs h f.narrow;
   small = small-row-last w scope es names i ss fs h f.small;
@@ -149,7 +148,7 @@ led-step w old names more low mid high scope inner behind sts i st ss ts ss' h i
 
 pub led-end : (w : Whole) (old names : Names) (low mid : ℕ) (scope inner : SymbolScope) (sts : List Stmt) (i : ℕ) (ss : List Step) → length sts ≤ i → FlatLed w old names low mid scope inner sts i ss → IsFlatStated w old names low mid scope (list_statements sts) ss inner
 led-end w old names low mid scope inner sts i ss h f = record {
-  same = led-all w low scope sts names mid ss inner (drop i sts) (dropped-all sts i h) f.same;
+  same = led-all w low scope sts names mid ss inner (drop i sts) (drop_all i sts h) f.same;
   well = statements-end w old names low mid scope inner (take i sts) sts ss (take_all i sts h) f.well;
   narrow = led-last w scope inner sts names i ss h f.narrow;
   small = small-led-last w scope inner sts names i ss h f.small;

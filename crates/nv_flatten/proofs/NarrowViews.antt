@@ -2,6 +2,7 @@
 use Rattle.std.proofs.Common.{◌≡◌, ℕ, zero, suc, ◌+◌, ◌<◌, ◌≤◌, nat_lt, length, drop, get_or, List, [], ◌∷◌, ◌++◌, append_assoc, append-nil, refl, sym, ap, subst, ◌∙◌, arith}
 use Rattle.std.proofs.lemmas.Bool.{ltb-false}
 use Rattle.std.proofs.Math.Seq.{drop-cons}
+use Rattle.std.proofs.lemmas.List.{drop_all}
 use Rattle.nv_base.specs.declared.term.Atom.{Atom}
 use Rattle.nv_base.specs.declared.term.Atom.TheVariants.{Var}
 use Rattle.nv_ast.specs.declared.token.Span.{Span}
@@ -27,7 +28,6 @@ use Rattle.flat_code.proofs.NarrowFacts.{word-operand-within}
 use Rattle.nv_flatten.proofs.NarrowValues.{value-narrow-more, shift-none-narrow, shift-narrow}
 use Rattle.nv_flatten.proofs.NarrowLists.{values-cons, fields-cons, values-nil, fields-nil, stated-cons, stated-nil, statement-narrow-more}
 use Rattle.flat_code.proofs.Keeping.{extends-then}
-use Rattle.nv_meaning.proofs.Lists.{dropped-all}
 use Rattle.nv_ast.proofs.Items.{next_item}
 use Rattle.nv_ast.proofs.Faultless.{not_where}
 
@@ -86,7 +86,7 @@ pub front-last : (w : Whole) (scope : SymbolScope) (es : List Expr) (names : Nam
 front-last w scope es names i ss vs h a =
     subst (λ k. AreNarrowValues w names scope (list_trees es) k (list_symbols vs)) (append-nil ss)
     (subst (λ k. AreNarrowValues w names scope (list_trees es) (ss ++ []) (list_symbols k)) (append-nil vs)
-    (a.by names [] [] ([], sym (append-nil names)) (subst (λ k. AreNarrowValues w names scope (list_trees k) [] (list_symbols [])) (sym (dropped-all es i h)) (values-nil w names scope))))
+    (a.by names [] [] ([], sym (append-nil names)) (subst (λ k. AreNarrowValues w names scope (list_trees k) [] (list_symbols [])) (sym (drop_all i es h)) (values-nil w names scope))))
 
 -- fields
 pub record NarrowFields (w : Whole) (scope : SymbolScope) (es : List (List ℕ × Expr)) (names : Names) (ss : List Step) (vs : List Named) (rest : List (List ℕ × Expr)) : Type 0 where
@@ -115,7 +115,7 @@ pub row-last : (w : Whole) (scope : SymbolScope) (es : List (List ℕ × Expr)) 
 row-last w scope es names i ss vs h a =
     subst (λ k. AreNarrowFields w names scope (list_named_trees es) k (list_named_symbols vs)) (append-nil ss)
     (subst (λ k. AreNarrowFields w names scope (list_named_trees es) (ss ++ []) (list_named_symbols k)) (append-nil vs)
-    (a.by names [] [] ([], sym (append-nil names)) (subst (λ k. AreNarrowFields w names scope (list_named_trees k) [] (list_named_symbols [])) (sym (dropped-all es i h)) (fields-nil w names scope))))
+    (a.by names [] [] ([], sym (append-nil names)) (subst (λ k. AreNarrowFields w names scope (list_named_trees k) [] (list_named_symbols [])) (sym (drop_all i es h)) (fields-nil w names scope))))
 
 -- statements
 pub record NarrowLed (w : Whole) (scope : SymbolScope) (sts : List Stmt) (names : Names) (ss : List Step) (now : SymbolScope) (rest : List Stmt) : Type 0 where
@@ -137,7 +137,7 @@ led-more w scope now behind sts names more low high i st ss ts ss' h is es' ext 
 pub led-last : (w : Whole) (scope now : SymbolScope) (sts : List Stmt) (names : Names) (i : ℕ) (ss : List Step) → length sts ≤ i → NarrowLed w scope sts names ss now (drop i sts) → IsNarrowStated w names scope (list_statements sts) ss now
 led-last w scope now sts names i ss h a =
     subst (λ k. IsNarrowStated w names scope (list_statements sts) k now) (append-nil ss)
-    (a.by names [] now ([], sym (append-nil names)) (subst (λ k. IsNarrowStated w names now (list_statements k) [] now) (sym (dropped-all sts i h)) (stated-nil w names now)))
+    (a.by names [] now ([], sym (append-nil names)) (subst (λ k. IsNarrowStated w names now (list_statements k) [] now) (sym (drop_all i sts h)) (stated-nil w names now)))
 
 -- ---- the operands of a comparison, in their order and turned
 pub two-operands : (s u : Symbol) → IsWithin (all_vars (word_operand s ∷ word_operand u ∷ [])) (all_vars (operands s) ++ all_vars (operands u))

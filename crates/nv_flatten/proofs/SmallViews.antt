@@ -1,6 +1,7 @@
 -- The lemmas on small code, at the values that the functions have.
 use Rattle.std.proofs.Common.{◌≡◌, ℕ, zero, suc, ◌+◌, ◌<◌, ◌≤◌, nat_lt, length, drop, get_or, List, [], ◌∷◌, ◌++◌, append_assoc, append-nil, refl, sym, ap, subst, ◌∙◌, arith}
 use Rattle.std.proofs.lemmas.Bool.{ltb-false}
+use Rattle.std.proofs.lemmas.List.{drop_all}
 use Rattle.nv_base.specs.declared.term.Atom.{Atom}
 use Rattle.nv_base.specs.declared.term.Atom.TheVariants.{Var}
 use Rattle.nv_ast.specs.declared.token.Span.{Span}
@@ -22,7 +23,6 @@ use Rattle.nv_flatten.proofs.WellTypes.{middle-of}
 use Rattle.nv_flatten.proofs.SmallValues.{value-small-more, stated-small-more, shift-none-small, shift-small}
 use Rattle.nv_flatten.proofs.SmallLists.{small-values-nil, small-values-cons, small-fields-nil, small-fields-cons, small-stated-nil, small-stated-cons}
 use Rattle.flat_code.proofs.Keeping.{extends-then}
-use Rattle.nv_meaning.proofs.Lists.{dropped-all}
 use Rattle.nv_ast.proofs.Items.{next_item}
 use Rattle.nv_ast.proofs.Faultless.{not_where}
 
@@ -78,7 +78,7 @@ pub small-front-last : (w : Whole) (scope : SymbolScope) (es : List Expr) (names
 small-front-last w scope es names i ss vs h a =
     subst (λ k. AreSmallValues w names scope (list_trees es) k (list_symbols vs)) (append-nil ss)
     (subst (λ k. AreSmallValues w names scope (list_trees es) (ss ++ []) (list_symbols k)) (append-nil vs)
-    (a.by names [] [] ([], sym (append-nil names)) (subst (λ k. AreSmallValues w names scope (list_trees k) [] (list_symbols [])) (sym (dropped-all es i h)) (small-values-nil w names scope))))
+    (a.by names [] [] ([], sym (append-nil names)) (subst (λ k. AreSmallValues w names scope (list_trees k) [] (list_symbols [])) (sym (drop_all i es h)) (small-values-nil w names scope))))
 
 -- fields
 pub record SmallFields (w : Whole) (scope : SymbolScope) (es : List (List ℕ × Expr)) (names : Names) (ss : List Step) (vs : List Named) (rest : List (List ℕ × Expr)) : Type 0 where
@@ -107,7 +107,7 @@ pub small-row-last : (w : Whole) (scope : SymbolScope) (es : List (List ℕ × E
 small-row-last w scope es names i ss vs h a =
     subst (λ k. AreSmallFields w names scope (list_named_trees es) k (list_named_symbols vs)) (append-nil ss)
     (subst (λ k. AreSmallFields w names scope (list_named_trees es) (ss ++ []) (list_named_symbols k)) (append-nil vs)
-    (a.by names [] [] ([], sym (append-nil names)) (subst (λ k. AreSmallFields w names scope (list_named_trees k) [] (list_named_symbols [])) (sym (dropped-all es i h)) (small-fields-nil w names scope))))
+    (a.by names [] [] ([], sym (append-nil names)) (subst (λ k. AreSmallFields w names scope (list_named_trees k) [] (list_named_symbols [])) (sym (drop_all i es h)) (small-fields-nil w names scope))))
 
 -- statements
 pub record SmallLed (w : Whole) (scope : SymbolScope) (sts : List Stmt) (names : Names) (ss : List Step) (now : SymbolScope) (rest : List Stmt) : Type 0 where
@@ -130,4 +130,4 @@ small-led-more w scope now behind sts names more low high i st ss ts ss' h is es
 pub small-led-last : (w : Whole) (scope now : SymbolScope) (sts : List Stmt) (names : Names) (i : ℕ) (ss : List Step) → length sts ≤ i → SmallLed w scope sts names ss now (drop i sts) → IsSmallStated w names scope (list_statements sts) ss
 small-led-last w scope now sts names i ss h a =
     subst (λ k. IsSmallStated w names scope (list_statements sts) k) (append-nil ss)
-    (a.by names [] ([], sym (append-nil names)) (subst (λ k. IsSmallStated w names now (list_statements k) []) (sym (dropped-all sts i h)) (small-stated-nil w names now)))
+    (a.by names [] ([], sym (append-nil names)) (subst (λ k. IsSmallStated w names now (list_statements k) []) (sym (drop_all i sts h)) (small-stated-nil w names now)))

@@ -1,5 +1,5 @@
 -- Values in lists: what is said of a list as far as a loop has come.
-use Rattle.std.proofs.Common.{◌≡◌, ◌∙◌, refl, ap, sym, ℕ, zero, suc, ◌+◌, ◌<◌, ◌≤◌, arith, List, [], ◌∷◌, ◌++◌, take, drop, length, get_or, append_assoc, append-nil}
+use Rattle.std.proofs.Common.{◌≡◌, ◌∙◌, refl, ap, sym, ℕ, ◌+◌, ◌<◌, List, [], ◌∷◌, ◌++◌, take, length, get_or, append_assoc, append-nil}
 use Rattle.nv_values.specs.declared.value.Value.{Value}
 use Rattle.nv_values.specs.Values.{value_and, named_value_and, words_of, all_words, all_named_words}
 use Rattle.nv_values.specs.Values as meaning
@@ -50,11 +50,3 @@ pub field_words_added : (old now new : List ℕ) (xs : List Named) (i : ℕ) (x 
 field_words_added old now new xs i x h is e n =
     n ∙ ap (λ l. l ++ words_of (view x.1)) e ∙ append_assoc old (all_named_words (list_named_values (take i xs))) (words_of (view x.1))
     ∙ ap (λ l. old ++ l) (ap (λ l. all_named_words (list_named_values (take i xs)) ++ l) (sym (append-nil (words_of (view x.1)))) ∙ sym (all_named_words-append (take i xs) (x ∷ [])) ∙ ap (λ l. all_named_words (list_named_values l)) (sym (take_item xs i x h is)))
-
--- ---- what is left of a list
-
-pub dropped-all : {A : Type 0} (xs : List A) (i : ℕ) → length xs ≤ i → drop i xs ≡ []
-dropped-all [] zero h = refl
-dropped-all [] (suc i) h = refl
-dropped-all (x ∷ xs) zero h = absurd (omega arith)
-dropped-all (x ∷ xs) (suc i) h = dropped-all xs i (omega arith)

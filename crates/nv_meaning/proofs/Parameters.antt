@@ -1,6 +1,7 @@
 -- Values of types and of words: what is said of lists as far as a loop has come.
 use Rattle.std.proofs.Common.{◌≡◌, ◌∙◌, refl, ap, sym, subst, ℕ, zero, suc, ◌+◌, ◌<◌, ◌≤◌, ◌==◌, min, false, List, [], ◌∷◌, ◌++◌, take, drop, length, get_or, add-one, length-append, arith, if◌then◌else◌, slice_index}
 use Rattle.std.proofs.lemmas.Bool.Decides.{nat_tests}
+use Rattle.std.proofs.lemmas.List.{drop-drop}
 use Rattle.nv_ast.specs.declared.tree.TyText.{TyText}
 use Rattle.nv_ast.specs.TypeView.{type_tree, list_types, list_named_types}
 use Rattle.nv_ast.specs.Outline.{Layouts}
@@ -13,7 +14,7 @@ use Rattle.nv_meaning.specs.inner.Blanks.{blank, blanks, named_blanks, filled, a
 use Rattle.nv_values.specs.inner.View.{Named, view, list_values, list_named_values, scope_of}
 use Rattle.nv_meaning.proofs.Bindings.{scope-append}
 use Rattle.nv_meaning.proofs.Filling.{blank-words, blank-filled}
-use Rattle.nv_meaning.proofs.Unpacking.{drop-further, drop-capped}
+use Rattle.nv_meaning.proofs.Unpacking.{drop-capped}
 use Rattle.nv_ast.proofs.Items.{take_item, next_item}
 
 -- ---- blank values of types one after another
@@ -56,7 +57,7 @@ module _ (known : Layouts) where
       let long : length (words_of (blank t)) ≡ words t = blank-words t in
       let value : view x.1 ≡ value_from t (drop here ws) = same ∙ f ∙ blank-filled t (drop here ws) in
       let behind : drop next ws ≡ drop (words t) (drop here ws) =
-      ap (λ k. drop k ws) n ∙ drop-capped (here + length (words_of (blank t))) most ws short ∙ ap (λ k. drop (here + k) ws) long ∙ sym (drop-further here (words t) ws) in
+      ap (λ k. drop k ws) n ∙ drop-capped (here + length (words_of (blank t))) most ws short ∙ ap (λ k. drop (here + k) ws) long ∙ sym (drop-drop (words t) here ws) in
       let scope : scope_of new [] ≡ (param.0, value_from t (drop here ws)) ∷ scope_of old [] =
       ap (λ l. scope_of l []) e ∙ scope-append old (x ∷ []) [] ∙ ap (λ y. (y, view x.1) ∷ scope_of old []) g ∙ ap (λ u. (param.0, u) ∷ scope_of old []) value in
       ap (λ l. named_scope (named_values_from rest l) (scope_of new [])) behind
@@ -92,7 +93,7 @@ filled-push (d ∷ done) (y ∷ ys) p v ws e f =
     let w : List ℕ = words_of (view y) in
     let k : length (all_words (list_values (y ∷ ys))) ≡ length w + length (all_words (list_values ys)) = length-append w (all_words (list_values ys)) in
     let g : view p ≡ filled (view v) (drop (length (all_words (list_values ys))) (drop (length w) ws)) =
-    f ∙ ap (λ n. filled (view v) (drop n ws)) k ∙ ap (λ l. filled (view v) l) (sym (drop-further (length w) (length (all_words (list_values ys))) ws)) in
+    f ∙ ap (λ n. filled (view v) (drop n ws)) k ∙ ap (λ l. filled (view v) l) (sym (drop-drop (length (all_words (list_values ys))) (length w) ws)) in
     let r : list_values (done ++ p ∷ []) ≡ all_filled (list_values (ys ++ v ∷ [])) (drop (length w) ws) = filled-push done ys p v (drop (length w) ws) (cc) g in
     ap (λ u. value_and u (list_values (done ++ p ∷ []))) h ∙ ap (value_and (filled (view y) ws)) r
 
@@ -110,7 +111,7 @@ named-push (d ∷ done) (y ∷ ys) p v ws e n f =
     let w : List ℕ = words_of (view y.1) in
     let k : length (all_named_words (list_named_values (y ∷ ys))) ≡ length w + length (all_named_words (list_named_values ys)) = length-append w (all_named_words (list_named_values ys)) in
     let g : view p.1 ≡ filled (view v.1) (drop (length (all_named_words (list_named_values ys))) (drop (length w) ws)) =
-    f ∙ ap (λ j. filled (view v.1) (drop j ws)) k ∙ ap (λ l. filled (view v.1) l) (sym (drop-further (length w) (length (all_named_words (list_named_values ys))) ws)) in
+    f ∙ ap (λ j. filled (view v.1) (drop j ws)) k ∙ ap (λ l. filled (view v.1) l) (sym (drop-drop (length (all_named_words (list_named_values ys))) (length w) ws)) in
     let r : list_named_values (done ++ p ∷ []) ≡ fields_filled (list_named_values (ys ++ v ∷ [])) (drop (length w) ws) = named-push done ys p v (drop (length w) ws) (cc) n g in
     ap (λ x. named_value_and x (view d.1) (list_named_values (done ++ p ∷ []))) m ∙ ap (λ u. named_value_and y.0.now u (list_named_values (done ++ p ∷ []))) h ∙ ap (named_value_and y.0.now (filled (view y.1) ws)) r
 
@@ -134,7 +135,7 @@ pub filled-more : (first most here next : ℕ) (ws : List ℕ) (done new ys : Li
 filled-more first most here next ws done new ys p v short before f n e = record {
   values =
       ap list_values e ∙ filled-push done ys p v (drop first ws) before.values
-      (f ∙ ap (λ l. filled (view v) l) (ap (λ k. drop k ws) before.behind ∙ drop-capped (first + length (all_words (list_values ys))) most ws short ∙ sym (drop-further first (length (all_words (list_values ys))) ws)));
+      (f ∙ ap (λ l. filled (view v) l) (ap (λ k. drop k ws) before.behind ∙ drop-capped (first + length (all_words (list_values ys))) most ws short ∙ sym (drop-drop (length (all_words (list_values ys))) first ws)));
   behind = capped-more first (length (all_words (list_values ys))) (length (words_of (view v))) most here next before.behind n ∙ ap (λ k. min (first + k) most) (sym (words-push ys v));
 }
 
@@ -149,7 +150,7 @@ pub fields-more : (first most here next : ℕ) (ws : List ℕ) (done new ys : Li
 fields-more first most here next ws done new ys p v short before m f n e = record {
   values =
       ap list_named_values e ∙ named-push done ys p v (drop first ws) before.values m
-      (f ∙ ap (λ l. filled (view v.1) l) (ap (λ k. drop k ws) before.behind ∙ drop-capped (first + length (all_named_words (list_named_values ys))) most ws short ∙ sym (drop-further first (length (all_named_words (list_named_values ys))) ws)));
+      (f ∙ ap (λ l. filled (view v.1) l) (ap (λ k. drop k ws) before.behind ∙ drop-capped (first + length (all_named_words (list_named_values ys))) most ws short ∙ sym (drop-drop (length (all_named_words (list_named_values ys))) first ws)));
   behind = capped-more first (length (all_named_words (list_named_values ys))) (length (words_of (view v.1))) most here next before.behind n ∙ ap (λ k. min (first + k) most) (sym (named_words-push ys v));
 }
 

@@ -1,7 +1,7 @@
 -- What a table of declarations finds.
 use Rattle.std.proofs.Common.{◌≡◌, ℕ, zero, suc, ◌+◌, ◌<◌, ◌≤◌, Bool, true, false, not, List, [], ◌∷◌, ◌++◌, refl, sym, ap, ◌∙◌, subst, length, take, drop, get_or, map, add-one, Option, Some, None, bytes_eq, if◌then◌else◌, append_assoc, append-nil, length-append, arith, Bor, cond}
 use Rattle.std.proofs.Math.Seq.{take-append_seam}
-use Rattle.std.proofs.lemmas.List.{take_all, length-map, map-append}
+use Rattle.std.proofs.lemmas.List.{take_all, length-map, map-append, drop_all}
 use Rattle.std.proofs.lemmas.Bool.{cond-true, cond-false}
 use Rattle.std.proofs.lemmas.Slice.Eq.{bytes_eq-Decides}
 use Rattle.std.specs.Cmp.Lexicographic.{nat_list_eq_equiv}
@@ -19,7 +19,6 @@ use Rattle.nv_ast.specs.Outline.{OutlineTree, Layouts, outline, PartsOutline, no
 use Rattle.nv_ast.specs.Tree.{LayoutTree, FunTree, DeclTree, LayoutDecl, ExceptionDecl, GroupDecl, ProgramTree}
 use Rattle.nv_meaning.specs.Meaning.{Declared, with_decl, with_decls, declared, function_in}
 use Rattle.nv_meaning.specs.inner.Tables.{place_from, or_else, laid, layout_pairs, functions_in, layouts_in, exceptions_in}
-use Rattle.nv_meaning.proofs.Lists.{dropped-all}
 use Rattle.nv_ast.proofs.Items.{take_item, next_item}
 use Rattle.nv_ast.proofs.ExceptionCounts.{exceptions_append}
 
@@ -84,7 +83,7 @@ place-turn name_of f g xs i a h is step before x =
 pub place-done : {A : Type 0} (name_of : A → List ℕ) (f : List ℕ → Option ℕ) (xs : List A) (i : ℕ) → length xs ≤ i
     → ((x : List ℕ) → or_else (f x) (place_from i x (map name_of (drop i xs))) ≡ place_from 0 x (map name_of xs))
     → (x : List ℕ) → f x ≡ place_from 0 x (map name_of xs)
-place-done name_of f xs i h before x = sym (or_else-none (f x)) ∙ ap (λ l. or_else (f x) (place_from i x (map name_of l))) (sym (dropped-all xs i h)) ∙ before x
+place-done name_of f xs i h before x = sym (or_else-none (f x)) ∙ ap (λ l. or_else (f x) (place_from i x (map name_of l))) (sym (drop_all i xs h)) ∙ before x
 
 pub place-first : {A : Type 0} (name_of : A → List ℕ) (f : List ℕ → Option ℕ) (xs : List A) → ((x : List ℕ) → f x ≡ None) → (x : List ℕ) → or_else (f x) (place_from 0 x (map name_of (drop 0 xs))) ≡ place_from 0 x (map name_of xs)
 place-first name_of f xs none x = ap (λ o. or_else o (place_from 0 x (map name_of (drop 0 xs)))) (none x)

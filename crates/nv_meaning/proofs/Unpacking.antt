@@ -1,7 +1,7 @@
 -- Records out of a list of bits: what is said of a list of fields as far as a loop has come.
 use Rattle.std.proofs.lemmas.Bool.{cases_lt}
 use Rattle.std.proofs.Common.{inl, inr, ◌≡◌, ◌∙◌, refl, ap, sym, ℕ, zero, suc, ◌+◌, ◌<◌, ◌≤◌, min, max, false, List, [], ◌∷◌, ◌++◌, take, drop, length, get_or, arith}
-use Rattle.std.proofs.lemmas.List.{drop_all}
+use Rattle.std.proofs.lemmas.List.{drop_all, drop-drop}
 use Rattle.nv_ast.specs.declared.tree.FieldText.{FieldText}
 use Rattle.nv_ast.specs.declared.tree.LayoutText.{LayoutText}
 use Rattle.nv_ast.specs.Tree.{LayoutTree, NamedLayout, GapLayout, PartsLayout, JoinedLayout}
@@ -57,11 +57,6 @@ pub drop-nothing : {A : Type 0} (n : ℕ) → drop {A = A} n [] ≡ []
 drop-nothing zero = refl
 drop-nothing (suc n) = refl
 
-pub drop-further : {A : Type 0} (n m : ℕ) (xs : List A) → drop m (drop n xs) ≡ drop (n + m) xs
-drop-further zero m xs = let e : 0 + m ≡ m = omega arith in ap (λ k. drop k xs) (sym e)
-drop-further (suc n) m [] = drop-nothing m ∙ sym (drop-nothing (suc n + m))
-drop-further (suc n) m (x ∷ xs) = let e : suc n + m ≡ suc (n + m) = omega arith in drop-further n m xs ∙ ap (λ k. drop k (x ∷ xs)) (sym e)
-
 -- a place that stands still behind the end
 pub drop-capped : (k most : ℕ) (bs : List ℕ) → length bs ≤ most → drop (min k most) bs ≡ drop k bs
 drop-capped k most bs h = elim (cases_lt k most) [
@@ -71,7 +66,7 @@ drop-capped k most bs h = elim (cases_lt k most) [
 
 -- the bits behind a place that stands still, and behind k more
 pub drop-at : (at first k most : ℕ) (bs : List ℕ) → length bs ≤ most → at ≡ min (first + k) most → drop at bs ≡ drop k (drop first bs)
-drop-at at first k most bs h e = ap (λ n. drop n bs) e ∙ drop-capped (first + k) most bs h ∙ sym (drop-further first k bs)
+drop-at at first k most bs h e = ap (λ n. drop n bs) e ∙ drop-capped (first + k) most bs h ∙ sym (drop-drop k first bs)
 
 -- ---- fields in order
 module _ (known : Layouts) where
@@ -102,7 +97,7 @@ module _ (known : Layouts) where
   parts-append [] ys bs = refl
   parts-append (x ∷ xs) ys bs =
       ap (named_value_and x.0 (value_at (field_outline known (field_tree x.1)) bs)) (parts-append xs ys (drop (size (field_outline known (field_tree x.1))) bs)
-      ∙ ap (λ l. parts_at (outlines_of xs) (drop (size (field_outline known (field_tree x.1))) bs) ++_fields parts_at (outlines_of ys) l) (drop-further (size (field_outline known (field_tree x.1))) (total_named_size (outlines_of xs)) bs))
+      ∙ ap (λ l. parts_at (outlines_of xs) (drop (size (field_outline known (field_tree x.1))) bs) ++_fields parts_at (outlines_of ys) l) (drop-drop (total_named_size (outlines_of xs)) (size (field_outline known (field_tree x.1))) bs))
 
   pub parts_more : (xs : List FieldItem) (i : ℕ) (p : FieldItem) (bs : List ℕ) → i < length xs → p ≡ get_or xs i p → parts_at (outlines_of (take (i + 1) xs)) bs ≡ parts_at (outlines_of (take i xs)) bs ++_fields named_value_and p.0 (value_at (field_outline known (field_tree p.1)) (drop (total_named_size (outlines_of (take i xs))) bs)) no_named_values
   parts_more xs i p bs h e = ap (λ l. parts_at (outlines_of l) bs) (take_item xs i p h e) ∙ parts-append (take i xs) (p ∷ []) bs
@@ -139,7 +134,7 @@ module _ (known : Layouts) where
   joined-append [] ys bs = refl
   joined-append (x ∷ xs) ys bs =
       let o = outline known (layout_tree x) in
-      ap (λ l. fields_of (value_at o bs) ++_fields l) (joined-append xs ys (drop (size o) bs) ∙ ap (λ l. joined_at (joined_of xs) (drop (size o) bs) ++_fields joined_at (joined_of ys) l) (drop-further (size o) (total_size (joined_of xs)) bs))
+      ap (λ l. fields_of (value_at o bs) ++_fields l) (joined-append xs ys (drop (size o) bs) ∙ ap (λ l. joined_at (joined_of xs) (drop (size o) bs) ++_fields joined_at (joined_of ys) l) (drop-drop (total_size (joined_of xs)) (size o) bs))
       ∙ sym (fields-assoc (fields_of (value_at o bs)) (joined_at (joined_of xs) (drop (size o) bs)) (joined_at (joined_of ys) (drop (size o + total_size (joined_of xs)) bs)))
 
   pub joined_more : (xs : List LayoutText) (i : ℕ) (l : LayoutText) (bs : List ℕ) → i < length xs → l ≡ get_or xs i l → joined_at (joined_of (take (i + 1) xs)) bs ≡ joined_at (joined_of (take i xs)) bs ++_fields fields_of (value_at (outline known (layout_tree l)) (drop (total_size (joined_of (take i xs))) bs))

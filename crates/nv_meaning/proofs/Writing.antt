@@ -3,7 +3,7 @@ use Rattle.std.proofs.Common.{◌≡◌, ◌∙◌, refl, ap, sym, subst, ℕ, z
 use Rattle.std.proofs.Math.Nat.{div-eq_of_lt}
 use Rattle.std.proofs.Math.Seq.{take-append_seam, drop-append_seam}
 use Rattle.std.proofs.lemmas.Bool.{cases_lt}
-use Rattle.std.proofs.lemmas.List.{take-append-drop, take_all, drop-replicate, length-replicate}
+use Rattle.std.proofs.lemmas.List.{take-append-drop, take_all, drop-replicate, length-replicate, drop_all}
 use Rattle.nv_ast.specs.Bits.{bits, number, packed, replaced}
 use Rattle.nv_ast.specs.declared.tree.LayoutText.{LayoutText}
 use Rattle.nv_ast.specs.LayoutView.{layout_tree, field_tree}
@@ -12,7 +12,6 @@ use Rattle.nv_layout.proofs.BitLists.{length-bits, bits-split, packed-append, pa
 use Rattle.nv_values.specs.Values.{Value, NamedValues, word_of, fields_of, field_named, has_field}
 use Rattle.nv_meaning.specs.Packing.{bits_of, parts_bits, chosen_bits, joined_bits, words_of_bits}
 use Rattle.nv_meaning.specs.inner.Blanks.{IsBlankFrom}
-use Rattle.nv_meaning.proofs.Lists.{dropped-all}
 use Rattle.nv_meaning.proofs.Packed.{replaced-more, replaced-zeros, replicate-split, blank-behind, number-word}
 use Rattle.nv_meaning.proofs.Unpacking.{FieldItem, outlines_of, joined_of, drop-nothing}
 use Rattle.nv_ast.proofs.Items.{take_item, next_item}
@@ -195,4 +194,4 @@ length-words (suc n) bs = ap suc (length-words n (drop 32 bs))
 
 -- a vector all of whose items were written
 pub back-all : {A : Type 0} (new items : List A) (n : ℕ) → length new ≡ length items → n ≡ length items → take n (new ++ drop (length new) items) ≡ new
-back-all new items n e f = ap (λ l. take n (new ++ l)) (dropped-all items (length new) (omega arith)) ∙ ap (λ l. take n l) (append-nil new) ∙ take_all n new (omega arith)
+back-all new items n e f = ap (λ l. take n (new ++ l)) (drop_all (length new) items (omega arith)) ∙ ap (λ l. take n l) (append-nil new) ∙ take_all n new (omega arith)

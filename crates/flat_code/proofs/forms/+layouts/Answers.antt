@@ -1,11 +1,11 @@
 use Rattle.std.proofs.Common.{◌≡◌, ◌∙◌, ◌+◌, ◌++◌, ap, sym, refl, subst, arith, take, drop, OnOk}
+use Rattle.std.proofs.lemmas.List.{drop_all}
 use Rattle.nv_ast.specs.LayoutView.{layout_tree, field_tree, list_fields, list_layouts}
 use Rattle.nv_ast.specs.Outline.{PartsOutline, JoinedOutline, OverlayOutline, outline, outlines, field_outline, field_outlines, outline_height}
 use Rattle.nv_ast.specs.Types.{words, total_named_words, unpacked, unpacked_all, form_of, forms_of, joined_forms, record_forms}
 use Rattle.nv_ast.proofs.Reading.{parts_is, joined_is, overlay_is}
 use Rattle.nv_meaning.specs.inner.TableView.{declared_in}
 use Rattle.nv_meaning.specs.inner.Tables.{layout_pairs}
-use Rattle.nv_meaning.proofs.Lists.{dropped-all}
 use Rattle.nv_meaning.proofs.Unpacking.{alias-low, highest_named_within, highest_within}
 use Rattle.flat_code.specs.inner.Fields.{◌++_symbols◌}
 use Rattle.flat_code.specs.inner.Symbols.{Record, fresh, named_fresh, numbers_from}
@@ -82,7 +82,7 @@ add_joined-loop-l-preserved t c =
 
 pub add_joined-returns-clause-fields : goal.add_joined-returns-clause-fields
 add_joined-returns-clause-fields t c =
-    fields-done c.loop-l.next (unpacked_all (joined_forms (outlines (take c.args.limit (declared_in c.args.t.now).layouts) (list_layouts (drop c.loop-l.l-index c.args.ls.now))))) c.loop-l.fields.items _ (ap (λ ls. unpacked_all (joined_forms (outlines (take c.args.limit (declared_in c.args.t.now).layouts) (list_layouts ls)))) (dropped-all c.args.ls.now c.loop-l.l-index (omega arith))) c.loop-l.invariant.fields
+    fields-done c.loop-l.next (unpacked_all (joined_forms (outlines (take c.args.limit (declared_in c.args.t.now).layouts) (list_layouts (drop c.loop-l.l-index c.args.ls.now))))) c.loop-l.fields.items _ (ap (λ ls. unpacked_all (joined_forms (outlines (take c.args.limit (declared_in c.args.t.now).layouts) (list_layouts ls)))) (drop_all c.loop-l.l-index c.args.ls.now (omega arith))) c.loop-l.invariant.fields
 
 pub add_parts-loop-f-preserved : goal.add_parts-loop-f-preserved
 add_parts-loop-f-preserved t c =
@@ -96,7 +96,7 @@ add_parts-loop-f-preserved t c =
 
 pub add_parts-returns-clause-fields : goal.add_parts-returns-clause-fields
 add_parts-returns-clause-fields t c =
-    fields-done c.loop-f.next (unpacked_all (forms_of (field_outlines (take c.args.limit (declared_in c.args.t.now).layouts) (list_fields (drop c.loop-f.f-index c.args.fs.now))))) c.loop-f.fields.items _ (ap (λ fs. unpacked_all (forms_of (field_outlines (take c.args.limit (declared_in c.args.t.now).layouts) (list_fields fs)))) (dropped-all c.args.fs.now c.loop-f.f-index (omega arith))) c.loop-f.invariant.fields
+    fields-done c.loop-f.next (unpacked_all (forms_of (field_outlines (take c.args.limit (declared_in c.args.t.now).layouts) (list_fields (drop c.loop-f.f-index c.args.fs.now))))) c.loop-f.fields.items _ (ap (λ fs. unpacked_all (forms_of (field_outlines (take c.args.limit (declared_in c.args.t.now).layouts) (list_fields fs)))) (drop_all c.loop-f.f-index c.args.fs.now (omega arith))) c.loop-f.invariant.fields
 
 pub of_field-returns-in-Ok-clause-symbol : goal.of_field-returns-in-Ok-clause-symbol
 of_field-returns-in-Ok-clause-symbol t c =

@@ -1,9 +1,9 @@
 use Rattle.std.proofs.Common.{◌≡◌, ◌∙◌, ◌+◌, ◌++◌, ap, sym, refl, subst, arith, drop, OnOk, IfOk}
+use Rattle.std.proofs.lemmas.List.{drop_all}
 use Rattle.nv_ast.specs.Types.{type_of, types_of, named_types_of, words, total_words, total_named_words}
 use Rattle.nv_ast.specs.TypeView.{type_tree, list_types, list_named_types}
 use Rattle.nv_ast.proofs.Reading.{tuple_type_is, record_type_is}
 use Rattle.nv_meaning.specs.inner.TableView.{declared_in}
-use Rattle.nv_meaning.proofs.Lists.{dropped-all}
 use Rattle.flat_code.specs.inner.Symbols.{Tuple, Record, fresh, all_fresh, named_fresh, numbers_from}
 use Rattle.flat_code.specs.inner.View.{view}
 use Rattle.flat_code.proofs.Listing.{tuple-view, record-view, numbers-turn, symbols-turn, symbols-done, fields-turn, fields-done}
@@ -82,7 +82,7 @@ of_types-loop-ty-preserved t c =
 
 pub of_types-returns-clause-symbols : goal.of_types-returns-clause-symbols
 of_types-returns-clause-symbols t c =
-    symbols-done c.loop-ty.next (types_of (declared_in c.args.t.now).layouts (list_types (drop c.loop-ty.ty-index c.args.tys.now))) c.loop-ty.symbols.items _ (ap (λ l. types_of (declared_in c.args.t.now).layouts (list_types l)) (dropped-all c.args.tys.now c.loop-ty.ty-index (omega arith))) c.loop-ty.invariant.symbols
+    symbols-done c.loop-ty.next (types_of (declared_in c.args.t.now).layouts (list_types (drop c.loop-ty.ty-index c.args.tys.now))) c.loop-ty.symbols.items _ (ap (λ l. types_of (declared_in c.args.t.now).layouts (list_types l)) (drop_all c.loop-ty.ty-index c.args.tys.now (omega arith))) c.loop-ty.invariant.symbols
 
 pub of_fields-loop-ty-preserved : goal.of_fields-loop-ty-preserved
 of_fields-loop-ty-preserved t c =
@@ -96,4 +96,4 @@ of_fields-loop-ty-preserved t c =
 
 pub of_fields-returns-clause-symbols : goal.of_fields-returns-clause-symbols
 of_fields-returns-clause-symbols t c =
-    fields-done c.loop-ty.next (named_types_of (declared_in c.args.t.now).layouts (list_named_types (drop c.loop-ty.ty-index c.args.tys.now))) c.loop-ty.fields.items _ (ap (λ l. named_types_of (declared_in c.args.t.now).layouts (list_named_types l)) (dropped-all c.args.tys.now c.loop-ty.ty-index (omega arith))) c.loop-ty.invariant.symbols
+    fields-done c.loop-ty.next (named_types_of (declared_in c.args.t.now).layouts (list_named_types (drop c.loop-ty.ty-index c.args.tys.now))) c.loop-ty.fields.items _ (ap (λ l. named_types_of (declared_in c.args.t.now).layouts (list_named_types l)) (drop_all c.loop-ty.ty-index c.args.tys.now (omega arith))) c.loop-ty.invariant.symbols

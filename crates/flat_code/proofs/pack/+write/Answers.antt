@@ -1,5 +1,5 @@
 use Rattle.std.proofs.Common.{◌≡◌, ◌∙◌, ◌+◌, ◌*◌, ◌≤◌, ap, sym, refl, subst, arith, List, [], ℕ, take, length, IfOk, OnOk}
-use Rattle.std.proofs.lemmas.List.{take_all, length-replicate}
+use Rattle.std.proofs.lemmas.List.{take_all, length-replicate, drop_all}
 use Rattle.std.proofs.lemmas.Result.{IfOk-weaker}
 use Rattle.nv_base.specs.declared.term.Atom.{Atom}
 use Rattle.nv_base.specs.declared.term.Atom.TheVariants.{Lit}
@@ -15,7 +15,6 @@ use Rattle.nv_meaning.specs.Packing.{bits_of, parts_bits, chosen_bits, joined_bi
 use Rattle.nv_meaning.specs.inner.TableView.{declared_in}
 use Rattle.nv_meaning.proofs.Unpacking.{FieldItem, alias_rank, alias-low, alias-none, total_named_within, longest_within, highest_named_within, total_within, highest_within}
 use Rattle.nv_meaning.proofs.Writing.{parts_bits-more, joined_bits-more, chosen-turn, parts-within, joined-within, behind-more}
-use Rattle.nv_meaning.proofs.Lists.{dropped-all}
 use Rattle.nv_meaning.proofs.Bindings.{if-true, if-false}
 use Rattle.flat_ir.specs.declared.spine.Step.{Step}
 use Rattle.flat_code.specs.inner.Symbols.{Symbol, Word, operands, value_in, word_operand, fields_of as symbols_of, field_named as symbol_named}
@@ -273,11 +272,11 @@ write_chosen-returns-clause-writes t c =
     (subst (λ (ss : List Step). Writes (AllNamedSound (field_outlines (take c.args.limit (declared_in c.args.t.now).layouts) (list_fields c.args.fs.now))) c.loop-f.next c.loop-f.next (view c.args.s.now) ss c.loop-f.steps.items c.args.words.now c.loop-f.words c.args.at (λ v. chosen_bits (field_outlines (take c.args.limit (declared_in c.args.t.now).layouts) (list_fields c.args.fs.now)) (fields_of v))) c.loop-f.invariant.steps
     (subst (λ (as' : List Atom). Writes (AllNamedSound (field_outlines (take c.args.limit (declared_in c.args.t.now).layouts) (list_fields c.args.fs.now))) c.loop-f.next c.loop-f.next (view c.args.s.now) c.loop-f.steps.items c.loop-f.steps.items as' c.loop-f.words c.args.at (λ v. chosen_bits (field_outlines (take c.args.limit (declared_in c.args.t.now).layouts) (list_fields c.args.fs.now)) (fields_of v))) c.loop-f.invariant.words
     (writes-of (AllNamedSound (field_outlines (take c.args.limit (declared_in c.args.t.now).layouts) (list_fields c.args.fs.now))) (AllNamedSound (field_outlines (take c.args.limit (declared_in c.args.t.now).layouts) (list_fields c.args.fs.now))) c.loop-f.next c.loop-f.next (view c.args.s.now) (view c.args.s.now) c.loop-f.steps.items c.loop-f.steps.items c.loop-f.words c.loop-f.words c.args.at (λ v. []) (λ v. chosen_bits (field_outlines (take c.args.limit (declared_in c.args.t.now).layouts) (list_fields c.args.fs.now)) (fields_of v))
-    (writes-none (AllNamedSound (field_outlines (take c.args.limit (declared_in c.args.t.now).layouts) (list_fields c.args.fs.now))) c.loop-f.next (view c.args.s.now) c.loop-f.steps.items c.loop-f.words c.args.at 0 (λ v. []) (omega (arith, c.requires.inside)) (λ v. refl)) (λ q. q) (λ o. o) (λ env g. g) (λ env. sym (sym (c.loop-f.invariant.bits env) ∙ ap (λ l. chosen_bits (field_outlines (take c.args.limit (declared_in c.args.t.now).layouts) (list_fields l)) (fields_of (value_in env (view c.args.s.now)))) (dropped-all c.args.fs.now c.loop-f.f-index (omega arith)))))))
+    (writes-none (AllNamedSound (field_outlines (take c.args.limit (declared_in c.args.t.now).layouts) (list_fields c.args.fs.now))) c.loop-f.next (view c.args.s.now) c.loop-f.steps.items c.loop-f.words c.args.at 0 (λ v. []) (omega (arith, c.requires.inside)) (λ v. refl)) (λ q. q) (λ o. o) (λ env g. g) (λ env. sym (sym (c.loop-f.invariant.bits env) ∙ ap (λ l. chosen_bits (field_outlines (take c.args.limit (declared_in c.args.t.now).layouts) (list_fields l)) (fields_of (value_in env (view c.args.s.now)))) (drop_all c.loop-f.f-index c.args.fs.now (omega arith)))))))
 
 pub write_chosen-returns-clause-behind : goal.write_chosen-returns-clause-behind
 write_chosen-returns-clause-behind t c =
-    λ env. (let e = ap length (sym (c.loop-f.invariant.bits env) ∙ ap (λ l. chosen_bits (field_outlines (take c.args.limit (declared_in c.args.t.now).layouts) (list_fields l)) (fields_of (value_in env (view c.args.s.now)))) (dropped-all c.args.fs.now c.loop-f.f-index (omega arith))) in omega arith)
+    λ env. (let e = ap length (sym (c.loop-f.invariant.bits env) ∙ ap (λ l. chosen_bits (field_outlines (take c.args.limit (declared_in c.args.t.now).layouts) (list_fields l)) (fields_of (value_in env (view c.args.s.now)))) (drop_all c.loop-f.f-index c.args.fs.now (omega arith))) in omega arith)
 
 pub write_field-write_bits-requires : goal.write_field-write_bits-requires
 write_field-write_bits-requires t c =

@@ -1,7 +1,7 @@
 use Rattle.std.proofs.Common.{◌≡◌, ◌+◌, ap, refl, arith, drop, []}
+use Rattle.std.proofs.lemmas.List.{drop_all}
 use Rattle.nv_ast.specs.Types.{type_of, named_types_of, words, total_named_words}
 use Rattle.nv_ast.specs.TypeView.{type_tree, list_named_types}
-use Rattle.nv_meaning.proofs.Lists.{dropped-all}
 use Rattle.flat_code.specs.inner.View.{scope_of}
 use Rattle.flat_parts.specs.inner.WholeView.{whole_in}
 use Rattle.flat_code.proofs.Listing.{numbers-turn, params-turn, params-done}
@@ -20,4 +20,4 @@ loop-param-preserved c =
 
 pub returns-clause-scope : goal.returns-clause-scope
 returns-clause-scope c =
-    params-done c.loop-param.next (named_types_of (whole_in c.args.t.now).declared.layouts (list_named_types (drop c.loop-param.param-index c.args.params.now))) (scope_of c.loop-param.scope.items []) _ (ap (λ l. named_types_of (whole_in c.args.t.now).declared.layouts (list_named_types l)) (dropped-all c.args.params.now c.loop-param.param-index (omega arith))) c.loop-param.invariant.scope
+    params-done c.loop-param.next (named_types_of (whole_in c.args.t.now).declared.layouts (list_named_types (drop c.loop-param.param-index c.args.params.now))) (scope_of c.loop-param.scope.items []) _ (ap (λ l. named_types_of (whole_in c.args.t.now).declared.layouts (list_named_types l)) (drop_all c.loop-param.param-index c.args.params.now (omega arith))) c.loop-param.invariant.scope

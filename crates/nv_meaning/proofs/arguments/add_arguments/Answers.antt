@@ -1,12 +1,12 @@
 use Rattle.std.proofs.Common.{◌∙◌, ◌≤◌, [], ap, sym, refl, drop, length, arith}
 use Rattle.std.below.core.specs.declared.int.usize.TheConstants.{MAX}
+use Rattle.std.proofs.lemmas.List.{drop_all}
 use Rattle.nv_ast.specs.Types.{named_types_of}
 use Rattle.nv_ast.specs.TypeView.{list_named_types}
 use Rattle.nv_values.specs.Values.{named_values_from}
 use Rattle.nv_meaning.specs.Meaning.{named_scope}
 use Rattle.nv_meaning.specs.inner.TableView.{declared_in}
 use Rattle.nv_values.specs.inner.View.{scope_of}
-use Rattle.nv_meaning.proofs.Lists.{dropped-all}
 use Rattle.nv_meaning.proofs.Parameters.{arguments-turn}
 use Rattle.nv_meaning.proofs.arguments.add_arguments.Goals as goal
 
@@ -18,5 +18,5 @@ loop-param-preserved c =
 
 pub returns : goal.returns
 returns c =
-    sym (ap (λ l. named_scope (named_values_from (named_types_of (declared_in c.args.t.now).layouts (list_named_types l)) (drop c.loop-param.at c.args.args.now)) (scope_of c.loop-param.scope.items [])) (dropped-all c.args.params.now c.loop-param.param-index (omega arith)))
+    sym (ap (λ l. named_scope (named_values_from (named_types_of (declared_in c.args.t.now).layouts (list_named_types l)) (drop c.loop-param.at c.args.args.now)) (scope_of c.loop-param.scope.items [])) (drop_all c.loop-param.param-index c.args.params.now (omega arith)))
     ∙ c.loop-param.invariant

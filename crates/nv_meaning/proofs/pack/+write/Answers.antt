@@ -1,5 +1,5 @@
 use Rattle.std.proofs.Common.{◌≡◌, ◌∙◌, ◌+◌, ◌*◌, ◌≤◌, ap, sym, refl, subst, arith, take, length}
-use Rattle.std.proofs.lemmas.List.{take_all, length-replicate}
+use Rattle.std.proofs.lemmas.List.{take_all, length-replicate, drop_all}
 use Rattle.nv_ast.specs.Bits.{bits, packed, replaced}
 use Rattle.nv_ast.specs.LayoutView.{layout_tree, field_tree, list_fields, list_layouts}
 use Rattle.nv_ast.specs.Outline.{PartsOutline, JoinedOutline, OverlayOutline, outline, outlines, field_outline, field_outlines, size, outline_height}
@@ -13,7 +13,6 @@ use Rattle.nv_values.specs.inner.View.{view, list_named_values}
 use Rattle.nv_meaning.proofs.Unpacking.{alias_rank, alias-low, alias-none, total_named_within, longest_within, highest_named_within, total_within, highest_within}
 use Rattle.nv_meaning.proofs.Packed.{replaced-nothing, replaced-zeros}
 use Rattle.nv_meaning.proofs.Writing.{parts_bits-more, joined_bits-more, chosen-turn, parts-within, joined-within, written-more, behind-more, blank-after}
-use Rattle.nv_meaning.proofs.Lists.{dropped-all}
 use Rattle.nv_meaning.proofs.Bindings.{if-true, if-false}
 use Rattle.nv_meaning.proofs.pack.+write.Goals as goal
 
@@ -204,11 +203,11 @@ write_chosen-loop-f-preserved t c =
 
 pub write_chosen-returns-clause-words : goal.write_chosen-returns-clause-words
 write_chosen-returns-clause-words t c =
-    ap packed c.loop-f.invariant.words ∙ sym (ap (λ l. replaced c.args.at l (packed c.args.words.now)) (sym c.loop-f.invariant.bits ∙ ap (λ l. chosen_bits (field_outlines (take c.args.limit (declared_in c.args.t.now).layouts) (list_fields l)) (list_named_values c.args.fields.now)) (dropped-all c.args.fs.now c.loop-f.f-index (omega arith))) ∙ replaced-nothing c.args.at (packed c.args.words.now))
+    ap packed c.loop-f.invariant.words ∙ sym (ap (λ l. replaced c.args.at l (packed c.args.words.now)) (sym c.loop-f.invariant.bits ∙ ap (λ l. chosen_bits (field_outlines (take c.args.limit (declared_in c.args.t.now).layouts) (list_fields l)) (list_named_values c.args.fields.now)) (drop_all c.loop-f.f-index c.args.fs.now (omega arith))) ∙ replaced-nothing c.args.at (packed c.args.words.now))
 
 pub write_chosen-returns-clause-behind : goal.write_chosen-returns-clause-behind
 write_chosen-returns-clause-behind t c =
-    let e = ap length (sym c.loop-f.invariant.bits ∙ ap (λ l. chosen_bits (field_outlines (take c.args.limit (declared_in c.args.t.now).layouts) (list_fields l)) (list_named_values c.args.fields.now)) (dropped-all c.args.fs.now c.loop-f.f-index (omega arith))) in
+    let e = ap length (sym c.loop-f.invariant.bits ∙ ap (λ l. chosen_bits (field_outlines (take c.args.limit (declared_in c.args.t.now).layouts) (list_fields l)) (list_named_values c.args.fields.now)) (drop_all c.loop-f.f-index c.args.fs.now (omega arith))) in
     omega arith
 
 pub write_field-write_bits-requires-clause-inside : goal.write_field-write_bits-requires-clause-inside

@@ -1,5 +1,6 @@
 use Rattle.std.proofs.Common.{◌≡◌, ◌∙◌, ◌+◌, ◌-◌, ◌*◌, ◌≤◌, [], ◌∷◌, ◌++◌, refl, sym, ap, subst, drop, Ok, Err, arith, append-nil}
 use Rattle.std.proofs.lemmas.Result.{err_from_is_err_and}
+use Rattle.std.proofs.lemmas.List.{drop_all}
 use Rattle.nv_ast.specs.declared.tree.Expr.{out-Expr}
 use Rattle.nv_ast.specs.ExprView.{tree_of, list_trees, list_named_trees, list_statements, statement_tree}
 use Rattle.nv_ast.specs.PatternView.{pattern_tree, list_patterns}
@@ -17,7 +18,6 @@ use Rattle.nv_meaning.specs.declared.step.Step.TheVariants.{Done, Again}
 use Rattle.nv_values.specs.declared.stop.Stop.TheVariants.{NoMemory, Raised, Fault, Going}
 use Rattle.nv_meaning.proofs.Bindings.{extends-more}
 use Rattle.nv_meaning.proofs.Moments.{ran-here}
-use Rattle.nv_meaning.proofs.Lists.{dropped-all}
 use Rattle.nv_meaning.proofs.Arms.{Front, FrontNamed, in-scope, in-scope_value, of-tree, of-step, of-stop, settled-again, front-none, front-more, front-all, front-stop, front-short, named-none, named-more, named-all, named-stop, named-short, led-none, led-more, led-all, led-stop, let-stop, let-short, let-done, store-stop, store-stop_value, store-done, tuple-stop, tuple-done, again-stop, again-done, raise-stop, raise-done, record-stop, record-done}
 use Rattle.nv_meaning.proofs.Choices.{looked-up, restored, binary-stop, binary-decided, binary-stop_right, binary-done, choose-stop, choose-yes, choose-no, try-done, try-short, try-fault, try-going, try-other, try-handled, short-before, in-matched, block-stop, block-tail, store-scope, operand-stop, operand-made, jump-none, jump-more, jump-end, jump-none_left, jump-no_function, jump-short, entered-as}
 use Rattle.nv_ast.proofs.TreeKinds.{number-is, truth-is, variable-is, paren-is, binary-is, if-is, try-is, tuple-is, record-is, call-is, raise-is, block-is, let-is, store-is}
@@ -282,7 +282,7 @@ each-loop-e-preserved t c =
 
 pub each-returns : goal.each-returns
 each-returns t c = record {
-  ran = front-all (declared_in c.args.t.now) (scope_of c.args.scope.now.items []) c.args.es.now (at c.args.left.now c.args.p.now c.args.log.now) (at c.loop-e.left c.loop-e.p c.loop-e.log) c.loop-e.vs (drop c.loop-e.e-index c.args.es.now) (dropped-all c.args.es.now c.loop-e.e-index (omega arith)) c.loop-e.invariant.ran;
+  ran = front-all (declared_in c.args.t.now) (scope_of c.args.scope.now.items []) c.args.es.now (at c.args.left.now c.args.p.now c.args.log.now) (at c.loop-e.left c.loop-e.p c.loop-e.log) c.loop-e.vs (drop c.loop-e.e-index c.args.es.now) (drop_all c.loop-e.e-index c.args.es.now (omega arith)) c.loop-e.invariant.ran;
   left = c.loop-e.invariant.left;
   extends = extends-same c.args.scope.now.items c.loop-e.scope.items c.loop-e.invariant.same;
   same = c.loop-e.invariant.same;
@@ -326,7 +326,7 @@ each_named-loop-e-preserved t c =
 
 pub each_named-returns : goal.each_named-returns
 each_named-returns t c = record {
-  ran = named-all (declared_in c.args.t.now) (scope_of c.args.scope.now.items []) c.args.es.now (at c.args.left.now c.args.p.now c.args.log.now) (at c.loop-e.left c.loop-e.p c.loop-e.log) c.loop-e.fields (drop c.loop-e.e-index c.args.es.now) (dropped-all c.args.es.now c.loop-e.e-index (omega arith)) c.loop-e.invariant.ran;
+  ran = named-all (declared_in c.args.t.now) (scope_of c.args.scope.now.items []) c.args.es.now (at c.args.left.now c.args.p.now c.args.log.now) (at c.loop-e.left c.loop-e.p c.loop-e.log) c.loop-e.fields (drop c.loop-e.e-index c.args.es.now) (drop_all c.loop-e.e-index c.args.es.now (omega arith)) c.loop-e.invariant.ran;
   left = c.loop-e.invariant.left;
   extends = extends-same c.args.scope.now.items c.loop-e.scope.items c.loop-e.invariant.same;
   same = c.loop-e.invariant.same;
@@ -353,7 +353,7 @@ statements-loop-st-preserved t c =
 
 pub statements-returns : goal.statements-returns
 statements-returns t c = record {
-  ran = led-all (declared_in c.args.t.now) (scope_of c.args.scope.now.items []) c.args.sts.now (at c.args.left.now c.args.p.now c.args.log.now) (at c.loop-st.left c.loop-st.p c.loop-st.log) (scope_of c.loop-st.scope.items []) (drop c.loop-st.st-index c.args.sts.now) (dropped-all c.args.sts.now c.loop-st.st-index (omega arith)) c.loop-st.invariant.ran;
+  ran = led-all (declared_in c.args.t.now) (scope_of c.args.scope.now.items []) c.args.sts.now (at c.args.left.now c.args.p.now c.args.log.now) (at c.loop-st.left c.loop-st.p c.loop-st.log) (scope_of c.loop-st.scope.items []) (drop c.loop-st.st-index c.args.sts.now) (drop_all c.loop-st.st-index c.args.sts.now (omega arith)) c.loop-st.invariant.ran;
   left = c.loop-st.invariant.left;
   extends = c.loop-st.invariant.extends;
 }
