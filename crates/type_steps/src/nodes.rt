@@ -20,15 +20,12 @@ use crate::patterns::has_length;
 use crate::wanted::Wanted;
 use indexmap::IndexMap;
 use nv_ast::{Expr, Kind, Name, Op, Span};
-use nv_base::{Mem, NoMemory};
+use nv_base::{COMPILER, Mem, NoMemory};
 use type_rules::cost::Cost;
 use type_rules::error::TypeError;
 use type_rules::fields::field_type;
 use type_rules::needs::{Step, greatest_need};
 use type_table::table::{BOOL, WORD};
-
-/// The words of scratch that code may name by number.
-const SCRATCH_WORDS: u64 = 512;
 
 impl<'a> Checker<'a> {
     ghost use Rattle.type_steps.specs.inner.Standing.{Keeps, written_in};
@@ -206,7 +203,7 @@ pub fn is_in_reach(mem: Mem, address: &Expr, n: u64) -> bool
 {
     match mem {
         Mem::Scratch => match address.kind {
-            Kind::Number(at) => (at as u64).saturating_add(n) <= SCRATCH_WORDS,
+            Kind::Number(at) => (at as u64).saturating_add(n) <= COMPILER as u64,
             _ => false,
         },
         _ => true,

@@ -2,7 +2,7 @@
 use Rattle.std.specs.Prelude.{◌≡◌, ℕ, ◌+◌, ◌<◌, ◌≤◌, ◌^◌, List, Option, Some, None, All, ⊤, length, slice_get}
 use Rattle.nv_base.specs.declared.term.Mem.TheVariants.{Scratch}
 use Rattle.nv_base.specs.declared.outcome.Outcome.TheVariants as outcome
-use Rattle.nv_base.specs.Memories.{Memories, HasSizes}
+use Rattle.nv_base.specs.Memories.{Memories, HasSizes, source_scratch}
 use Rattle.nv_base.specs.Meanings.{Meaning, Same, seen}
 use Rattle.uc_isa.specs.Code.{CodeView}
 use Rattle.uc_isa.specs.Step.{address}
@@ -19,7 +19,7 @@ scratch_access _ e = None
 
 -- an access that reaches a word from 512 on lies within the 128 words from the base on
 abbrev pub KeepsToItsWords : ℕ → Option (ℕ × ℕ) → Type 0
-KeepsToItsWords base (Some access) = 512 < access.0 + access.1 → (base ≤ access.0) × (access.0 + access.1 ≤ base + 128)
+KeepsToItsWords base (Some access) = source_scratch < access.0 + access.1 → (base ≤ access.0) × (access.0 + access.1 ≤ base + 128)
 KeepsToItsWords base None = ⊤
 
 -- a source's meaning, by its arguments and the packet
@@ -30,7 +30,7 @@ SourceMeaning = List ℕ → Memories → Meaning
 pub record IsStart (params : ℕ) (args : List ℕ) (p : Memories) (base : ℕ) : Type 0 where
   pub words : (length args ≡ params) × All (λ w. w < 2 ^ 32) args
   pub memories : HasSizes p
-  pub spills : (512 ≤ base) × (base ≤ 896)
+  pub spills : (source_scratch ≤ base) × (base ≤ 896)
 
 -- the code does what a source with this many argument words says: it ends with the same, writes the same,
 -- goes on where the source goes on, and keeps to its own words of scratch

@@ -2,7 +2,7 @@
 //! a function that does nothing.
 ghost use Rattle.std.specs.Prelude.{◌≡◌, ◌+◌, ◌<◌, ◌≤◌, ◌⊎◌, ℕ, Bool, true, false, not, List, [], ◌∷◌, ◌++◌, Some, None, length, take, drop, slice_get, slice_index};
 ghost use Rattle.nv_base.specs.Meanings.{FullOutcome};
-ghost use Rattle.nv_base.specs.Memories.{HasSizes, Memories, fetched, stored};
+ghost use Rattle.nv_base.specs.Memories.{HasSizes, Memories, fetched, source_scratch, stored};
 ghost use Rattle.nv_base.specs.Words.{IsWord, bin_word, compares, shifted_left};
 ghost use Rattle.nv_base.specs.declared.outcome.Outcome.{Outcome};
 ghost use Rattle.nv_base.specs.declared.outcome.Write.{Write};
@@ -53,7 +53,7 @@ pub fn own_writes_are_unseen()
     ensures one { (base at : ℕ) (ws : List ℕ) (a : Moment) (e : Engine) (q : Memories) → stored Mem.Scratch at ws a.packet ≡ Some q → base ≤ at → at + length ws ≤ base + 128
         → WritesOwn base a (record { engine = e; packet = q; writes = a.writes ++ record { mem = Mem.Scratch; at = at; words = ws } ∷ [] }) }
     ensures then_ { (base : ℕ) (a b c : Moment) → WritesOwn base a b → WritesOwn base b c → WritesOwn base a c }
-    ensures seen { (base : ℕ) (a b : Moment) → 512 ≤ base → WritesOwn base a b → SeenAlike a b }
+    ensures seen { (base : ℕ) (a b : Moment) → source_scratch ≤ base → WritesOwn base a b → SeenAlike a b }
 {}
 
 /// An operation, or an immediate, at the place where it stands.

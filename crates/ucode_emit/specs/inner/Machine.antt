@@ -1,6 +1,6 @@
 -- The machine as words in places: registers, and slots as words of scratch from the spill base on.
 use Rattle.std.specs.Prelude.{◌≡◌, ℕ, suc, ◌+◌, ◌<◌, ◌≤◌, List, [], ◌∷◌, slice_index, All}
-use Rattle.nv_base.specs.Memories.{HasSizes}
+use Rattle.nv_base.specs.Memories.{HasSizes, source_scratch}
 use Rattle.nv_base.specs.Meanings.{source_memories, source_writes}
 use Rattle.nv_base.specs.declared.term.Mem.{Mem}
 use Rattle.nv_base.specs.Meanings.{FullOutcome, seen}
@@ -63,7 +63,7 @@ pub record Stands (base at : ℕ) (e : Words) (w : World) (m : Moment) : Type 0 
   pub place : m.engine.place ≡ at
   pub engine : IsEngine m.engine
   pub memories : HasSizes m.packet
-  pub spills : (512 ≤ base) × (base ≤ 896)
+  pub spills : (source_scratch ≤ base) × (base ≤ 896)
   pub base_kept : word_at base m (B 15) ≡ base
   pub words : (q : Place) → IsPlace q → word_at base m q ≡ e q
   pub packet : source_memories m.packet ≡ source_memories w.packet
