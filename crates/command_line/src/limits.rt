@@ -1,7 +1,7 @@
 //! Limits: the bytes of the files that commands read, and the slots, branches and instructions of a compilation. And where
 //! code may spill.
 
-use nv_base::COMPILER;
+use nv_base::SOURCE_SCRATCH;
 use nv_text::MOST_BYTES;
 
 /// A source.
@@ -35,4 +35,4 @@ pub const DEFAULT_STORE: u32 = 2_048;
 pub const MOST_STORE: u32 = 1_048_576;
 
 /// The first scratch word that code may use for itself, where the commands run it.
-pub const SPILL_BASE: u32 = COMPILER;
+pub const SPILL_BASE: u32 = SOURCE_SCRATCH;

@@ -4,7 +4,7 @@ ghost use Rattle.nv_base.specs.Memories.{IsAccess, first_word, size_limit};
 ghost use Rattle.mem_lines.specs.Places.{room};
 
 use crate::Sizes;
-use nv_base::{COMPILER, Mem};
+use nv_base::{Mem, SOURCE_SCRATCH};
 
 /// Whether so many words are an access to a memory.
 pub fn is_access(mem: Mem, count: usize) -> bool
@@ -27,6 +27,6 @@ pub fn is_inside(sizes: &Sizes, mem: Mem, at: u64, count: usize) -> bool
     match mem {
         Mem::Sram => at + count as u64 <= sizes.sram,
         Mem::Sdram => 2 * at + count as u64 <= 2 * sizes.sdram,
-        Mem::Scratch => at + count as u64 <= COMPILER as u64,
+        Mem::Scratch => at + count as u64 <= SOURCE_SCRATCH as u64,
     }
 }

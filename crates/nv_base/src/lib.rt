@@ -12,7 +12,7 @@ pub mod word;
 mod words;
 
 pub use error::{NoMemory, PacketError};
-pub use log::{COMPILER, WriteLog};
+pub use log::{SOURCE_SCRATCH, WriteLog};
 pub use outcome::{Outcome, Write};
 pub use packet::{Packet, SIZE_LIMIT};
 pub use term::{Access, Args, Atom, Bin, Cmp, Mem, Primitive, Primitive as Prim, Una, Vars};

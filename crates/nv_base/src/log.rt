@@ -9,8 +9,8 @@ use crate::term::Mem;
 use std::alloc::Global;
 use std::marker::Model;
 
-/// The first scratch word that belongs to the compiler: a source's are those below.
-pub const COMPILER: u32 = 512;
+/// How many words of scratch a source may use: those from there on belong to the compiler.
+pub const SOURCE_SCRATCH: u32 = 512;
 
 /// A log that counts all writes of a run and keeps the first of them. Its room is taken when it is
 /// made, so noting a write needs no memory.
@@ -62,7 +62,7 @@ impl WriteLog {
         requires { self.old.count < 2 ^ 63 }
         ensures { self.new ≡ noted_all self.old (source_writes (w ∷ [])) }
     {
-        if w.mem != Mem::Scratch || w.at < COMPILER {
+        if w.mem != Mem::Scratch || w.at < SOURCE_SCRATCH {
             self.note(w);
         }
     }

@@ -9,7 +9,7 @@ ghost use Rattle.nv_memtext.specs.OutcomeText.{outcome_line, write_line, stretch
 
 use line_text::{push_decimal, push_word};
 use mem_lines::start;
-use nv_base::{COMPILER, Mem, NoMemory, Outcome, Packet, Write, WriteLog};
+use nv_base::{Mem, NoMemory, Outcome, Packet, SOURCE_SCRATCH, Write, WriteLog};
 use std::alloc::{AllocError, Global};
 
 /// How many writes an outcome text shows.
@@ -183,7 +183,7 @@ pub fn print_outcome(
     push_memory(
         &mut out,
         Mem::Scratch,
-        front(p.words(Mem::Scratch), COMPILER as usize),
+        front(p.words(Mem::Scratch), SOURCE_SCRATCH as usize),
     )?;
     Ok(out)
 }

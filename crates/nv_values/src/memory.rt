@@ -9,7 +9,7 @@ ghost use Rattle.nv_values.specs.inner.Stopping.{IsValue};
 
 use crate::stop::Stop;
 use crate::value::{Value, value_of_words};
-use nv_base::{Access, COMPILER, Mem, Packet, Write, WriteLog};
+use nv_base::{Access, Mem, Packet, SOURCE_SCRATCH, Write, WriteLog};
 use std::alloc::Global;
 
 /// Whether an access may have so many words.
@@ -48,7 +48,7 @@ pub fn note(log: &mut WriteLog, w: Write)
     requires { log.old.count < 2 ^ 63 }
     ensures { log.new ≡ noted_all log.old (source_writes (w ∷ [])) }
 {
-    if w.mem != Mem::Scratch || w.at < COMPILER {
+    if w.mem != Mem::Scratch || w.at < SOURCE_SCRATCH {
         log.note(w);
     }
 }

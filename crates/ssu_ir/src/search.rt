@@ -15,7 +15,7 @@ ghost use Rattle.ssu_ir.specs.inner.Under.{HasTree, tree_at};
 use crate::node::{NodeId, SsuNode};
 use crate::pieces::{Kids, behind, clones, clones_from, operands, uses, values};
 use crate::ssu::Ssu;
-use nv_base::{COMPILER, Mem};
+use nv_base::{Mem, SOURCE_SCRATCH};
 
 /// Whether a name is in a list.
 pub fn has(xs: &[u32], x: u32) -> bool
@@ -115,7 +115,7 @@ fn fits_scratch(number: Option<u32>, n: usize) -> bool
     ensures { result ≡ rules.fits_scratch n number }
 {
     match number {
-        Some(v) => n <= COMPILER as usize && v as usize + n <= COMPILER as usize,
+        Some(v) => n <= SOURCE_SCRATCH as usize && v as usize + n <= SOURCE_SCRATCH as usize,
         None => false,
     }
 }

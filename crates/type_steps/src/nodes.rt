@@ -20,7 +20,7 @@ use crate::patterns::has_length;
 use crate::wanted::Wanted;
 use indexmap::IndexMap;
 use nv_ast::{Expr, Kind, Name, Op, Span};
-use nv_base::{COMPILER, Mem, NoMemory};
+use nv_base::{Mem, NoMemory, SOURCE_SCRATCH};
 use type_rules::cost::Cost;
 use type_rules::error::TypeError;
 use type_rules::fields::field_type;
@@ -203,7 +203,7 @@ pub fn is_in_reach(mem: Mem, address: &Expr, n: u64) -> bool
 {
     match mem {
         Mem::Scratch => match address.kind {
-            Kind::Number(at) => (at as u64).saturating_add(n) <= COMPILER as u64,
+            Kind::Number(at) => (at as u64).saturating_add(n) <= SOURCE_SCRATCH as u64,
             _ => false,
         },
         _ => true,

@@ -9,7 +9,7 @@ ghost use Rattle.uc_isa.specs.Engine.{after, halted, run, stepped_at};
 ghost use Rattle.uc_isa.specs.Lawful.{IsLawful};
 ghost use Rattle.uc_isa.specs.Step.{EndsRun};
 
-use nv_base::{COMPILER, Mem, Outcome, Packet, Words, Write, WriteLog};
+use nv_base::{Mem, Outcome, Packet, SOURCE_SCRATCH, Words, Write, WriteLog};
 use uc_isa::{Code, Engine, Stepped, step};
 
 // Notes a write of the source's; one of the compiler's scratch words isn't noted.
@@ -17,7 +17,7 @@ fn note(log: &mut WriteLog, w: Write)
     requires { log.old.count < 2 ^ 63 }
     ensures { log.new ≡ noted_all log.old (source_writes (w ∷ [])) }
 {
-    if w.mem != Mem::Scratch || w.at < COMPILER {
+    if w.mem != Mem::Scratch || w.at < SOURCE_SCRATCH {
         log.note(w);
     }
 }
