@@ -3,7 +3,7 @@
 ghost use Rattle.std.specs.Prelude.{◌≡◌, ◌++◌, ◌∷◌, [], map, IfOk, OnOk};
 ghost use Rattle.std.specs.List.{flat_map, list_any};
 ghost use Rattle.ssu_ir.specs.View.{labels_view};
-ghost use Rattle.place_ir.specs.Uses.{is_used};
+ghost use Rattle.slot_placement.specs.Uses.{is_used};
 ghost use Rattle.bank_form.specs.Columns as columns;
 ghost use Rattle.bank_form.specs.declared.column.Column.TheVariants as column;
 ghost use Rattle.bank_form.specs.inner.Form as form;

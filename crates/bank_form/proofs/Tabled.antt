@@ -4,11 +4,11 @@ use Rattle.std.specs.List.{flat_map}
 use Rattle.std.proofs.lemmas.List.{at_drop_more, at_drop_all, append-nil, length-map}
 use Rattle.ssu_ir.specs.Tree.{Label}
 use Rattle.ssu_ir.specs.Points.{Names, Place, Point, points}
-use Rattle.place_ir.specs.Uses as pure
-use Rattle.place_ir.specs.Uses.{Role, Argument, Ending, roles, numbered, values_from, uses_from, accesses_from, values, uses, accesses, uses_of, uses_at, place_values, place_roles, place_accesses, reads_at, writes_at}
-use Rattle.place_ir.specs.inner.Parts.{gather, place_names}
-use Rattle.place_ir.proofs.Named.{IsNamed}
-use Rattle.place_ir.proofs.Sound.{Each}
+use Rattle.slot_placement.specs.Uses as pure
+use Rattle.slot_placement.specs.Uses.{Role, Argument, Ending, roles, numbered, values_from, uses_from, accesses_from, values, uses, accesses, uses_of, uses_at, place_values, place_roles, place_accesses, reads_at, writes_at}
+use Rattle.slot_placement.specs.inner.Parts.{gather, place_names}
+use Rattle.slot_placement.proofs.Named.{IsNamed}
+use Rattle.slot_placement.proofs.Sound.{Each}
 use Rattle.bank_form.specs.Columns.{each_point, sort_in, place_words}
 use Rattle.bank_form.specs.Rows.{two_operands}
 use Rattle.bank_form.specs.declared.form.Sort.{Sort}

@@ -6,8 +6,8 @@ use Rattle.nv_base.specs.declared.term.Mem.{Mem}
 use Rattle.nv_base.specs.declared.term.Mem.TheVariants.{Sram, Sdram, Scratch}
 use Rattle.ssu_ir.specs.Tree.{Step, Lit, Una, Bin, Clone, Read, Write, Label, Does, Forks, Ends}
 use Rattle.ssu_ir.specs.Points.{Place, Entry, At, Point, points}
-use Rattle.place_ir.specs.Uses.{Access, accesses, Sort, Parameter, Result, Fetched, Value, values, place_values, Role, Operand, Address, Written, Argument, Ending, Use, uses, uses_at, place_roles, is_used}
-use Rattle.place_ir.specs.Fits.{is_result}
+use Rattle.slot_placement.specs.Uses.{Access, accesses, Sort, Parameter, Result, Fetched, Value, values, place_values, Role, Operand, Address, Written, Argument, Ending, Use, uses, uses_at, place_roles, is_used}
+use Rattle.slot_placement.specs.Fits.{is_result}
 use Rattle.bank_form.specs.declared.column.Bank.{Bank}
 use Rattle.bank_form.specs.declared.column.Bank.TheVariants.{A, B, M, T, L, A15, W}
 use Rattle.bank_form.specs.declared.column.Column.{Column}

@@ -6,8 +6,8 @@ use Rattle.nv_base.specs.declared.term.Mem.TheVariants.{Sram, Sdram, Scratch}
 use Rattle.nv_base.specs.Sets.{is_in, without}
 use Rattle.ssu_ir.specs.Tree.{Label}
 use Rattle.ssu_ir.specs.Points.{Point, points}
-use Rattle.place_ir.specs.Uses.{Access, accesses, reads_at, writes_at, Sort, Parameter, Result, Fetched, Value, values, place_values, Role, Operand, Written, Argument, Use, uses, place_roles, uses_of, is_used}
-use Rattle.place_ir.specs.Fits.{is_result, parameter, point_values}
+use Rattle.slot_placement.specs.Uses.{Access, accesses, reads_at, writes_at, Sort, Parameter, Result, Fetched, Value, values, place_values, Role, Operand, Written, Argument, Use, uses, place_roles, uses_of, is_used}
+use Rattle.slot_placement.specs.Fits.{is_result, parameter, point_values}
 use Rattle.bank_form.specs.declared.column.Bank.{Bank}
 use Rattle.bank_form.specs.declared.column.Bank.TheVariants.{A, B, M, T, L, A15, W}
 use Rattle.bank_form.specs.declared.column.Column.{Column}

@@ -3,8 +3,8 @@
 ghost use Rattle.std.specs.Prelude.{◌≡◌, true, map, IfOk};
 ghost use Rattle.ssu_ir.specs.Single.{single};
 ghost use Rattle.ssu_ir.specs.View.{labels_view};
-ghost use Rattle.place_ir.specs.Uses.{uses_of, is_used};
-ghost use Rattle.place_ir.specs.Fits.{parameter};
+ghost use Rattle.slot_placement.specs.Uses.{uses_of, is_used};
+ghost use Rattle.slot_placement.specs.Fits.{parameter};
 ghost use Rattle.bank_form.specs.Columns.{sort_of, is_fetched};
 ghost use Rattle.bank_form.specs.inner.Form.{AreTables, sort_view, use_view};
 

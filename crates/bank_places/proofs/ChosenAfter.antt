@@ -5,7 +5,7 @@ use Rattle.nv_base.specs.Sets.{all_different}
 use Rattle.ssu_ir.specs.Tree.{Step, Tree, Do, If, End, Label, Does, Forks, Ends, step_values}
 use Rattle.ssu_ir.specs.Points.{Names, own, names_after, held, Place, Entry, At, Point, tree_points, label_points, points_from, points}
 use Rattle.ssu_ir.specs.Single.{single}
-use Rattle.place_ir.specs.Uses.{Access, reads_at}
+use Rattle.slot_placement.specs.Uses.{Access, reads_at}
 use Rattle.bank_places.proofs.Counts.{In}
 use Rattle.bank_places.proofs.ChosenForm.{point-held}
 

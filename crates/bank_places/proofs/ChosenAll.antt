@@ -7,12 +7,12 @@ use Rattle.nv_base.proofs.Sets.{same-number}
 use Rattle.ssu_ir.specs.Tree.{Label}
 use Rattle.ssu_ir.specs.Points.{Point, points}
 use Rattle.ssu_ir.specs.Single.{single}
-use Rattle.place_ir.specs.Plan.{Plan, first}
-use Rattle.place_ir.specs.Uses.{Access, accesses, values, place_values, uses}
-use Rattle.place_ir.specs.Fits.{IsFirst, Fits}
-use Rattle.place_ir.proofs.Scoped.{in-itself}
-use Rattle.place_ir.proofs.Sound.{Each, each-append}
-use Rattle.place_ir.proofs.Spilled.{each-all}
+use Rattle.slot_placement.specs.Plan.{Plan, first}
+use Rattle.slot_placement.specs.Uses.{Access, accesses, values, place_values, uses}
+use Rattle.slot_placement.specs.Fits.{IsFirst, Fits}
+use Rattle.held_values.proofs.Scoped.{in-itself}
+use Rattle.slot_placement.proofs.Sound.{Each, each-append}
+use Rattle.slot_placement.proofs.Spilled.{each-all}
 use Rattle.bank_form.specs.declared.column.Column.TheVariants.{First}
 use Rattle.bank_form.specs.Columns.{eight, place_words, may_begin, point_uses}
 use Rattle.bank_form.specs.Rows.{Line, lines, parameter_choice, result_choice, access_choice, use_choice, one_choice, use_cover, copy_cover, argument_cover, homes_cover, operand_banks, capacity, owners, stay_begins, word_begins, begins_at, adjacency, slot_read, value_written, passes}

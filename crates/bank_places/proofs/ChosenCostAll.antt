@@ -9,12 +9,12 @@ use Rattle.nv_base.proofs.Sets.{same-number}
 use Rattle.ssu_ir.specs.Tree.{Label}
 use Rattle.ssu_ir.specs.Points.{Point, points}
 use Rattle.ssu_ir.specs.Single.{single}
-use Rattle.place_ir.specs.Costs.{cost}
-use Rattle.place_ir.specs.Plan.{Plan, first}
-use Rattle.place_ir.specs.Uses.{Access, accesses, Value, values, Use, uses, uses_from}
-use Rattle.place_ir.specs.Fits.{IsFirst, is_early, Fits}
-use Rattle.place_ir.proofs.Scoped.{in-itself}
-use Rattle.place_ir.proofs.Sound.{Each}
+use Rattle.slot_placement.specs.Costs.{cost}
+use Rattle.slot_placement.specs.Plan.{Plan, first}
+use Rattle.slot_placement.specs.Uses.{Access, accesses, Value, values, Use, uses, uses_from}
+use Rattle.slot_placement.specs.Fits.{IsFirst, is_early, Fits}
+use Rattle.held_values.proofs.Scoped.{in-itself}
+use Rattle.slot_placement.proofs.Sound.{Each}
 use Rattle.zo_model.specs.Program.{cost_where}
 use Rattle.bank_form.specs.declared.column.Column.{Column}
 use Rattle.bank_form.specs.declared.column.Column.TheVariants.{Dir, Stay, Ear, First, PasL, PasS}

@@ -8,16 +8,16 @@ use Rattle.nv_base.specs.declared.term.Mem.TheVariants.{Sram, Sdram, Scratch}
 use Rattle.ssu_ir.specs.Tree.{Label, Lit, Una, Bin, Clone, Read, Write, Jump, Halt, Does, Forks, Ends}
 use Rattle.ssu_ir.specs.Points.{Place as Spot, Entry, At, Point, points}
 use Rattle.ssu_ir.specs.Single.{single}
-use Rattle.place_ir.specs.declared.place.Place.{Place}
-use Rattle.place_ir.specs.declared.place.Place.TheVariants as place
-use Rattle.place_ir.specs.Costs.{served_cost, use_cost, uses_cost}
-use Rattle.place_ir.specs.Places.{same_place}
-use Rattle.place_ir.specs.Plan.{Plan, home, first}
-use Rattle.place_ir.specs.Uses.{Role, Operand, Address, Written, Argument, Ending, Use, uses, roles, place_roles}
-use Rattle.place_ir.specs.Fits.{write_place, IsGeneral, is_write_register, is_read_register, served, IsOperandAt, IsAddressAt, parameter, is_home, IsServedAt, Fits}
-use Rattle.place_ir.specs.inner.Numbers.{values_among}
-use Rattle.place_ir.proofs.Sound.{Each, place_ok, Sound, sound-points, uses_among}
-use Rattle.place_ir.proofs.Spilled.{each-at}
+use Rattle.slot_placement.specs.declared.place.Place.{Place}
+use Rattle.slot_placement.specs.declared.place.Place.TheVariants as place
+use Rattle.slot_placement.specs.Costs.{served_cost, use_cost, uses_cost}
+use Rattle.slot_placement.specs.Places.{same_place}
+use Rattle.slot_placement.specs.Plan.{Plan, home, first}
+use Rattle.slot_placement.specs.Uses.{Role, Operand, Address, Written, Argument, Ending, Use, uses, roles, place_roles}
+use Rattle.slot_placement.specs.Fits.{write_place, IsGeneral, is_write_register, is_read_register, served, IsOperandAt, IsAddressAt, parameter, is_home, IsServedAt, Fits}
+use Rattle.held_values.specs.inner.Numbers.{values_among}
+use Rattle.slot_placement.proofs.Sound.{Each, place_ok, Sound, sound-points, uses_among}
+use Rattle.slot_placement.proofs.Spilled.{each-at}
 use Rattle.zo_model.specs.Program.{cost_where}
 use Rattle.bank_form.specs.declared.column.Bank.TheVariants.{T}
 use Rattle.bank_form.specs.declared.column.Column.TheVariants.{Srv}

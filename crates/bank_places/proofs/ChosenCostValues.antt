@@ -5,13 +5,13 @@ use Rattle.std.proofs.lemmas.Bool.{false≢true, false_from_ne_true}
 use Rattle.nv_base.specs.Sets.{is_in}
 use Rattle.ssu_ir.specs.Tree.{Label}
 use Rattle.ssu_ir.specs.Single.{single}
-use Rattle.place_ir.specs.declared.place.Place.{Place}
-use Rattle.place_ir.specs.declared.place.Place.TheVariants as place
-use Rattle.place_ir.specs.Costs.{entry_cost, result_cost, defined_cost, copied_cost, all_copied_cost, values_cost}
-use Rattle.place_ir.specs.Plan.{Plan, home, first}
-use Rattle.place_ir.specs.Uses.{Sort, Parameter, Result, Fetched, Value, values, Use, uses, uses_of, is_used}
-use Rattle.place_ir.specs.Fits.{IsGeneral, is_write_register, word_register, is_early, early_uses, maybe, AreCopies, IsPutEarly, is_sort_homed, wants_home, Fits}
-use Rattle.place_ir.proofs.Sound.{Each}
+use Rattle.slot_placement.specs.declared.place.Place.{Place}
+use Rattle.slot_placement.specs.declared.place.Place.TheVariants as place
+use Rattle.slot_placement.specs.Costs.{entry_cost, result_cost, defined_cost, copied_cost, all_copied_cost, values_cost}
+use Rattle.slot_placement.specs.Plan.{Plan, home, first}
+use Rattle.slot_placement.specs.Uses.{Sort, Parameter, Result, Fetched, Value, values, Use, uses, uses_of, is_used}
+use Rattle.slot_placement.specs.Fits.{IsGeneral, is_write_register, word_register, is_early, early_uses, maybe, AreCopies, IsPutEarly, is_sort_homed, wants_home, Fits}
+use Rattle.slot_placement.proofs.Sound.{Each}
 use Rattle.zo_model.specs.Program.{cost_where}
 use Rattle.bank_form.specs.declared.column.Bank.TheVariants.{A, B, M}
 use Rattle.bank_form.specs.declared.column.Column.TheVariants.{Fill}

@@ -11,16 +11,16 @@ use Rattle.ssu_ir.specs.Tree.{Label}
 use Rattle.ssu_ir.specs.Points.{Point, points, IsHeld}
 use Rattle.ssu_ir.specs.Single.{single}
 use Rattle.ssu_ir.proofs.Held.{points_held}
-use Rattle.place_ir.specs.declared.place.Place.{Place}
-use Rattle.place_ir.specs.Plan.{Home, Plan, home, first}
-use Rattle.place_ir.specs.Places.{same_place}
-use Rattle.place_ir.specs.Uses.{Sort, Parameter, Result, Fetched, Value, values, Role, Operand, Address, Written, Argument, Ending, Use, uses, uses_of, is_used}
-use Rattle.place_ir.specs.Fits.{read_place, write_place, IsGeneral, is_write_register, same_bank, has_place, none_shared, served, role_register, word_register, is_early, early_uses, AreCopies, IsPutEarly, IsHome, IsHoused, IsServedAt, IsServed, Fits}
-use Rattle.place_ir.proofs.Fitting.{apart-from, values-are, entries-in}
-use Rattle.place_ir.proofs.Scoped.{in-itself}
-use Rattle.place_ir.proofs.Sound.{Each, each-append, Sound, sound-points, uses_among}
-use Rattle.place_ir.proofs.Spilled.{Apart, all-each, each-at, sort_param, param_vars}
-use Rattle.place_ir.specs.inner.Numbers.{values_among}
+use Rattle.slot_placement.specs.declared.place.Place.{Place}
+use Rattle.slot_placement.specs.Plan.{Home, Plan, home, first}
+use Rattle.slot_placement.specs.Places.{same_place}
+use Rattle.slot_placement.specs.Uses.{Sort, Parameter, Result, Fetched, Value, values, Role, Operand, Address, Written, Argument, Ending, Use, uses, uses_of, is_used}
+use Rattle.slot_placement.specs.Fits.{read_place, write_place, IsGeneral, is_write_register, same_bank, has_place, none_shared, served, role_register, word_register, is_early, early_uses, AreCopies, IsPutEarly, IsHome, IsHoused, IsServedAt, IsServed, Fits}
+use Rattle.slot_placement.proofs.Fitting.{apart-from, values-are, entries-in}
+use Rattle.held_values.proofs.Scoped.{in-itself}
+use Rattle.slot_placement.proofs.Sound.{Each, each-append, Sound, sound-points, uses_among}
+use Rattle.slot_placement.proofs.Spilled.{Apart, all-each, each-at, sort_param, param_vars}
+use Rattle.held_values.specs.inner.Numbers.{values_among}
 use Rattle.bank_form.specs.declared.column.Column.{Column}
 use Rattle.bank_form.specs.Columns.{is_fetched}
 use Rattle.bank_prog.specs.Meaning.{Chosen}

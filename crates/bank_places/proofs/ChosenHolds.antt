@@ -12,8 +12,8 @@ use Rattle.bank_form.specs.Columns.{each_point}
 use Rattle.bank_form.specs.Rows.{at_least, at_most, covers, exactly_one}
 use Rattle.bank_prog.specs.Meaning.{Chosen, Holds}
 use Rattle.bank_rows.proofs.PlainLines.{mapped-each, Pairs}
-use Rattle.place_ir.proofs.Scoped.{in-itself}
-use Rattle.place_ir.proofs.Sound.{Each, each-append}
+use Rattle.held_values.proofs.Scoped.{in-itself}
+use Rattle.slot_placement.proofs.Sound.{Each, each-append}
 use Rattle.bank_places.specs.inner.Facts.{count}
 use Rattle.bank_places.proofs.Counts.{In, sum-plus, sum-minus, sum-both, count-append, counted-some, in-map, each-from}
 

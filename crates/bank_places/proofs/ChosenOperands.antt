@@ -7,14 +7,14 @@ use Rattle.nv_base.proofs.Sets.{same-number}
 use Rattle.ssu_ir.specs.Tree.{Label}
 use Rattle.ssu_ir.specs.Points.{Point, points}
 use Rattle.ssu_ir.specs.Single.{single}
-use Rattle.place_ir.specs.declared.place.Place.{Place}
-use Rattle.place_ir.specs.declared.place.Place.TheVariants as place
-use Rattle.place_ir.specs.Plan.{Plan, serve, pass}
-use Rattle.place_ir.specs.Uses.{Role, Operand, Address, Written, Argument, Ending, Use, uses, uses_at, place_roles}
-use Rattle.place_ir.specs.Fits.{served, IsOperandAt, IsServedAt, different_groups, AreApart, Fits}
-use Rattle.place_ir.specs.inner.Numbers.{values_among}
-use Rattle.place_ir.proofs.Sound.{Each, Sound, sound-points, uses_among}
-use Rattle.place_ir.proofs.Spilled.{each-at}
+use Rattle.slot_placement.specs.declared.place.Place.{Place}
+use Rattle.slot_placement.specs.declared.place.Place.TheVariants as place
+use Rattle.slot_placement.specs.Plan.{Plan, serve, pass}
+use Rattle.slot_placement.specs.Uses.{Role, Operand, Address, Written, Argument, Ending, Use, uses, uses_at, place_roles}
+use Rattle.slot_placement.specs.Fits.{served, IsOperandAt, IsServedAt, different_groups, AreApart, Fits}
+use Rattle.held_values.specs.inner.Numbers.{values_among}
+use Rattle.slot_placement.proofs.Sound.{Each, Sound, sound-points, uses_among}
+use Rattle.slot_placement.proofs.Spilled.{each-at}
 use Rattle.zo_model.specs.Program.{cost_where}
 use Rattle.bank_form.specs.declared.column.Bank.{Bank}
 use Rattle.bank_form.specs.declared.column.Bank.TheVariants.{A, B, M, T, L, A15, W}

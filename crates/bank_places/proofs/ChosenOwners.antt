@@ -12,16 +12,16 @@ use Rattle.ssu_ir.specs.Tree.{Label, Lit, Una, Bin, Clone, Read, Write, Does, Fo
 use Rattle.ssu_ir.specs.Points.{Place as Spot, Entry, At, Point, points}
 use Rattle.ssu_ir.specs.Points as pure
 use Rattle.ssu_ir.specs.Single.{single}
-use Rattle.place_ir.specs.declared.place.Place.{Place}
-use Rattle.place_ir.specs.declared.place.Place.TheVariants as place
-use Rattle.place_ir.specs.Places.{same_place}
-use Rattle.place_ir.specs.Plan.{Plan, home, first, pass}
-use Rattle.place_ir.specs.Uses.{Access, reads_at, writes_at, Sort, Parameter, Result, Fetched, Value, values, place_values, Role, Operand, Address, Written, Argument, Ending, Use, uses, is_used}
-use Rattle.place_ir.specs.Fits.{read_place, write_place, is_early, word_register, stays, kept_register, read_places, has_place, none_shared, maybe, same_use, run_of, point_values, Waits, KeepsRead, IsHome, IsHoused, Fits}
-use Rattle.place_ir.proofs.Fitting.{apart-from, vars-of-place}
-use Rattle.place_ir.proofs.Scoped.{in-itself, in-either, different-filter, different-without}
-use Rattle.place_ir.proofs.Sound.{Each, each-append}
-use Rattle.place_ir.proofs.Spilled.{Apart}
+use Rattle.slot_placement.specs.declared.place.Place.{Place}
+use Rattle.slot_placement.specs.declared.place.Place.TheVariants as place
+use Rattle.slot_placement.specs.Places.{same_place}
+use Rattle.slot_placement.specs.Plan.{Plan, home, first, pass}
+use Rattle.slot_placement.specs.Uses.{Access, reads_at, writes_at, Sort, Parameter, Result, Fetched, Value, values, place_values, Role, Operand, Address, Written, Argument, Ending, Use, uses, is_used}
+use Rattle.slot_placement.specs.Fits.{read_place, write_place, is_early, word_register, stays, kept_register, read_places, has_place, none_shared, maybe, same_use, run_of, point_values, Waits, KeepsRead, IsHome, IsHoused, Fits}
+use Rattle.slot_placement.proofs.Fitting.{apart-from, vars-of-place}
+use Rattle.held_values.proofs.Scoped.{in-itself, in-either, different-filter, different-without}
+use Rattle.slot_placement.proofs.Sound.{Each, each-append}
+use Rattle.slot_placement.proofs.Spilled.{Apart}
 use Rattle.bank_form.specs.declared.column.Column.{Column}
 use Rattle.bank_form.specs.declared.column.Column.TheVariants.{Dir, Stay, Ear, First, PasL, PasS}
 use Rattle.bank_form.specs.Columns.{each_point, sort_of, eight}

@@ -7,15 +7,15 @@ use Rattle.std.proofs.lemmas.List.{length-map}
 use Rattle.nv_base.proofs.Sets.{same-number}
 use Rattle.ssu_ir.specs.Tree.{Label}
 use Rattle.ssu_ir.specs.Points.{Point, points}
-use Rattle.place_ir.specs.declared.place.Place.{Place}
-use Rattle.place_ir.specs.declared.place.Place.TheVariants as place
-use Rattle.place_ir.specs.Places.{same_place}
-use Rattle.place_ir.specs.Plan.{Home, Plan, home as value_home, first}
-use Rattle.place_ir.specs.Uses.{Value, values, is_used}
-use Rattle.place_ir.specs.Fits.{IsGeneral, is_general, is_write_register, same_bank, general_places, read_place, Fits}
+use Rattle.slot_placement.specs.declared.place.Place.{Place}
+use Rattle.slot_placement.specs.declared.place.Place.TheVariants as place
+use Rattle.slot_placement.specs.Places.{same_place}
+use Rattle.slot_placement.specs.Plan.{Home, Plan, home as value_home, first}
+use Rattle.slot_placement.specs.Uses.{Value, values, is_used}
+use Rattle.slot_placement.specs.Fits.{IsGeneral, is_general, is_write_register, same_bank, general_places, read_place, Fits}
 use Rattle.ssu_ir.specs.Single.{single}
-use Rattle.place_ir.proofs.Scoped.{in-itself, different-filter}
-use Rattle.place_ir.proofs.Sound.{Each}
+use Rattle.held_values.proofs.Scoped.{in-itself, different-filter}
+use Rattle.slot_placement.proofs.Sound.{Each}
 use Rattle.nv_base.specs.declared.term.Mem.{Mem}
 use Rattle.nv_base.specs.declared.term.Mem.TheVariants.{Sram, Sdram, Scratch}
 use Rattle.zo_model.specs.Program.{cost_where}

@@ -9,13 +9,13 @@ use Rattle.ssu_ir.specs.Tree.{Label}
 use Rattle.ssu_ir.specs.Points.{points}
 use Rattle.ssu_ir.specs.Single.{single}
 use Rattle.zo_model.specs.Program.{cost_where}
-use Rattle.place_ir.specs.declared.place.Place.{Place}
-use Rattle.place_ir.specs.declared.place.Place.TheVariants as place
-use Rattle.place_ir.specs.Plan.{Plan, home, first, pass}
-use Rattle.place_ir.specs.Uses.{Access, accesses, Sort, Parameter, Result, Fetched, Value, values, Role, Operand, Address, Written, Argument, Ending, Use, uses, is_used}
-use Rattle.place_ir.specs.Fits.{read_place, IsGeneral, is_write_register, is_result, IsHome, IsHoused, served, is_early, IsFirst, parameter, IsOperandAt, IsAddressAt, IsServedAt, Fits}
-use Rattle.place_ir.proofs.Scoped.{in-itself}
-use Rattle.place_ir.proofs.Fitting.{apart-from}
+use Rattle.slot_placement.specs.declared.place.Place.{Place}
+use Rattle.slot_placement.specs.declared.place.Place.TheVariants as place
+use Rattle.slot_placement.specs.Plan.{Plan, home, first, pass}
+use Rattle.slot_placement.specs.Uses.{Access, accesses, Sort, Parameter, Result, Fetched, Value, values, Role, Operand, Address, Written, Argument, Ending, Use, uses, is_used}
+use Rattle.slot_placement.specs.Fits.{read_place, IsGeneral, is_write_register, is_result, IsHome, IsHoused, served, is_early, IsFirst, parameter, IsOperandAt, IsAddressAt, IsServedAt, Fits}
+use Rattle.held_values.proofs.Scoped.{in-itself}
+use Rattle.slot_placement.proofs.Fitting.{apart-from}
 use Rattle.bank_form.specs.declared.column.Bank.{Bank}
 use Rattle.bank_form.specs.declared.column.Bank.TheVariants.{A, B, M, T, L, A15, W}
 use Rattle.bank_form.specs.declared.column.Column.{Column}

@@ -10,18 +10,18 @@ use Rattle.nv_base.specs.declared.term.Mem.TheVariants.{Sram, Sdram, Scratch}
 use Rattle.ssu_ir.specs.Tree.{Lit, Una, Bin, Clone, Read, Write, Jump, Halt, Label, Does, Forks, Ends}
 use Rattle.ssu_ir.specs.Points.{Place as Spot, Entry, At, Point, points}
 use Rattle.ssu_ir.specs.Single.{takes_as_many, single}
-use Rattle.place_ir.specs.declared.place.Place.{Place}
-use Rattle.place_ir.specs.declared.place.Place.TheVariants as place
-use Rattle.place_ir.specs.Places.{same_place}
-use Rattle.place_ir.specs.Plan.{Plan, home, first}
-use Rattle.place_ir.specs.Uses.{Sort, Parameter, Result, Fetched, Value, values, Role, Operand, Address, Written, Argument, Ending, Use, uses, uses_of, roles, place_roles, is_used}
-use Rattle.place_ir.specs.Fits.{read_place, IsGeneral, is_write_register, is_home, param_at, label_param, parameter, Fits, AreCopies}
-use Rattle.place_ir.specs.inner.Numbers.{values_among}
-use Rattle.place_ir.proofs.Places.{same_place-true}
-use Rattle.place_ir.proofs.Scoped.{in-itself}
-use Rattle.place_ir.proofs.Sound.{place_ok, Sound, sound-points, uses_among}
-use Rattle.place_ir.proofs.Spilled.{each-at, sort_param, param_vars}
-use Rattle.place_ir.proofs.Fitting.{entries-in, label-entry}
+use Rattle.slot_placement.specs.declared.place.Place.{Place}
+use Rattle.slot_placement.specs.declared.place.Place.TheVariants as place
+use Rattle.slot_placement.specs.Places.{same_place}
+use Rattle.slot_placement.specs.Plan.{Plan, home, first}
+use Rattle.slot_placement.specs.Uses.{Sort, Parameter, Result, Fetched, Value, values, Role, Operand, Address, Written, Argument, Ending, Use, uses, uses_of, roles, place_roles, is_used}
+use Rattle.slot_placement.specs.Fits.{read_place, IsGeneral, is_write_register, is_home, param_at, label_param, parameter, Fits, AreCopies}
+use Rattle.held_values.specs.inner.Numbers.{values_among}
+use Rattle.slot_placement.proofs.Places.{same_place-true}
+use Rattle.held_values.proofs.Scoped.{in-itself}
+use Rattle.slot_placement.proofs.Sound.{place_ok, Sound, sound-points, uses_among}
+use Rattle.slot_placement.proofs.Spilled.{each-at, sort_param, param_vars}
+use Rattle.slot_placement.proofs.Fitting.{entries-in, label-entry}
 use Rattle.bank_form.specs.declared.column.Bank.{Bank}
 use Rattle.bank_form.specs.declared.column.Bank.TheVariants.{A, B, M, T, W}
 use Rattle.bank_form.specs.declared.column.Column.TheVariants.{Def, Fill}

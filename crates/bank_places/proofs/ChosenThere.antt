@@ -10,11 +10,11 @@ use Rattle.nv_base.proofs.Sets.{same-number}
 use Rattle.ssu_ir.specs.Tree.{Lit, Una, Bin, Clone, Read, Write, Jump, Halt, Label, Does, Forks, Ends}
 use Rattle.ssu_ir.specs.Points.{Place, Entry, At, Point, points}
 use Rattle.ssu_ir.specs.Single.{single}
-use Rattle.place_ir.specs.Uses.{Access, accesses, reads_at, writes_at, place_accesses, Sort, Parameter, Result, Fetched, Value, values, numbered, result, place_values, Role, Operand, Address, Written, Argument, Ending, Use, uses, roles, place_roles, is_used}
-use Rattle.place_ir.specs.Fits.{IsFirst, is_result}
-use Rattle.place_ir.specs.inner.Numbers.{values_among}
-use Rattle.place_ir.proofs.Sound.{place_ok, Sound, sound-points, uses_among}
-use Rattle.place_ir.proofs.Spilled.{each-at}
+use Rattle.slot_placement.specs.Uses.{Access, accesses, reads_at, writes_at, place_accesses, Sort, Parameter, Result, Fetched, Value, values, numbered, result, place_values, Role, Operand, Address, Written, Argument, Ending, Use, uses, roles, place_roles, is_used}
+use Rattle.slot_placement.specs.Fits.{IsFirst, is_result}
+use Rattle.held_values.specs.inner.Numbers.{values_among}
+use Rattle.slot_placement.proofs.Sound.{place_ok, Sound, sound-points, uses_among}
+use Rattle.slot_placement.proofs.Spilled.{each-at}
 use Rattle.bank_form.specs.declared.column.Bank.{Bank}
 use Rattle.bank_form.specs.declared.column.Column.TheVariants.{Def, Dir, Fill, Stay, Ear, First, Srv, PasL, PasS}
 use Rattle.bank_form.specs.declared.column.Service.{Service}

@@ -6,13 +6,13 @@ use Rattle.std.proofs.lemmas.Bool.{false≢true, and_parts, and_from, or_left, o
 use Rattle.nv_base.specs.declared.term.Mem.{Mem}
 use Rattle.ssu_ir.specs.Tree.{Label}
 use Rattle.zo_model.specs.Program.{cost_where}
-use Rattle.place_ir.specs.declared.place.Place.{Place}
-use Rattle.place_ir.specs.declared.place.Place.TheVariants as place
-use Rattle.place_ir.specs.Plan.{Plan, home, first, pass}
-use Rattle.place_ir.specs.Uses.{Sort, Parameter, Result, Fetched, Value, values, place_values, Use, uses_of, is_used}
-use Rattle.place_ir.specs.Fits.{IsGeneral, is_slot, is_write_register, word_register, is_early, early_uses, AreCopies, IsPutEarly, is_result, same_bank, comes_to_slot, IsEighth, Fits, stays}
-use Rattle.place_ir.proofs.Scoped.{in-itself}
-use Rattle.place_ir.proofs.Sound.{Each, each-append}
+use Rattle.slot_placement.specs.declared.place.Place.{Place}
+use Rattle.slot_placement.specs.declared.place.Place.TheVariants as place
+use Rattle.slot_placement.specs.Plan.{Plan, home, first, pass}
+use Rattle.slot_placement.specs.Uses.{Sort, Parameter, Result, Fetched, Value, values, place_values, Use, uses_of, is_used}
+use Rattle.slot_placement.specs.Fits.{IsGeneral, is_slot, is_write_register, word_register, is_early, early_uses, AreCopies, IsPutEarly, is_result, same_bank, comes_to_slot, IsEighth, Fits, stays}
+use Rattle.held_values.proofs.Scoped.{in-itself}
+use Rattle.slot_placement.proofs.Sound.{Each, each-append}
 use Rattle.bank_form.specs.declared.column.Bank.{Bank}
 use Rattle.bank_form.specs.declared.column.Bank.TheVariants.{A, B, M}
 use Rattle.bank_form.specs.declared.column.Column.{Column}

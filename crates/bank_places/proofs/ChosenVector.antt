@@ -5,10 +5,10 @@ use Rattle.std.specs.List.{list_any}
 use Rattle.ssu_ir.specs.Tree.{Label}
 use Rattle.ssu_ir.specs.Single.{single}
 use Rattle.zo_model.specs.Program.{vector, costs_of}
-use Rattle.place_ir.specs.Plan.{Plan, first, serve}
-use Rattle.place_ir.specs.Costs.{cost}
-use Rattle.place_ir.specs.Uses.{Use, uses_of}
-use Rattle.place_ir.specs.Fits.{is_read_register, is_write_register, served, Fits}
+use Rattle.slot_placement.specs.Plan.{Plan, first, serve}
+use Rattle.slot_placement.specs.Costs.{cost}
+use Rattle.slot_placement.specs.Uses.{Use, uses_of}
+use Rattle.slot_placement.specs.Fits.{is_read_register, is_write_register, served, Fits}
 use Rattle.bank_form.specs.declared.column.Column.{Column}
 use Rattle.bank_form.specs.declared.column.Column.TheVariants.{Def, Dir, Fill, Stay, Ear, First, Srv, PasL, PasS}
 use Rattle.bank_form.specs.Columns.{columns, costs}

@@ -9,12 +9,12 @@ use Rattle.nv_base.proofs.Sets.{same-number}
 use Rattle.ssu_ir.specs.Tree.{Label}
 use Rattle.ssu_ir.specs.Points.{Point, points}
 use Rattle.ssu_ir.specs.Single.{single}
-use Rattle.place_ir.specs.Costs.{values_cost, uses_cost, cost}
-use Rattle.place_ir.specs.Plan.{Home, Plan}
-use Rattle.place_ir.specs.Uses.{Sort, Parameter, Result, Fetched, Value, values, Use, uses, uses_of, is_used, place_roles, accesses}
-use Rattle.place_ir.proofs.Fitting.{apart-from}
-use Rattle.place_ir.proofs.Scoped.{in-itself}
-use Rattle.place_ir.proofs.Spilled.{all-each}
+use Rattle.slot_placement.specs.Costs.{values_cost, uses_cost, cost}
+use Rattle.slot_placement.specs.Plan.{Home, Plan}
+use Rattle.slot_placement.specs.Uses.{Sort, Parameter, Result, Fetched, Value, values, Use, uses, uses_of, is_used, place_roles, accesses}
+use Rattle.slot_placement.proofs.Fitting.{apart-from}
+use Rattle.held_values.proofs.Scoped.{in-itself}
+use Rattle.slot_placement.proofs.Spilled.{all-each}
 use Rattle.zo_model.specs.Program.{cost_where}
 use Rattle.bank_form.specs.declared.column.Bank.TheVariants.{A, B, M}
 use Rattle.bank_form.specs.declared.column.Column.{Column}

@@ -6,7 +6,7 @@ use Rattle.std.proofs.lemmas.Bool.{false≢true}
 use Rattle.nv_base.specs.Sets.{is_in, all_different}
 use Rattle.nv_base.proofs.Sets.{same-number}
 use Rattle.ssu_ir.specs.Points.{Point}
-use Rattle.place_ir.specs.Uses.{Value, Use, uses_from}
+use Rattle.slot_placement.specs.Uses.{Value, Use, uses_from}
 use Rattle.zo_model.specs.Program.{cost_where}
 use Rattle.bank_form.specs.Columns.{Priced, each_point, point_uses}
 use Rattle.bank_prog.specs.Meaning.{Chosen, named_cost}

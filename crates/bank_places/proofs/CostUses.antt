@@ -5,14 +5,14 @@ use Rattle.std.proofs.lemmas.Bool.{false≢true}
 use Rattle.nv_base.specs.declared.term.Mem.{Mem}
 use Rattle.nv_base.specs.declared.term.Mem.TheVariants.{Sram, Sdram, Scratch}
 use Rattle.ssu_ir.specs.Tree.{Label}
-use Rattle.place_ir.specs.declared.place.Place.{Place}
-use Rattle.place_ir.specs.declared.place.Place.TheVariants as place
-use Rattle.place_ir.specs.declared.place.Serve.{Serve}
-use Rattle.place_ir.specs.Costs.{served_cost, use_cost, uses_cost}
-use Rattle.place_ir.specs.Plan.{Home}
-use Rattle.place_ir.specs.Uses.{Sort, Parameter, Result, Fetched, Value, values, Role, Operand, Address, Written, Argument, Ending, Use, uses}
-use Rattle.place_ir.specs.Fits.{read_place, write_place}
-use Rattle.place_ir.proofs.Sound.{Each}
+use Rattle.slot_placement.specs.declared.place.Place.{Place}
+use Rattle.slot_placement.specs.declared.place.Place.TheVariants as place
+use Rattle.slot_placement.specs.declared.place.Serve.{Serve}
+use Rattle.slot_placement.specs.Costs.{served_cost, use_cost, uses_cost}
+use Rattle.slot_placement.specs.Plan.{Home}
+use Rattle.slot_placement.specs.Uses.{Sort, Parameter, Result, Fetched, Value, values, Role, Operand, Address, Written, Argument, Ending, Use, uses}
+use Rattle.slot_placement.specs.Fits.{read_place, write_place}
+use Rattle.slot_placement.proofs.Sound.{Each}
 use Rattle.zo_model.specs.Program.{cost_where}
 use Rattle.bank_form.specs.declared.column.Bank.{Bank}
 use Rattle.bank_form.specs.declared.column.Bank.TheVariants.{A, B, M, T, L, A15, W}

@@ -11,8 +11,8 @@ use Rattle.bank_form.specs.declared.column.Column.{Column}
 use Rattle.bank_form.specs.Columns.{each_point}
 use Rattle.bank_form.specs.Rows.{plus, minus, at_least, at_most, covers, exactly_one}
 use Rattle.bank_prog.specs.Meaning.{Chosen, named_sum, Holds}
-use Rattle.place_ir.proofs.Sound.{Each}
-use Rattle.place_ir.proofs.Spilled.{each-left, each-right}
+use Rattle.slot_placement.proofs.Sound.{Each}
+use Rattle.slot_placement.proofs.Spilled.{each-left, each-right}
 use Rattle.bank_places.specs.inner.Facts.{count}
 
 -- ---- sums of columns

@@ -7,12 +7,12 @@ use Rattle.nv_base.specs.Sets.{all_different}
 use Rattle.ssu_ir.specs.Tree.{Label}
 use Rattle.ssu_ir.specs.Points.{Point, points}
 use Rattle.ssu_ir.specs.Single.{all_defined, is_entry, is_single, single}
-use Rattle.place_ir.specs.Uses.{accesses, values, uses}
-use Rattle.place_ir.specs.inner.Numbers.{values_among}
-use Rattle.place_ir.proofs.Numbering.{places-of-labels, different-labels}
-use Rattle.place_ir.proofs.Fitting.{apart-from, values-are}
-use Rattle.place_ir.proofs.Sound.{Each}
-use Rattle.place_ir.proofs.Spilled.{each-all, all-each, each-left, each-right}
+use Rattle.slot_placement.specs.Uses.{accesses, values, uses}
+use Rattle.held_values.specs.inner.Numbers.{values_among}
+use Rattle.held_values.proofs.Numbering.{places-of-labels, different-labels}
+use Rattle.slot_placement.proofs.Fitting.{apart-from, values-are}
+use Rattle.slot_placement.proofs.Sound.{Each}
+use Rattle.slot_placement.proofs.Spilled.{each-all, all-each, each-left, each-right}
 use Rattle.bank_form.specs.Columns.{each_point}
 use Rattle.bank_form.specs.Rows.{Line, lines, parameter_choice, result_choice, access_choice, use_choice, one_choice, use_cover, copy_cover, argument_cover, homes_cover, operand_lines, operand_banks, room_lines, capacity, read_owners, fill_owners, write_owners, owners, adjacency, slot_read, value_written, passes}
 use Rattle.bank_prog.specs.Meaning.{Chosen, Holds}

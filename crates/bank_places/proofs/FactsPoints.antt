@@ -9,11 +9,11 @@ use Rattle.nv_base.specs.declared.term.Mem.TheVariants.{Sram, Sdram, Scratch}
 use Rattle.nv_base.proofs.Sets.{same-number}
 use Rattle.ssu_ir.specs.Tree.{Label, Lit, Una, Bin, Clone, Read, Write, Jump, Halt, Does, Forks, Ends}
 use Rattle.ssu_ir.specs.Points.{Place, Entry, At, Point, points}
-use Rattle.place_ir.specs.Uses.{Access, reads_at, writes_at, Parameter, Result, Fetched, Value, values, numbered, place_values, Role, Operand, Address, Written, Argument, Ending, Use, uses, uses_at, roles, place_roles, is_used}
-use Rattle.place_ir.specs.Fits.{point_values, same_use}
-use Rattle.place_ir.proofs.Scoped.{in-itself}
-use Rattle.place_ir.proofs.Sound.{Each}
-use Rattle.place_ir.proofs.Spilled.{each-left, each-right}
+use Rattle.slot_placement.specs.Uses.{Access, reads_at, writes_at, Parameter, Result, Fetched, Value, values, numbered, place_values, Role, Operand, Address, Written, Argument, Ending, Use, uses, uses_at, roles, place_roles, is_used}
+use Rattle.slot_placement.specs.Fits.{point_values, same_use}
+use Rattle.held_values.proofs.Scoped.{in-itself}
+use Rattle.slot_placement.proofs.Sound.{Each}
+use Rattle.slot_placement.proofs.Spilled.{each-left, each-right}
 use Rattle.bank_form.specs.declared.column.Bank.{Bank}
 use Rattle.bank_form.specs.declared.column.Bank.TheVariants.{A, B, M, T, L, A15, W}
 use Rattle.bank_form.specs.declared.column.Column.{Column}

@@ -4,9 +4,9 @@ use Rattle.std.specs.Prelude.{slice_get}
 use Rattle.std.specs.List.{flat_map, list_any}
 use Rattle.ssu_ir.specs.Tree.{Label}
 use Rattle.ssu_ir.specs.Points.{Point, points}
-use Rattle.place_ir.specs.Uses.{Access, accesses, Sort, Parameter, Result, Fetched, Value, values, values_from, place_values, Role, Use, uses, uses_from, uses_at, place_roles, is_used}
-use Rattle.place_ir.specs.Fits.{is_result}
-use Rattle.place_ir.proofs.Sound.{Each, each-append}
+use Rattle.slot_placement.specs.Uses.{Access, accesses, Sort, Parameter, Result, Fetched, Value, values, values_from, place_values, Role, Use, uses, uses_from, uses_at, place_roles, is_used}
+use Rattle.slot_placement.specs.Fits.{is_result}
+use Rattle.slot_placement.proofs.Sound.{Each, each-append}
 use Rattle.bank_form.specs.declared.column.Bank.{Bank}
 use Rattle.bank_form.specs.declared.column.Column.{Column}
 use Rattle.bank_form.specs.declared.column.Column.TheVariants.{Def, Dir, Fill, Stay, Ear, First, Srv, PasL, PasS}

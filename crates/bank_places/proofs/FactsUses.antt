@@ -5,10 +5,10 @@ use Rattle.std.specs.List.{flat_map}
 use Rattle.std.proofs.lemmas.Bool.{or_cases}
 use Rattle.ssu_ir.specs.Tree.{Label, Lit, Una, Bin, Clone, Read, Write, Does, Forks, Ends}
 use Rattle.ssu_ir.specs.Points.{Place, Entry, At, Point, points}
-use Rattle.place_ir.specs.Uses.{Access, accesses_from, accesses, place_accesses, place_values, Argument, Use, uses}
-use Rattle.place_ir.specs.Fits.{is_result, parameter}
-use Rattle.place_ir.proofs.Sound.{Each}
-use Rattle.place_ir.proofs.Spilled.{each-left, each-right}
+use Rattle.slot_placement.specs.Uses.{Access, accesses_from, accesses, place_accesses, place_values, Argument, Use, uses}
+use Rattle.slot_placement.specs.Fits.{is_result, parameter}
+use Rattle.slot_placement.proofs.Sound.{Each}
+use Rattle.slot_placement.proofs.Spilled.{each-left, each-right}
 use Rattle.bank_form.specs.declared.column.Bank.{Bank}
 use Rattle.bank_form.specs.declared.column.Bank.TheVariants.{A, B, M, T, L, A15, W}
 use Rattle.bank_form.specs.declared.column.Column.{Column}

@@ -6,11 +6,11 @@ use Rattle.nv_base.specs.Sets.{is_in, all_different}
 use Rattle.nv_base.specs.declared.term.Mem.{Mem}
 use Rattle.ssu_ir.specs.Tree.{Label}
 use Rattle.ssu_ir.specs.Points.{points}
-use Rattle.place_ir.specs.Uses.{Sort, Value, values, place_values, Role, Operand, Address, Written, Argument, Ending, Use, uses, uses_of, is_used}
-use Rattle.place_ir.specs.Fits.{is_result, same_use}
-use Rattle.place_ir.proofs.Scoped.{in-itself}
-use Rattle.place_ir.proofs.Sound.{Each}
-use Rattle.place_ir.proofs.Spilled.{Apart, each-left, each-right}
+use Rattle.slot_placement.specs.Uses.{Sort, Value, values, place_values, Role, Operand, Address, Written, Argument, Ending, Use, uses, uses_of, is_used}
+use Rattle.slot_placement.specs.Fits.{is_result, same_use}
+use Rattle.held_values.proofs.Scoped.{in-itself}
+use Rattle.slot_placement.proofs.Sound.{Each}
+use Rattle.slot_placement.proofs.Spilled.{Apart, each-left, each-right}
 use Rattle.bank_form.specs.declared.column.Bank.{Bank}
 use Rattle.bank_form.specs.declared.column.Bank.TheVariants.{A, B, M}
 use Rattle.bank_form.specs.declared.column.Column.{Column}

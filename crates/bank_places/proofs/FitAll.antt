@@ -6,18 +6,18 @@ use Rattle.nv_base.specs.Sets.{is_in}
 use Rattle.ssu_ir.specs.Tree.{Label}
 use Rattle.ssu_ir.specs.Points.{Point, points}
 use Rattle.ssu_ir.specs.Single.{single}
-use Rattle.place_ir.specs.declared.place.Pass.{Pass}
-use Rattle.place_ir.specs.Plan.{Home, first}
-use Rattle.place_ir.specs.Uses.{Access, reads_at, writes_at, place_accesses, accesses_from, accesses, values, place_roles, uses}
-use Rattle.place_ir.specs.Fits.{point_values, IsFirst, IsHoused, IsServed, KeepsHeld, KeepsRead, KeepsWaiting, AreApart, FitsAt, Fits}
+use Rattle.slot_placement.specs.declared.place.Pass.{Pass}
+use Rattle.slot_placement.specs.Plan.{Home, first}
+use Rattle.slot_placement.specs.Uses.{Access, reads_at, writes_at, place_accesses, accesses_from, accesses, values, place_roles, uses}
+use Rattle.slot_placement.specs.Fits.{point_values, IsFirst, IsHoused, IsServed, KeepsHeld, KeepsRead, KeepsWaiting, AreApart, FitsAt, Fits}
 use Rattle.bank_form.specs.declared.column.Column.TheVariants.{First}
 use Rattle.bank_form.specs.declared.column.Bank.TheVariants.{T}
 use Rattle.bank_form.specs.Rows.{homes, lines}
 use Rattle.bank_prog.specs.Meaning.{Chosen, Holds}
-use Rattle.place_ir.proofs.Sound.{Each, Sound, uses_among, sound-points}
-use Rattle.place_ir.proofs.Spilled.{each-all, all-each, each-at}
-use Rattle.place_ir.proofs.Fitting.{uses-part}
-use Rattle.place_ir.specs.inner.Numbers.{values_among}
+use Rattle.slot_placement.proofs.Sound.{Each, Sound, uses_among, sound-points}
+use Rattle.slot_placement.proofs.Spilled.{each-all, all-each, each-at}
+use Rattle.slot_placement.proofs.Fitting.{uses-part}
+use Rattle.held_values.specs.inner.Numbers.{values_among}
 use Rattle.bank_places.specs.inner.Facts.{OnlyThere, AccessFacts, UseFacts}
 use Rattle.bank_places.specs.inner.ReadOff.{Numbers, begins, AreRead, AreNumbered, read_off}
 use Rattle.bank_places.specs.inner.ReadOff as reading

@@ -7,19 +7,19 @@ use Rattle.nv_base.specs.declared.term.Mem.{Mem}
 use Rattle.nv_base.specs.declared.term.Mem.TheVariants.{Sram, Sdram, Scratch}
 use Rattle.ssu_ir.specs.Tree.{Label}
 use Rattle.ssu_ir.specs.Points.{Point}
-use Rattle.place_ir.specs.declared.place.Place.{Place}
-use Rattle.place_ir.specs.declared.place.Place.TheVariants as place
-use Rattle.place_ir.specs.Places.{same_place}
-use Rattle.place_ir.specs.Plan.{Home, Plan, home, pass}
-use Rattle.place_ir.specs.Uses.{Sort, Parameter, Result, Fetched, Role, Operand, Address, Written, Argument, Ending, Use, uses_of}
-use Rattle.place_ir.specs.Fits.{read_place, is_general, stays, general_places, kept_register, has_place, none_shared, maybe, KeepsHeld}
+use Rattle.slot_placement.specs.declared.place.Place.{Place}
+use Rattle.slot_placement.specs.declared.place.Place.TheVariants as place
+use Rattle.slot_placement.specs.Places.{same_place}
+use Rattle.slot_placement.specs.Plan.{Home, Plan, home, pass}
+use Rattle.slot_placement.specs.Uses.{Sort, Parameter, Result, Fetched, Role, Operand, Address, Written, Argument, Ending, Use, uses_of}
+use Rattle.slot_placement.specs.Fits.{read_place, is_general, stays, general_places, kept_register, has_place, none_shared, maybe, KeepsHeld}
 use Rattle.bank_form.specs.declared.column.Bank.{Bank}
 use Rattle.bank_form.specs.declared.column.Bank.TheVariants.{A, B, M, T, L, A15, W}
 use Rattle.bank_form.specs.declared.column.Column.TheVariants.{Def, Fill, PasL}
 use Rattle.bank_form.specs.Columns.{eight, is_fetched}
 use Rattle.bank_form.specs.Rows.{is_written, is_sdram}
 use Rattle.bank_prog.specs.Meaning.{Chosen}
-use Rattle.place_ir.proofs.Sound.{Each, each-append}
+use Rattle.slot_placement.proofs.Sound.{Each, each-append}
 use Rattle.std.proofs.lemmas.Bool.{or_left, or_right}
 use Rattle.bank_places.specs.inner.Facts.{in_bank, StaysIn, PointFacts}
 use Rattle.bank_places.specs.inner.ReadOff.{Numbers, begins, goes_early, pass_l, def_bank, home_place, role_place, word_place, first_word, fills_of, words_of, copies_of, put_home, sort_home, read_off}

@@ -5,19 +5,19 @@ use Rattle.std.proofs.lemmas.Bool.{or_parts, false≢true, false_from_ne_true}
 use Rattle.nv_base.specs.Sets.{is_in}
 use Rattle.nv_base.proofs.Sets.{same-number, other-number}
 use Rattle.ssu_ir.specs.Tree.{Label}
-use Rattle.place_ir.specs.declared.place.Place.{Place}
-use Rattle.place_ir.specs.declared.place.Place.TheVariants as place
-use Rattle.place_ir.specs.Plan.{Plan}
-use Rattle.place_ir.specs.Uses.{Use, uses_of}
-use Rattle.place_ir.specs.Fits.{IsGeneral, same_bank, maybe, AreFills}
+use Rattle.slot_placement.specs.declared.place.Place.{Place}
+use Rattle.slot_placement.specs.declared.place.Place.TheVariants as place
+use Rattle.slot_placement.specs.Plan.{Plan}
+use Rattle.slot_placement.specs.Uses.{Use, uses_of}
+use Rattle.slot_placement.specs.Fits.{IsGeneral, same_bank, maybe, AreFills}
 use Rattle.zo_model.specs.Program.{cost_where}
 use Rattle.bank_form.specs.declared.column.Bank.{Bank}
 use Rattle.bank_form.specs.declared.column.Bank.TheVariants.{A, B, M, T, L, A15, W}
 use Rattle.bank_form.specs.declared.column.Column.TheVariants.{Def, Fill}
 use Rattle.bank_form.specs.Rows.{def, dir, ear, is_written}
 use Rattle.bank_prog.specs.Meaning.{Chosen}
-use Rattle.place_ir.proofs.Sound.{Each, each-append}
-use Rattle.place_ir.proofs.Spilled.{each-all}
+use Rattle.slot_placement.proofs.Sound.{Each, each-append}
+use Rattle.slot_placement.proofs.Spilled.{each-all}
 use Rattle.bank_places.specs.inner.Facts.{count}
 use Rattle.bank_places.specs.inner.ReadOff.{Numbers, goes_early, def_bank, home_place, word_place, fill_at, fills_of, words_of, copies_of}
 use Rattle.bank_places.proofs.Counts.{count-append}

@@ -5,10 +5,10 @@ use Rattle.std.proofs.lemmas.Bool.{or_from, or_left, or_right, false≢true, fal
 use Rattle.nv_base.specs.declared.term.Mem.{Mem}
 use Rattle.nv_base.specs.declared.term.Mem.TheVariants.{Sram, Sdram, Scratch}
 use Rattle.ssu_ir.specs.Tree.{Label}
-use Rattle.place_ir.specs.declared.place.Place.{Place}
-use Rattle.place_ir.specs.Plan.{Home, home_in, first}
-use Rattle.place_ir.specs.Uses.{Sort, Parameter, Result, Fetched, Value, Role, Operand, Address, Written, Argument, Ending, Use, uses, uses_of, is_used}
-use Rattle.place_ir.specs.Fits.{read_place, IsGeneral, is_slot, same_bank, is_early, AreCopies, IsPutEarly, IsHome, is_result, is_sort_homed}
+use Rattle.slot_placement.specs.declared.place.Place.{Place}
+use Rattle.slot_placement.specs.Plan.{Home, home_in, first}
+use Rattle.slot_placement.specs.Uses.{Sort, Parameter, Result, Fetched, Value, Role, Operand, Address, Written, Argument, Ending, Use, uses, uses_of, is_used}
+use Rattle.slot_placement.specs.Fits.{read_place, IsGeneral, is_slot, same_bank, is_early, AreCopies, IsPutEarly, IsHome, is_result, is_sort_homed}
 use Rattle.bank_form.specs.declared.column.Bank.{Bank}
 use Rattle.bank_form.specs.declared.column.Bank.TheVariants.{A, B, M, T, L, A15, W}
 use Rattle.bank_form.specs.declared.column.Column.TheVariants.{Def, Dir, Fill, Ear}
@@ -16,7 +16,7 @@ use Rattle.bank_form.specs.declared.column.Service.{Service}
 use Rattle.bank_form.specs.Columns.{eight, services, sort_of, is_fetched}
 use Rattle.bank_form.specs.Rows.{def, dir, ear, srv, early, is_written, is_parameter}
 use Rattle.bank_prog.specs.Meaning.{Chosen}
-use Rattle.place_ir.proofs.Sound.{Each}
+use Rattle.slot_placement.proofs.Sound.{Each}
 use Rattle.bank_places.specs.inner.Facts.{count, in_bank, in_register, IsIn, ValueFacts, UseFacts}
 use Rattle.bank_places.specs.inner.ReadOff.{Numbers, begins, goes_early, def_bank, service_on, home_place, first_word, fills_of, copies_of, put_home, sort_home, room, read_off}
 use Rattle.bank_places.proofs.ReadParts.{any-count, count-any, on-none, FirstsThere, first-read}

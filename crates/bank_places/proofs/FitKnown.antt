@@ -4,10 +4,10 @@ use Rattle.std.specs.Prelude.{All}
 use Rattle.std.proofs.lemmas.List.Elements.{All-contains}
 use Rattle.std.proofs.lemmas.Bool.{or_from, false≢true}
 use Rattle.ssu_ir.specs.Tree.{Label}
-use Rattle.place_ir.specs.Plan.{Home}
-use Rattle.place_ir.specs.Uses.{Sort, Parameter, Result, Fetched, Value, values, Use, uses, uses_of, is_used}
-use Rattle.place_ir.specs.Fits.{is_general, general_places, IsPutEarly, IsHoused, is_result}
-use Rattle.place_ir.proofs.Sound.{Each}
+use Rattle.slot_placement.specs.Plan.{Home}
+use Rattle.slot_placement.specs.Uses.{Sort, Parameter, Result, Fetched, Value, values, Use, uses, uses_of, is_used}
+use Rattle.slot_placement.specs.Fits.{is_general, general_places, IsPutEarly, IsHoused, is_result}
+use Rattle.slot_placement.proofs.Sound.{Each}
 use Rattle.bank_form.specs.declared.column.Bank.{Bank}
 use Rattle.bank_form.specs.declared.column.Bank.TheVariants.{A, B, M, T, L, A15, W}
 use Rattle.bank_form.specs.declared.column.Column.TheVariants.{Def, Fill}

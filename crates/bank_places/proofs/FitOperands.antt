@@ -4,13 +4,13 @@ use Rattle.std.proofs.lemmas.Bool.{false≢true}
 use Rattle.nv_base.specs.declared.term.Mem.{Mem}
 use Rattle.nv_base.specs.declared.term.Mem.TheVariants.{Sram, Sdram, Scratch}
 use Rattle.ssu_ir.specs.Tree.{Label}
-use Rattle.place_ir.specs.declared.place.Place.{Place}
-use Rattle.place_ir.specs.declared.place.Place.TheVariants as place
-use Rattle.place_ir.specs.declared.place.Serve.{Serve}
-use Rattle.place_ir.specs.Plan.{Home, serve}
-use Rattle.place_ir.specs.Uses.{values, Role, Operand, Address, Written, Argument, Ending, Use, uses_at, uses}
-use Rattle.place_ir.specs.Fits.{read_place, different_groups, AreApart}
-use Rattle.place_ir.proofs.Sound.{Each}
+use Rattle.slot_placement.specs.declared.place.Place.{Place}
+use Rattle.slot_placement.specs.declared.place.Place.TheVariants as place
+use Rattle.slot_placement.specs.declared.place.Serve.{Serve}
+use Rattle.slot_placement.specs.Plan.{Home, serve}
+use Rattle.slot_placement.specs.Uses.{values, Role, Operand, Address, Written, Argument, Ending, Use, uses_at, uses}
+use Rattle.slot_placement.specs.Fits.{read_place, different_groups, AreApart}
+use Rattle.slot_placement.proofs.Sound.{Each}
 use Rattle.bank_form.specs.declared.column.Bank.{Bank}
 use Rattle.bank_form.specs.declared.column.Bank.TheVariants.{A, B, T, L, A15}
 use Rattle.bank_form.specs.declared.column.Column.TheVariants.{Srv}

@@ -5,11 +5,11 @@ use Rattle.std.specs.List.{list_any}
 use Rattle.std.proofs.lemmas.Bool.{and_parts, or_cases, false≢true}
 use Rattle.ssu_ir.specs.Tree.{Label, Lit, Una, Bin, Clone, Read, Write, Does, Forks, Ends}
 use Rattle.ssu_ir.specs.Points.{Place as Spot, Entry, At, Point, points}
-use Rattle.place_ir.specs.declared.place.Place.{Place}
-use Rattle.place_ir.specs.declared.place.Serve.{Serve}
-use Rattle.place_ir.specs.Plan.{Home, home, home_in}
-use Rattle.place_ir.specs.Uses.{Sort, Parameter, Result, Fetched, Value, numbered, place_values, values, place_roles, Use, uses_at, uses, uses_of, is_used}
-use Rattle.place_ir.specs.Fits.{is_slot, served, is_result, comes_to_slot, PassesSlots}
+use Rattle.slot_placement.specs.declared.place.Place.{Place}
+use Rattle.slot_placement.specs.declared.place.Serve.{Serve}
+use Rattle.slot_placement.specs.Plan.{Home, home, home_in}
+use Rattle.slot_placement.specs.Uses.{Sort, Parameter, Result, Fetched, Value, numbered, place_values, values, place_roles, Use, uses_at, uses, uses_of, is_used}
+use Rattle.slot_placement.specs.Fits.{is_slot, served, is_result, comes_to_slot, PassesSlots}
 use Rattle.bank_form.specs.declared.column.Bank.{Bank}
 use Rattle.bank_form.specs.declared.column.Bank.TheVariants.{A, B, M, T, L, A15, W}
 use Rattle.bank_form.specs.declared.column.Column.TheVariants.{Def, Fill, PasL, PasS}

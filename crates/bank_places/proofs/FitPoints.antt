@@ -8,12 +8,12 @@ use Rattle.nv_base.specs.declared.term.Mem.{Mem}
 use Rattle.nv_base.specs.declared.term.Mem.TheVariants.{Sram, Sdram, Scratch}
 use Rattle.ssu_ir.specs.Tree.{Label}
 use Rattle.ssu_ir.specs.Points.{Point}
-use Rattle.place_ir.specs.declared.place.Place.{Place}
-use Rattle.place_ir.specs.declared.place.Pass.{Pass}
-use Rattle.place_ir.specs.Places.{same_place}
-use Rattle.place_ir.specs.Plan.{Home, Plan, home, first, pass}
-use Rattle.place_ir.specs.Uses.{Access, place_values, place_roles, uses_at}
-use Rattle.place_ir.specs.Fits.{read_place, IsFirst, is_slot, served, stays, kept_register, read_places, none_shared, run_of, comes_to_slot, IsEighth, PassesSlots}
+use Rattle.slot_placement.specs.declared.place.Place.{Place}
+use Rattle.slot_placement.specs.declared.place.Pass.{Pass}
+use Rattle.slot_placement.specs.Places.{same_place}
+use Rattle.slot_placement.specs.Plan.{Home, Plan, home, first, pass}
+use Rattle.slot_placement.specs.Uses.{Access, place_values, place_roles, uses_at}
+use Rattle.slot_placement.specs.Fits.{read_place, IsFirst, is_slot, served, stays, kept_register, read_places, none_shared, run_of, comes_to_slot, IsEighth, PassesSlots}
 use Rattle.bank_form.specs.declared.column.Column.TheVariants.{First, PasL, PasS}
 use Rattle.bank_form.specs.Columns.{eight, may_begin}
 use Rattle.bank_form.specs.Rows.{is_sdram}

@@ -9,16 +9,16 @@ use Rattle.nv_base.proofs.Sets.{same-number}
 use Rattle.ssu_ir.specs.Tree.{Label, Lit, Una, Bin, Clone, Read, Write, Does, Forks, Ends}
 use Rattle.ssu_ir.specs.Points.{Place as Spot, Entry, At, Point, points}
 use Rattle.ssu_ir.specs.Single.{single}
-use Rattle.place_ir.specs.declared.place.Place.{Place}
-use Rattle.place_ir.specs.Plan.{Home, home_in}
-use Rattle.place_ir.specs.Uses.{Access, accesses, Sort, Parameter, Result, Fetched, Value, numbered, place_values, values, Role, place_roles, Use, uses_at, uses, is_used}
-use Rattle.place_ir.specs.Fits.{is_result, is_sort_homed, wants_home, AreHomes}
-use Rattle.place_ir.specs.inner.Numbers.{values_among}
-use Rattle.place_ir.proofs.Scoped.{in-itself}
-use Rattle.place_ir.proofs.Sound.{Each, entry_params, place_results, Sound, uses_among, sound-points}
-use Rattle.place_ir.proofs.Spilled.{all-each, each-at, param_vars, params-wanted, used-wanted}
-use Rattle.place_ir.proofs.Valued.{each-values}
-use Rattle.place_ir.proofs.Fitting.{each-uses, apart-from, uses-are, values-are, entries-in}
+use Rattle.slot_placement.specs.declared.place.Place.{Place}
+use Rattle.slot_placement.specs.Plan.{Home, home_in}
+use Rattle.slot_placement.specs.Uses.{Access, accesses, Sort, Parameter, Result, Fetched, Value, numbered, place_values, values, Role, place_roles, Use, uses_at, uses, is_used}
+use Rattle.slot_placement.specs.Fits.{is_result, is_sort_homed, wants_home, AreHomes}
+use Rattle.held_values.specs.inner.Numbers.{values_among}
+use Rattle.held_values.proofs.Scoped.{in-itself}
+use Rattle.slot_placement.proofs.Sound.{Each, entry_params, place_results, Sound, uses_among, sound-points}
+use Rattle.slot_placement.proofs.Spilled.{all-each, each-at, param_vars, params-wanted, used-wanted}
+use Rattle.place_checks.proofs.Valued.{each-values}
+use Rattle.slot_placement.proofs.Fitting.{each-uses, apart-from, uses-are, values-are, entries-in}
 use Rattle.bank_form.specs.declared.column.Bank.{Bank}
 use Rattle.bank_form.specs.declared.column.Column.TheVariants.{Def, First}
 use Rattle.bank_form.specs.Columns.{eight, may_begin, is_fetched}

@@ -5,13 +5,13 @@ use Rattle.std.proofs.lemmas.Bool.{and_from, or_cases, or_left, or_right, not_fr
 use Rattle.nv_base.specs.declared.term.Mem.{Mem}
 use Rattle.nv_base.specs.declared.term.Mem.TheVariants.{Sram, Sdram, Scratch}
 use Rattle.ssu_ir.specs.Tree.{Label}
-use Rattle.place_ir.specs.declared.place.Place.{Place}
-use Rattle.place_ir.specs.declared.place.Place.TheVariants as place
-use Rattle.place_ir.specs.declared.place.Serve.{Serve}
-use Rattle.place_ir.specs.Places.{same_place}
-use Rattle.place_ir.specs.Plan.{Home, home, pass}
-use Rattle.place_ir.specs.Uses.{Sort, Parameter, Result, Fetched, Value, values, Role, Operand, Address, Written, Argument, Ending, Use, uses}
-use Rattle.place_ir.specs.Fits.{read_place, is_write_register, is_home, IsOperandAt, IsAddressAt, parameter, word_register, IsServedAt, IsServed, is_result}
+use Rattle.slot_placement.specs.declared.place.Place.{Place}
+use Rattle.slot_placement.specs.declared.place.Place.TheVariants as place
+use Rattle.slot_placement.specs.declared.place.Serve.{Serve}
+use Rattle.slot_placement.specs.Places.{same_place}
+use Rattle.slot_placement.specs.Plan.{Home, home, pass}
+use Rattle.slot_placement.specs.Uses.{Sort, Parameter, Result, Fetched, Value, values, Role, Operand, Address, Written, Argument, Ending, Use, uses}
+use Rattle.slot_placement.specs.Fits.{read_place, is_write_register, is_home, IsOperandAt, IsAddressAt, parameter, word_register, IsServedAt, IsServed, is_result}
 use Rattle.bank_form.specs.declared.column.Bank.{Bank}
 use Rattle.bank_form.specs.declared.column.Bank.TheVariants.{A, B, M, T, L, A15, W}
 use Rattle.bank_form.specs.declared.column.Column.TheVariants.{Def, Fill, Srv}
@@ -19,8 +19,8 @@ use Rattle.bank_form.specs.declared.column.Service.{Service}
 use Rattle.bank_form.specs.Columns.{services, is_fetched}
 use Rattle.bank_form.specs.Rows.{def, srv, early, is_written, is_parameter}
 use Rattle.bank_prog.specs.Meaning.{Chosen}
-use Rattle.place_ir.proofs.Scoped.{in-itself}
-use Rattle.place_ir.proofs.Sound.{Each}
+use Rattle.held_values.proofs.Scoped.{in-itself}
+use Rattle.slot_placement.proofs.Sound.{Each}
 use Rattle.bank_places.specs.inner.Facts.{count, in_bank, ValueFacts, UseFacts}
 use Rattle.bank_places.specs.inner.ReadOff.{Numbers, pass_l, def_bank, service_on, home_place, place_in, word_place, fill_at, fills_of, words_of, copies_of, put_home, sort_home, bank_place, target, serve_by, read_off}
 use Rattle.bank_places.proofs.ReadParts.{count-any, IsFound}

@@ -8,21 +8,21 @@ use Rattle.nv_base.specs.declared.term.Mem.{Mem}
 use Rattle.nv_base.specs.declared.term.Mem.TheVariants.{Sram, Sdram, Scratch}
 use Rattle.ssu_ir.specs.Tree.{Label}
 use Rattle.ssu_ir.specs.Points.{Point}
-use Rattle.place_ir.specs.declared.place.Place.{Place}
-use Rattle.place_ir.specs.declared.place.Place.TheVariants.{S}
-use Rattle.place_ir.specs.Places.{same_place}
-use Rattle.place_ir.specs.Plan.{Home, first, pass}
-use Rattle.place_ir.specs.Uses.{Access, writes_at, Role, Operand, Address, Written, Argument, Ending, Use, uses}
-use Rattle.place_ir.specs.Fits.{write_place, word_register, is_early, maybe, has_place, run_of, Waits, KeepsWaiting}
+use Rattle.slot_placement.specs.declared.place.Place.{Place}
+use Rattle.slot_placement.specs.declared.place.Place.TheVariants.{S}
+use Rattle.slot_placement.specs.Places.{same_place}
+use Rattle.slot_placement.specs.Plan.{Home, first, pass}
+use Rattle.slot_placement.specs.Uses.{Access, writes_at, Role, Operand, Address, Written, Argument, Ending, Use, uses}
+use Rattle.slot_placement.specs.Fits.{write_place, word_register, is_early, maybe, has_place, run_of, Waits, KeepsWaiting}
 use Rattle.bank_form.specs.declared.column.Column.{Column}
 use Rattle.bank_form.specs.declared.column.Column.TheVariants.{Dir, Ear, First, PasS}
 use Rattle.bank_form.specs.Columns.{eight}
 use Rattle.bank_form.specs.Rows.{dir, ear, is_written, is_sdram}
 use Rattle.bank_prog.specs.Meaning.{Chosen}
 use Rattle.bank_rows.proofs.Present.{contains-other}
-use Rattle.place_ir.proofs.Scoped.{in-itself}
-use Rattle.place_ir.proofs.Sound.{Each}
-use Rattle.place_ir.proofs.Spilled.{each-all, each-at}
+use Rattle.held_values.proofs.Scoped.{in-itself}
+use Rattle.slot_placement.proofs.Sound.{Each}
+use Rattle.slot_placement.proofs.Spilled.{each-all, each-at}
 use Rattle.bank_places.specs.inner.Facts.{early_in, UseFacts, WaitsIn, waits_at, PointFacts}
 use Rattle.bank_places.specs.inner.ReadOff.{Numbers, begins, pass_s, goes_early, word_place, role_place, read_off}
 use Rattle.bank_places.proofs.ReadParts.{first-on-each, eight-low, FirstsThere, first-read}

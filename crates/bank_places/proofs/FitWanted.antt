@@ -7,12 +7,12 @@ use Rattle.nv_base.specs.declared.term.Mem.{Mem}
 use Rattle.nv_base.specs.declared.term.Mem.TheVariants.{Sram, Sdram, Scratch}
 use Rattle.ssu_ir.specs.Tree.{Label}
 use Rattle.ssu_ir.specs.Points.{points}
-use Rattle.place_ir.specs.declared.place.Place.{Place}
-use Rattle.place_ir.specs.declared.place.Pass.{Pass}
-use Rattle.place_ir.specs.Places.{same_place}
-use Rattle.place_ir.specs.Plan.{Home, home_in, pass}
-use Rattle.place_ir.specs.Uses.{Sort, Parameter, Result, Fetched, Value, values, Use, uses, is_used}
-use Rattle.place_ir.specs.Fits.{read_place, parameter, IsServed, is_result}
+use Rattle.slot_placement.specs.declared.place.Place.{Place}
+use Rattle.slot_placement.specs.declared.place.Pass.{Pass}
+use Rattle.slot_placement.specs.Places.{same_place}
+use Rattle.slot_placement.specs.Plan.{Home, home_in, pass}
+use Rattle.slot_placement.specs.Uses.{Sort, Parameter, Result, Fetched, Value, values, Use, uses, is_used}
+use Rattle.slot_placement.specs.Fits.{read_place, parameter, IsServed, is_result}
 use Rattle.bank_form.specs.declared.column.Bank.{Bank}
 use Rattle.bank_form.specs.declared.column.Bank.TheVariants.{A, B, M, T, L, A15, W}
 use Rattle.bank_form.specs.declared.column.Column.TheVariants.{Def, PasL}
@@ -20,7 +20,7 @@ use Rattle.bank_form.specs.declared.column.Service.{Service}
 use Rattle.bank_form.specs.Columns.{eight, sort_of, is_fetched, services}
 use Rattle.bank_form.specs.Rows.{def, is_parameter}
 use Rattle.bank_prog.specs.Meaning.{Chosen}
-use Rattle.place_ir.proofs.Scoped.{in-itself}
+use Rattle.held_values.proofs.Scoped.{in-itself}
 use Rattle.bank_places.specs.inner.Facts.{count, some_on, in_bank, IsIn, ValueFacts}
 use Rattle.bank_places.specs.inner.ReadOff.{Numbers, begins, pass_l, def_bank, home_place, sort_place, place_in, put_home, sort_home, bank_place, read_off}
 use Rattle.bank_places.proofs.Counts.{In, in-contained, each-in}

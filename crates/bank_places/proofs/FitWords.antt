@@ -4,10 +4,10 @@ use Rattle.std.specs.List.{list_any}
 use Rattle.std.proofs.lemmas.Bool.{false≢true}
 use Rattle.nv_base.specs.declared.term.Mem.TheVariants.{Sram, Sdram, Scratch}
 use Rattle.ssu_ir.specs.Tree.{Label}
-use Rattle.place_ir.specs.declared.place.Serve.{Serve}
-use Rattle.place_ir.specs.Plan.{Home}
-use Rattle.place_ir.specs.Uses.{Sort, Parameter, Result, Fetched, Value, values, Role, Operand, Address, Written, Argument, Ending, Use, uses, uses_of}
-use Rattle.place_ir.specs.Fits.{write_place, is_write_register, role_register, word_register, is_early, early_uses}
+use Rattle.slot_placement.specs.declared.place.Serve.{Serve}
+use Rattle.slot_placement.specs.Plan.{Home}
+use Rattle.slot_placement.specs.Uses.{Sort, Parameter, Result, Fetched, Value, values, Role, Operand, Address, Written, Argument, Ending, Use, uses, uses_of}
+use Rattle.slot_placement.specs.Fits.{write_place, is_write_register, role_register, word_register, is_early, early_uses}
 use Rattle.zo_model.specs.Program.{cost_where}
 use Rattle.bank_form.specs.declared.column.Column.{Column}
 use Rattle.bank_form.specs.declared.column.Column.TheVariants.{Srv}
@@ -16,7 +16,7 @@ use Rattle.bank_form.specs.Columns.{services}
 use Rattle.bank_form.specs.Rows.{dir, ear, srv, early, is_written}
 use Rattle.bank_prog.specs.Meaning.{Chosen}
 use Rattle.bank_rows.proofs.PlainLines.{each-kept}
-use Rattle.place_ir.proofs.Sound.{Each}
+use Rattle.slot_placement.proofs.Sound.{Each}
 use Rattle.bank_places.specs.inner.Facts.{count, UseFacts}
 use Rattle.bank_places.specs.inner.ReadOff.{Numbers, goes_early, service_on, sort_place, place_in, role_place, word_place, words_of, bank_place, serve_by, use_serve, read_off}
 use Rattle.bank_places.proofs.ReadParts.{on-one, count-any, count-none, FirstsThere, first-read, IsFound}

@@ -10,13 +10,13 @@ use Rattle.nv_base.specs.Sets.{is_in, all_different, Within}
 use Rattle.nv_base.proofs.Sets.{same-number}
 use Rattle.ssu_ir.specs.Tree.{Label}
 use Rattle.ssu_ir.specs.Single.{single}
-use Rattle.place_ir.specs.declared.place.Home.{Home as KeptHome}
-use Rattle.place_ir.specs.Plan.{Home, home_in, home_view}
-use Rattle.place_ir.specs.Uses.{Sort, Parameter, Result, Fetched, Value, values}
-use Rattle.place_ir.specs.Fits.{wants_home, Rises}
-use Rattle.place_ir.proofs.Scoped.{in-itself}
-use Rattle.place_ir.proofs.Sound.{Each}
-use Rattle.place_ir.proofs.Spilled.{each-all, all-each, each-weaker, each-apply}
+use Rattle.slot_placement.specs.declared.place.Home.{Home as KeptHome}
+use Rattle.slot_placement.specs.Plan.{Home, home_in, home_view}
+use Rattle.slot_placement.specs.Uses.{Sort, Parameter, Result, Fetched, Value, values}
+use Rattle.slot_placement.specs.Fits.{wants_home, Rises}
+use Rattle.held_values.proofs.Scoped.{in-itself}
+use Rattle.slot_placement.proofs.Sound.{Each}
+use Rattle.slot_placement.proofs.Spilled.{each-all, all-each, each-weaker, each-apply}
 use Rattle.bank_form.specs.declared.column.Bank.{Bank}
 use Rattle.bank_prog.specs.Meaning.{Chosen}
 use Rattle.bank_form.proofs.Loops.{flat-filter}

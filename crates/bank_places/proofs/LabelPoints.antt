@@ -7,15 +7,15 @@ use Rattle.ssu_ir.specs.Tree.{Label, Tree, Do, If, End, step_values}
 use Rattle.ssu_ir.specs.Points.{Names, own, names_after, Point, tree_points, label_points, points_from, points, IsHeld}
 use Rattle.ssu_ir.specs.Single.{single}
 use Rattle.ssu_ir.proofs.Held.{held_from, points_held}
-use Rattle.place_ir.specs.Uses.{Value, values_from, values, place_values, Role, Use, uses_at, uses_from, uses, place_roles}
-use Rattle.place_ir.specs.inner.Numbers.{values_among}
-use Rattle.place_ir.specs.inner.Spots.{tree_places}
-use Rattle.place_ir.proofs.Fitting.{values-are}
-use Rattle.place_ir.proofs.Numbering.{values_among-append}
-use Rattle.place_ir.proofs.Scoped.{split-different, in-itself, in-left as is-left, in-right as is-right, in-either as is-either}
-use Rattle.place_ir.proofs.Sound.{Each, each-append}
-use Rattle.place_ir.proofs.Spilled.{all-each, each-left, each-right}
-use Rattle.place_ir.proofs.SpotSteps.{places-of-points}
+use Rattle.slot_placement.specs.Uses.{Value, values_from, values, place_values, Role, Use, uses_at, uses_from, uses, place_roles}
+use Rattle.held_values.specs.inner.Numbers.{values_among}
+use Rattle.held_values.specs.inner.Spots.{tree_places}
+use Rattle.slot_placement.proofs.Fitting.{values-are}
+use Rattle.held_values.proofs.Numbering.{values_among-append}
+use Rattle.held_values.proofs.Scoped.{split-different, in-itself, in-left as is-left, in-right as is-right, in-either as is-either}
+use Rattle.slot_placement.proofs.Sound.{Each, each-append}
+use Rattle.slot_placement.proofs.Spilled.{all-each, each-left, each-right}
+use Rattle.held_values.proofs.SpotSteps.{places-of-points}
 use Rattle.bank_places.specs.ByLabel.{label_from}
 use Rattle.bank_places.proofs.Counts.{In, in-either}
 use Rattle.bank_places.proofs.FactsThere.{point-of}

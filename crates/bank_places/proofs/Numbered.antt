@@ -11,13 +11,13 @@ use Rattle.nv_base.proofs.Sets.{different-below, different-length, different-all
 use Rattle.ssu_ir.specs.Tree.{Lit, Una, Bin, Clone, Read, Write, Label, Does, Forks, Ends}
 use Rattle.ssu_ir.specs.Points.{Place as Spot, Entry, At, Point, points}
 use Rattle.ssu_ir.specs.Single.{single}
-use Rattle.place_ir.specs.Held.{IsRow, IsRowOf, HaveNumbers}
-use Rattle.place_ir.specs.Uses.{Sort, Parameter, Fetched, Value, numbered, place_values, values_from, values, Use, uses, is_used}
-use Rattle.place_ir.specs.inner.Numbers.{values_among}
-use Rattle.place_ir.proofs.Scoped.{in-itself, in-filter, in-either, different-filter, same-length}
-use Rattle.place_ir.proofs.Sound.{Each, each-append, entry_params, Sound, uses_among, sound-points}
-use Rattle.place_ir.proofs.Spilled.{each-all, all-each, each-weaker}
-use Rattle.place_ir.proofs.Fitting.{uses-are}
+use Rattle.held_values.specs.Held.{IsRow, IsRowOf, HaveNumbers}
+use Rattle.slot_placement.specs.Uses.{Sort, Parameter, Fetched, Value, numbered, place_values, values_from, values, Use, uses, is_used}
+use Rattle.held_values.specs.inner.Numbers.{values_among}
+use Rattle.held_values.proofs.Scoped.{in-itself, in-filter, in-either, different-filter, same-length}
+use Rattle.slot_placement.proofs.Sound.{Each, each-append, entry_params, Sound, uses_among, sound-points}
+use Rattle.slot_placement.proofs.Spilled.{each-all, all-each, each-weaker}
+use Rattle.slot_placement.proofs.Fitting.{uses-are}
 use Rattle.bank_form.specs.declared.column.Bank.{Bank}
 use Rattle.bank_form.specs.declared.column.Bank.TheVariants.{A, B, M}
 use Rattle.bank_form.specs.Rows.{homes, is_parameter}

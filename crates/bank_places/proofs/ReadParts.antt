@@ -7,20 +7,20 @@ use Rattle.nv_base.specs.Sets.{is_in}
 use Rattle.nv_base.proofs.Sets.{same-number, other-number}
 use Rattle.ssu_ir.specs.Tree.{Label}
 use Rattle.ssu_ir.specs.Points.{Point}
-use Rattle.place_ir.specs.declared.place.Serve.{Serve}
-use Rattle.place_ir.specs.declared.place.Pass.{Pass}
-use Rattle.place_ir.specs.Plan.{Home, first_in, first, serve_in, pass_in}
-use Rattle.place_ir.specs.Uses.{Access, accesses, Use}
-use Rattle.place_ir.specs.Fits.{Rises, same_use, IsEighth, at_operand, use_operand}
+use Rattle.slot_placement.specs.declared.place.Serve.{Serve}
+use Rattle.slot_placement.specs.declared.place.Pass.{Pass}
+use Rattle.slot_placement.specs.Plan.{Home, first_in, first, serve_in, pass_in}
+use Rattle.slot_placement.specs.Uses.{Access, accesses, Use}
+use Rattle.slot_placement.specs.Fits.{Rises, same_use, IsEighth, at_operand, use_operand}
 use Rattle.zo_model.specs.Program.{cost_where}
 use Rattle.bank_form.specs.declared.column.Column.{Column}
 use Rattle.bank_form.specs.declared.column.Column.TheVariants.{First}
 use Rattle.bank_form.specs.declared.column.Service.{Service}
 use Rattle.bank_form.specs.Columns.{eight, services}
 use Rattle.bank_prog.specs.Meaning.{Chosen}
-use Rattle.place_ir.proofs.Scoped.{in-itself}
-use Rattle.place_ir.proofs.Sound.{Each}
-use Rattle.place_ir.proofs.Spilled.{each-weaker, each-apply, Apart}
+use Rattle.held_values.proofs.Scoped.{in-itself}
+use Rattle.slot_placement.proofs.Sound.{Each}
+use Rattle.slot_placement.proofs.Spilled.{each-weaker, each-apply, Apart}
 use Rattle.bank_places.specs.inner.Facts.{count, AccessFacts}
 use Rattle.bank_places.specs.inner.ReadOff.{Numbers, first_on, begins, pass_l, pass_s, service_on, serve_by, use_serve, access_first, pass_by, passes_from, read_off}
 

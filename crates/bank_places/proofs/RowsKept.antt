@@ -1,7 +1,7 @@
 -- Steps of a loop that keeps a part of each row.
 use Rattle.std.proofs.Common.{◌≡◌, ℕ, ◌+◌, ◌<◌, ◌≤◌, List, [], ◌∷◌, ◌++◌, length, map, drop, get_or, sym, ap, ◌∙◌, append_assoc}
 use Rattle.std.proofs.lemmas.List.{at_drop_more, at_drop_all, append-nil}
-use Rattle.place_ir.specs.Held.{Kept, items_of}
+use Rattle.held_values.specs.Held.{Kept, items_of}
 
 pub rows-more : (f : List ℕ → List ℕ) (vs : List Kept) (i : ℕ) (d : Kept) (out out' : List (List ℕ)) (goal : List (List ℕ)) → i < length vs → out' ≡ out ++ f (get_or vs i d).items ∷ []
     → out ++ map f (items_of (drop i vs)) ≡ goal → out' ++ map f (items_of (drop (i + 1) vs)) ≡ goal

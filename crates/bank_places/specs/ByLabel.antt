@@ -3,9 +3,9 @@
 use Rattle.std.specs.Prelude.{ℕ, suc, ◌+◌, nat_eq, nat_lt, Bool, List, [], ◌∷◌, filter, length, if◌then◌else◌}
 use Rattle.ssu_ir.specs.Tree.{Label}
 use Rattle.ssu_ir.specs.Points.{label_points}
-use Rattle.place_ir.specs.Costs.{values_cost, uses_cost}
-use Rattle.place_ir.specs.Plan.{Plan}
-use Rattle.place_ir.specs.Uses.{Value, values, uses}
+use Rattle.slot_placement.specs.Costs.{values_cost, uses_cost}
+use Rattle.slot_placement.specs.Plan.{Plan}
+use Rattle.slot_placement.specs.Uses.{Value, values, uses}
 use Rattle.bank_form.specs.declared.column.Column.{Column}
 use Rattle.bank_form.specs.declared.column.Column.TheVariants.{Def, Dir, Fill, Stay, Ear, First, Srv, PasL, PasS}
 use Rattle.bank_form.specs.Columns.{priced}

@@ -3,7 +3,7 @@
 ghost use Rattle.std.specs.Prelude.{◌≡◌, ℕ, nat_eq, map, IfOk};
 ghost use Rattle.std.specs.HashMap.{get};
 ghost use Rattle.ssu_ir.specs.View.{labels_view};
-ghost use Rattle.place_ir.specs.Plan.{home_view, home_in, first_in, serve_in, pass_in, plan_view};
+ghost use Rattle.slot_placement.specs.Plan.{home_view, home_in, first_in, serve_in, pass_in, plan_view};
 ghost use Rattle.bank_form.specs.inner.Form.{use_view, value_view};
 ghost use Rattle.bank_places.specs.inner.Chosen.{use_in, value_in};
 ghost use Rattle.bank_places.specs.inner.PlanTables.{pair_eq, known_number, known_place, known_places, known_from, known_at, known_l, known_s, known_value, known_role, AreTold};

@@ -8,11 +8,11 @@ use Rattle.nv_base.proofs.Sets.{in-append}
 use Rattle.ssu_ir.specs.Tree.{Lit, Una, Bin, Clone, Read, Write, Tree, Do, If, End, Label, Does, Forks, Ends, step_values}
 use Rattle.ssu_ir.specs.Points.{Names, own, names_after, Place, Entry, At, Point, place_values, nodes, tree_points, label_points, points_from}
 use Rattle.ssu_ir.proofs.PointLemmas.{length-tree_points}
-use Rattle.place_ir.specs.Uses as pure
-use Rattle.place_ir.specs.Uses.{Sort, Parameter, Fetched, numbered, values_from}
-use Rattle.place_ir.specs.inner.Numbers.{values_among}
-use Rattle.place_ir.proofs.Scoped.{split-different}
-use Rattle.place_ir.proofs.Seen.{and-true', same-order}
+use Rattle.slot_placement.specs.Uses as pure
+use Rattle.slot_placement.specs.Uses.{Sort, Parameter, Fetched, numbered, values_from}
+use Rattle.held_values.specs.inner.Numbers.{values_among}
+use Rattle.held_values.proofs.Scoped.{split-different}
+use Rattle.place_checks.proofs.Seen.{and-true', same-order}
 use Rattle.bank_rows.specs.inner.Waiting.{point_in, covers}
 
 -- ---- truth values

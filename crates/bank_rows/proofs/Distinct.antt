@@ -5,11 +5,11 @@ use Rattle.std.proofs.lemmas.Bool.{and_parts, false≢true, false_from_ne_true, 
 use Rattle.std.proofs.lemmas.Grind.{flat_map-append}
 use Rattle.nv_base.specs.Sets.{is_in, all_different}
 use Rattle.ssu_ir.specs.Points.{Point, place_values}
-use Rattle.place_ir.specs.Uses.{Value, Role, Use, uses_at}
-use Rattle.place_ir.specs.inner.Numbers.{values_among}
-use Rattle.place_ir.proofs.Scoped.{in-itself, in-left, in-right, split-different}
-use Rattle.place_ir.proofs.Sound.{Each, each-append}
-use Rattle.place_ir.proofs.Spilled.{each-weaker}
+use Rattle.slot_placement.specs.Uses.{Value, Role, Use, uses_at}
+use Rattle.held_values.specs.inner.Numbers.{values_among}
+use Rattle.held_values.proofs.Scoped.{in-itself, in-left, in-right, split-different}
+use Rattle.slot_placement.proofs.Sound.{Each, each-append}
+use Rattle.slot_placement.proofs.Spilled.{each-weaker}
 use Rattle.bank_form.specs.declared.column.Column.{Column}
 use Rattle.bank_form.specs.Columns.{Priced, each_point}
 use Rattle.bank_form.specs.Program.{same_column}

@@ -9,15 +9,15 @@ use Rattle.nv_base.specs.Sets.{is_in, all_different}
 use Rattle.ssu_ir.specs.Tree.{Lit, Una, Bin, Clone, Read, Write, Label, Does, Forks, Ends}
 use Rattle.ssu_ir.specs.Points.{Place, Entry, At, Point, place_values, points}
 use Rattle.ssu_ir.specs.Single.{single, is_entry, is_single, all_defined}
-use Rattle.place_ir.specs.Uses as pure
-use Rattle.place_ir.specs.Uses.{Access, Sort, Parameter, Result, Fetched, Value, values, Role, Operand, Address, Written, Argument, Ending, Use, uses, uses_at, place_roles, is_used, accesses, place_accesses}
-use Rattle.place_ir.specs.Fits.{is_result}
-use Rattle.place_ir.specs.inner.Numbers.{values_among}
-use Rattle.place_ir.proofs.Scoped.{different-filter}
-use Rattle.place_ir.proofs.Numbering.{places-of-labels, different-labels}
-use Rattle.place_ir.proofs.Sound.{Each, each-append}
-use Rattle.place_ir.proofs.Spilled.{each-weaker}
-use Rattle.place_ir.proofs.Fitting.{values-are, vars-of-place}
+use Rattle.slot_placement.specs.Uses as pure
+use Rattle.slot_placement.specs.Uses.{Access, Sort, Parameter, Result, Fetched, Value, values, Role, Operand, Address, Written, Argument, Ending, Use, uses, uses_at, place_roles, is_used, accesses, place_accesses}
+use Rattle.slot_placement.specs.Fits.{is_result}
+use Rattle.held_values.specs.inner.Numbers.{values_among}
+use Rattle.held_values.proofs.Scoped.{different-filter}
+use Rattle.held_values.proofs.Numbering.{places-of-labels, different-labels}
+use Rattle.slot_placement.proofs.Sound.{Each, each-append}
+use Rattle.slot_placement.proofs.Spilled.{each-weaker}
+use Rattle.slot_placement.proofs.Fitting.{values-are, vars-of-place}
 use Rattle.bank_form.specs.declared.column.Bank.{Bank}
 use Rattle.bank_form.specs.declared.column.Bank.TheVariants.{A, B, M, T, L, A15, W}
 use Rattle.bank_form.specs.declared.column.Column.{Column}

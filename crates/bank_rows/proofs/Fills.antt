@@ -8,10 +8,10 @@ use Rattle.zo_model.specs.declared.program.Row.{Row}
 use Rattle.zo_model.specs.Contents.{RowContents, row_contents}
 use Rattle.ssu_ir.specs.Tree.{Lit, Una, Bin, Clone, Read, Write, Tree, Do, If, End, Label, Does, Forks, Ends, step_values}
 use Rattle.ssu_ir.specs.Points.{Names, own, names_after, held, Place, Entry, At, Point, tree_points, points_from, points}
-use Rattle.place_ir.specs.Held.{Kept, IsRow, items_of}
-use Rattle.place_ir.specs.Uses as pure
-use Rattle.place_ir.specs.Uses.{reads_at}
-use Rattle.place_ir.specs.Fits.{point_values}
+use Rattle.held_values.specs.Held.{Kept, IsRow, items_of}
+use Rattle.slot_placement.specs.Uses as pure
+use Rattle.slot_placement.specs.Uses.{reads_at}
+use Rattle.slot_placement.specs.Fits.{point_values}
 use Rattle.bank_form.specs.declared.column.Column.{Column}
 use Rattle.bank_form.specs.Columns.{each_point, eight}
 use Rattle.bank_form.specs.Rows.{at_most, stays_at, covering, is_sdram, access_owners, fill_owners}

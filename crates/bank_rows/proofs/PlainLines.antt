@@ -9,11 +9,11 @@ use Rattle.ssu_ir.specs.Tree.{Lit, Una, Bin, Clone, Read, Write, Label, Does, Fo
 use Rattle.ssu_ir.specs.Points.{Place, Entry, At, Point, points, IsHeld}
 use Rattle.ssu_ir.specs.Single.{single}
 use Rattle.ssu_ir.proofs.Held.{points_held}
-use Rattle.place_ir.specs.Uses.{Access, accesses, reads_at, writes_at, Sort, Parameter, Result, Fetched, Value, values, place_values, Role, Operand, Address, Written, Argument, Ending, Use, uses, uses_from, uses_at, place_roles, uses_of, is_used}
-use Rattle.place_ir.specs.Fits.{is_result, parameter, point_values}
-use Rattle.place_ir.proofs.Scoped.{in-itself, different-filter, different-without}
-use Rattle.place_ir.proofs.Sound.{Each, each-append}
-use Rattle.place_ir.proofs.Spilled.{each-all, all-each, each-weaker}
+use Rattle.slot_placement.specs.Uses.{Access, accesses, reads_at, writes_at, Sort, Parameter, Result, Fetched, Value, values, place_values, Role, Operand, Address, Written, Argument, Ending, Use, uses, uses_from, uses_at, place_roles, uses_of, is_used}
+use Rattle.slot_placement.specs.Fits.{is_result, parameter, point_values}
+use Rattle.held_values.proofs.Scoped.{in-itself, different-filter, different-without}
+use Rattle.slot_placement.proofs.Sound.{Each, each-append}
+use Rattle.slot_placement.proofs.Spilled.{each-all, all-each, each-weaker}
 use Rattle.zo_model.specs.declared.program.ZeroOne.{ZeroOne}
 use Rattle.zo_model.specs.Contents.{contents}
 use Rattle.zo_model.specs.Program.{IsValid}

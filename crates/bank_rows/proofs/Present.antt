@@ -7,8 +7,8 @@ use Rattle.std.proofs.lemmas.List.Elements.{Contains-append_left, Contains-appen
 use Rattle.nv_base.specs.declared.term.Mem.{Mem}
 use Rattle.ssu_ir.specs.Tree.{Step, Lit, Una, Bin, Clone, Read, Write, Label, Does, Forks, Ends}
 use Rattle.ssu_ir.specs.Points.{Place, Entry, At, Point, points}
-use Rattle.place_ir.specs.Uses.{Access, accesses, accesses_from, place_accesses, step_reads, step_writes, Sort, Parameter, Result, Fetched, Value, values, values_from, numbered, step_values, place_values, Role, Use, uses, uses_from, uses_at, place_roles, is_used}
-use Rattle.place_ir.specs.Fits.{is_result}
+use Rattle.slot_placement.specs.Uses.{Access, accesses, accesses_from, place_accesses, step_reads, step_writes, Sort, Parameter, Result, Fetched, Value, values, values_from, numbered, step_values, place_values, Role, Use, uses, uses_from, uses_at, place_roles, is_used}
+use Rattle.slot_placement.specs.Fits.{is_result}
 use Rattle.bank_form.specs.declared.column.Bank.{Bank}
 use Rattle.bank_form.specs.declared.column.Bank.TheVariants.{A, B, M}
 use Rattle.bank_form.specs.declared.column.Column.{Column}

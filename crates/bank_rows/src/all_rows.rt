@@ -6,7 +6,7 @@ ghost use Rattle.std.specs.List.{AllZip};
 ghost use Rattle.ssu_ir.specs.Points.{points};
 ghost use Rattle.ssu_ir.specs.Single.{single};
 ghost use Rattle.ssu_ir.specs.View.{labels_view};
-ghost use Rattle.place_ir.specs.Held.{IsRow, items_of};
+ghost use Rattle.held_values.specs.Held.{IsRow, items_of};
 ghost use Rattle.zo_model.specs.Contents.{row_contents};
 ghost use Rattle.bank_form.specs.Program.{same_column, row_of};
 ghost use Rattle.bank_form.specs.Rows.{lines};

@@ -5,7 +5,7 @@ ghost use Rattle.std.specs.HashMap.{get};
 ghost use Rattle.ssu_ir.specs.Points.{points};
 ghost use Rattle.ssu_ir.specs.Slots.{node_of};
 ghost use Rattle.ssu_ir.specs.View.{labels_view};
-ghost use Rattle.place_ir.specs.inner.Spots.{spot_place};
+ghost use Rattle.held_values.specs.inner.Spots.{spot_place};
 ghost use Rattle.bank_form.specs.inner.Adds.{either};
 ghost use Rattle.bank_form.specs.inner.Form.{at_node, value_view};
 ghost use Rattle.bank_rows.specs.inner.Waiting as waits;

@@ -5,9 +5,9 @@ use Rattle.std.specs.List.{flat_map}
 use Rattle.ssu_ir.specs.Measures.{peak}
 use Rattle.ssu_ir.specs.Single.{single}
 use Rattle.ssu_ir.specs.Tree.{Label}
-use Rattle.place_ir.specs.Uses.{accesses, values, uses}
-use Rattle.place_ir.proofs.Sound.{Each, each-append}
-use Rattle.place_ir.proofs.Spilled.{each-all}
+use Rattle.slot_placement.specs.Uses.{accesses, values, uses}
+use Rattle.slot_placement.proofs.Sound.{Each, each-append}
+use Rattle.slot_placement.proofs.Spilled.{each-all}
 use Rattle.zo_model.specs.Program.{vector, costs_of}
 use Rattle.bank_form.specs.declared.column.Bank.{Bank}
 use Rattle.bank_form.specs.declared.column.Bank.TheVariants.{A, B, M, T, L, A15, W}

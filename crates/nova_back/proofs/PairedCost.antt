@@ -3,9 +3,9 @@ use Rattle.std.proofs.Common.{◌≡◌, ℕ, zero, suc, ◌+◌, ◌*◌, ◌�
 use Rattle.std.specs.List.{flat_map}
 use Rattle.ssu_ir.specs.Points.{points}
 use Rattle.ssu_ir.specs.Tree.{Label}
-use Rattle.place_ir.specs.Fits.{is_result}
-use Rattle.place_ir.specs.Uses.{Access, accesses, Sort, Parameter, Result, Fetched, Value, values, place_values, Role, Operand, Address, Written, Argument, Ending, Use, uses, is_used}
-use Rattle.place_ir.proofs.Sound.{Each}
+use Rattle.slot_placement.specs.Fits.{is_result}
+use Rattle.slot_placement.specs.Uses.{Access, accesses, Sort, Parameter, Result, Fetched, Value, values, place_values, Role, Operand, Address, Written, Argument, Ending, Use, uses, is_used}
+use Rattle.slot_placement.proofs.Sound.{Each}
 use Rattle.zo_model.specs.Program.{cost_where}
 use Rattle.bank_form.specs.declared.column.Bank.TheVariants.{A, B, M, T, L, A15, W}
 use Rattle.bank_form.specs.declared.column.Column.{Column}

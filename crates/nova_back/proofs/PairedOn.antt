@@ -5,11 +5,11 @@ use Rattle.std.proofs.lemmas.Bool.{and_parts, false≢true, false_from_ne_true}
 use Rattle.ssu_ir.specs.Points.{Point, points}
 use Rattle.ssu_ir.specs.Single.{single}
 use Rattle.ssu_ir.specs.Tree.{Label}
-use Rattle.place_ir.specs.Uses.{Value, values, Role, Operand, Address, Written, Argument, Ending, Use, uses, place_roles, is_used}
-use Rattle.place_ir.specs.inner.Numbers.{values_among}
-use Rattle.place_ir.proofs.Fitting.{apart-from}
-use Rattle.place_ir.proofs.Sound.{Each, Sound, sound-points, uses_among}
-use Rattle.place_ir.proofs.Spilled.{each-at}
+use Rattle.slot_placement.specs.Uses.{Value, values, Role, Operand, Address, Written, Argument, Ending, Use, uses, place_roles, is_used}
+use Rattle.held_values.specs.inner.Numbers.{values_among}
+use Rattle.slot_placement.proofs.Fitting.{apart-from}
+use Rattle.slot_placement.proofs.Sound.{Each, Sound, sound-points, uses_among}
+use Rattle.slot_placement.proofs.Spilled.{each-at}
 use Rattle.zo_model.specs.Program.{vector, cost_where}
 use Rattle.bank_form.specs.declared.column.Bank.{Bank}
 use Rattle.bank_form.specs.declared.column.Bank.TheVariants.{A, B, M, L, W}

@@ -8,10 +8,10 @@ use Rattle.nv_base.proofs.Sets.{same-number}
 use Rattle.ssu_ir.specs.Measures.{most_held, peak}
 use Rattle.ssu_ir.specs.Points.{Place, Entry, At, Point, points}
 use Rattle.ssu_ir.specs.Tree.{Label, Lit, Una, Bin, Clone, Read, Write, Does, Forks, Ends}
-use Rattle.place_ir.specs.Fits.{is_result, point_values}
-use Rattle.place_ir.specs.Uses.{Access, reads_at, writes_at, Sort, Parameter, Result, Fetched, Value, values, place_values, Role, Operand, Address, Written, Argument, Ending, Use, uses_at, uses, place_roles, is_used}
-use Rattle.place_ir.proofs.Scoped.{different-filter}
-use Rattle.place_ir.proofs.Sound.{Each, each-append}
+use Rattle.slot_placement.specs.Fits.{is_result, point_values}
+use Rattle.slot_placement.specs.Uses.{Access, reads_at, writes_at, Sort, Parameter, Result, Fetched, Value, values, place_values, Role, Operand, Address, Written, Argument, Ending, Use, uses_at, uses, place_roles, is_used}
+use Rattle.held_values.proofs.Scoped.{different-filter}
+use Rattle.slot_placement.proofs.Sound.{Each, each-append}
 use Rattle.bank_form.specs.declared.column.Bank.{Bank}
 use Rattle.bank_form.specs.declared.column.Bank.TheVariants.{A, B, M, T, L, A15, W}
 use Rattle.bank_form.specs.declared.column.Column.{Column}

@@ -8,11 +8,11 @@ use Rattle.nv_base.specs.declared.term.Mem.{Mem}
 use Rattle.nv_base.specs.declared.term.Mem.TheVariants.{Sram, Sdram, Scratch}
 use Rattle.ssu_ir.specs.Points.{Place, Entry, At, Point, points}
 use Rattle.ssu_ir.specs.Tree.{Label, Lit, Una, Bin, Clone, Read, Write, Does, Forks, Ends}
-use Rattle.place_ir.specs.Fits.{is_result, parameter}
-use Rattle.place_ir.specs.Uses.{Access, place_accesses, accesses_from, accesses, Value, values, Role, Operand, Address, Written, Argument, Ending, Use, uses_of, uses, is_used}
-use Rattle.place_ir.specs.inner.Numbers.{values_among}
-use Rattle.place_ir.proofs.Slotted.{first-fits}
-use Rattle.place_ir.proofs.Sound.{Each, each-append, Sound, sound-points, place_ok, uses_among}
+use Rattle.slot_placement.specs.Fits.{is_result, parameter}
+use Rattle.slot_placement.specs.Uses.{Access, place_accesses, accesses_from, accesses, Value, values, Role, Operand, Address, Written, Argument, Ending, Use, uses_of, uses, is_used}
+use Rattle.held_values.specs.inner.Numbers.{values_among}
+use Rattle.slot_placement.proofs.Slotted.{first-fits}
+use Rattle.slot_placement.proofs.Sound.{Each, each-append, Sound, sound-points, place_ok, uses_among}
 use Rattle.bank_form.specs.declared.column.Bank.{Bank}
 use Rattle.bank_form.specs.declared.column.Bank.TheVariants.{A, B, M, T, L, A15, W}
 use Rattle.bank_form.specs.declared.column.Column.{Column}

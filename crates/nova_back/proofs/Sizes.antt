@@ -11,8 +11,8 @@ use Rattle.ssu_ir.specs.Points as pure
 use Rattle.ssu_ir.specs.Single.{single, is_step}
 use Rattle.ssu_ir.specs.Tree.{Step, Lit, Una, Bin, Clone, Read, Write, Label, Does, Forks, Ends}
 use Rattle.ssu_ir.proofs.PointLemmas.{total-from}
-use Rattle.place_ir.specs.Uses.{Parameter, values, values_from, numbered, place_values, Role, Operand, Address, Written, Argument, Ending, Use, uses, uses_from, uses_at, place_roles, accesses}
-use Rattle.place_ir.proofs.Sound.{Each, Sound, place_ok, sound-points}
+use Rattle.slot_placement.specs.Uses.{Parameter, values, values_from, numbered, place_values, Role, Operand, Address, Written, Argument, Ending, Use, uses, uses_from, uses_at, place_roles, accesses}
+use Rattle.slot_placement.proofs.Sound.{Each, Sound, place_ok, sound-points}
 use Rattle.bank_form.specs.declared.column.Column.TheVariants.{Srv}
 use Rattle.bank_form.specs.Columns.{Priced, each_point, def_columns, fill_columns, first_columns, has_bank, services, sort_of, is_fetched, srv_columns, all_dirs, all_stays, all_ears, all_pas_l, all_pas_s, priced, columns}
 use Rattle.bank_form.specs.Rows.{Line, one_choice, homes_cover, operand_banks, capacity, read_owners, fill_owners, write_owners, adjacency, passes, lines}

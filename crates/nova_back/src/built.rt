@@ -4,7 +4,7 @@ ghost use Rattle.std.specs.Prelude.{◌≡◌, ◌≤◌, ◌+◌, ◌*◌, ◌^
 ghost use Rattle.ssu_ir.specs.Measures.{code_bound, peak};
 ghost use Rattle.ssu_ir.specs.Single.{single};
 ghost use Rattle.ssu_ir.specs.View.{labels_view};
-ghost use Rattle.place_ir.specs.Uses.{values, uses};
+ghost use Rattle.slot_placement.specs.Uses.{values, uses};
 ghost use Rattle.zo_model.specs.Program.{costs_of, vector};
 ghost use Rattle.bank_form.specs.Columns.{columns, costs};
 ghost use Rattle.bank_form.specs.Program.{rows, IsTooLarge};

@@ -23,7 +23,7 @@ use Rattle.ssu_ir.specs.Single.{single}
 use Rattle.ssu_ir.specs.Tree.{Label}
 use Rattle.ssu_make.specs.Bounds.{size_bound, length_bound}
 use Rattle.nova_middle.proofs.SourceBounds.{size_end, code_end}
-use Rattle.place_ir.specs.Uses.{values, uses}
+use Rattle.slot_placement.specs.Uses.{values, uses}
 use Rattle.bank_form.specs.Columns.{columns}
 use Rattle.bank_form.specs.Program.{rows, IsTooLarge}
 use Rattle.uc_isa.specs.Code.{CodeView}

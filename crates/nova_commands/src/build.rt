@@ -5,7 +5,7 @@ ghost use Rattle.nv_ast.specs.Tree.{ProgramTree};
 ghost use Rattle.nv_ast.specs.TypedView.{typed_program};
 ghost use Rattle.ssu_ir.specs.Measures.{peak};
 ghost use Rattle.ssu_ir.specs.View.{labels_view};
-ghost use Rattle.place_ir.specs.Uses.{values, uses};
+ghost use Rattle.slot_placement.specs.Uses.{values, uses};
 ghost use Rattle.uc_isa.specs.Moves.{moves};
 ghost use Rattle.nova_back.specs.Causes.{IsReportOn, HasVector, report_cost};
 ghost use Rattle.nova_front.specs.Sources.{IsTypedSource};

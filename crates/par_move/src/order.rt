@@ -2,7 +2,7 @@
 
 ghost use Rattle.std.specs.Prelude.{ℕ, ◌≡◌, ◌≢◌, ◌+◌, ◌*◌, ◌≤◌, [], IfOk, length};
 ghost use Rattle.par_move.specs.Moves.{Words, HaveOwnTargets, SpareTemporary, IsNoTarget, StandFor, all_at_once, one_by_one, temporary};
-ghost use Rattle.place_ir.specs.declared.place.Place as places;
+ghost use Rattle.slot_placement.specs.declared.place.Place as places;
 ghost use Rattle.par_move.specs.inner.Pending.{Counted, Stands, FreeGoTo, GoTo, pending_count};
 
 use crate::pending::Pending;

@@ -7,23 +7,23 @@ use Rattle.nv_base.specs.Sets.{is_in, Within}
 use Rattle.nv_base.proofs.Sets.{same-number}
 use Rattle.ssu_ir.specs.Tree.{Label}
 use Rattle.ssu_ir.specs.Points as pure
-use Rattle.ssu_ir.specs.Points.{Place as Spot, Entry, At, Point, points, IsHeld}
+use Rattle.ssu_ir.specs.Points.{Point, points, IsHeld}
 use Rattle.ssu_ir.specs.Single.{single}
 use Rattle.ssu_ir.proofs.Held.{points_held}
-use Rattle.place_ir.specs.declared.place.Pass.{Pass}
-use Rattle.place_ir.specs.Plan.{Home, Plan}
-use Rattle.place_ir.specs.Uses.{accesses, Value, place_values, values, reads_at, place_accesses, Use, uses}
-use Rattle.place_ir.specs.Fits.{IsHoused, wants_home, IsServed, KeepsRead, FitsAt, at_operand, use_operand, Fits}
-use Rattle.place_ir.specs.inner.Numbers.{values_among}
-use Rattle.place_ir.specs.inner.Found.{nowhere, place_at, place_node, value_in}
-use Rattle.place_ir.specs.inner.Checks.{all_below, has_home, param_fits, value_fits, access_fits, held_fits, keeps_read, word_fits, operands_fit, passes_fit, point_fits, rise, is_wanted, firsts_fit, serves_fit, is_there, lists_fit, use_fits, does_fit, found}
-use Rattle.place_ir.proofs.Scoped.{in-itself, in-either}
-use Rattle.place_ir.proofs.Sound.{Each, entry_params, Sound, uses_among, sound-points}
-use Rattle.place_ir.proofs.Spilled.{each-all, all-each, each-at, each-weaker, used-wanted, param_vars, params-wanted}
-use Rattle.place_ir.proofs.Fitting.{uses-are, values-are, entries-in}
-use Rattle.place_ir.proofs.Recovered.{named-points, serves-listed, listed-serves, found-uses, point-there}
-use Rattle.place_ir.proofs.Walked.{get-within, get-there}
-use Rattle.place_ir.proofs.Valued.{each-values, values-part, each-accesses, accesses-part, each-of, of-each, IsPlaced, placed-from, placed-to, params-all}
+use Rattle.slot_placement.specs.declared.place.Pass.{Pass}
+use Rattle.slot_placement.specs.Plan.{Home, Plan}
+use Rattle.slot_placement.specs.Uses.{accesses, Value, place_values, values, reads_at, place_accesses, uses}
+use Rattle.slot_placement.specs.Fits.{IsHoused, wants_home, IsServed, KeepsRead, FitsAt, at_operand, use_operand, Fits}
+use Rattle.held_values.specs.inner.Numbers.{values_among}
+use Rattle.place_checks.specs.inner.Found.{nowhere, place_at, place_node, value_in}
+use Rattle.place_checks.specs.inner.Checks.{all_below, has_home, value_fits, access_fits, held_fits, keeps_read, word_fits, operands_fit, passes_fit, point_fits, rise, is_wanted, firsts_fit, serves_fit, is_there, lists_fit, use_fits, does_fit, found}
+use Rattle.held_values.proofs.Scoped.{in-itself, in-either}
+use Rattle.slot_placement.proofs.Sound.{Each, entry_params, Sound, uses_among, sound-points}
+use Rattle.slot_placement.proofs.Spilled.{each-all, all-each, each-at, each-weaker, used-wanted, param_vars, params-wanted}
+use Rattle.slot_placement.proofs.Fitting.{uses-are, values-are, entries-in}
+use Rattle.place_checks.proofs.Recovered.{named-points, serves-listed, listed-serves, found-uses, point-there}
+use Rattle.place_checks.proofs.Walked.{get-within, get-there}
+use Rattle.place_checks.proofs.Valued.{each-values, values-part, each-accesses, accesses-part, each-of, of-each, IsPlaced, placed-from, placed-to}
 use Rattle.place_ir.proofs.Ruled.{rise-from, rise-to, wanting, wanted-from, wanted-to, firsts-from, firsts-to, HasFirst, access-from, access-to, served-from, served-to}
 use Rattle.place_ir.proofs.Pointed.{Known, at-home, held-from, held-to, reads-from, reads-to, waiting-from, waiting-to, operands-from, operands-to, passes-from, passes-to}
 
@@ -51,12 +51,6 @@ all-below-miss f (suc n) i l e = ⊎_elim
 
 pub all-below-more : (f : ℕ → Bool) (n : ℕ) → all_below f n ≡ true → f n ≡ true → all_below f (n + 1) ≡ true
 all-below-more f n h e = let next : n + 1 ≡ suc n = omega arith in ap (all_below f) next ∙ and_from (all_below f n) (f n) h e
-
--- ---- the values of an entry
-
-pub entry-values : (us : List Use) (p : Plan) (k : ℕ) (q : Spot) → None ≡ place_node q → list_all (param_fits us p) (pure.place_values q) ≡ list_all (value_fits us p) (place_values k q)
-entry-values us p k (Entry l ps) e = params-all us p k l 0 ps
-entry-values us p k (At n) e = absurd (cc)
 
 -- ---- values that want homes
 

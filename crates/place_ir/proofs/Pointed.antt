@@ -12,24 +12,24 @@ use Rattle.ssu_ir.specs.Tree.{Lit, Una, Bin, Clone, Read, Write, Jump, Halt, Lab
 use Rattle.ssu_ir.specs.Points as pure
 use Rattle.ssu_ir.specs.Points.{Place as Spot, Entry, At, Point, points}
 use Rattle.ssu_ir.specs.Single.{single}
-use Rattle.place_ir.specs.declared.place.Place.{Place}
-use Rattle.place_ir.specs.declared.place.Place.TheVariants.{A, B, L, LD, S, SD, Slot}
-use Rattle.place_ir.specs.Places.{same_place}
-use Rattle.place_ir.specs.Plan.{Home, Plan, home, first, serve, pass}
-use Rattle.place_ir.specs.Uses.{Sort, Parameter, Fetched, Value, numbered, place_values, reads_at, writes_at, Role, Argument, Ending, roles, place_roles, Use, uses_at, uses, is_used}
-use Rattle.place_ir.specs.Fits as rules
-use Rattle.place_ir.specs.Fits.{read_place, write_place, is_general, is_slot, is_read_register, served, word_register, is_early, has_place, none_shared, general_places, read_places, kept_register, maybe, run_of, is_waiting, same_use, IsEighth, KeepsHeld, point_values, KeepsRead, Waits, KeepsWaiting, AreApart, comes_to_slot, PassesSlots, FitsAt}
-use Rattle.place_ir.specs.inner.Found.{place_at, below_at, place_node}
-use Rattle.place_ir.specs.inner.Checks as checks
-use Rattle.place_ir.specs.inner.Checks.{any_below, is_within, in_read_run, in_write_run, used, is_kept, is_known, is_before, is_after, has_home, is_shared, general_apart, values_apart, may_meet, goes_through, passes_by, held_fits, spares, keeps_read, waits, is_written, is_free, is_other, word_fits, operands_fit, has_use, any_from_slot, reads_slot, reads_fit, is_result, to_slot, writes_fit, passes_fit, found}
-use Rattle.place_ir.proofs.Places.{same_place-true, same_place-from, same_place-false}
-use Rattle.place_ir.proofs.Scoped.{in-itself}
-use Rattle.place_ir.proofs.Sound.{Each}
-use Rattle.place_ir.proofs.Spilled.{each-all, all-each}
-use Rattle.place_ir.proofs.Fitting.{vars-of-place}
-use Rattle.place_ir.proofs.Recovered.{Named, names_of, many-names, made, made-point, point-there, named-at, named-points}
-use Rattle.place_ir.proofs.Seen.{and-true', or-nothing, and-nothing, before-is, after-is, known-is, below-at, below-from}
-use Rattle.place_ir.proofs.Valued.{any-filter, used-is}
+use Rattle.slot_placement.specs.declared.place.Place.{Place}
+use Rattle.slot_placement.specs.declared.place.Place.TheVariants.{A, B, L, LD, S, SD, Slot}
+use Rattle.slot_placement.specs.Places.{same_place}
+use Rattle.slot_placement.specs.Plan.{Home, Plan, home, first, serve, pass}
+use Rattle.slot_placement.specs.Uses.{Sort, Parameter, Fetched, Value, numbered, place_values, reads_at, writes_at, Role, Argument, Ending, roles, place_roles, Use, uses_at, uses, is_used}
+use Rattle.slot_placement.specs.Fits as rules
+use Rattle.slot_placement.specs.Fits.{read_place, write_place, is_general, is_slot, is_read_register, served, word_register, is_early, has_place, none_shared, general_places, read_places, kept_register, maybe, run_of, is_waiting, same_use, IsEighth, KeepsHeld, point_values, KeepsRead, Waits, KeepsWaiting, AreApart, comes_to_slot, PassesSlots, FitsAt}
+use Rattle.place_checks.specs.inner.Found.{place_at, below_at, place_node}
+use Rattle.place_checks.specs.inner.Checks as checks
+use Rattle.place_checks.specs.inner.Checks.{any_below, is_within, in_read_run, in_write_run, used, is_kept, is_known, is_before, is_after, has_home, is_shared, general_apart, values_apart, may_meet, goes_through, passes_by, held_fits, spares, keeps_read, waits, is_written, is_free, is_other, word_fits, operands_fit, has_use, any_from_slot, reads_slot, reads_fit, is_result, to_slot, writes_fit, passes_fit, found}
+use Rattle.slot_placement.proofs.Places.{same_place-true, same_place-from, same_place-false}
+use Rattle.held_values.proofs.Scoped.{in-itself}
+use Rattle.slot_placement.proofs.Sound.{Each}
+use Rattle.slot_placement.proofs.Spilled.{each-all, all-each}
+use Rattle.slot_placement.proofs.Fitting.{vars-of-place}
+use Rattle.place_checks.proofs.Recovered.{Named, names_of, many-names, made, made-point, point-there, named-at, named-points}
+use Rattle.place_checks.proofs.Seen.{and-true', or-nothing, and-nothing, before-is, after-is, known-is, below-at, below-from}
+use Rattle.place_checks.proofs.Valued.{any-filter, used-is}
 
 -- ---- values that have homes
 

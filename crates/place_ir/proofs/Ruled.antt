@@ -10,23 +10,23 @@ use Rattle.nv_base.proofs.Sets.{same-number, in-append}
 use Rattle.ssu_ir.specs.Tree.{Lit, Una, Bin, Clone, Read, Write, Label, Does, Forks, Ends}
 use Rattle.ssu_ir.specs.Points as pure
 use Rattle.ssu_ir.specs.Points.{Place as Spot, Entry, At, Point, points}
-use Rattle.place_ir.specs.declared.place.Place.{Place}
-use Rattle.place_ir.specs.declared.place.Place.TheVariants.{A, B, L, LD, S, SD, Slot}
-use Rattle.place_ir.specs.declared.place.Serve.{Serve}
-use Rattle.place_ir.specs.Places.{same_place}
-use Rattle.place_ir.specs.Plan.{Plan, home, first, pass}
-use Rattle.place_ir.specs.Uses.{Access, Parameter, Fetched, Value, numbered, place_values, values_from, values, place_accesses, accesses_from, Role, Operand, Address, Written, Argument, Ending, Use, uses, is_used}
-use Rattle.place_ir.specs.Fits.{Rises, wants_home, IsFirst, is_home, IsOperandAt, IsAddressAt, parameter, IsServedAt, IsServed, served, word_register}
-use Rattle.place_ir.specs.inner.Found.{place_at, place_node}
-use Rattle.place_ir.specs.inner.Checks.{used, rise, is_read, wants_at, is_wanted, is_access, next_is, firsts_fit, is_first, access_fits, is_read_through, is_operand_at, is_address_at, role_fits, use_fits, found}
-use Rattle.place_ir.proofs.Places.{same_place-true, same_place-from}
-use Rattle.place_ir.proofs.Scoped.{in-itself}
-use Rattle.place_ir.proofs.Sound.{Each}
-use Rattle.place_ir.proofs.Recovered.{point-there}
-use Rattle.place_ir.proofs.Walked.{get-within, get-there}
-use Rattle.place_ir.proofs.Seen.{below-at, below-from}
-use Rattle.place_ir.proofs.Valued.{used-is}
-use Rattle.place_ir.specs.inner.Found as numbers
+use Rattle.slot_placement.specs.declared.place.Place.{Place}
+use Rattle.slot_placement.specs.declared.place.Place.TheVariants.{A, B, L, LD, S, SD, Slot}
+use Rattle.slot_placement.specs.declared.place.Serve.{Serve}
+use Rattle.slot_placement.specs.Places.{same_place}
+use Rattle.slot_placement.specs.Plan.{Plan, home, first, pass}
+use Rattle.slot_placement.specs.Uses.{Access, Parameter, Fetched, Value, numbered, place_values, values_from, values, place_accesses, accesses_from, Role, Operand, Address, Written, Argument, Ending, Use, uses, is_used}
+use Rattle.slot_placement.specs.Fits.{Rises, wants_home, IsFirst, is_home, IsOperandAt, IsAddressAt, parameter, IsServedAt, IsServed, served, word_register}
+use Rattle.place_checks.specs.inner.Found.{place_at, place_node}
+use Rattle.place_checks.specs.inner.Checks.{used, rise, is_read, wants_at, is_wanted, is_access, next_is, firsts_fit, is_first, access_fits, is_read_through, is_operand_at, is_address_at, role_fits, use_fits, found}
+use Rattle.slot_placement.proofs.Places.{same_place-true, same_place-from}
+use Rattle.held_values.proofs.Scoped.{in-itself}
+use Rattle.slot_placement.proofs.Sound.{Each}
+use Rattle.place_checks.proofs.Recovered.{point-there}
+use Rattle.place_checks.proofs.Walked.{get-within, get-there}
+use Rattle.place_checks.proofs.Seen.{below-at, below-from}
+use Rattle.place_checks.proofs.Valued.{used-is}
+use Rattle.place_checks.specs.inner.Found as numbers
 
 -- ---- numbers that rise
 

@@ -5,23 +5,23 @@ ghost use Rattle.std.specs.List.{list_all, list_any};
 ghost use Rattle.ssu_ir.specs.Slots.{node_of};
 ghost use Rattle.ssu_ir.specs.Points.{place_values};
 ghost use Rattle.ssu_ir.specs.View.{labels_view};
-ghost use Rattle.place_ir.specs.Fits as rules;
-ghost use Rattle.place_ir.specs.Fits.{general_places};
-ghost use Rattle.place_ir.specs.Plan.{plan_view};
-ghost use Rattle.place_ir.specs.inner.Checks as checks;
-ghost use Rattle.place_ir.specs.inner.Checks.{found, use_view, word_place};
-ghost use Rattle.place_ir.specs.inner.Found.{place_at, place_node};
+ghost use Rattle.slot_placement.specs.Fits as rules;
+ghost use Rattle.slot_placement.specs.Fits.{general_places};
+ghost use Rattle.slot_placement.specs.Plan.{plan_view};
+ghost use Rattle.place_checks.specs.inner.Checks as checks;
+ghost use Rattle.place_checks.specs.inner.Checks.{found, use_view, word_place};
+ghost use Rattle.place_checks.specs.inner.Found.{place_at, place_node};
 
-use crate::lookups::{copied_of, defined_of, first_of, pass_of, serve_of};
-use crate::pieces::use_count;
-use crate::place::{Place, Placement};
-use crate::points::{has, is_above, node_at, values_at};
-use crate::registers::{
+use nv_base::Mem;
+use place_checks::lookups::{copied_of, defined_of, first_of, pass_of, serve_of};
+use place_checks::pieces::use_count;
+use place_checks::points::{has, is_above, node_at, values_at};
+use place_checks::registers::{
     Word, among, different_groups, has_slot, in_read_run, in_write_run, is_first, is_general,
     is_slot, is_through, same, same_word,
 };
-use crate::words::{Use, is_below, is_early, is_used, is_used_below, stays, use_of, word_of};
-use nv_base::Mem;
+use place_checks::words::{Use, is_below, is_early, is_used, is_used_below, stays, use_of, word_of};
+use slot_placement::{Place, Placement};
 use ssu_ir::{Ssu, SsuNode};
 
 // ---- values that are held

@@ -6,14 +6,14 @@ use Rattle.std.proofs.lemmas.List.{at_drop_more, at_drop_all, append-nil}
 use Rattle.ssu_ir.specs.Tree.{Label}
 use Rattle.ssu_ir.specs.Points.{Point, points}
 use Rattle.ssu_ir.specs.Single.{single}
-use Rattle.place_ir.specs.declared.place.Place.{Place}
-use Rattle.place_ir.specs.declared.place.First.{First as KeptFirst}
-use Rattle.place_ir.specs.declared.place.Serve.{Serve}
-use Rattle.place_ir.specs.declared.place.Pass.{Pass}
-use Rattle.place_ir.specs.declared.place.Home.{Home as KeptHome}
-use Rattle.place_ir.specs.declared.place.Placement.{Placement}
-use Rattle.place_ir.specs.Plan.{Home, Plan, home_view}
-use Rattle.place_ir.specs.Uses.{Value, accesses, Use, uses, uses_of}
+use Rattle.slot_placement.specs.declared.place.Place.{Place}
+use Rattle.slot_placement.specs.declared.place.First.{First as KeptFirst}
+use Rattle.slot_placement.specs.declared.place.Serve.{Serve}
+use Rattle.slot_placement.specs.declared.place.Pass.{Pass}
+use Rattle.slot_placement.specs.declared.place.Home.{Home as KeptHome}
+use Rattle.slot_placement.specs.declared.place.Placement.{Placement}
+use Rattle.slot_placement.specs.Plan.{Home, Plan, home_view}
+use Rattle.slot_placement.specs.Uses.{Value, accesses, Use, uses, uses_of}
 use Rattle.bank_form.specs.declared.column.Bank.TheVariants.{A, B, M}
 use Rattle.bank_form.specs.declared.form.Value.{Value as KeptValue}
 use Rattle.bank_form.specs.Columns.{each_point}

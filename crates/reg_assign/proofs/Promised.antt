@@ -6,10 +6,10 @@ use Rattle.ssu_ir.specs.declared.ssu.Ssu.{Ssu}
 use Rattle.ssu_ir.specs.Tree.{Label}
 use Rattle.ssu_ir.specs.Single.{single}
 use Rattle.ssu_ir.specs.View.{labels_view}
-use Rattle.place_ir.specs.declared.place.Placement.{Placement}
-use Rattle.place_ir.specs.Costs.{cost}
-use Rattle.place_ir.specs.Fits.{Fits}
-use Rattle.place_ir.specs.Plan.{Plan, home_view, plan_view}
+use Rattle.slot_placement.specs.declared.place.Placement.{Placement}
+use Rattle.slot_placement.specs.Costs.{cost}
+use Rattle.slot_placement.specs.Fits.{Fits}
+use Rattle.slot_placement.specs.Plan.{Plan, home_view, plan_view}
 use Rattle.zo_model.specs.declared.program.Assignment.{Assignment}
 use Rattle.zo_model.specs.Program.{vector, costs_of}
 use Rattle.bank_form.specs.Columns.{priced, costs}

@@ -3,9 +3,9 @@
 ghost use Rattle.std.specs.Prelude.{◌≡◌, true, length, map, IfOk};
 ghost use Rattle.ssu_ir.specs.Single.{single};
 ghost use Rattle.ssu_ir.specs.View.{labels_view};
-ghost use Rattle.place_ir.specs.Costs as costs;
-ghost use Rattle.place_ir.specs.Fits.{Fits};
-ghost use Rattle.place_ir.specs.Plan.{plan_view};
+ghost use Rattle.slot_placement.specs.Costs as costs;
+ghost use Rattle.slot_placement.specs.Fits.{Fits};
+ghost use Rattle.slot_placement.specs.Plan.{plan_view};
 ghost use Rattle.zo_model.specs.Program.{vector, costs_of};
 ghost use Rattle.bank_form.specs.Columns as columns;
 ghost use Rattle.bank_prog.specs.Meaning.{IsFeasible};

@@ -2,7 +2,7 @@
 
 ghost use Rattle.std.specs.Prelude.{◌≡◌, ℕ, nat_eq, IfOk};
 ghost use Rattle.std.specs.HashMap.{get};
-ghost use Rattle.place_ir.specs.Uses.{values};
+ghost use Rattle.slot_placement.specs.Uses.{values};
 ghost use Rattle.bank_places.specs.inner.ReadOff as pure;
 ghost use Rattle.bank_places.specs.inner.Reading.{says, labels_of, known_place};
 

@@ -3,8 +3,8 @@
 ghost use Rattle.std.specs.Prelude.{◌≡◌, ◌++◌, ℕ, map, filter, IfOk, OnOk};
 ghost use Rattle.std.specs.List.{flat_map};
 ghost use Rattle.std.specs.List.Sorted.{IsPermutation, IsNonDecreasingBy};
-ghost use Rattle.place_ir.specs.Fits as fits;
-ghost use Rattle.place_ir.specs.Plan.{home_view};
+ghost use Rattle.slot_placement.specs.Fits as fits;
+ghost use Rattle.slot_placement.specs.Plan.{home_view};
 ghost use Rattle.bank_form.specs.inner.Form.{use_view, value_view};
 ghost use Rattle.bank_places.specs.inner.ReadOff as pure;
 ghost use Rattle.reg_assign.specs.inner.Given.{labels_in, says_in, numbers_in};

@@ -2,7 +2,7 @@
 
 ghost use Rattle.std.specs.Prelude.{◌≡◌, ◌+◌, ℕ, nat_eq, map, IfOk, OnOk};
 ghost use Rattle.std.specs.HashMap.{get};
-ghost use Rattle.place_ir.specs.Fits as fits;
+ghost use Rattle.slot_placement.specs.Fits as fits;
 ghost use Rattle.bank_form.specs.inner.Form.{use_view, value_view, sort_view};
 ghost use Rattle.bank_places.specs.inner.ReadOff as pure;
 ghost use Rattle.reg_assign.specs.inner.Given.{labels_in, says_in, numbers_in};

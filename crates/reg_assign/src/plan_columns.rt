@@ -3,8 +3,8 @@
 ghost use Rattle.std.specs.Prelude.{◌≡◌, nat_eq, not, ◌&&◌, map, if◌then◌else◌, IfOk};
 ghost use Rattle.std.specs.List.{list_any};
 ghost use Rattle.ssu_ir.specs.View.{labels_view};
-ghost use Rattle.place_ir.specs.Fits as fits;
-ghost use Rattle.place_ir.specs.Uses.{uses_of};
+ghost use Rattle.slot_placement.specs.Fits as fits;
+ghost use Rattle.slot_placement.specs.Uses.{uses_of};
 ghost use Rattle.bank_form.specs.Program as program;
 ghost use Rattle.bank_form.specs.declared.column.Bank.TheVariants.{A15};
 ghost use Rattle.bank_form.specs.inner.Form.{role_view, use_view};

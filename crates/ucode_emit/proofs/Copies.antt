@@ -4,13 +4,13 @@ use Rattle.std.specs.List.{list_any}
 use Rattle.std.proofs.lemmas.Bool.{or_cases, or_left, or_right, or_parts, false≢true, eq-eqb}
 use Rattle.nv_base.specs.Sets.{is_in}
 use Rattle.nv_base.proofs.Sets.{same-number}
-use Rattle.place_ir.specs.declared.place.Place.{Place}
-use Rattle.place_ir.specs.declared.place.Place.TheVariants.{S}
-use Rattle.place_ir.specs.Places.{same_place}
-use Rattle.place_ir.specs.Plan.{Plan, home, pass}
-use Rattle.place_ir.specs.Fits.{is_slot, has_place}
-use Rattle.place_ir.proofs.Places.{same_place-true, same_place-itself, same_place-from}
-use Rattle.place_ir.proofs.Scoped.{in-itself}
+use Rattle.slot_placement.specs.declared.place.Place.{Place}
+use Rattle.slot_placement.specs.declared.place.Place.TheVariants.{S}
+use Rattle.slot_placement.specs.Places.{same_place}
+use Rattle.slot_placement.specs.Plan.{Plan, home, pass}
+use Rattle.slot_placement.specs.Fits.{is_slot, has_place}
+use Rattle.slot_placement.proofs.Places.{same_place-true, same_place-itself, same_place-from}
+use Rattle.held_values.proofs.Scoped.{in-itself}
 use Rattle.par_move.specs.Moves.{Move, Words, put, one_by_one}
 use Rattle.par_move.proofs.Steps.{put-other}
 use Rattle.ucode_emit.specs.inner.Pieces.{named, copied, all_copied, copies, all_copies}

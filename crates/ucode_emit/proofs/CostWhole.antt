@@ -5,11 +5,11 @@ use Rattle.std.proofs.lemmas.Option.{slice_get_within}
 use Rattle.uc_isa.specs.Moves.{weight, moves_from, moves}
 use Rattle.ssu_ir.specs.Tree.{Tree, Do, If, End, Label, Does, Forks, step_values}
 use Rattle.ssu_ir.specs.Points.{Names, own, names_after, Place, Entry, At, Point, points, points_from, tree_points}
-use Rattle.place_ir.specs.Plan.{Plan, serve}
-use Rattle.place_ir.specs.Uses.{Value, values_from, values, place_values, Use, uses}
-use Rattle.place_ir.specs.Fits.{use_operand}
-use Rattle.place_ir.specs.Costs.{served_cost, value_cost, values_cost, uses_cost, cost}
-use Rattle.place_ir.proofs.Walked.{get-index}
+use Rattle.slot_placement.specs.Plan.{Plan, serve}
+use Rattle.slot_placement.specs.Uses.{Value, values_from, values, place_values, Use, uses}
+use Rattle.slot_placement.specs.Fits.{use_operand}
+use Rattle.slot_placement.specs.Costs.{served_cost, value_cost, values_cost, uses_cost, cost}
+use Rattle.place_checks.proofs.Walked.{get-index}
 use Rattle.ucode_emit.specs.inner.Pieces.{Item, Moved, Plain, Branch, instr_of, items, starts, Sequences, sequence_at, parallel_moves}
 use Rattle.ucode_emit.specs.inner.Ready.{AreSequences}
 use Rattle.ucode_emit.specs.inner.Layers.{Placed}

@@ -9,13 +9,13 @@ use Rattle.nv_base.specs.declared.term.Mem.TheVariants.{Sram, Sdram, Scratch}
 use Rattle.nv_base.specs.Sets.{is_in}
 use Rattle.ssu_ir.specs.Tree.{Lit, Una, Bin, Clone, Read, Write, Jump, Halt, Label, Does, Forks, Ends}
 use Rattle.ssu_ir.specs.Points.{Place as PointPlace, Entry, At, Point, points}
-use Rattle.place_ir.specs.declared.place.Place.{Place}
-use Rattle.place_ir.specs.declared.place.Place.TheVariants.{A, B, L, LD, S, SD, Slot}
-use Rattle.place_ir.specs.Places.{same_place}
-use Rattle.place_ir.specs.Plan.{Plan, home, first, pass}
-use Rattle.place_ir.specs.Uses.{Access, place_accesses, accesses_from, accesses, Role, Operand, Address, Written, Argument, Ending, roles, place_roles, Use, uses, is_used}
-use Rattle.place_ir.specs.Fits.{write_place, IsGeneral, IsFirst, IsEighth, is_slot, is_write_register, role_register, word_register, is_early, has_place}
-use Rattle.place_ir.proofs.Places.{same_place-itself}
+use Rattle.slot_placement.specs.declared.place.Place.{Place}
+use Rattle.slot_placement.specs.declared.place.Place.TheVariants.{A, B, L, LD, S, SD, Slot}
+use Rattle.slot_placement.specs.Places.{same_place}
+use Rattle.slot_placement.specs.Plan.{Plan, home, first, pass}
+use Rattle.slot_placement.specs.Uses.{Access, place_accesses, accesses_from, accesses, Role, Operand, Address, Written, Argument, Ending, roles, place_roles, Use, uses, is_used}
+use Rattle.slot_placement.specs.Fits.{write_place, IsGeneral, IsFirst, IsEighth, is_slot, is_write_register, role_register, word_register, is_early, has_place}
+use Rattle.slot_placement.proofs.Places.{same_place-itself}
 use Rattle.par_move.specs.Moves.{Move}
 use Rattle.ucode_emit.specs.inner.Pieces.{named, copied, all_copied, copies, all_copies}
 use Rattle.ucode_emit.specs.inner.Machine.{IsReadable, IsWritable, IsDirect, write_slot, copied as in_one, AreDirect}

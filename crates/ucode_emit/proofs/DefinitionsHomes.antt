@@ -11,15 +11,15 @@ use Rattle.nv_base.specs.Sets.{is_in}
 use Rattle.nv_base.proofs.Sets.{same-number}
 use Rattle.ssu_ir.specs.Tree.{Label}
 use Rattle.ssu_ir.specs.Points.{Point, points, place_values}
-use Rattle.place_ir.specs.declared.place.Place.{Place}
-use Rattle.place_ir.specs.declared.place.Place.TheVariants.{A, B, L, LD, S, SD, Slot}
-use Rattle.place_ir.specs.declared.place.Serve.{Serve}
-use Rattle.place_ir.specs.Places.{same_place}
-use Rattle.place_ir.specs.Plan.{Home, Plan, home, home_in, first}
-use Rattle.place_ir.specs.Uses.{Value, Sort, Parameter, Result, Fetched, values, place_values as values_at, Role, Operand, Address, Written, Argument, Ending, Use, uses, uses_of, is_used}
-use Rattle.place_ir.specs.Fits.{read_place, write_place, IsGeneral, is_general, is_write_register, is_read_register, served, role_register, word_register, is_early, early_uses, AreCopies, IsPutEarly, IsHome, IsHoused, is_sort_homed, wants_home, is_home, IsServedAt, IsServed, stays, general_places, kept_register, read_places, has_place, none_shared}
-use Rattle.place_ir.proofs.Places.{same_place-true, same_place-from}
-use Rattle.place_ir.proofs.Fitting.{vars-of-place}
+use Rattle.slot_placement.specs.declared.place.Place.{Place}
+use Rattle.slot_placement.specs.declared.place.Place.TheVariants.{A, B, L, LD, S, SD, Slot}
+use Rattle.slot_placement.specs.declared.place.Serve.{Serve}
+use Rattle.slot_placement.specs.Places.{same_place}
+use Rattle.slot_placement.specs.Plan.{Home, Plan, home, home_in, first}
+use Rattle.slot_placement.specs.Uses.{Value, Sort, Parameter, Result, Fetched, values, place_values as values_at, Role, Operand, Address, Written, Argument, Ending, Use, uses, uses_of, is_used}
+use Rattle.slot_placement.specs.Fits.{read_place, write_place, IsGeneral, is_general, is_write_register, is_read_register, served, role_register, word_register, is_early, early_uses, AreCopies, IsPutEarly, IsHome, IsHoused, is_sort_homed, wants_home, is_home, IsServedAt, IsServed, stays, general_places, kept_register, read_places, has_place, none_shared}
+use Rattle.slot_placement.proofs.Places.{same_place-true, same_place-from}
+use Rattle.slot_placement.proofs.Fitting.{vars-of-place}
 use Rattle.ucode_emit.specs.inner.Ready.{lasting}
 use Rattle.ucode_emit.specs.inner.Layers.{Placed}
 use Rattle.ucode_emit.proofs.PointsEach.{EachFrom, each_map, each_here, all_get, all_of}

@@ -10,12 +10,12 @@ use Rattle.nv_base.specs.Words.{Env, assigned}
 use Rattle.ssu_ir.specs.Tree.{Lit, Una, Bin, Tree, Do, Label}
 use Rattle.ssu_ir.specs.Points.{Names, Point, points}
 use Rattle.ssu_ir.proofs.Lists.{in-itself}
-use Rattle.place_ir.specs.declared.place.Place.{Place}
-use Rattle.place_ir.specs.declared.place.Place.TheVariants.{S}
-use Rattle.place_ir.specs.Plan.{Plan, home, pass}
-use Rattle.place_ir.specs.Uses.{result, place_values as values_at, Use, is_used}
-use Rattle.place_ir.specs.Fits.{IsGeneral, is_general, is_slot, is_write_register, is_read_register, word_register, AreCopies, IsPutEarly, IsHoused, general_places, has_place, comes_to_slot, Waits}
-use Rattle.place_ir.proofs.Scoped.{in-either}
+use Rattle.slot_placement.specs.declared.place.Place.{Place}
+use Rattle.slot_placement.specs.declared.place.Place.TheVariants.{S}
+use Rattle.slot_placement.specs.Plan.{Plan, home, pass}
+use Rattle.slot_placement.specs.Uses.{result, place_values as values_at, Use, is_used}
+use Rattle.slot_placement.specs.Fits.{IsGeneral, is_general, is_slot, is_write_register, is_read_register, word_register, AreCopies, IsPutEarly, IsHoused, general_places, has_place, comes_to_slot, Waits}
+use Rattle.held_values.proofs.Scoped.{in-either}
 use Rattle.par_move.specs.Moves.{Move, Words, put, one_by_one}
 use Rattle.par_move.proofs.Steps.{put-other}
 use Rattle.ucode_emit.specs.inner.Pieces.{named, result_place, to_slot, copies}

@@ -5,7 +5,7 @@ use Rattle.uc_isa.specs.declared.instruction.Instr.{Instr}
 use Rattle.ssu_ir.specs.Tree.{Label}
 use Rattle.ssu_ir.specs.View.{labels_view}
 use Rattle.ssu_ir.specs.declared.ssu.Ssu.{Ssu}
-use Rattle.place_ir.specs.Plan.{Plan}
+use Rattle.slot_placement.specs.Plan.{Plan}
 use Rattle.ucode_emit.specs.declared.spots.Spot.{Spot}
 use Rattle.ucode_emit.specs.inner.Pieces.{Sequences, parallel_moves}
 use Rattle.ucode_emit.specs.inner.Ready.{AreSequences}

@@ -8,10 +8,10 @@ use Rattle.nv_base.specs.Words.{Env}
 use Rattle.ssu_ir.specs.Tree.{Jump, Halt, End, Label}
 use Rattle.ssu_ir.specs.Single.{takes_as_many}
 use Rattle.ssu_ir.specs.Points.{Names, Point, points}
-use Rattle.place_ir.specs.declared.place.Place.TheVariants.{A}
-use Rattle.place_ir.specs.Plan.{Plan, home, serve, pass}
-use Rattle.place_ir.specs.Uses.{Role, Argument, Ending, roles, place_roles, uses_at}
-use Rattle.place_ir.proofs.Walked.{some-there}
+use Rattle.slot_placement.specs.declared.place.Place.TheVariants.{A}
+use Rattle.slot_placement.specs.Plan.{Plan, home, serve, pass}
+use Rattle.slot_placement.specs.Uses.{Role, Argument, Ending, roles, place_roles, uses_at}
+use Rattle.place_checks.proofs.Walked.{some-there}
 use Rattle.par_move.specs.Moves.{Move, Words, one_by_one}
 use Rattle.ucode_emit.specs.inner.Pieces.{single_moves, served_moves}
 use Rattle.ucode_emit.specs.inner.Ready.{Ready, Entered, IsSequence}

@@ -10,14 +10,14 @@ use Rattle.nv_base.specs.Sets.{is_in, all_different}
 use Rattle.ssu_ir.specs.Tree.{Last, Jump, Halt, Tree, Do, If, End, Label, Ends, step_values, last_uses}
 use Rattle.ssu_ir.specs.Single.{takes_as_many}
 use Rattle.ssu_ir.specs.Points.{Names, own, names_after, Point, points, points_from, point, held, nodes, tree_points}
-use Rattle.place_ir.specs.declared.place.Place.{Place}
-use Rattle.place_ir.specs.declared.place.Place.TheVariants.{A, L, LD}
-use Rattle.place_ir.specs.Places.{same_place}
-use Rattle.place_ir.specs.Plan.{Plan, home, serve}
-use Rattle.place_ir.specs.Uses.{Role, Argument, Ending, roles, place_roles, Use, uses_at, uses_from, uses}
-use Rattle.place_ir.specs.Fits.{read_place, is_write_register, word_register, is_home, label_param, param_at, parameter, IsServed}
-use Rattle.place_ir.proofs.Places.{same_place-true, same_place-from}
-use Rattle.place_ir.proofs.Walked.{some-there}
+use Rattle.slot_placement.specs.declared.place.Place.{Place}
+use Rattle.slot_placement.specs.declared.place.Place.TheVariants.{A, L, LD}
+use Rattle.slot_placement.specs.Places.{same_place}
+use Rattle.slot_placement.specs.Plan.{Plan, home, serve}
+use Rattle.slot_placement.specs.Uses.{Role, Argument, Ending, roles, place_roles, Use, uses_at, uses_from, uses}
+use Rattle.slot_placement.specs.Fits.{read_place, is_write_register, word_register, is_home, label_param, param_at, parameter, IsServed}
+use Rattle.slot_placement.proofs.Places.{same_place-true, same_place-from}
+use Rattle.place_checks.proofs.Walked.{some-there}
 use Rattle.par_move.specs.Moves.{Move, temporary, HaveOwnTargets, SpareTemporary}
 use Rattle.ucode_emit.specs.inner.Pieces.{served_moves, entry_moves, last_moves, tree_moves, moves_from, parallel_moves}
 use Rattle.ucode_emit.specs.inner.Layers.{Placed}

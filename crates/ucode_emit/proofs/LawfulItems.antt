@@ -20,9 +20,9 @@ use Rattle.uc_isa.specs.declared.instruction.UnOp.{UnOp}
 use Rattle.uc_isa.specs.declared.instruction.UnOp.TheVariants.{Copy}
 use Rattle.uc_isa.specs.declared.instruction.Cond.TheVariants.{Always}
 use Rattle.uc_isa.specs.Lawful.{AreApart, Rule1, Rule2, Rule3, Rule4, Rule5, Rule6, IsRun, IsPaired, IsShift, IsLast, IsLawfulAt}
-use Rattle.place_ir.specs.declared.place.Place.{Place}
-use Rattle.place_ir.specs.declared.place.Place.TheVariants.{A, B, L, LD, S, SD, Slot}
-use Rattle.place_ir.specs.Fits.{IsFirst, different_groups}
+use Rattle.slot_placement.specs.declared.place.Place.{Place}
+use Rattle.slot_placement.specs.declared.place.Place.TheVariants.{A, B, L, LD, S, SD, Slot}
+use Rattle.slot_placement.specs.Fits.{IsFirst, different_groups}
 use Rattle.par_move.specs.Moves.{Move}
 use Rattle.ucode_emit.specs.inner.Pieces.{Item, Moved, Plain, Branch, move_instr, instr_of, moved, source, target, un_op, shift_of}
 use Rattle.ucode_emit.specs.inner.Machine.{IsReadable, IsDirect, read_slot, write_slot, copied, AreDirect}

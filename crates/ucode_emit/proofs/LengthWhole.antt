@@ -9,10 +9,10 @@ use Rattle.ssu_ir.specs.Tree.{Tree, Do, If, End, Label, Does}
 use Rattle.ssu_ir.specs.Points.{Entry, At, place_values as place_variables}
 use Rattle.ssu_ir.specs.Measures.{tree_code, labels_code, code_bound}
 use Rattle.ssu_ir.specs.Single.{all_defined, is_entry, is_single}
-use Rattle.place_ir.specs.Plan.{Plan, serve}
-use Rattle.place_ir.specs.Uses.{Use, uses}
-use Rattle.place_ir.specs.Fits.{use_operand, is_early}
-use Rattle.place_ir.proofs.Walked.{get-index}
+use Rattle.slot_placement.specs.Plan.{Plan, serve}
+use Rattle.slot_placement.specs.Uses.{Use, uses}
+use Rattle.slot_placement.specs.Fits.{use_operand, is_early}
+use Rattle.place_checks.proofs.Walked.{get-index}
 use Rattle.ucode_emit.specs.inner.Pieces.{instr_of, items, starts, Sequences, sequence_at, parallel_moves}
 use Rattle.ucode_emit.specs.inner.Ready.{AreSequences}
 use Rattle.ucode_emit.specs.inner.Layers.{Placed}

@@ -24,9 +24,9 @@ use Rattle.uc_isa.specs.Step.{address, onward, write_registers}
 use Rattle.uc_isa.specs.Straight.{Stands as InCode}
 use Rattle.uc_isa.proofs.PieceSteps.{leads-read, ends-read, leads-write, ends-write}
 use Rattle.uc_isa.proofs.RegisterLemmas.{written-run}
-use Rattle.place_ir.specs.declared.place.Place.{Place}
-use Rattle.place_ir.specs.declared.place.Place.TheVariants.{A, B, L, LD, S, SD, Slot}
-use Rattle.place_ir.specs.Fits.{write_place}
+use Rattle.slot_placement.specs.declared.place.Place.{Place}
+use Rattle.slot_placement.specs.declared.place.Place.TheVariants.{A, B, L, LD, S, SD, Slot}
+use Rattle.slot_placement.specs.Fits.{write_place}
 use Rattle.par_move.specs.Moves.{Words}
 use Rattle.ucode_emit.specs.inner.Pieces.{address_of}
 use Rattle.ucode_emit.specs.inner.Machine.{Stands, Led, Over, filled}

@@ -14,10 +14,10 @@ use Rattle.uc_isa.specs.Registers.Register.{InA, InB, InL, InS, InLD, InSD}
 use Rattle.uc_isa.specs.Step.{with_read, onward}
 use Rattle.uc_isa.proofs.Places.{place-with_read}
 use Rattle.uc_isa.proofs.RegisterLemmas.{fills-run}
-use Rattle.place_ir.specs.declared.place.Place.{Place}
-use Rattle.place_ir.specs.declared.place.Place.TheVariants.{A, B, L, LD, S, SD, Slot}
-use Rattle.place_ir.specs.Places.{same_place}
-use Rattle.place_ir.specs.Fits.{read_place}
+use Rattle.slot_placement.specs.declared.place.Place.{Place}
+use Rattle.slot_placement.specs.declared.place.Place.TheVariants.{A, B, L, LD, S, SD, Slot}
+use Rattle.slot_placement.specs.Places.{same_place}
+use Rattle.slot_placement.specs.Fits.{read_place}
 use Rattle.par_move.specs.Moves.{Words}
 use Rattle.ucode_emit.specs.inner.Machine.{word_at, Stands, filled}
 use Rattle.ucode_emit.proofs.MachineResults.{HasWords, other_state, read_state}

@@ -14,8 +14,8 @@ use Rattle.uc_isa.specs.Engine.{IsBank, IsEngine}
 use Rattle.uc_isa.specs.Pieces.{Moment}
 use Rattle.uc_isa.specs.Step.{operand, address, with_result, with_read, write_registers, filled as with_run}
 use Rattle.uc_isa.proofs.Places.{place-with_result}
-use Rattle.place_ir.specs.declared.place.Place.{Place}
-use Rattle.place_ir.specs.declared.place.Place.TheVariants.{A, B, L, LD, S, SD, Slot}
+use Rattle.slot_placement.specs.declared.place.Place.{Place}
+use Rattle.slot_placement.specs.declared.place.Place.TheVariants.{A, B, L, LD, S, SD, Slot}
 use Rattle.par_move.specs.Moves.{Words, put}
 use Rattle.ucode_emit.specs.inner.Pieces.{source, target, address_of}
 use Rattle.ucode_emit.specs.inner.Machine.{word_at, IsPlace, IsReadable, IsWritable, Stands}

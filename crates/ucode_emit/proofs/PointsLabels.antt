@@ -16,7 +16,7 @@ use Rattle.ssu_ir.proofs.Held.{filter_in}
 use Rattle.ucode_emit.specs.inner.Pieces.{entry_point}
 use Rattle.ucode_emit.proofs.PointsEach.{EachFrom, each_map, each_append, each_left, each_right, each_here, get_append}
 use Rattle.ucode_emit.proofs.PointsTree.{Disjoint, not_in_none, different_apart, different_left, different_right, InTree, in_tree, arms_at, above_each, IsBelow, Above, PairsOf, pairs_cons, pairs_append, no_pairs, tree_pairs, left_rest, rest_different}
-use Rattle.place_ir.proofs.Scoped.{all-in, in-either}
+use Rattle.held_values.proofs.Scoped.{all-in, in-either}
 
 -- ---- lists of names
 

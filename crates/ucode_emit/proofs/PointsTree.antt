@@ -10,7 +10,7 @@ use Rattle.ssu_ir.specs.Single.{defined}
 use Rattle.ssu_ir.proofs.PointLemmas.{length-tree_points}
 use Rattle.ssu_ir.proofs.Held.{filter_in}
 use Rattle.ucode_emit.proofs.PointsEach.{EachFrom, each_map, each_both, each_append, each_left, each_right}
-use Rattle.place_ir.proofs.Scoped.{in-either}
+use Rattle.held_values.proofs.Scoped.{in-either}
 
 -- ---- sets
 

@@ -10,7 +10,7 @@ use Rattle.uc_isa.proofs.Leading.{leads-then, leads-end}
 use Rattle.uc_isa.proofs.Listing.{stands-left}
 use Rattle.ssu_ir.specs.Tree.{Label, Tree}
 use Rattle.ssu_ir.specs.Points.{Names}
-use Rattle.place_ir.specs.Plan.{Plan}
+use Rattle.slot_placement.specs.Plan.{Plan}
 use Rattle.par_move.specs.Moves.{Move, Words, one_by_one}
 use Rattle.ucode_emit.specs.inner.Pieces.{Item, moved, instr_of, Sequences, starts, parallel_moves}
 use Rattle.ucode_emit.specs.inner.Ready.{AreSequences}

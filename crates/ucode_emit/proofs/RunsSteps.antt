@@ -25,9 +25,9 @@ use Rattle.ssu_ir.specs.Points.{Names, names_after, Point}
 use Rattle.ssu_ir.specs.Meaning.{step_does, assigned_each}
 use Rattle.ssu_ir.specs.Single.{Numbers, numbers_after, step_names, all_known, is_scoped, is_step, are_nodes, is_addressed, is_address, are_addressed, is_narrow, defined}
 use Rattle.ssu_ir.proofs.Lists.{in-itself}
-use Rattle.place_ir.specs.Plan.{Plan, first}
-use Rattle.place_ir.specs.Fits.{write_place}
-use Rattle.place_ir.proofs.Scoped.{all-in, in-either}
+use Rattle.slot_placement.specs.Plan.{Plan, first}
+use Rattle.slot_placement.specs.Fits.{write_place}
+use Rattle.held_values.proofs.Scoped.{all-in, in-either}
 use Rattle.par_move.specs.Moves.{Move, Words, put, one_by_one}
 use Rattle.ucode_emit.specs.inner.Pieces.{Plain, moved, operands, operand_at, words, result_place, to_slot, copies, all_copies, un_op, source, target, address_of, shift_of, step_items, tree_items}
 use Rattle.ucode_emit.specs.inner.Ready.{Ready}

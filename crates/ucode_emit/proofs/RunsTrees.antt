@@ -21,10 +21,10 @@ use Rattle.ssu_ir.specs.Points.{Names, names_after, nodes}
 use Rattle.ssu_ir.specs.Meaning.{Next, does, last_does, blank}
 use Rattle.ssu_ir.specs.Single.{Numbers, numbers_after, all_known, is_scoped, are_nodes, takes_as_many, are_addressed, defined}
 use Rattle.ssu_ir.proofs.Lists.{in-itself}
-use Rattle.place_ir.specs.declared.place.Place.TheVariants.{A}
-use Rattle.place_ir.specs.Plan.{Plan, pass}
-use Rattle.place_ir.proofs.Walked.{get-index}
-use Rattle.place_ir.proofs.Scoped.{all-in}
+use Rattle.slot_placement.specs.declared.place.Place.TheVariants.{A}
+use Rattle.slot_placement.specs.Plan.{Plan, pass}
+use Rattle.place_checks.proofs.Walked.{get-index}
+use Rattle.held_values.proofs.Scoped.{all-in}
 use Rattle.par_move.specs.Moves.{Words, one_by_one}
 use Rattle.ucode_emit.specs.inner.Pieces.{Plain, Branch, moved, operands, operand_at, source, single_moves, last_moves, step_items, fork_items, tree_items, entry_point, sequence_at, parallel_moves}
 use Rattle.ucode_emit.specs.inner.Ready.{Ready, Entered, IsSequence}

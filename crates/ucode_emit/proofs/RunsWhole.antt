@@ -30,8 +30,8 @@ use Rattle.ssu_ir.specs.Meaning.{Next, does, enter, run, blank, ssu_meaning, par
 use Rattle.ssu_ir.specs.Single.{unknown, defined, all_defined, is_entry, is_single}
 use Rattle.ssu_ir.proofs.Growth.{meaning-follows}
 use Rattle.ssu_ir.proofs.Rules.{single_label_parts}
-use Rattle.place_ir.specs.Plan.{Plan}
-use Rattle.place_ir.proofs.Walked.{get-index}
+use Rattle.slot_placement.specs.Plan.{Plan}
+use Rattle.place_checks.proofs.Walked.{get-index}
 use Rattle.par_move.specs.Moves.{Move, Words, one_by_one, StandFor, none, once, around, at_rest}
 use Rattle.ucode_emit.specs.inner.Pieces.{Sequences, moved, instr_of, items, starts, starts_from, single_moves, all_copies, entry_point, entry_moves, sequence_at, tree_moves, label_moves, moves_from, parallel_moves}
 use Rattle.ucode_emit.specs.inner.Ready.{Ready, Entered, IsSequence, AreSequences}

@@ -8,8 +8,8 @@ use Rattle.ssu_ir.specs.declared.ssu.Ssu.{Ssu}
 use Rattle.ssu_ir.specs.Tree.{Last, Jump, Halt, Label, Does, Forks, Ends, last_uses}
 use Rattle.ssu_ir.specs.Points.{Place, Entry, At}
 use Rattle.ssu_ir.specs.View.{labels_view}
-use Rattle.place_ir.specs.declared.place.Serve.{Serve}
-use Rattle.place_ir.specs.Plan.{Plan, serve}
+use Rattle.slot_placement.specs.declared.place.Serve.{Serve}
+use Rattle.slot_placement.specs.Plan.{Plan, serve}
 use Rattle.par_move.specs.Moves.{Move, HaveOwnTargets, SpareTemporary, none}
 use Rattle.ucode_emit.specs.declared.spots.Spot.{Spot}
 use Rattle.ucode_emit.specs.declared.spots.Spot.TheVariants.{Entry as EntrySpot}

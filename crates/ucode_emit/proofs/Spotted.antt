@@ -14,10 +14,10 @@ use Rattle.ssu_ir.specs.Slots.{Placed, DoAt, IfAt, EndAt, bare, bare_all, kids, 
 use Rattle.ssu_ir.specs.View.{labels_view}
 use Rattle.ssu_ir.proofs.Trees.{arity}
 use Rattle.ssu_ir.proofs.Reading.{Below}
-use Rattle.place_ir.specs.inner.Live.{label_tree}
-use Rattle.place_ir.specs.inner.Spots.{slot_node, params_of}
-use Rattle.place_ir.proofs.Labels.{tree-at}
-use Rattle.place_ir.proofs.Kept.{length-view}
+use Rattle.held_values.specs.inner.Live.{label_tree}
+use Rattle.held_values.specs.inner.Spots.{slot_node, params_of}
+use Rattle.held_values.proofs.Labels.{tree-at}
+use Rattle.held_values.proofs.Kept.{length-view}
 use Rattle.ucode_emit.specs.declared.spots.Spot.{Spot}
 use Rattle.ucode_emit.specs.declared.spots.Spot.TheVariants.{Entry as EntrySpot, Node as NodeSpot}
 use Rattle.ucode_emit.specs.inner.Marks.{Mark, mark, tree_marks, marks_from}

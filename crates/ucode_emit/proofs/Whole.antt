@@ -9,9 +9,9 @@ use Rattle.ssu_ir.specs.Tree.{Label}
 use Rattle.ssu_ir.specs.Measures.{size, code_bound}
 use Rattle.ssu_ir.specs.Meaning.{ssu_meaning, ssu_params}
 use Rattle.ssu_ir.specs.Single.{single}
-use Rattle.place_ir.specs.Costs.{cost}
-use Rattle.place_ir.specs.Fits.{Fits}
-use Rattle.place_ir.specs.Plan.{Plan}
+use Rattle.slot_placement.specs.Costs.{cost}
+use Rattle.slot_placement.specs.Fits.{Fits}
+use Rattle.slot_placement.specs.Plan.{Plan}
 use Rattle.ucode_emit.specs.inner.Pieces.{instr_of, items, starts}
 use Rattle.ucode_emit.specs.inner.Emitted.{settled}
 use Rattle.ucode_emit.specs.inner.Layers.{Placed}

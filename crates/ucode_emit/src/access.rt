@@ -2,8 +2,8 @@
 
 ghost use Rattle.std.specs.Prelude.{◌≡◌, ◌++◌, ◌∷◌, [], ◌≤◌, length, map, OnOk};
 ghost use Rattle.uc_isa.specs.declared.instruction.Instr.TheVariants as instr;
-ghost use Rattle.place_ir.specs.Fits.{Rises};
-ghost use Rattle.place_ir.specs.Plan.{plan_view};
+ghost use Rattle.slot_placement.specs.Fits.{Rises};
+ghost use Rattle.slot_placement.specs.Plan.{plan_view};
 ghost use Rattle.ucode_emit.specs.inner.Emitted as emitted;
 ghost use Rattle.ucode_emit.specs.inner.Emitted.{draft};
 ghost use Rattle.ucode_emit.specs.inner.Layers.{IsAddress};

@@ -7,9 +7,9 @@ ghost use Rattle.ssu_ir.specs.Measures as measures;
 ghost use Rattle.ssu_ir.specs.Meaning.{ssu_meaning, ssu_params};
 ghost use Rattle.ssu_ir.specs.Single.{single};
 ghost use Rattle.ssu_ir.specs.View.{labels_view};
-ghost use Rattle.place_ir.specs.Costs.{cost};
-ghost use Rattle.place_ir.specs.Fits.{Fits};
-ghost use Rattle.place_ir.specs.Plan.{plan_view};
+ghost use Rattle.slot_placement.specs.Costs.{cost};
+ghost use Rattle.slot_placement.specs.Fits.{Fits};
+ghost use Rattle.slot_placement.specs.Plan.{plan_view};
 ghost use Rattle.ucode_emit.specs.inner.Drafted.{AreEmitted};
 
 use crate::drafted::draft_of;

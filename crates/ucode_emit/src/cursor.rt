@@ -1,7 +1,7 @@
 //! What a placement says of each point, taken from its lists in order.
 
 ghost use Rattle.std.specs.Prelude.{◌≡◌, ◌+◌, ◌≤◌, suc, length, take, drop, slice_get};
-ghost use Rattle.place_ir.specs.Plan.{first_in, pass_in};
+ghost use Rattle.slot_placement.specs.Plan.{first_in, pass_in};
 ghost use Rattle.ucode_emit.specs.inner.Cursors.{IsCut, of_point};
 
 use place_ir::{First, Pass, Serve};

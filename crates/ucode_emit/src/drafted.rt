@@ -2,7 +2,7 @@
 
 ghost use Rattle.std.specs.Prelude.{IfOk};
 ghost use Rattle.ssu_ir.specs.View.{labels_view};
-ghost use Rattle.place_ir.specs.Plan.{plan_view};
+ghost use Rattle.slot_placement.specs.Plan.{plan_view};
 ghost use Rattle.ucode_emit.specs.inner.Drafted.{AreDrafted};
 ghost use Rattle.ucode_emit.specs.inner.Layers.{Placed};
 

@@ -1,7 +1,7 @@
 //! The moves that fetch a point's operands.
 
 ghost use Rattle.std.specs.Prelude.{◌≡◌, ◌++◌, map, OnOk};
-ghost use Rattle.place_ir.specs.Fits as fits;
+ghost use Rattle.slot_placement.specs.Fits as fits;
 ghost use Rattle.ucode_emit.specs.inner.Emitted as emitted;
 ghost use Rattle.ucode_emit.specs.inner.Given as given;
 ghost use Rattle.ucode_emit.specs.inner.Here.{CanAll};

@@ -1,8 +1,8 @@
 //! The homes of values.
 
 ghost use Rattle.std.specs.Prelude.{◌≡◌, map, MatchOption};
-ghost use Rattle.place_ir.specs.Fits.{Rises};
-ghost use Rattle.place_ir.specs.Plan.{home, home_in, home_view, plan_view};
+ghost use Rattle.slot_placement.specs.Fits.{Rises};
+ghost use Rattle.slot_placement.specs.Plan.{home, home_in, home_view, plan_view};
 ghost use Rattle.ucode_emit.specs.inner.Given.{homeless};
 
 use place_ir::{Home, Place, Placement};

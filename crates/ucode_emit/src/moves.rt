@@ -1,9 +1,9 @@
 //! The moves of pieces, one behind the other.
 
 ghost use Rattle.std.specs.Prelude.{◌≡◌, ◌++◌, OnOk};
-ghost use Rattle.place_ir.specs.declared.place.Place.TheVariants.{Slot};
-ghost use Rattle.place_ir.specs.Fits as fits;
-ghost use Rattle.place_ir.specs.Places as places;
+ghost use Rattle.slot_placement.specs.declared.place.Place.TheVariants.{Slot};
+ghost use Rattle.slot_placement.specs.Fits as fits;
+ghost use Rattle.slot_placement.specs.Places as places;
 ghost use Rattle.ucode_emit.specs.inner.Pieces as pieces;
 
 use nv_base::NoMemory;

@@ -4,7 +4,7 @@ ghost use Rattle.std.specs.Prelude.{◌≡◌, ℕ, suc, ◌+◌, ◌<◌, ◌�
 ghost use Rattle.ssu_ir.specs.Slots.{node_of, bare, preorder};
 ghost use Rattle.ssu_ir.specs.View.{labels_view};
 ghost use Rattle.ssu_ir.specs.Work.{nums};
-ghost use Rattle.place_ir.specs.inner.Live.{label_tree};
+ghost use Rattle.held_values.specs.inner.Live.{label_tree};
 ghost use Rattle.ucode_emit.specs.inner.Marks.{marks, tree_marks};
 ghost use Rattle.ucode_emit.specs.inner.Spots.{spot_mark, IsSpot, on_stack, Pops, Counts, spot_entries};
 

@@ -1,8 +1,8 @@
 //! The parallel moves of points as single moves.
 
 ghost use Rattle.std.specs.Prelude.{◌≡◌, ◌≤◌, map, length, IfOk};
-ghost use Rattle.place_ir.specs.Fits.{Rises};
-ghost use Rattle.place_ir.specs.Plan.{plan_view};
+ghost use Rattle.slot_placement.specs.Fits.{Rises};
+ghost use Rattle.slot_placement.specs.Plan.{plan_view};
 ghost use Rattle.par_move.specs.Moves.{HaveOwnTargets, SpareTemporary};
 ghost use Rattle.ucode_emit.specs.inner.Here.{ends};
 ghost use Rattle.ucode_emit.specs.inner.Pieces as pieces;

@@ -3,8 +3,8 @@
 ghost use Rattle.std.specs.Prelude.{◌≡◌, ◌+◌, ◌<◌, [], ◌++◌, map, drop, length, IfOk, OnOk, slice_index_or};
 ghost use Rattle.ssu_ir.specs.Slots.{node_of};
 ghost use Rattle.ssu_ir.specs.View.{labels_view};
-ghost use Rattle.place_ir.specs.Fits.{Rises};
-ghost use Rattle.place_ir.specs.Plan.{plan_view};
+ghost use Rattle.slot_placement.specs.Fits.{Rises};
+ghost use Rattle.slot_placement.specs.Plan.{plan_view};
 ghost use Rattle.ucode_emit.specs.inner.Cursors.{place_operands};
 ghost use Rattle.ucode_emit.specs.inner.Emitted.{draft};
 ghost use Rattle.ucode_emit.specs.inner.Here.{IsHere};

@@ -6,9 +6,9 @@ use Rattle.std.specs.declared.vec.Vec.{Vec}
 use Rattle.std.specs.declared.alloc.Global.{Global}
 use Rattle.ssu_ir.specs.Tree.{Label, Node}
 use Rattle.ssu_ir.specs.Points.{Names, Place, Entry, At, Point, points}
-use Rattle.place_ir.specs.inner.Parts.{place_names}
-use Rattle.place_ir.specs.Uses as pure
-use Rattle.place_ir.specs.Uses.{values, uses, accesses, uses_of, is_used, place_values, place_roles, reads_at, writes_at}
+use Rattle.slot_placement.specs.inner.Parts.{place_names}
+use Rattle.slot_placement.specs.Uses as pure
+use Rattle.slot_placement.specs.Uses.{values, uses, accesses, uses_of, is_used, place_values, place_roles, reads_at, writes_at}
 use Rattle.bank_form.specs.Columns.{Priced, each_point, sort_of, point_uses, place_words, dir_columns, stay_columns, ear_columns, for_eight, may_begin, has_bank, eight}
 use Rattle.bank_form.specs.Rows.{Line, covers, two_operands, pair_lines, stay_begins, word_begins, is_slot}
 use Rattle.bank_form.specs.declared.column.Column.TheVariants.{Dir, Stay, Ear, First, Srv, PasL, PasS}

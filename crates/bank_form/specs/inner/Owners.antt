@@ -3,7 +3,7 @@ use Rattle.std.specs.Prelude.{ℕ, suc, ◌+◌, nat_le, nat_lt, ◌&&◌, if◌
 use Rattle.std.specs.List.{flat_map}
 use Rattle.nv_base.specs.Sets.{is_in}
 use Rattle.ssu_ir.specs.Tree.{Label}
-use Rattle.place_ir.specs.Uses as pure
+use Rattle.slot_placement.specs.Uses as pure
 use Rattle.bank_form.specs.declared.column.Column.{Column}
 use Rattle.bank_form.specs.declared.column.Column.TheVariants.{First, PasL}
 use Rattle.bank_form.specs.Columns.{sort_of, eight}

@@ -2,11 +2,11 @@
 use Rattle.std.specs.Prelude.{◌≡◌, ℕ, nat_eq, Bool, true, false, not, ◌&&◌, List, [], ◌∷◌, Option, Some, None, Contains, if◌then◌else◌}
 use Rattle.std.specs.List.{list_any}
 use Rattle.ssu_ir.specs.Tree.{Label}
-use Rattle.place_ir.specs.declared.place.Place.{Place}
-use Rattle.place_ir.specs.declared.place.Place.TheVariants as place
-use Rattle.place_ir.specs.Plan.{Plan, home, first, serve, pass}
-use Rattle.place_ir.specs.Uses.{Result, Value, values, Role, Operand, Address, Written, Argument, Ending, Use, uses}
-use Rattle.place_ir.specs.Fits.{is_write_register, stays}
+use Rattle.slot_placement.specs.declared.place.Place.{Place}
+use Rattle.slot_placement.specs.declared.place.Place.TheVariants as place
+use Rattle.slot_placement.specs.Plan.{Plan, home, first, serve, pass}
+use Rattle.slot_placement.specs.Uses.{Result, Value, values, Role, Operand, Address, Written, Argument, Ending, Use, uses}
+use Rattle.slot_placement.specs.Fits.{is_write_register, stays}
 use Rattle.bank_form.specs.declared.column.Bank.{Bank}
 use Rattle.bank_form.specs.declared.column.Bank.TheVariants.{A, B, M, T, L, A15, W}
 use Rattle.bank_form.specs.declared.column.Column.{Column}

@@ -5,8 +5,8 @@ use Rattle.nv_base.specs.declared.term.Mem.{Mem}
 use Rattle.nv_base.specs.Sets.{is_in}
 use Rattle.ssu_ir.specs.Tree.{Label}
 use Rattle.ssu_ir.specs.Points.{Point, points}
-use Rattle.place_ir.specs.Uses.{Access, accesses, reads_at, writes_at, Fetched, Value, values, place_values, Written, Argument, Use, uses, place_roles, uses_of, is_used}
-use Rattle.place_ir.specs.Fits.{is_result, parameter, point_values, same_use}
+use Rattle.slot_placement.specs.Uses.{Access, accesses, reads_at, writes_at, Fetched, Value, values, place_values, Written, Argument, Use, uses, place_roles, uses_of, is_used}
+use Rattle.slot_placement.specs.Fits.{is_result, parameter, point_values, same_use}
 use Rattle.zo_model.specs.Program.{cost_where}
 use Rattle.bank_form.specs.declared.column.Bank.{Bank}
 use Rattle.bank_form.specs.declared.column.Bank.TheVariants.{A, B, M, T, L, A15, W}

@@ -4,14 +4,14 @@ use Rattle.std.specs.List.{list_any}
 use Rattle.nv_base.specs.Sets.{is_in, Within}
 use Rattle.ssu_ir.specs.Tree.{Label}
 use Rattle.ssu_ir.specs.Points.{Point, points}
-use Rattle.place_ir.specs.declared.place.Place.{Place}
-use Rattle.place_ir.specs.declared.place.Place.TheVariants as place
-use Rattle.place_ir.specs.declared.place.First.{First as KeptFirst}
-use Rattle.place_ir.specs.declared.place.Serve.{Serve}
-use Rattle.place_ir.specs.declared.place.Pass.{Pass}
-use Rattle.place_ir.specs.Plan.{Home, Plan, home_in}
-use Rattle.place_ir.specs.Uses.{Access, accesses, Sort, Parameter, Result, Fetched, Value, values, Role, Operand, Address, Written, Argument, Ending, Use, uses, uses_of, is_used}
-use Rattle.place_ir.specs.Fits.{read_place, write_place, parameter, wants_home, Rises}
+use Rattle.slot_placement.specs.declared.place.Place.{Place}
+use Rattle.slot_placement.specs.declared.place.Place.TheVariants as place
+use Rattle.slot_placement.specs.declared.place.First.{First as KeptFirst}
+use Rattle.slot_placement.specs.declared.place.Serve.{Serve}
+use Rattle.slot_placement.specs.declared.place.Pass.{Pass}
+use Rattle.slot_placement.specs.Plan.{Home, Plan, home_in}
+use Rattle.slot_placement.specs.Uses.{Access, accesses, Sort, Parameter, Result, Fetched, Value, values, Role, Operand, Address, Written, Argument, Ending, Use, uses, uses_of, is_used}
+use Rattle.slot_placement.specs.Fits.{read_place, write_place, parameter, wants_home, Rises}
 use Rattle.bank_form.specs.declared.column.Bank.{Bank}
 use Rattle.bank_form.specs.declared.column.Bank.TheVariants.{A, B, M, T, L, A15, W}
 use Rattle.bank_form.specs.declared.column.Column.TheVariants.{Def, Fill, First, Srv, PasL, PasS}

@@ -3,14 +3,14 @@ use Rattle.std.specs.Prelude.{◌≡◌, ℕ, nat_eq, if◌then◌else◌, List,
 use Rattle.std.specs.HashMap.{get}
 use Rattle.ssu_ir.specs.Tree.{Label}
 use Rattle.ssu_ir.specs.View.{labels_view}
-use Rattle.place_ir.specs.declared.place.Place.{Place}
-use Rattle.place_ir.specs.declared.place.Place.TheVariants as place
-use Rattle.place_ir.specs.declared.place.Pass.{Pass}
-use Rattle.place_ir.specs.declared.place.Placement.{Placement}
-use Rattle.place_ir.specs.inner.Parts.{in_byte}
-use Rattle.place_ir.specs.Fits.{wants_home}
-use Rattle.place_ir.specs.Plan.{Home, home_view, plan_view}
-use Rattle.place_ir.specs.Uses.{Value, Use}
+use Rattle.slot_placement.specs.declared.place.Place.{Place}
+use Rattle.slot_placement.specs.declared.place.Place.TheVariants as place
+use Rattle.slot_placement.specs.declared.place.Pass.{Pass}
+use Rattle.slot_placement.specs.declared.place.Placement.{Placement}
+use Rattle.slot_placement.specs.inner.Parts.{in_byte}
+use Rattle.slot_placement.specs.Fits.{wants_home}
+use Rattle.slot_placement.specs.Plan.{Home, home_view, plan_view}
+use Rattle.slot_placement.specs.Uses.{Value, Use}
 use Rattle.zo_model.specs.Program.{vector}
 use Rattle.bank_form.specs.declared.column.Bank.{Bank}
 use Rattle.bank_form.specs.declared.column.Bank.TheVariants.{A, B, M, T, L, A15, W}

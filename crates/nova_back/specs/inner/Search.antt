@@ -2,7 +2,7 @@
 use Rattle.std.specs.Prelude.{◌≡◌, ◌≤◌, ◌<◌, ◌+◌, ◌-◌, ◌*◌, ◌^◌, ℕ, List, Option, Some, None, length, ⊤}
 use Rattle.ssu_ir.specs.Measures.{peak}
 use Rattle.ssu_ir.specs.Tree.{Label}
-use Rattle.place_ir.specs.Uses.{values, uses}
+use Rattle.slot_placement.specs.Uses.{values, uses}
 use Rattle.zo_model.specs.Program.{costs_of, vector}
 use Rattle.zo_model.specs.Program as zero_one
 use Rattle.zo_model.specs.declared.program.Assignment.{Assignment}

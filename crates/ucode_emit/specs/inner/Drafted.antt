@@ -2,7 +2,7 @@
 use Rattle.std.specs.Prelude.{◌≡◌, ℕ, List, map}
 use Rattle.uc_isa.specs.declared.instruction.Instr.{Instr}
 use Rattle.ssu_ir.specs.Tree.{Label}
-use Rattle.place_ir.specs.Plan.{Plan}
+use Rattle.slot_placement.specs.Plan.{Plan}
 use Rattle.ucode_emit.specs.inner.Emitted.{draft}
 use Rattle.ucode_emit.specs.inner.Pieces.{Sequences, instr_of, items, starts, parallel_moves}
 use Rattle.ucode_emit.specs.inner.Ready.{AreSequences}

@@ -8,11 +8,11 @@ use Rattle.uc_isa.specs.declared.instruction.Dst.TheVariants as dst
 use Rattle.uc_isa.specs.declared.instruction.Cond.TheVariants.{Always}
 use Rattle.uc_isa.specs.Registers.{failing}
 use Rattle.ssu_ir.specs.Tree.{Step, Lit, Una, Bin, Clone, Read, Write, Last, Jump, Halt, Node, Does, Forks, Ends}
-use Rattle.place_ir.specs.declared.place.Place.{Place}
-use Rattle.place_ir.specs.declared.place.Place.TheVariants.{S, Slot}
-use Rattle.place_ir.specs.declared.place.Serve.{Serve}
-use Rattle.place_ir.specs.Plan.{Home, Plan, home}
-use Rattle.place_ir.specs.Fits.{is_slot}
+use Rattle.slot_placement.specs.declared.place.Place.{Place}
+use Rattle.slot_placement.specs.declared.place.Place.TheVariants.{S, Slot}
+use Rattle.slot_placement.specs.declared.place.Serve.{Serve}
+use Rattle.slot_placement.specs.Plan.{Home, Plan, home}
+use Rattle.slot_placement.specs.Fits.{is_slot}
 use Rattle.par_move.specs.Moves.{Move}
 use Rattle.ucode_emit.specs.declared.here.Here.{Here}
 use Rattle.ucode_emit.specs.inner.Machine.{IsReadable, IsWritable}

@@ -22,10 +22,10 @@ use Rattle.uc_isa.specs.Pieces.{Moment}
 use Rattle.ssu_ir.specs.Tree.{Lit, Una, Bin, Clone, Read, Write, Jump, Halt, Tree, Do, If, End, Label, Ends}
 use Rattle.ssu_ir.specs.Points.{Names, own, names_after, Point, points, tree_points, nodes, point}
 use Rattle.ssu_ir.specs.Single.{single}
-use Rattle.place_ir.specs.declared.place.Place.{Place}
-use Rattle.place_ir.specs.declared.place.Place.TheVariants.{A, B}
-use Rattle.place_ir.specs.Plan.{Plan, first, pass}
-use Rattle.place_ir.specs.Fits.{Fits, write_place}
+use Rattle.slot_placement.specs.declared.place.Place.{Place}
+use Rattle.slot_placement.specs.declared.place.Place.TheVariants.{A, B}
+use Rattle.slot_placement.specs.Plan.{Plan, first, pass}
+use Rattle.slot_placement.specs.Fits.{Fits, write_place}
 use Rattle.par_move.specs.Moves.{Move, Words, put, one_by_one, HaveOwnTargets, SpareTemporary}
 use Rattle.ucode_emit.specs.inner.Pieces.{operands, operand_at, words, result_place, to_slot, copies, all_copies, single_moves, un_op, source, target, address_of, entry_point, served_moves, entry_moves, parallel_moves}
 use Rattle.ucode_emit.specs.inner.Ready.{Ready, Entered, Begun, IsSequence}

@@ -4,11 +4,11 @@ use Rattle.nv_base.specs.Sets.{is_in}
 use Rattle.nv_base.specs.Words.{Env}
 use Rattle.ssu_ir.specs.Tree.{Label}
 use Rattle.ssu_ir.specs.Points.{Point}
-use Rattle.place_ir.specs.declared.place.Place.{Place}
-use Rattle.place_ir.specs.declared.place.Place.TheVariants.{A}
-use Rattle.place_ir.specs.Plan.{Plan, home}
-use Rattle.place_ir.specs.Uses.{Use, uses}
-use Rattle.place_ir.specs.Fits.{general_places, read_places, has_place, is_early, word_register}
+use Rattle.slot_placement.specs.declared.place.Place.{Place}
+use Rattle.slot_placement.specs.declared.place.Place.TheVariants.{A}
+use Rattle.slot_placement.specs.Plan.{Plan, home}
+use Rattle.slot_placement.specs.Uses.{Use, uses}
+use Rattle.slot_placement.specs.Fits.{general_places, read_places, has_place, is_early, word_register}
 use Rattle.par_move.specs.Moves.{Move, Words, all_at_once, one_by_one, temporary, StandFor}
 
 -- the places in which a value lasts while it is held

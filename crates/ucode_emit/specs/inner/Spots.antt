@@ -4,7 +4,7 @@ use Rattle.ssu_ir.specs.declared.ssu.Ssu.{Ssu}
 use Rattle.ssu_ir.specs.Tree.{Node, Does, Forks, Ends}
 use Rattle.ssu_ir.specs.Points.{Entry, At}
 use Rattle.ssu_ir.specs.Slots.{slot}
-use Rattle.place_ir.specs.inner.Spots.{slot_node, params_of}
+use Rattle.held_values.specs.inner.Spots.{slot_node, params_of}
 use Rattle.ucode_emit.specs.declared.spots.Spot.{Spot}
 use Rattle.ucode_emit.specs.declared.spots.Spot.TheVariants.{Entry as EntrySpot, Node as NodeSpot}
 use Rattle.ucode_emit.specs.inner.Marks.{Mark, mark}

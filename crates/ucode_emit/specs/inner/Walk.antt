@@ -7,8 +7,8 @@ use Rattle.ssu_ir.specs.declared.ssu.Ssu.{Ssu}
 use Rattle.ssu_ir.specs.Tree.{Label, Jump, Halt, Node, Does, Forks, Ends}
 use Rattle.ssu_ir.specs.Points.{Place, Entry, At}
 use Rattle.ssu_ir.specs.View.{labels_view}
-use Rattle.place_ir.specs.declared.place.Serve.{Serve}
-use Rattle.place_ir.specs.Plan.{Plan}
+use Rattle.slot_placement.specs.declared.place.Serve.{Serve}
+use Rattle.slot_placement.specs.Plan.{Plan}
 use Rattle.par_move.specs.Moves.{Move}
 use Rattle.ucode_emit.specs.declared.cursor.Cursor.{Cursor}
 use Rattle.ucode_emit.specs.declared.walk.Points.{Points}

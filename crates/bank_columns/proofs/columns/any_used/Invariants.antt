@@ -1,8 +1,8 @@
 use Rattle.std.proofs.Common.{◌≡◌, map, drop}
 use Rattle.std.specs.List.{list_any}
 use Rattle.ssu_ir.specs.View.{labels_view}
-use Rattle.place_ir.specs.Uses as pure
-use Rattle.place_ir.specs.Uses.{is_used}
+use Rattle.slot_placement.specs.Uses as pure
+use Rattle.slot_placement.specs.Uses.{is_used}
 use Rattle.bank_form.specs.inner.Form.{value_view}
 use Rattle.bank_columns.proofs.columns.any_used.Given as goal
 

@@ -2,7 +2,7 @@ use Rattle.std.proofs.Common.{◌≡◌, ◌∙◌, ◌++◌, ap, refl, List, ma
 use Rattle.std.specs.List.{flat_map}
 use Rattle.ssu_ir.specs.Points.{points}
 use Rattle.ssu_ir.specs.View.{labels_view}
-use Rattle.place_ir.specs.Uses as pure
+use Rattle.slot_placement.specs.Uses as pure
 use Rattle.bank_form.specs.Columns as columns
 use Rattle.bank_form.specs.inner.Form as form
 use Rattle.bank_form.proofs.Loops.{spend, spend-last, each-parts}

@@ -4,8 +4,8 @@ use Rattle.std.specs.HashMap.{get}
 use Rattle.std.proofs.lemmas.Option.{slice_get_read}
 use Rattle.std.proofs.lemmas.Result.{IfOk-weaker}
 use Rattle.ssu_ir.specs.Points.{Names, Entry}
-use Rattle.place_ir.specs.inner.Live.{value_by}
-use Rattle.place_ir.specs.inner.Spots.{spot_place, params_of}
+use Rattle.held_values.specs.inner.Live.{value_by}
+use Rattle.held_values.specs.inner.Spots.{spot_place, params_of}
 use Rattle.bank_form.specs.declared.form.Stop.{Stop}
 use Rattle.bank_form.specs.inner.Form.{part_at, stop_view}
 use Rattle.bank_form.proofs.tables.spot_stop.Goals as goal

@@ -1,10 +1,10 @@
 use Rattle.std.proofs.Common.{◌∙◌, ◌++◌, ◌∷◌, [], ℕ, map, ap, nat_eq, get_or, arith}
 use Rattle.std.proofs.lemmas.List.{map-append}
-use Rattle.place_ir.specs.declared.spots.Spot.TheVariants.{Entry}
+use Rattle.held_values.specs.declared.spots.Spot.TheVariants.{Entry}
 use Rattle.std.specs.HashMap.{get}
-use Rattle.place_ir.specs.inner.Live.{value_by}
-use Rattle.place_ir.specs.inner.Parts.{gather}
-use Rattle.place_ir.specs.inner.Spots.{spot_place}
+use Rattle.held_values.specs.inner.Live.{value_by}
+use Rattle.slot_placement.specs.inner.Parts.{gather}
+use Rattle.held_values.specs.inner.Spots.{spot_place}
 use Rattle.bank_form.specs.inner.Form.{stop_view, part_at, parts_at}
 use Rattle.bank_form.proofs.Tabled.{gather-more, gather-all}
 use Rattle.bank_form.proofs.tables.stops_of.Goals as goal

@@ -1,8 +1,8 @@
 use Rattle.std.proofs.Common.{◌≡◌, ◌++◌, map, drop, nat_eq}
 use Rattle.std.specs.HashMap.{get}
-use Rattle.place_ir.specs.inner.Live.{value_by}
-use Rattle.place_ir.specs.inner.Parts.{gather}
-use Rattle.place_ir.specs.inner.Spots.{spot_place}
+use Rattle.held_values.specs.inner.Live.{value_by}
+use Rattle.slot_placement.specs.inner.Parts.{gather}
+use Rattle.held_values.specs.inner.Spots.{spot_place}
 use Rattle.bank_form.specs.inner.Form.{stop_view, parts_at}
 use Rattle.bank_form.proofs.tables.stops_of.Given as goal
 

@@ -3,11 +3,11 @@ use Rattle.std.specs.HashMap.{get}
 use Rattle.std.specs.List.{flat_map}
 use Rattle.ssu_ir.specs.Points.{points}
 use Rattle.ssu_ir.specs.View.{labels_view}
-use Rattle.place_ir.specs.Uses as pure
-use Rattle.place_ir.specs.inner.Live.{value_by}
-use Rattle.place_ir.specs.inner.Parts.{gather}
-use Rattle.place_ir.specs.inner.Spots.{spot_place}
-use Rattle.place_ir.proofs.Named.{points-named}
+use Rattle.slot_placement.specs.Uses as pure
+use Rattle.held_values.specs.inner.Live.{value_by}
+use Rattle.slot_placement.specs.inner.Parts.{gather}
+use Rattle.held_values.specs.inner.Spots.{spot_place}
+use Rattle.slot_placement.proofs.Named.{points-named}
 use Rattle.bank_form.specs.Columns.{sort_in}
 use Rattle.bank_form.specs.inner.Form as form
 use Rattle.bank_form.specs.inner.Form.{stop_view, value_view, use_view, access_view, part_values, part_uses, part_accesses, parts_at, used_by}

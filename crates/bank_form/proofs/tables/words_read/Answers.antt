@@ -1,6 +1,6 @@
 use Rattle.std.proofs.Common.{◌∙◌, ◌++◌, ◌∷◌, [], ℕ, map, ap, get_or, arith}
 use Rattle.std.proofs.lemmas.List.{map-append}
-use Rattle.place_ir.specs.Uses as pure
+use Rattle.slot_placement.specs.Uses as pure
 use Rattle.bank_form.specs.inner.Form.{value_view}
 use Rattle.bank_form.proofs.Tabled.{numbered-more, numbered-all}
 use Rattle.bank_form.proofs.tables.words_read.Goals as goal

@@ -3,7 +3,7 @@ use Rattle.std.specs.Prelude.{All}
 use Rattle.std.specs.HashMap.{get}
 use Rattle.std.specs.List.{AllZip}
 use Rattle.ssu_ir.specs.Points.{Point, points}
-use Rattle.place_ir.specs.Held.{IsRowOf, HaveNumbers, items_of}
+use Rattle.held_values.specs.Held.{IsRowOf, HaveNumbers, items_of}
 use Rattle.bank_places.specs.inner.ReadOff.{has_home}
 use Rattle.bank_places.specs.inner.Reading.{says, labels_of}
 use Rattle.bank_places.proofs.Numbered.{rows-kept, rows-short, if-ok-all}

@@ -1,6 +1,6 @@
 use Rattle.std.proofs.Common.{◌∙◌, ◌++◌, ◌∷◌, [], ap, map, filter, arith}
 use Rattle.std.proofs.lemmas.List.{map-append}
-use Rattle.place_ir.specs.Held.{Kept, items_of}
+use Rattle.held_values.specs.Held.{Kept, items_of}
 use Rattle.bank_places.specs.inner.ReadOff.{has_home}
 use Rattle.bank_places.specs.inner.Reading.{says}
 use Rattle.bank_places.proofs.RowsKept.{rows-more, rows-all}

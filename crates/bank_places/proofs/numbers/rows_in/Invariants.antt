@@ -1,5 +1,5 @@
 use Rattle.std.proofs.Common.{◌≡◌, ◌++◌, map, drop, filter}
-use Rattle.place_ir.specs.Held.{items_of}
+use Rattle.held_values.specs.Held.{items_of}
 use Rattle.bank_places.specs.inner.ReadOff.{has_home}
 use Rattle.bank_places.specs.inner.Reading.{says}
 use Rattle.bank_places.proofs.numbers.rows_in.Given as goal

@@ -1,6 +1,6 @@
 use Rattle.std.proofs.Common.{◌≡◌, ◌≤◌, ℕ, length, map, drop, nat_eq}
 use Rattle.std.specs.HashMap.{get}
-use Rattle.place_ir.specs.Plan.{home_view, home_in}
+use Rattle.slot_placement.specs.Plan.{home_view, home_in}
 use Rattle.bank_places.specs.inner.PlanTables.{known_places}
 use Rattle.bank_places.proofs.plan_tables.copied_by.Given as goal
 

@@ -1,6 +1,6 @@
 use Rattle.std.proofs.Common.{◌≡◌, ◌≤◌, ℕ, length, drop, nat_eq}
 use Rattle.std.specs.HashMap.{get}
-use Rattle.place_ir.specs.Plan.{first_in}
+use Rattle.slot_placement.specs.Plan.{first_in}
 use Rattle.bank_places.specs.inner.PlanTables.{known_number}
 use Rattle.bank_places.proofs.plan_tables.firsts_by.Given as goal
 

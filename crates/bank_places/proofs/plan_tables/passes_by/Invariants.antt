@@ -1,6 +1,6 @@
 use Rattle.std.proofs.Common.{◌≡◌, ◌≤◌, ℕ, length, drop, nat_eq}
 use Rattle.std.specs.HashMap.{get}
-use Rattle.place_ir.specs.Plan.{pass_in}
+use Rattle.slot_placement.specs.Plan.{pass_in}
 use Rattle.bank_places.specs.inner.PlanTables.{known_l, known_s}
 use Rattle.bank_places.proofs.plan_tables.passes_by.Given as goal
 

@@ -1,6 +1,6 @@
 use Rattle.std.proofs.Common.{◌∙◌, map, ap}
 use Rattle.ssu_ir.specs.View.{labels_view}
-use Rattle.place_ir.specs.Plan.{home_view, home_in, first_in, serve_in, pass_in}
+use Rattle.slot_placement.specs.Plan.{home_view, home_in, first_in, serve_in, pass_in}
 use Rattle.bank_form.specs.inner.Form.{AreTables, use_view, value_view}
 use Rattle.bank_places.specs.inner.Chosen.{use_in, value_in}
 use Rattle.bank_places.proofs.plan_tables.plan_tables.Goals as goal

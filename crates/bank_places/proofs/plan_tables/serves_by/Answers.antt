@@ -1,7 +1,7 @@
 use Rattle.std.proofs.Common.{◌≡◌, ◌+◌, ◌-◌, ◌<◌, ◌&&◌, nat_eq, length, refl, arith}
 use Rattle.std.specs.HashMap.{get}
-use Rattle.place_ir.specs.declared.place.Serve.{Serve}
-use Rattle.place_ir.specs.Plan.{serve_in}
+use Rattle.slot_placement.specs.declared.place.Serve.{Serve}
+use Rattle.slot_placement.specs.Plan.{serve_in}
 use Rattle.bank_places.specs.inner.PlanTables.{pair_eq, known_from, known_at}
 use Rattle.bank_places.proofs.TableSteps.{found-more, if-field}
 use Rattle.bank_places.proofs.plan_tables.serves_by.Goals as goal

@@ -1,6 +1,6 @@
 use Rattle.std.proofs.Common.{◌≡◌, ◌≤◌, ℕ, length, drop}
 use Rattle.std.specs.HashMap.{get}
-use Rattle.place_ir.specs.Plan.{serve_in}
+use Rattle.slot_placement.specs.Plan.{serve_in}
 use Rattle.bank_places.specs.inner.PlanTables.{pair_eq, known_from, known_at}
 use Rattle.bank_places.proofs.plan_tables.serves_by.Given as goal
 

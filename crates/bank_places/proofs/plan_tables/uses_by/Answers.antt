@@ -1,6 +1,6 @@
 use Rattle.std.proofs.Common.{◌≡◌, ◌+◌, ◌-◌, ◌<◌, ◌&&◌, nat_eq, length, map, refl, arith}
 use Rattle.std.specs.HashMap.{get}
-use Rattle.place_ir.specs.Uses as pure
+use Rattle.slot_placement.specs.Uses as pure
 use Rattle.bank_form.specs.declared.form.Use.{Use}
 use Rattle.bank_form.specs.inner.Form.{use_view, role_view}
 use Rattle.bank_places.specs.inner.Chosen.{use_in}

@@ -3,7 +3,7 @@ use Rattle.std.specs.HashMap.{get}
 use Rattle.std.specs.List.{flat_map}
 use Rattle.ssu_ir.specs.Points.{points}
 use Rattle.ssu_ir.specs.View.{labels_view}
-use Rattle.place_ir.proofs.RowSteps.{on-ok}
+use Rattle.held_values.proofs.RowSteps.{on-ok}
 use Rattle.bank_form.specs.Program.{same_column}
 use Rattle.bank_form.specs.Rows.{begins_at, adjacency}
 use Rattle.bank_form.specs.inner.Form.{part_begins, stop_view}

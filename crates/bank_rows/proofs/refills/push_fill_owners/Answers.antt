@@ -2,8 +2,8 @@ use Rattle.std.proofs.Common.{◌∙◌, ◌++◌, ap, map}
 use Rattle.std.specs.HashMap.{get}
 use Rattle.zo_model.specs.Contents.{row_contents}
 use Rattle.ssu_ir.specs.View.{labels_view}
-use Rattle.place_ir.specs.Held.{items_of}
-use Rattle.place_ir.proofs.RowSteps.{on-ok}
+use Rattle.held_values.specs.Held.{items_of}
+use Rattle.held_values.proofs.RowSteps.{on-ok}
 use Rattle.bank_form.specs.Program.{same_column, row_of}
 use Rattle.bank_form.specs.inner.Form.{stop_view}
 use Rattle.bank_form.specs.inner.Owners.{fills, rest}

@@ -2,8 +2,8 @@ use Rattle.std.proofs.Common.{◌≡◌, ◌∙◌, ap, map}
 use Rattle.std.specs.HashMap.{get}
 use Rattle.std.specs.List.{flat_map}
 use Rattle.ssu_ir.specs.View.{labels_view}
-use Rattle.place_ir.specs.Uses as pure
-use Rattle.place_ir.proofs.RowSteps.{on-ok}
+use Rattle.slot_placement.specs.Uses as pure
+use Rattle.held_values.proofs.RowSteps.{on-ok}
 use Rattle.bank_form.specs.Program.{same_column}
 use Rattle.bank_form.specs.Rows.{access_owners}
 use Rattle.bank_form.specs.inner.Form.{value_view, access_view}

@@ -2,8 +2,8 @@ use Rattle.std.proofs.Common.{◌≡◌, ◌<◌, ◌-◌, ℕ, ◌∙◌, ap, s
 use Rattle.std.proofs.lemmas.List.{ext_get_or, length-set, length-map}
 use Rattle.ssu_ir.specs.Points.{Point, points}
 use Rattle.ssu_ir.specs.View.{labels_view}
-use Rattle.place_ir.specs.inner.Spots.{spot_place}
-use Rattle.place_ir.specs.declared.spots.Spot.TheVariants.{Entry}
+use Rattle.held_values.specs.inner.Spots.{spot_place}
+use Rattle.held_values.specs.declared.spots.Spot.TheVariants.{Entry}
 use Rattle.bank_rows.specs.inner.Waiting.{arms, below_at, read_from}
 use Rattle.bank_rows.proofs.Below.{counts, from_list, past, below-same, points-sized, got-map, set-done, length-counts}
 use Rattle.bank_rows.proofs.spans.belows.Goals as goal

@@ -7,8 +7,8 @@ use Rattle.std.specs.declared.vec.Vec.{Vec}
 use Rattle.std.specs.declared.alloc.Global.{Global}
 use Rattle.ssu_ir.specs.Points.{points}
 use Rattle.ssu_ir.specs.View.{labels_view}
-use Rattle.place_ir.specs.Uses as pure
-use Rattle.place_ir.proofs.Covering.{once-at-points}
+use Rattle.slot_placement.specs.Uses as pure
+use Rattle.held_values.proofs.Covering.{once-at-points}
 use Rattle.bank_form.specs.declared.form.Use.{Use}
 use Rattle.bank_form.specs.inner.Form.{use_view, value_view, stop_view}
 use Rattle.bank_rows.specs.inner.Waiting.{each_waiting, lists_of, all_waiting, point_in, written_only}

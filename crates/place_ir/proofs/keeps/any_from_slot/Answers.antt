@@ -1,7 +1,7 @@
 use Rattle.std.proofs.Common.{◌∙◌, sym, ap}
-use Rattle.place_ir.specs.Fits.{is_slot}
-use Rattle.place_ir.specs.Plan.{plan_view, serve}
-use Rattle.place_ir.proofs.Seen.{below-from}
+use Rattle.slot_placement.specs.Fits.{is_slot}
+use Rattle.slot_placement.specs.Plan.{plan_view, serve}
+use Rattle.place_checks.proofs.Seen.{below-from}
 use Rattle.place_ir.proofs.keeps.any_from_slot.Goals as goal
 
 pub returns-then-is_slot : goal.returns-then-is_slot

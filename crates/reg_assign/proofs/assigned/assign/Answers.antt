@@ -1,10 +1,10 @@
 use Rattle.std.proofs.Common.{◌≡◌, ℕ, ◌≤◌}
 use Rattle.std.proofs.lemmas.Result.{IfOk-weaker}
 use Rattle.ssu_ir.specs.View.{labels_view}
-use Rattle.place_ir.specs.declared.place.Placement.{Placement}
-use Rattle.place_ir.specs.Costs.{cost}
-use Rattle.place_ir.specs.Fits.{Fits}
-use Rattle.place_ir.specs.Plan.{plan_view}
+use Rattle.slot_placement.specs.declared.place.Placement.{Placement}
+use Rattle.slot_placement.specs.Costs.{cost}
+use Rattle.slot_placement.specs.Fits.{Fits}
+use Rattle.slot_placement.specs.Plan.{plan_view}
 use Rattle.zo_model.specs.Program.{vector, costs_of}
 use Rattle.bank_form.specs.Columns.{costs}
 use Rattle.bank_places.specs.ByLabel.{label_cost, label_price}

@@ -3,7 +3,7 @@ use Rattle.std.proofs.lemmas.Result.{IfOk-weaker}
 use Rattle.std.specs.declared.vec.Vec.{Vec}
 use Rattle.std.specs.declared.alloc.Global.{Global}
 use Rattle.ssu_ir.specs.View.{labels_view}
-use Rattle.place_ir.specs.Plan.{plan_view}
+use Rattle.slot_placement.specs.Plan.{plan_view}
 use Rattle.bank_places.specs.inner.Chosen.{chosen}
 use Rattle.bank_places.specs.inner.PlanTables.{told}
 use Rattle.bank_places.proofs.ChosenVector.{all-told}

@@ -1,5 +1,5 @@
 use Rattle.std.proofs.Common.{List, ◌++◌, ap, map, ◌∙◌}
-use Rattle.place_ir.specs.declared.place.Place.{Place}
+use Rattle.slot_placement.specs.declared.place.Place.{Place}
 use Rattle.bank_form.specs.declared.column.Bank.TheVariants.{A}
 use Rattle.bank_form.specs.inner.Form.{use_view}
 use Rattle.bank_places.specs.inner.ReadOff.{fill_at}

@@ -1,6 +1,6 @@
 use Rattle.std.proofs.Common.{map, arith}
 use Rattle.std.specs.List.{flat_map}
-use Rattle.place_ir.specs.Plan.{home_view}
+use Rattle.slot_placement.specs.Plan.{home_view}
 use Rattle.bank_form.specs.inner.Form.{value_view}
 use Rattle.bank_form.proofs.Loops.{out-more, out-all}
 use Rattle.reg_assign.specs.inner.Given.{labels_in, says_in, numbers_in}

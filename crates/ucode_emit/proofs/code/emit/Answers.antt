@@ -3,8 +3,8 @@ use Rattle.uc_isa.specs.Lawful.{IsLawful}
 use Rattle.uc_isa.specs.Moves.{moves}
 use Rattle.ssu_ir.specs.Measures.{code_bound}
 use Rattle.ssu_ir.specs.View.{labels_view}
-use Rattle.place_ir.specs.Costs.{cost}
-use Rattle.place_ir.specs.Plan.{plan_view}
+use Rattle.slot_placement.specs.Costs.{cost}
+use Rattle.slot_placement.specs.Plan.{plan_view}
 use Rattle.ucode_emit.specs.inner.Drafted.{AreEmitted}
 use Rattle.ucode_emit.proofs.Whole.{some_code, few_code, short_code, light_code, lawful_code, agreeing_code, placed}
 use Rattle.ucode_emit.proofs.code.emit.Goals as goal

@@ -1,7 +1,7 @@
 use Rattle.std.proofs.Common.{◌≡◌, map, sym, subst}
 use Rattle.std.proofs.lemmas.Result.{IfOk-weaker}
 use Rattle.ssu_ir.specs.View.{labels_view}
-use Rattle.place_ir.specs.Plan.{plan_view}
+use Rattle.slot_placement.specs.Plan.{plan_view}
 use Rattle.ucode_emit.specs.inner.Drafted.{AreDrafted, AreEmitted}
 use Rattle.ucode_emit.specs.inner.Emitted.{settled}
 use Rattle.ucode_emit.proofs.Whole.{emitted, placed}

@@ -1,5 +1,5 @@
 use Rattle.ssu_ir.specs.View.{labels_view}
-use Rattle.place_ir.specs.Plan.{plan_view}
+use Rattle.slot_placement.specs.Plan.{plan_view}
 use Rattle.ucode_emit.specs.inner.Walk.{moves_of}
 use Rattle.ucode_emit.proofs.Drafting.{drafted_all, spots_many}
 use Rattle.ucode_emit.proofs.drafted.draft_of.Goals as goal

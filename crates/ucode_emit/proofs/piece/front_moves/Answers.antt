@@ -1,5 +1,5 @@
 use Rattle.std.proofs.Common.{None}
-use Rattle.place_ir.specs.Plan.{plan_view}
+use Rattle.slot_placement.specs.Plan.{plan_view}
 use Rattle.ucode_emit.specs.inner.Pieces as pieces
 use Rattle.ucode_emit.specs.inner.Given as given
 use Rattle.ucode_emit.proofs.Serving.{copied_here, appended}

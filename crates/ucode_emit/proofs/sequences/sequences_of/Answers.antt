@@ -1,7 +1,7 @@
 use Rattle.std.proofs.Common.{◌∙◌, ap, subst, length, arith}
 use Rattle.std.proofs.lemmas.List.{length-map}
 use Rattle.ssu_ir.specs.View.{labels_view}
-use Rattle.place_ir.specs.Plan.{plan_view}
+use Rattle.slot_placement.specs.Plan.{plan_view}
 use Rattle.ucode_emit.specs.inner.Marks.{Mark, marks, place_moves}
 use Rattle.ucode_emit.specs.inner.Ready.{IsSequence}
 use Rattle.ucode_emit.specs.inner.Spots.{spot_mark}

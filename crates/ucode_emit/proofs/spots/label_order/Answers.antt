@@ -4,8 +4,8 @@ use Rattle.ssu_ir.specs.declared.node.SsuLabel.{SsuLabel}
 use Rattle.ssu_ir.specs.Slots.{preorder, preorder_all}
 use Rattle.ssu_ir.specs.Work.{nums, tops}
 use Rattle.ssu_ir.proofs.Walks.{present, order_step, order_smaller, none_left}
-use Rattle.place_ir.specs.inner.Live.{label_tree}
-use Rattle.place_ir.proofs.Labels.{tree-at}
+use Rattle.held_values.specs.inner.Live.{label_tree}
+use Rattle.held_values.proofs.Labels.{tree-at}
 use Rattle.ucode_emit.proofs.spots.label_order.Goals as goal
 
 pub walk-init : goal.walk-init

@@ -1,7 +1,7 @@
 use Rattle.std.proofs.Common.{◌≡◌, ◌-◌, ◌++◌, length}
 use Rattle.ssu_ir.specs.Slots.{preorder, preorder_all}
 use Rattle.ssu_ir.specs.Work.{tops, nums, Todo}
-use Rattle.place_ir.specs.inner.Live.{label_tree}
+use Rattle.held_values.specs.inner.Live.{label_tree}
 use Rattle.ucode_emit.proofs.spots.label_order.Given as goal
 
 abbrev pub invariant-walk : goal.invariant-walk

@@ -4,8 +4,8 @@ use Rattle.std.proofs.lemmas.List.{nil_from_length, append-nil}
 use Rattle.std.proofs.lemmas.List.Elements.{All-nil, All-push}
 use Rattle.ssu_ir.specs.Slots.{preorder}
 use Rattle.ssu_ir.proofs.Turns.{completes_start, step_of, below_made, present_made, completes_end}
-use Rattle.place_ir.specs.inner.Live.{label_tree}
-use Rattle.place_ir.proofs.Labels.{tree-at}
+use Rattle.held_values.specs.inner.Live.{label_tree}
+use Rattle.held_values.proofs.Labels.{tree-at}
 use Rattle.ucode_emit.specs.declared.spots.Spot.TheVariants.{Node as NodeSpot}
 use Rattle.ucode_emit.specs.inner.Spots.{IsSpot, on_stack}
 use Rattle.ucode_emit.proofs.Spotted.{spotted, marks_one, all_marks}

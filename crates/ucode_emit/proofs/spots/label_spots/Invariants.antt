@@ -3,7 +3,7 @@ use Rattle.std.specs.Prelude.{reverse, vec_len}
 use Rattle.ssu_ir.specs.Slots.{Placed}
 use Rattle.ssu_ir.specs.Work.{tops}
 use Rattle.ssu_ir.proofs.Turns.{Completes}
-use Rattle.place_ir.specs.inner.Live.{label_tree}
+use Rattle.held_values.specs.inner.Live.{label_tree}
 use Rattle.ucode_emit.specs.inner.Spots.{IsSpot, on_stack}
 use Rattle.ucode_emit.proofs.Spotted.{weights, all_marks}
 use Rattle.ucode_emit.proofs.spots.label_spots.Given as goal

@@ -1,9 +1,9 @@
 use Rattle.std.proofs.Common.{◌≡◌, ◌++◌, map, ap, sym, ◌∙◌, arith}
 use Rattle.ssu_ir.specs.View.{labels_view}
-use Rattle.place_ir.specs.declared.place.First.{First}
-use Rattle.place_ir.specs.declared.place.Pass.{Pass}
-use Rattle.place_ir.specs.Plan.{plan_view}
-use Rattle.place_ir.proofs.RowSteps.{on-ok}
+use Rattle.slot_placement.specs.declared.place.First.{First}
+use Rattle.slot_placement.specs.declared.place.Pass.{Pass}
+use Rattle.slot_placement.specs.Plan.{plan_view}
+use Rattle.held_values.proofs.RowSteps.{on-ok}
 use Rattle.ucode_emit.specs.inner.Emitted.{draft}
 use Rattle.ucode_emit.specs.inner.Marks.{point_piece}
 use Rattle.ucode_emit.specs.inner.Pieces.{sequence_at}

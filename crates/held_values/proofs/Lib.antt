@@ -1,0 +1,8 @@
+pub mod RowSteps
+pub mod Labels
+pub mod Scoped
+pub mod Kept
+pub mod SpotSteps
+pub mod Marks
+pub mod Numbering
+pub mod Covering

@@ -1,0 +1,13 @@
+pub mod Places
+pub mod Sound
+pub mod Spilled
+pub mod Fitting
+pub mod Slotted
+pub mod Covered
+pub mod Homes
+pub mod Gathering
+pub mod Named
+pub mod Short
+pub mod Joined
+pub mod InSlots
+pub mod PartSteps

@@ -1,0 +1,7 @@
+pub mod Places
+pub mod Plan
+pub mod InSlots
+pub mod Uses
+pub mod Fits
+pub mod Costs
+pub mod inner

@@ -1,0 +1,3 @@
+pub mod Spilled
+pub mod Parts
+pub mod Targets

@@ -1,0 +1,14 @@
+//! Placements: what they say of the values and the uses of a form, when one fits and what it costs; and the one in
+//! slots alone.
+#![tactic(auto)]
+
+mod parts;
+mod parts_homes;
+mod parts_passes;
+mod parts_serves;
+mod place;
+mod spill;
+mod used;
+
+pub use place::{First, Home, Pass, Place, PlaceError, Placement, Serve};
+pub use spill::spill_all;
