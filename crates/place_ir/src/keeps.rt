@@ -20,7 +20,9 @@ use place_checks::registers::{
     Word, among, different_groups, has_slot, in_read_run, in_write_run, is_first, is_general,
     is_slot, is_through, same, same_word,
 };
-use place_checks::words::{Use, is_below, is_early, is_used, is_used_below, stays, use_of, word_of};
+use place_checks::words::{
+    Use, is_below, is_early, is_used, is_used_below, stays, use_of, word_of,
+};
 use slot_placement::{Place, Placement};
 use ssu_ir::{Ssu, SsuNode};
 
