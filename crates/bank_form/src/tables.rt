@@ -17,8 +17,8 @@ ghost use Rattle.bank_form.specs.inner.Form as form;
 ghost use Rattle.bank_form.specs.inner.Form.{AreTables, value_view, use_view, access_view, stop_view};
 
 use crate::form::{Access, Role, Sort, Stop, Tables, Use, Value};
+use held_values::{Copies, Spot, copies_of, spots_of, value_of};
 use nv_base::{Mem, NoMemory};
-use place_ir::{Copies, Spot, copies_of, spots_of, value_of};
 use ssu_ir::{Ssu, SsuNode};
 use std::alloc::Global;
 use std::collections::HashMap;

@@ -15,8 +15,8 @@ ghost use Rattle.bank_places.specs.inner.Reading.{says, labels_of, number_in, nu
 
 use crate::reading::Reading;
 use bank_prog::Bank;
+use held_values::{Slots, held, row_numbers};
 use nv_base::NoMemory;
-use place_ir::{Slots, held, row_numbers};
 use std::alloc::Global;
 
 /// Of the values that have homes in each bank, the numbers of their registers or slots.

@@ -10,7 +10,7 @@ ghost use Rattle.bank_places.specs.inner.PlanTables.{pair_eq, known_number, know
 
 use bank_prog::{Form, Use, Value};
 use nv_base::NoMemory;
-use place_ir::{First, Home, Pass, Place, Placement, Serve};
+use slot_placement::{First, Home, Pass, Place, Placement, Serve};
 use std::alloc::Global;
 use std::collections::HashMap;
 

@@ -15,7 +15,7 @@ use bank_columns::{columns_of, costs_of};
 use bank_form::form::form_of;
 use bank_form::numbers::{COUNT_LIMIT, number_columns};
 use bank_rows::rows_of;
-use place_ir::held;
+use held_values::held;
 use ssu_ir::Ssu;
 use std::alloc::Global;
 use zo_model::ZeroOne;

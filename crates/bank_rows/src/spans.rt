@@ -11,8 +11,8 @@ ghost use Rattle.bank_form.specs.inner.Form.{at_node, value_view};
 ghost use Rattle.bank_rows.specs.inner.Waiting as waits;
 
 use bank_form::form::Value;
+use held_values::Spot;
 use nv_base::NoMemory;
-use place_ir::Spot;
 use ssu_ir::{Ssu, SsuNode};
 use std::alloc::Global;
 use std::collections::HashMap;

@@ -22,8 +22,8 @@ use bank_form::lines::push_at_most;
 use bank_form::numbers::Numbers;
 use bank_form::tables::short;
 use bank_limits::coverings::add_coverings;
+use held_values::spots_of;
 use nv_base::NoMemory;
-use place_ir::spots_of;
 use std::alloc::Global;
 use zo_model::Row;
 

@@ -5,8 +5,8 @@ ghost use Rattle.ssu_ir.specs.Single.{single};
 ghost use Rattle.ssu_ir.specs.View.{labels_view};
 
 use crate::page::{Page, binary_sign, comparison_sign, memory_name, small};
+use held_values::{held, peak};
 use nv_base::{Mem, NoMemory, Una};
-use place_ir::{held, peak};
 use ssu_ir::{NodeId, Ssu, SsuNode, size};
 use std::alloc::Global;
 

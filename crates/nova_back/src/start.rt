@@ -7,9 +7,10 @@ ghost use Rattle.ssu_ir.specs.View.{labels_view};
 ghost use Rattle.nova_back.specs.inner.Search.{IsCheap, IsStart};
 
 use crate::paired::paired;
+use held_values::peak;
 use nv_base::NoMemory;
-use place_ir::{PlaceError, peak, spill_all};
 use reg_assign::from_placement;
+use slot_placement::{PlaceError, spill_all};
 use ssu_ir::Ssu;
 use std::alloc::Global;
 use zo_model::Assignment;

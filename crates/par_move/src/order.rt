@@ -7,7 +7,7 @@ ghost use Rattle.par_move.specs.inner.Pending.{Counted, Stands, FreeGoTo, GoTo, 
 
 use crate::pending::Pending;
 use nv_base::NoMemory;
-use place_ir::Place;
+use slot_placement::Place;
 use std::alloc::Global;
 
 /// Does the moves that no cycle holds up.

@@ -19,7 +19,7 @@ use crate::serves::{firsts_of, passes_of, serves_of};
 use bank_places::numbers::bank_numbers;
 use bank_places::reading::reading_of;
 use nv_base::NoMemory;
-use place_ir::Placement;
+use slot_placement::Placement;
 use ssu_ir::Ssu;
 use std::alloc::Global;
 use zo_model::Assignment;

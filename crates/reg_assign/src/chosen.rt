@@ -15,7 +15,7 @@ use crate::plan_columns::all_on;
 use bank_places::plan_tables::plan_tables;
 use bank_prog::{Column, Form, column_names, form_of};
 use nv_base::NoMemory;
-use place_ir::Placement;
+use slot_placement::Placement;
 use ssu_ir::Ssu;
 use std::alloc::Global;
 use zo_model::Assignment;

@@ -15,7 +15,7 @@ use crate::places::{home_place, sort_place, word_place};
 use bank_places::reading::Reading;
 use bank_prog::{Bank, Column, Sort, Use, Value};
 use nv_base::NoMemory;
-use place_ir::{Home, Place};
+use slot_placement::{Home, Place};
 use std::alloc::Global;
 
 /// The copy of a value in a bank, if it has one there.

@@ -14,7 +14,7 @@ use bank_places::numbers::BankNumbers;
 use bank_places::reading::Reading;
 use bank_prog::{Bank, Role, Sort, Use, Value};
 use nv_base::{Mem, NoMemory};
-use place_ir::Place;
+use slot_placement::Place;
 use std::alloc::Global;
 use std::collections::HashMap;
 

@@ -14,7 +14,7 @@ ghost use Rattle.bank_places.specs.inner.PlanTables as tables;
 use bank_places::plan_tables::PlanTables;
 use bank_prog::{Bank, Column, Form, Role, Use};
 use nv_base::NoMemory;
-use place_ir::Place;
+use slot_placement::Place;
 use std::alloc::Global;
 
 // ---- places and banks

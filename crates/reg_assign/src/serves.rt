@@ -14,7 +14,7 @@ use bank_places::reading::Reading;
 use bank_prog::services::services;
 use bank_prog::{Access, Bank, Role, Service, Stop, Use};
 use nv_base::NoMemory;
-use place_ir::{First, Pass, Place, Serve};
+use slot_placement::{First, Pass, Place, Serve};
 use std::alloc::Global;
 
 /// Where a use wants its word.

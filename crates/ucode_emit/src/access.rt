@@ -19,7 +19,7 @@ use crate::homes::{copied, defined};
 use crate::moves::{Move, all_copied};
 use crate::registers::address;
 use nv_base::{Mem, NoMemory};
-use place_ir::{Placement, Serve};
+use slot_placement::{Placement, Serve};
 use std::alloc::Global;
 use uc_isa::Instr;
 

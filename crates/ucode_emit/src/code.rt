@@ -15,7 +15,7 @@ ghost use Rattle.ucode_emit.specs.inner.Drafted.{AreEmitted};
 use crate::drafted::draft_of;
 use crate::settle::settle;
 use nv_base::NoMemory;
-use place_ir::Placement;
+use slot_placement::Placement;
 use ssu_ir::Ssu;
 use std::alloc::Global;
 use uc_isa::{Code, Instr};

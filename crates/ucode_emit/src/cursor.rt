@@ -4,7 +4,7 @@ ghost use Rattle.std.specs.Prelude.{◌≡◌, ◌+◌, ◌≤◌, suc, length, 
 ghost use Rattle.slot_placement.specs.Plan.{first_in, pass_in};
 ghost use Rattle.ucode_emit.specs.inner.Cursors.{IsCut, of_point};
 
-use place_ir::{First, Pass, Serve};
+use slot_placement::{First, Pass, Serve};
 
 /// How far the lists of a placement are done.
 #[derive(Drop)]

@@ -9,7 +9,7 @@ ghost use Rattle.ucode_emit.specs.inner.Layers.{Placed};
 use crate::draft::Draft;
 use crate::walk::{points_of, push_points};
 use nv_base::NoMemory;
-use place_ir::Placement;
+use slot_placement::Placement;
 use ssu_ir::Ssu;
 use std::alloc::Global;
 

@@ -10,7 +10,7 @@ ghost use Rattle.ucode_emit.specs.inner.Pieces.{moved};
 use crate::draft::{Draft, push_moves};
 use crate::moves::{Move, brought, is_slot, same_place};
 use nv_base::NoMemory;
-use place_ir::{Place, Serve};
+use slot_placement::{Place, Serve};
 use std::alloc::Global;
 
 /// Whether a place is a register that is read into.

@@ -5,7 +5,7 @@ ghost use Rattle.slot_placement.specs.Fits.{Rises};
 ghost use Rattle.slot_placement.specs.Plan.{home, home_in, home_view, plan_view};
 ghost use Rattle.ucode_emit.specs.inner.Given.{homeless};
 
-use place_ir::{Home, Place, Placement};
+use slot_placement::{Home, Place, Placement};
 
 /// The home of a value.
 fn home_of(homes: &[Home], x: u32) -> Option<&Home>

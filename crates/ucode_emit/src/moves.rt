@@ -7,7 +7,7 @@ ghost use Rattle.slot_placement.specs.Places as places;
 ghost use Rattle.ucode_emit.specs.inner.Pieces as pieces;
 
 use nv_base::NoMemory;
-use place_ir::Place;
+use slot_placement::Place;
 
 /// A move of a word: from the first place to the second.
 pub type Move = (Place, Place);

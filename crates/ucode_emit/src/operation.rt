@@ -20,7 +20,7 @@ use crate::homes::{copied, defined};
 use crate::moves::{Move, all_copied, is_slot, named};
 use crate::registers::{source, target};
 use nv_base::{Bin, NoMemory, Una};
-use place_ir::{Place, Placement};
+use slot_placement::{Place, Placement};
 use std::alloc::Global;
 use uc_isa::{Dst, Instr, UnOp};
 

@@ -17,7 +17,7 @@ use crate::leave::{push_fork, push_halt, push_jump};
 use crate::moves::{Move, single_moves};
 use crate::operation::{push_bin, push_lit, push_una};
 use nv_base::NoMemory;
-use place_ir::Placement;
+use slot_placement::Placement;
 use ssu_ir::SsuNode;
 use std::alloc::Global;
 

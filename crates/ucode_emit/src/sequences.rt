@@ -22,7 +22,7 @@ use crate::moves::Move;
 use crate::spots::Spot;
 use crate::together::{sequence_entry, sequence_served};
 use nv_base::NoMemory;
-use place_ir::{Placement, Serve};
+use slot_placement::{Placement, Serve};
 use ssu_ir::{Ssu, SsuNode};
 use std::alloc::Global;
 

@@ -12,7 +12,7 @@ use crate::homes::defined;
 use crate::moves::Move;
 use nv_base::NoMemory;
 use par_move::sequence;
-use place_ir::{Place, Placement, Serve};
+use slot_placement::{Place, Placement, Serve};
 use std::alloc::{AllocError, Global};
 
 // From where each operand is served to where it is wanted.

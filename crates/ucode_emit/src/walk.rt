@@ -22,7 +22,7 @@ use crate::piece::{push_front, push_node};
 use crate::sequences::{operands, sequences_of};
 use crate::spots::{Spot, entries_of, number, plus, spots_of};
 use nv_base::NoMemory;
-use place_ir::Placement;
+use slot_placement::Placement;
 use ssu_ir::{Ssu, SsuNode};
 use std::alloc::Global;
 
