@@ -7,8 +7,9 @@ use Rattle.std.proofs.lemmas.List.{map-append}
 use Rattle.nv_base.specs.Sets.{is_in, all_different, Within}
 use Rattle.nv_base.proofs.Sets.{same-number}
 use Rattle.ssu_ir.specs.Points.{Point}
+use Rattle.ssu_ir.proofs.Held.{in-left, in-right}
 use Rattle.held_values.specs.Held.{IsRow}
-use Rattle.held_values.proofs.Scoped.{in-itself, in-left, in-right, in-either}
+use Rattle.held_values.proofs.Scoped.{in-itself, in-either}
 use Rattle.bank_form.specs.declared.column.Column.{Column}
 use Rattle.bank_form.specs.declared.column.Bank.{Bank}
 use Rattle.bank_form.specs.declared.column.Bank.TheVariants.{A, B, M}

@@ -5,9 +5,10 @@ use Rattle.std.proofs.lemmas.Bool.{and_parts, false≢true, false_from_ne_true, 
 use Rattle.std.proofs.lemmas.Grind.{flat_map-append}
 use Rattle.nv_base.specs.Sets.{is_in, all_different}
 use Rattle.ssu_ir.specs.Points.{Point, place_values}
+use Rattle.ssu_ir.proofs.Held.{in-left, in-right}
 use Rattle.slot_placement.specs.Uses.{Value, Role, Use, uses_at}
 use Rattle.held_values.specs.inner.Numbers.{values_among}
-use Rattle.held_values.proofs.Scoped.{in-itself, in-left, in-right, split-different}
+use Rattle.held_values.proofs.Scoped.{in-itself, split-different}
 use Rattle.slot_placement.proofs.Sound.{Each, each-append}
 use Rattle.slot_placement.proofs.Spilled.{each-weaker}
 use Rattle.bank_form.specs.declared.column.Column.{Column}

@@ -1,5 +1,5 @@
 -- The rows of a whole in single-use form are those of its points.
-use Rattle.std.proofs.Common.{◌≡◌, ℕ, suc, ◌+◌, ◌<◌, ◌≤◌, max, Bool, true, false, not, ◌&&◌, ⊎_elim, Option, None, Result, Ok, Err, IfOk, List, [], ◌∷◌, ◌++◌, length, map, get_or, drop, unwrap_or, refl, sym, ap, subst, ◌∙◌, append_assoc, arith}
+use Rattle.std.proofs.Common.{◌≡◌, ℕ, suc, ◌+◌, ◌<◌, ◌≤◌, max, true, false, not, ◌&&◌, ⊎_elim, Option, None, Result, Ok, Err, IfOk, List, [], ◌∷◌, ◌++◌, length, map, get_or, drop, unwrap_or, refl, sym, ap, subst, ◌∙◌, append_assoc, arith}
 use Rattle.std.specs.Prelude.{slice_get}
 use Rattle.std.specs.List.{list_all, AllZip}
 use Rattle.std.proofs.lemmas.Bool.{or_parts, and_parts, and_from, not-true, not_from_false, false≢true, false_from_ne_true}
@@ -8,7 +8,7 @@ use Rattle.nv_base.specs.Sets.{is_in, all_different, without}
 use Rattle.nv_base.proofs.Sets.{in-append, in-without}
 use Rattle.ssu_ir.specs.declared.ssu.Ssu.{Ssu}
 use Rattle.ssu_ir.specs.declared.node.SsuLabel.{SsuLabel}
-use Rattle.ssu_ir.specs.Tree.{Step, Lit, Una, Bin, Clone, Read, Write, Tree, Do, If, End, Label, step_values, step_clones, step_uses, last_uses}
+use Rattle.ssu_ir.specs.Tree.{Tree, Do, If, End, Label, step_values, step_clones, step_uses, last_uses}
 use Rattle.ssu_ir.specs.Points.{Names, own, names_after, used, held, Point, tree_points, points_from, points}
 use Rattle.ssu_ir.specs.Single.{defined, all_defined, step_names, all_known, are_nodes, uses_once, is_scoped, clones_early, results_used, are_addressed, unknown, is_single, is_entry, single, fresh_after}
 use Rattle.ssu_ir.specs.Slots.{Placed, bare, bare_all, roots_of, bodies}
@@ -16,20 +16,14 @@ use Rattle.ssu_ir.specs.View.{placed_of, with_bodies, labels_view}
 use Rattle.ssu_ir.specs.Measures as measures
 use Rattle.ssu_ir.specs.Measures.{most_held}
 use Rattle.ssu_ir.proofs.Reading.{read_in}
+use Rattle.ssu_ir.proofs.Lists.{same_tests}
+use Rattle.ssu_ir.proofs.Held.{uses-named, in-left, in-right}
 use Rattle.held_values.specs.Held.{IsRow, Kept, items_of}
 use Rattle.held_values.specs.inner.Live.{first_of, source_in, source_among, value_by, root_row, tree_rows, labels_rows, add_all, longest, label_tree, on_stack}
-use Rattle.held_values.proofs.Scoped.{Scope, scope-do, scope-first, scope-second, all-in, in-map, map-same, in-added, comes-added, stays-added, different-row, in-filter, different-filter, same-length, in-left, in-right, in-either, split-different, no-source, first_of-none}
+use Rattle.held_values.proofs.Scoped.{Scope, scope-do, scope-first, scope-second, all-in, in-map, map-same, in-added, comes-added, stays-added, different-row, in-filter, different-filter, same-length, in-either, split-different, no-source, first_of-none}
 use Rattle.held_values.proofs.Labels.{tree-at}
 
 -- ---- what is in the row of a root
-
-pub use-name : (s : Step) (y : ℕ) → is_in y (step_uses s) ≡ true → is_in y (step_names s) ≡ true
-use-name (Lit x v) y e = e
-use-name (Una x op z) y e = e
-use-name (Bin x op z w) y e = e
-use-name (Clone xs z) y e = absurd (false≢true e)
-use-name (Read m xs z) y e = e
-use-name (Write m z xs) y e = e
 
 pub record HeldThere (of : Names) (above : List ℕ) (t : Tree) (x : ℕ) : Type 0 where
   pub above_ : is_in x above ≡ true
@@ -46,7 +40,7 @@ named-above of above known xs x h k e = let w = in-map of xs x e in ap (λ z. is
 pub row-from : (of value : Names) (above known fresh : List ℕ) (t : Tree) (x : ℕ) → Scope of value above known fresh t → is_in x (root_row value t) ≡ true → HeldThere of above t x
 row-from of value above known fresh (Do s t) x c e =
     let sc = and_parts (all_known known (step_names s)) (is_scoped (known ++ (step_values s ++ step_clones s)) t) c.scoped in
-    let k : (y : ℕ) → is_in y (step_uses s) ≡ true → is_in y known ≡ true = λ y f. all-in known (step_names s) y sc.0 (use-name s y f) in
+    let k : (y : ℕ) → is_in y (step_uses s) ≡ true → is_in y known ≡ true = λ y f. all-in known (step_names s) y sc.0 (uses-named s y f) in
     let same = same-values of value known (step_uses s) c.same k in
     let rest : is_in x (without (root_row value t) (step_values s)) ≡ true → HeldThere of above (Do s t) x = λ b.
     let p = and_parts (is_in x (root_row value t)) (not (is_in x (step_values s))) (sym (in-without x (root_row value t) (step_values s)) ∙ b) in
@@ -90,7 +84,7 @@ row-from of value above known fresh (End l) x c e =
 pub row-to : (of value : Names) (above known fresh : List ℕ) (t : Tree) (x : ℕ) → Scope of value above known fresh t → is_in x above ≡ true → is_in x (used of t) ≡ true → is_in x (root_row value t) ≡ true
 row-to of value above known fresh (Do s t) x c h e =
     let sc = and_parts (all_known known (step_names s)) (is_scoped (known ++ (step_values s ++ step_clones s)) t) c.scoped in
-    let k : (y : ℕ) → is_in y (step_uses s) ≡ true → is_in y known ≡ true = λ y f. all-in known (step_names s) y sc.0 (use-name s y f) in
+    let k : (y : ℕ) → is_in y (step_uses s) ≡ true → is_in y known ≡ true = λ y f. all-in known (step_names s) y sc.0 (uses-named s y f) in
     let same = same-values of value known (step_uses s) c.same k in
     let out : is_in x (step_values s) ≡ false = false_from_ne_true (is_in x (step_values s)) (λ f. c.apart x (c.values x h) (in-left x (step_values s) (step_clones s ++ defined t) f)) in
     let deeper = row-to (names_after of s) value (above ++ step_values s) (known ++ (step_values s ++ step_clones s)) (fresh_after fresh s) t x (scope-do of value above known fresh s t c) (in-left x above (step_values s) h) in
@@ -120,17 +114,12 @@ row-to of value above known fresh (End l) x c h e =
     let same = same-values of value known (last_uses l) c.same k in
     comes-added x (map value (last_uses l)) [] (ap (λ m. is_in x m) same ∙ e)
 
-same-truth : (a b : Bool) → (a ≡ true → b ≡ true) → (b ≡ true → a ≡ true) → a ≡ b
-same-truth true b h g = sym (h refl)
-same-truth false true h g = g refl
-same-truth false false h g = refl
-
 -- the row of a root is that of its point
 root-is-row : (of value : Names) (above known fresh : List ℕ) (t : Tree) (p : Point) → p.before ≡ held of above t → Scope of value above known fresh t → IsRow (root_row value t) p
 root-is-row of value above known fresh t p e c =
     let there : (x : ℕ) → is_in x p.before ≡ (is_in x above && is_in x (used of t)) = λ x. ap (λ l. is_in x l) e ∙ in-filter (λ y. is_in y (used of t)) x above in
     let members : (x : ℕ) → is_in x (root_row value t) ≡ is_in x p.before = λ x.
-    same-truth (is_in x (root_row value t)) (is_in x p.before)
+    same_tests (is_in x (root_row value t)) (is_in x p.before)
     (λ h. let w = row-from of value above known fresh t x c h in there x ∙ and_from (is_in x above) (is_in x (used of t)) w.above_ w.used_)
     (λ h. let w = and_parts (is_in x above) (is_in x (used of t)) (sym (there x) ∙ h) in row-to of value above known fresh t x c w.0 w.1) in
     record {

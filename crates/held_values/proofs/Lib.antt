@@ -1,6 +1,6 @@
+pub mod Scoped
 pub mod RowSteps
 pub mod Labels
-pub mod Scoped
 pub mod Kept
 pub mod SpotSteps
 pub mod Marks

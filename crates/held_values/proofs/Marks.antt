@@ -137,7 +137,7 @@ at-new new newer x n z u e = u z ∙ ap (λ b. if b then Some n else new z) (eq-
 not-new : (new newer : Numbers) (x n z : ℕ) → ((q : ℕ) → newer q ≡ (if nat_eq q x then Some n else new q)) → nat_eq z x ≡ false → newer z ≡ new z
 not-new new newer x n z u e = u z ∙ ap (λ b. if b then Some n else new z) e
 
-ne-number : (z x : ℕ) → (z ≡ x → ⊥) → nat_eq z x ≡ false
+pub ne-number : (z x : ℕ) → (z ≡ x → ⊥) → nat_eq z x ≡ false
 ne-number z x h = false_from_ne_true (nat_eq z x) (λ e. h (same-number z x e))
 
 pub numbered-more : (old new newer : Numbers) (vs row : List ℕ) (x n : ℕ) → is_in x row ≡ true → is_in x vs ≡ false → ((y : ℕ) → is_in y row ≡ true → new y ≢ Some n) → n < length row → new x ≡ None → ((q : ℕ) → newer q ≡ (if nat_eq q x then Some n else new q))

@@ -14,10 +14,11 @@ use Rattle.ssu_ir.specs.View.{placed_of, labels_view}
 use Rattle.held_values.specs.inner.Spots.{tree_places, spot_place}
 use Rattle.held_values.specs.declared.spots.Spot.{Spot}
 use Rattle.ssu_ir.specs.declared.ssu.Ssu.{Ssu}
+use Rattle.ssu_ir.proofs.Held.{in-left, in-right}
 use Rattle.held_values.specs.Held.{IsRow, Kept, items_of}
 use Rattle.held_values.specs.inner.Numbers.{Numbers, HasBelow, Numbered, Group, row_at, group_row, groups, values_among, Chain}
 use Rattle.held_values.specs.inner.Numbers as inner
-use Rattle.held_values.proofs.Scoped.{Scope, scope-do, scope-first, scope-second, in-left, in-right, in-either, split-different, join-different}
+use Rattle.held_values.proofs.Scoped.{Scope, scope-do, scope-first, scope-second, in-either, split-different, join-different}
 use Rattle.held_values.proofs.SpotSteps.{places-of-points}
 use Rattle.held_values.proofs.Kept.{row-from, row-to, Sourced, scope-of-label, sourced-tail, rows-of-whole, whole-parts}
 
@@ -271,7 +272,7 @@ pub record Giving (s : Ssu) (spots : List Spot) (rows : List Kept) (k : ℕ) (ol
 pub giving-none : (s : Ssu) (spots : List Spot) (rows : List Kept) (old : Numbers) → all_different (values_among (map (spot_place s) spots)) ≡ true → ((z : ℕ) → old z ≡ None) → Giving s spots rows 0 old old
 giving-none s spots rows old d none = record { chain = λ new c. c; once = d; fresh = λ z e. none z }
 
-first-spot : (spots : List Spot) (k : ℕ) (x : Spot) → k < length spots → x ≡ get_or spots k x → drop k spots ≡ x ∷ drop (k + 1) spots
+pub first-spot : (spots : List Spot) (k : ℕ) (x : Spot) → k < length spots → x ≡ get_or spots k x → drop k spots ≡ x ∷ drop (k + 1) spots
 first-spot spots k x l e = drop_more spots k x l ∙ ap (λ (y : Spot). y ∷ drop (k + 1) spots) (sym e)
 
 pub giving-once : (s : Ssu) (spots : List Spot) (rows : List Kept) (k : ℕ) (old now : Numbers) (x : Spot) → k < length spots → x ≡ get_or spots k x → Giving s spots rows k old now → all_different (place_values (spot_place s x)) ≡ true

@@ -10,6 +10,7 @@ use Rattle.ssu_ir.proofs.Walks.{is_some_from}
 use Rattle.ssu_ir.specs.Slots.{Placed, DoAt, IfAt, EndAt, bare, bare_all, preorder, preorder_all, Slots, slot, Stands, AllStand, node_of}
 use Rattle.held_values.specs.inner.Live.{first_of, node_source, step_source, source_in, source_among, slot_source, sources_at, add_all, on_stack, Takes}
 use Rattle.held_values.specs.Held.{Kept, items_of}
+use Rattle.held_values.proofs.Scoped.{first_of-none}
 
 pub first_of-assoc : (a b c : Option ℕ) → first_of (first_of a b) c ≡ first_of a (first_of b c)
 first_of-assoc (Some x) b c = refl
@@ -29,10 +30,6 @@ noted-more a o o' xs i x y z l e f h =
     ∙ ap (λ w. first_of o (if (nat_eq z w || is_in z (drop (i + 1) xs)) then Some y else None)) e
     ∙ ap (λ l. first_of o (if is_in z l then Some y else None)) (sym (drop_more xs i 0 l))
     ∙ h
-
-first_of-none : (o : Option ℕ) → first_of o None ≡ o
-first_of-none (Some x) = refl
-first_of-none None = refl
 
 pub noted-all : (a o : Option ℕ) (xs : List ℕ) (i y z : ℕ) → length xs ≤ i → first_of o (if is_in z (drop i xs) then Some y else None) ≡ a → o ≡ a
 noted-all a o xs i y z l h = sym (first_of-none o) ∙ ap (λ m. first_of o (if is_in z m then Some y else None)) (sym (drop_all i xs l)) ∙ h

@@ -7,6 +7,7 @@ use Rattle.nv_base.specs.declared.term.Cmp.{Cmp}
 use Rattle.ssu_ir.specs.Tree.{Step, Lit, Una, Bin, Clone, Read, Write, Tree, Do, If, End, step_values, step_clones, step_uses, last_uses}
 use Rattle.ssu_ir.specs.Points.{Names, names_after}
 use Rattle.ssu_ir.specs.Single.{defined, step_names, all_known, is_scoped, fresh_after, clones_fresh, clones_early}
+use Rattle.ssu_ir.proofs.Held.{in-left, in-right}
 use Rattle.held_values.specs.inner.Live.{first_of, step_source, source_in, value_by, add_all, root_row}
 
 -- ---- lists
@@ -181,12 +182,6 @@ join-different (x ∷ a) b h g n =
     let out : is_in x (a ++ b) ≡ false = in-append x a b ∙ or_from (is_in x a) (is_in x b) (not-true (is_in x a) p.0) (false_from_ne_true (is_in x b) (λ e. n x (or_left (nat_eq x x) (is_in x a) (in-itself x)) e)) in
     and_from (not (is_in x (a ++ b))) (all_different (a ++ b)) (not_from_false (is_in x (a ++ b)) out)
     (join-different a b p.1 g (λ y e f. n y (or_right (nat_eq y x) (is_in y a) e) f))
-
-pub in-left : (y : ℕ) (a b : List ℕ) → is_in y a ≡ true → is_in y (a ++ b) ≡ true
-in-left y a b e = in-append y a b ∙ or_left (is_in y a) (is_in y b) e
-
-pub in-right : (y : ℕ) (a b : List ℕ) → is_in y b ≡ true → is_in y (a ++ b) ≡ true
-in-right y a b e = in-append y a b ∙ or_right (is_in y a) (is_in y b) e
 
 pub in-either : (y : ℕ) (a b : List ℕ) → is_in y (a ++ b) ≡ true → (is_in y a ≡ true) ⊎ (is_in y b ≡ true)
 in-either y a b e = or_cases (is_in y a) (is_in y b) (sym (in-append y a b) ∙ e)

@@ -1,5 +1,5 @@
 pub mod Recovered
-pub mod Walked
 pub mod Seen
+pub mod Walked
 pub mod Valued
 pub mod Loops

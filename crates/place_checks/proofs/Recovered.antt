@@ -10,6 +10,7 @@ use Rattle.nv_base.proofs.Sets.{same-number}
 use Rattle.ssu_ir.specs.Tree.{Lit, Una, Bin, Clone, Read, Write, Jump, Halt, Tree, Do, If, End, Label, Does, Forks, Ends, step_values, step_clones, step_uses, last_uses, node_uses}
 use Rattle.ssu_ir.specs.Points.{Names, own, names_after, Place, Entry, At, Point, tree_points, points_from, points}
 use Rattle.ssu_ir.specs.Single.{defined, all_defined, step_names, all_known, is_scoped, fresh_after, is_entry, is_single, single}
+use Rattle.ssu_ir.proofs.Held.{uses-named}
 use Rattle.slot_placement.specs.declared.place.Serve.{Serve}
 use Rattle.slot_placement.specs.Uses.{Role, Address, Written, Argument, Ending, roles, place_roles, Use, uses_at, uses_from, uses}
 use Rattle.slot_placement.specs.Fits.{at_operand, use_operand}
@@ -18,7 +19,7 @@ use Rattle.held_values.specs.inner.Live.{value_by, source_among}
 use Rattle.place_checks.specs.inner.Found.{write_role, nowhere, point_at, place_at, place_node, value_in, operand_name, operand_role, found_use}
 use Rattle.place_checks.specs.inner.Checks.{found, uses_at as use_count, is_for, are_for, begins, serves_fit}
 use Rattle.held_values.proofs.Scoped.{Scope, scope-do, scope-first, scope-second, all-in, map-same, split-different, in-itself}
-use Rattle.held_values.proofs.Kept.{use-name, trees, Sourced, sourced-tail, scope-of-label}
+use Rattle.held_values.proofs.Kept.{trees, Sourced, sourced-tail, scope-of-label}
 use Rattle.slot_placement.proofs.Sound.{Each, each-append}
 use Rattle.slot_placement.proofs.Fitting.{each-uses}
 use Rattle.slot_placement.proofs.Spilled.{each-at}
@@ -36,7 +37,7 @@ Named value q = q.uses ≡ map value (names_of q.place)
 named-tree : (of value : Names) (above known fresh : List ℕ) (t : Tree) → Scope of value above known fresh t → Each (Named value) (tree_points of above t)
 named-tree of value above known fresh (Do s t) c =
     let sc = and_parts (all_known known (step_names s)) (is_scoped (known ++ (step_values s ++ step_clones s)) t) c.scoped in (
-      map-same of value (step_uses s) (λ y f. c.same y (all-in known (step_names s) y sc.0 (use-name s y f))),
+      map-same of value (step_uses s) (λ y f. c.same y (all-in known (step_names s) y sc.0 (uses-named s y f))),
       named-tree (names_after of s) value (above ++ step_values s) (known ++ (step_values s ++ step_clones s)) (fresh_after fresh s) t (scope-do of value above known fresh s t c),
     )
 named-tree of value above known fresh (If d v w t u) c =

@@ -13,6 +13,7 @@ use Rattle.ssu_ir.specs.Points.{Names, own, names_after, used, held, union, Plac
 use Rattle.ssu_ir.specs.Single.{single}
 use Rattle.ssu_ir.proofs.Lists.{same_tests}
 use Rattle.ssu_ir.proofs.PointLemmas.{length-tree_points}
+use Rattle.ssu_ir.proofs.Searches.{or-false}
 use Rattle.slot_placement.specs.Plan.{Plan}
 use Rattle.slot_placement.specs.Uses.{Role, place_roles, uses_at, uses_from, uses}
 use Rattle.place_checks.specs.inner.Found.{place_at, place_node}
@@ -67,10 +68,6 @@ pub and-nothing : (a : Bool) → false ≡ (a && false)
 and-nothing true = refl
 and-nothing false = refl
 
-pub or-nothing : (a : Bool) → a ≡ (a || false)
-or-nothing true = refl
-or-nothing false = refl
-
 take-front : (a b : List Point) (n : ℕ) → n ≡ length a → take n (a ++ b) ≡ a
 take-front [] [] zero e = refl
 take-front [] (q ∷ b) zero e = refl
@@ -78,7 +75,7 @@ take-front [] b (suc n) e = absurd (omega arith)
 take-front (q ∷ a) b zero e = absurd (omega arith)
 take-front (q ∷ a) b (suc n) e = ap (λ l. q ∷ l) (take-front a b n (omega arith))
 
-length-both : (a b : List Point) → length (a ++ b) ≡ length a + length b
+pub length-both : (a b : List Point) → length (a ++ b) ≡ length a + length b
 length-both [] b = omega arith
 length-both (q ∷ a) b = omega (arith, length-both a b)
 
@@ -105,7 +102,7 @@ local-if of above c v w t u =
           ∙ ap (λ y. (is_in x above && is_in x (uses_among a)) || (y && not (is_in x above && is_in x (uses_among a)))) (in-held of above above u x)
           ∙ either-arm (is_in x above) (is_in x (uses_among a)) (is_in x (uses_among b))
           ∙ ap (λ y. is_in x above && y) (sym (ap (is_in x) (among-append a b) ∙ in-append x (uses_among a) (uses_among b)))
-          ∙ ap (λ y. y && is_in x (uses_among (a ++ b))) (or-nothing (is_in x above));
+          ∙ ap (λ y. y && is_in x (uses_among (a ++ b))) (or-false (is_in x above));
     }
 
 local-end : (of : Names) (above : List ℕ) (l : Last) → Local (point of (Ends l) above (last_uses l) 0 (held of above (End l)) []) []
@@ -208,13 +205,13 @@ reach-before : (k b : ℕ) (here : Bool) (j : ℕ) → j < k → reach k b here 
 reach-before k b here j l =
     ap (λ e. (here && e) || (nat_lt k j && nat_le j (k + b))) (ne_eqb j k (λ e. omega arith))
     ∙ ap (λ e. (here && false) || (e && nat_le j (k + b))) (le-ltb k j (omega arith))
-    ∙ sym (or-nothing (here && false)) ∙ sym (and-nothing here)
+    ∙ sym (or-false (here && false)) ∙ sym (and-nothing here)
 
 reach-here : (k b : ℕ) (here : Bool) → reach k b here k ≡ here
 reach-here k b here =
     ap (λ e. (here && e) || (nat_lt k k && nat_le k (k + b))) (eq-eqb k k refl)
     ∙ ap (λ e. (here && true) || (e && nat_le k (k + b))) (le-ltb k k (omega arith))
-    ∙ sym (or-nothing (here && true)) ∙ and-true' here
+    ∙ sym (or-false (here && true)) ∙ and-true' here
 
 reach-below : (k b : ℕ) (here : Bool) (j : ℕ) → k < j → j ≤ k + b → reach k b here j ≡ true
 reach-below k b here j l r = or_right (here && nat_eq j k) (nat_lt k j && nat_le j (k + b)) (and_from (nat_lt k j) (nat_le j (k + b)) (lt-ltb k j l) (le-leb j (k + b) r))
@@ -224,7 +221,7 @@ reach-past k b here j l =
     ap (λ e. (here && e) || (nat_lt k j && nat_le j (k + b))) (ne_eqb j k (λ e. omega arith))
     ∙ ap (λ e. (here && false) || (nat_lt k j && e)) (lt-leb j (k + b) l)
     ∙ ap (λ e. (here && false) || e) (sym (and-nothing (nat_lt k j)))
-    ∙ sym (or-nothing (here && false)) ∙ sym (and-nothing here)
+    ∙ sym (or-false (here && false)) ∙ sym (and-nothing here)
 
 pub used-below : (labels : List Label) (k : ℕ) (here : Bool) (x : ℕ) (q : Point) → single labels ≡ true → slice_get (points labels) k ≡ Some q
     → list_any (is_of_below labels k here x) (uses labels) ≡ ((is_in x q.uses && here) || is_in x (uses_among (take q.below (drop (suc k) (points labels)))))

@@ -10,6 +10,7 @@ use Rattle.nv_base.proofs.Sets.{same-number}
 use Rattle.ssu_ir.specs.Tree.{Label}
 use Rattle.ssu_ir.specs.Points as pure
 use Rattle.ssu_ir.specs.Points.{Place as Spot, Entry, At, Point}
+use Rattle.ssu_ir.proofs.Searches.{or-false}
 use Rattle.slot_placement.specs.declared.place.Place.{Place}
 use Rattle.slot_placement.specs.declared.place.Place.TheVariants.{A, B, L, LD, S, SD, Slot}
 use Rattle.slot_placement.specs.Places.{same_place}
@@ -21,7 +22,7 @@ use Rattle.place_checks.specs.inner.Checks.{can_be_home, rank, is_of, used, is_e
 use Rattle.slot_placement.proofs.Places.{same_place-true, same_place-from}
 use Rattle.slot_placement.proofs.Sound.{Each, each-append}
 use Rattle.slot_placement.proofs.Spilled.{each-all, all-each, each-left, each-right}
-use Rattle.place_checks.proofs.Seen.{same-order, or-nothing}
+use Rattle.place_checks.proofs.Seen.{same-order}
 
 -- ---- values and accesses, point by point
 
@@ -359,7 +360,7 @@ early-from labels p x e =
     let b = and_parts (count_by (is_of x) us == 1) (list_any (is_word_at p x h.defined) us) a.1 in
     let w = one-use (uses_of labels x) (length-filter (λ u. nat_eq u.value x) us ∙ same-number (count_by (is_of x) us) 1 b.0) in
     let g : list_any (put-at p h.defined) (w.0 ∷ []) ≡ true = ap (list_any (put-at p h.defined)) (sym w.1) ∙ sym (any-word p x h.defined us) ∙ b.1 in
-    let c = and_parts (is_early p w.0) (same_place h.defined (word_register p w.0)) (or-nothing (put-at p h.defined w.0) ∙ g) in
+    let c = and_parts (is_early p w.0) (same_place h.defined (word_register p w.0)) (or-false (put-at p h.defined w.0) ∙ g) in
     record { use_ = w.0; one = w.1; early = c.0; at = same_place-true h.defined (word_register p w.0) c.1; copied = length-none h.copied a.0 }
 
 pub early-to : (labels : List Label) (p : Plan) (x : ℕ) → IsPutEarly labels p x (home p x) → is_put_early (uses labels) p x ≡ true

@@ -17,13 +17,16 @@ use Rattle.ssu_ir.specs.inner.Under.{HasTree, AllHave, tree_at, label_of}
 use Rattle.ssu_ir.proofs.Reading.{there_is, read_in}
 use Rattle.ssu_ir.proofs.Unders.{NoKids, OneKid, TwoKids, shape, bodies_have, labels-viewed}
 use Rattle.ssu_ir.proofs.PointLemmas.{length-tree_points}
+use Rattle.ssu_ir.proofs.Searches.{or-false}
 use Rattle.place_checks.specs.declared.points.Under.TheVariants.{Here as IsHere}
 use Rattle.place_checks.specs.declared.points.Way.TheVariants.{There as IsThere}
 use Rattle.held_values.specs.declared.spots.Spot.{Spot}
 use Rattle.held_values.specs.declared.spots.Spot.TheVariants.{Entry as EntrySpot, Node as NodeSpot}
 use Rattle.slot_placement.specs.Fits.{param_at}
 use Rattle.held_values.specs.inner.Live.{node_source, first_of, source_in, source_among, value_by}
+use Rattle.held_values.proofs.Kept.{length-view}
 use Rattle.place_checks.specs.inner.Found.{IsNode, IsNodeAt, IsAboveAt, IsEntry, IsSpotAt, nowhere, point_at, value_in}
+use Rattle.place_checks.proofs.Seen.{length-both}
 
 -- ---- lists
 
@@ -237,16 +240,9 @@ label-passed s k l left m n d e z g h =
     ∙ get-right (tree_points own lab.params lab.body) (points_from (suc l) (drop (l + 1) (labels_view s))) m n (g ∙ ap (λ j. j + n) (sym (length-tree_points own lab.params lab.body)))
     ∙ ap (λ j. slice_get (points_from j (drop (l + 1) (labels_view s))) n) next
 
-length-map' : {X Y : Type 0} (f : X → Y) (xs : List X) → length (map f xs) ≡ length xs
-length-map' f [] = refl
-length-map' f (x ∷ xs) = ap suc (length-map' f xs)
-
-pub length-labels : (s : Ssu) → length (labels_view s) ≡ length s.labels.items
-length-labels s = ap (λ v. length v) (labels-viewed s) ∙ length-map' (label_of s.nodes.slots) s.labels.items
-
 pub none-left : (s : Ssu) (k l left : ℕ) → length s.labels.items ≤ l → IsLeft s k l left → length (points (labels_view s)) ≤ k
 none-left s k l left e h =
-    get-none (points (labels_view s)) k (h ∙ ap (λ v. slice_get (points_from l v) left) (drop_all l (labels_view s) (let g = length-labels s in omega arith)))
+    get-none (points (labels_view s)) k (h ∙ ap (λ v. slice_get (points_from l v) left) (drop_all l (labels_view s) (let g = length-view s in omega arith)))
 
 pub entry-there : (s : Ssu) (k l left : ℕ) (x : Spot) → l < length s.labels.items → left ≡ 0 → EntrySpot l ≡ x → IsLeft s k l left → IsSpotAt s k x
 entry-there s k l left x e z g h = let w = some-there s.labels.items l e in subst (IsSpotAt s k) g (entry-found s k l left w.0 w.1 z h)
@@ -258,10 +254,6 @@ nodes-placed (DoAt i s p) = ap (λ n. 1 + n) (nodes-placed p)
 nodes-placed (IfAt i c x y p q) = ap (λ n. 1 + (n + nodes (bare q))) (nodes-placed p) ∙ ap (λ n. 1 + (weight p + n)) (nodes-placed q)
 nodes-placed (EndAt i l) = refl
 
-length-both' : (a b : List Point) → length (a ++ b) ≡ length a + length b
-length-both' [] b = omega arith
-length-both' (q ∷ a) b = omega (arith, length-both' a b)
-
 count-from : (k : ℕ) (ls : List SsuLabel) (ps : List Placed) → roots_of ps ≡ bodies ls → length (points_from k (with_bodies ls (bare_all ps))) ≡ length ls + weight_all ps
 count-from k [] [] e = refl
 count-from k [] (p ∷ ps) e = absurd (cc)
@@ -269,7 +261,7 @@ count-from k (l ∷ ls) [] e = absurd (cc)
 count-from k (l ∷ ls) (p ∷ ps) e =
     let rest : roots_of ps ≡ bodies ls = cc in
     let here = tree_points own l.params.items (bare p) in
-    let a = length-both' here (points_from (suc k) (with_bodies ls (bare_all ps))) in
+    let a = length-both here (points_from (suc k) (with_bodies ls (bare_all ps))) in
     let b = length-tree_points own l.params.items (bare p) in
     let c = nodes-placed p in
     let d = count-from (suc k) ls ps rest in
@@ -340,14 +332,10 @@ none-of (Some y) w e h = absurd (h y refl)
 
 -- ---- values that are defined above a point
 
-or-none : (a : Bool) → a ≡ (a || false)
-or-none true = refl
-or-none false = refl
-
 pub above-here : (t : Tree) (x : ℕ) → IsAboveAt t 0 x false
-above-here (Do s t) x = record { within = omega arith; there = λ of above. record { point = _; found = refl; is = or-none (is_in x above) } }
-above-here (If c v w t u) x = record { within = omega arith; there = λ of above. record { point = _; found = refl; is = or-none (is_in x above) } }
-above-here (End l) x = record { within = omega arith; there = λ of above. record { point = _; found = refl; is = or-none (is_in x above) } }
+above-here (Do s t) x = record { within = omega arith; there = λ of above. record { point = _; found = refl; is = or-false (is_in x above) } }
+above-here (If c v w t u) x = record { within = omega arith; there = λ of above. record { point = _; found = refl; is = or-false (is_in x above) } }
+above-here (End l) x = record { within = omega arith; there = λ of above. record { point = _; found = refl; is = or-false (is_in x above) } }
 
 pub above-as : (t : Tree) (k x : ℕ) (test : Bool) → k ≡ 0 → IsThere false ≡ IsThere test → IsAboveAt t k x test
 above-as t k x test z e =
@@ -444,4 +432,4 @@ past-last (q ∷ qs) (suc k) e = past-last qs k e
 
 pub none-above : (s : Ssu) (k l left x : ℕ) → length s.labels.items ≤ l → IsLeft s k l left → false ≡ is_in x (point_at (labels_view s) k).above
 none-above s k l left x e h =
-    sym (ap (λ (q : Point). is_in x q.above) (past-last (points (labels_view s)) k (h ∙ ap (λ v. slice_get (points_from l v) left) (drop_all l (labels_view s) (let g = length-labels s in omega arith)))))
+    sym (ap (λ (q : Point). is_in x q.above) (past-last (points (labels_view s)) k (h ∙ ap (λ v. slice_get (points_from l v) left) (drop_all l (labels_view s) (let g = length-view s in omega arith)))))

@@ -21,11 +21,11 @@ use Rattle.held_values.proofs.Scoped.{in-itself, in-either}
 use Rattle.slot_placement.proofs.Sound.{Each, entry_params, Sound, uses_among, sound-points}
 use Rattle.slot_placement.proofs.Spilled.{each-all, all-each, each-at, each-weaker, used-wanted, param_vars, params-wanted}
 use Rattle.slot_placement.proofs.Fitting.{uses-are, values-are, entries-in}
-use Rattle.place_checks.proofs.Recovered.{named-points, serves-listed, listed-serves, found-uses, point-there}
+use Rattle.place_checks.proofs.Recovered.{named-points, serves-listed, listed-serves, found-uses}
 use Rattle.place_checks.proofs.Walked.{get-within, get-there}
 use Rattle.place_checks.proofs.Valued.{each-values, values-part, each-accesses, accesses-part, each-of, of-each, IsPlaced, placed-from, placed-to}
 use Rattle.place_ir.proofs.Ruled.{rise-from, rise-to, wanting, wanted-from, wanted-to, firsts-from, firsts-to, HasFirst, access-from, access-to, served-from, served-to}
-use Rattle.place_ir.proofs.Pointed.{Known, at-home, held-from, held-to, reads-from, reads-to, waiting-from, waiting-to, operands-from, operands-to, passes-from, passes-to}
+use Rattle.place_ir.proofs.Pointed.{Known, at-home, held-from, held-to, reads-from, reads-to, waiting-from, waiting-to, operands-from, operands-to, passes-from, passes-to, place-is}
 
 -- ---- numbers below a bound
 
@@ -144,28 +144,25 @@ point-whole labels p k h =
     (and_from t5 (t6 && t7) h.words
     (and_from t6 t7 h.operands h.passes)))))
 
-place-same : (labels : List Label) (k : ℕ) (q : Point) → slice_get (points labels) k ≡ Some q → place_at labels k ≡ q.place
-place-same labels k q e = ap (λ (z : Point). z.place) (point-there labels k q e)
-
 placed-at-point : (labels : List Label) (p : Plan) (k : ℕ) (q : Point) → found labels p ≡ uses labels → slice_get (points labels) k ≡ Some q → list_all (value_fits (found labels p) p) (place_values k (place_at labels k)) ≡ true → Each (IsPlaced labels p) (place_values k q.place)
 placed-at-point labels p k q f e h =
     each-weaker (λ v. value_fits (uses labels) p v ≡ true) (IsPlaced labels p) (place_values k q.place) (placed-from labels p)
     (each-of (value_fits (uses labels) p) (place_values k q.place)
-    (ap (λ us. list_all (value_fits us p) (place_values k q.place)) (sym f) ∙ ap (λ z. list_all (value_fits (found labels p) p) (place_values k z)) (sym (place-same labels k q e)) ∙ h))
+    (ap (λ us. list_all (value_fits us p) (place_values k q.place)) (sym f) ∙ ap (λ z. list_all (value_fits (found labels p) p) (place_values k z)) (sym (place-is labels k q e)) ∙ h))
 
 point-fits-from : (labels : List Label) (p : Plan) (k : ℕ) (q : Point) → Known labels p → slice_get (points labels) k ≡ Some q → ((x : ℕ) → is_in x (wanting labels (values labels)) ≡ true → has_home p x ≡ true) → PointTests labels p k → FitsAt labels p k q
 point-fits-from labels p k q w e homed t = record {
   held = held-from labels p k q w e (λ x b. homed x (before-wanted labels k q x w.single_ e b)) t.held;
   reads = each-all (KeepsRead labels p q) (reads_at k q.place)
-      (reads-from labels p k q q.place refl w e (λ x b n. homed x (after-wanted labels k q x w.single_ e b n)) (ap (λ z. keeps_read labels p k (place_node z)) (sym (place-same labels k q e)) ∙ t.reads));
+      (reads-from labels p k q q.place refl w e (λ x b n. homed x (after-wanted labels k q x w.single_ e b n)) (ap (λ z. keeps_read labels p k (place_node z)) (sym (place-is labels k q e)) ∙ t.reads));
   waiting = waiting-from labels p k q w e t.words;
-  operands = operands-from p k q.place (ap (λ z. operands_fit p k (place_node z)) (sym (place-same labels k q e)) ∙ t.operands);
+  operands = operands-from p k q.place (ap (λ z. operands_fit p k (place_node z)) (sym (place-is labels k q e)) ∙ t.operands);
   passes = passes-from labels p k q w e t.passes;
 }
 
 point-fits-to : (labels : List Label) (p : Plan) (k : ℕ) (q : Point) → Known labels p → slice_get (points labels) k ≡ Some q → Each (IsPlaced labels p) (place_values k q.place) → Each (HasFirst p) (place_accesses k q.place) → FitsAt labels p k q → PointTests labels p k
 point-fits-to labels p k q w e placed firsts f =
-    let same = place-same labels k q e in
+    let same = place-is labels k q e in
     record {
       values_ =
           ap (λ us. list_all (value_fits us p) (place_values k (place_at labels k))) w.found_
@@ -252,7 +249,7 @@ fits-from labels p h d =
       serves = serves;
       passes = record { rise = rise-from (map (λ q. q.point) p.passes) l.passes_rise; there = each-all (λ (q : Pass). q.point < length ps) p.passes (there-each labels p.passes l.there) };
       registers = each-all (HasFirst p) (accesses labels) (each-accesses (HasFirst p) ps 0
-          (λ i m q e f. let same : i ≡ m = omega arith in let g = ap (slice_get ps) (sym same) ∙ f in access-from p m q.place (ap (λ z. access_fits p m (place_node z)) (sym (place-same labels m q g)) ∙ (tests m q g).access)));
+          (λ i m q e f. let same : i ≡ m = omega arith in let g = ap (slice_get ps) (sym same) ∙ f in access-from p m q.place (ap (λ z. access_fits p m (place_node z)) (sym (place-is labels m q g)) ∙ (tests m q g).access)));
       values = each-all (IsHoused labels p) (values labels) (each-weaker (IsPlaced labels p) (IsHoused labels p) (values labels) (λ v g. g.housed) placed);
       uses = each-all (IsServed labels p) (uses labels) (each-weaker (λ u. use_fits labels p u ≡ true) (IsServed labels p) (uses labels) (served-from labels p) (each-of (use_fits labels p) (uses labels) (ap (list_all (use_fits labels p)) (sym w.found_) ∙ b.0)));
       points = λ k q e. point-fits-from labels p k q w e homed (tests k q e);

@@ -8,6 +8,7 @@ use Rattle.nv_base.specs.declared.term.Mem.TheVariants.{Sram, Sdram, Scratch}
 use Rattle.nv_base.specs.Sets.{is_in}
 use Rattle.nv_base.proofs.Sets.{same-number, in-append}
 use Rattle.ssu_ir.proofs.Lists.{same_tests}
+use Rattle.ssu_ir.proofs.Searches.{or-false}
 use Rattle.ssu_ir.specs.Tree.{Lit, Una, Bin, Clone, Read, Write, Jump, Halt, Label, Does, Forks, Ends}
 use Rattle.ssu_ir.specs.Points as pure
 use Rattle.ssu_ir.specs.Points.{Place as Spot, Entry, At, Point, points}
@@ -24,11 +25,11 @@ use Rattle.place_checks.specs.inner.Checks as checks
 use Rattle.place_checks.specs.inner.Checks.{any_below, is_within, in_read_run, in_write_run, used, is_kept, is_known, is_before, is_after, has_home, is_shared, general_apart, values_apart, may_meet, goes_through, passes_by, held_fits, spares, keeps_read, waits, is_written, is_free, is_other, word_fits, operands_fit, has_use, any_from_slot, reads_slot, reads_fit, is_result, to_slot, writes_fit, passes_fit, found}
 use Rattle.slot_placement.proofs.Places.{same_place-true, same_place-from, same_place-false}
 use Rattle.held_values.proofs.Scoped.{in-itself}
-use Rattle.slot_placement.proofs.Sound.{Each}
-use Rattle.slot_placement.proofs.Spilled.{each-all, all-each}
+use Rattle.slot_placement.proofs.Sound.{Each, length-of-map}
+use Rattle.slot_placement.proofs.Spilled.{each-all, all-each, none-with-nothing}
 use Rattle.slot_placement.proofs.Fitting.{vars-of-place}
 use Rattle.place_checks.proofs.Recovered.{Named, names_of, many-names, made, made-point, point-there, named-at, named-points}
-use Rattle.place_checks.proofs.Seen.{and-true', or-nothing, and-nothing, before-is, after-is, known-is, below-at, below-from}
+use Rattle.place_checks.proofs.Seen.{and-true', and-nothing, before-is, after-is, known-is, below-at, below-from}
 use Rattle.place_checks.proofs.Valued.{any-filter, used-is}
 
 -- ---- values that have homes
@@ -74,7 +75,7 @@ apart-kept : (labels : List Label) (p : Plan) (x y : ℕ) (a b : Bool) → not (
 apart-kept labels p x y false b = ap not (sym (and-nothing (same_place (home p x).defined (home p y).defined)))
 apart-kept labels p x y true false = ap not (sym (and-nothing (same_place (home p x).defined (home p y).defined)))
 apart-kept labels p x y true true =
-    ap not (and-true' (same_place (home p x).defined (home p y).defined) ∙ or-nothing (same_place (home p x).defined (home p y).defined)) ∙ sym (and-true' (not (same_place (home p x).defined (home p y).defined || false)))
+    ap not (and-true' (same_place (home p x).defined (home p y).defined) ∙ or-false (same_place (home p x).defined (home p y).defined)) ∙ sym (and-true' (not (same_place (home p x).defined (home p y).defined || false)))
 
 apart-read : (labels : List Label) (p : Plan) (x y : ℕ) → not (same_place (home p x).defined (home p y).defined && (checks.stays (uses labels) p x && checks.stays (uses labels) p y)) ≡ none_shared (read_places labels p x) (read_places labels p y)
 apart-read labels p x y =
@@ -86,7 +87,7 @@ through-kept : (labels : List Label) (p : Plan) (x : ℕ) (l : Option ℕ) (b : 
 through-kept labels p x None b e = refl
 through-kept labels p x (Some r) true e =
     ap (λ c. not (same_place (L r) (home p x).defined && c)) e
-    ∙ ap not (and-true' (same_place (L r) (home p x).defined) ∙ or-nothing (same_place (L r) (home p x).defined)) ∙ sym (and-true' (not (same_place (L r) (home p x).defined || false)))
+    ∙ ap not (and-true' (same_place (L r) (home p x).defined) ∙ or-false (same_place (L r) (home p x).defined)) ∙ sym (and-true' (not (same_place (L r) (home p x).defined || false)))
 through-kept labels p x (Some r) false e = ap (λ c. not (same_place (L r) (home p x).defined && c)) e ∙ ap not (sym (and-nothing (same_place (L r) (home p x).defined)))
 
 through-is : (labels : List Label) (p : Plan) (x : ℕ) (l : Option ℕ) → not (goes_through (uses labels) p x l) ≡ none_shared (maybe L l) (read_places labels p x)
@@ -247,19 +248,15 @@ place-order q r = same_tests (same_place q r) (same_place r q) (λ e. same_place
 
 none-one : (qs : List Place) (r : Place) → none_shared qs (r ∷ []) ≡ not (has_place r qs)
 none-one [] r = refl
-none-one (q ∷ qs) r = ap (λ b. not b && none_shared qs (r ∷ [])) (sym (or-nothing (same_place q r)) ∙ place-order q r) ∙ ap (λ b. not (same_place r q) && b) (none-one qs r) ∙ not-or (same_place r q) (has_place r qs)
+none-one (q ∷ qs) r = ap (λ b. not b && none_shared qs (r ∷ [])) (sym (or-false (same_place q r)) ∙ place-order q r) ∙ ap (λ b. not (same_place r q) && b) (none-one qs r) ∙ not-or (same_place r q) (has_place r qs)
   where
     not-or : (a b : Bool) → (not a && not b) ≡ not (a || b)
     not-or true b = refl
     not-or false b = refl
 
-none-empty : (qs : List Place) → none_shared qs [] ≡ true
-none-empty [] = refl
-none-empty (q ∷ qs) = none-empty qs
-
 run-kept : (labels : List Label) (p : Plan) (x f n : ℕ) (m : Mem) (b : Bool) → none_shared (run_of (read_place m) f n) (kept_register labels p x b) ≡ (not (in_read_run m (home p x).defined f n) || not b)
-run-kept labels p x f n m true = none-one (run_of (read_place m) f n) (home p x).defined ∙ ap not (read-run m (home p x).defined f n) ∙ or-nothing (not (in_read_run m (home p x).defined f n))
-run-kept labels p x f n m false = none-empty (run_of (read_place m) f n) ∙ or-true (not (in_read_run m (home p x).defined f n))
+run-kept labels p x f n m true = none-one (run_of (read_place m) f n) (home p x).defined ∙ ap not (read-run m (home p x).defined f n) ∙ or-false (not (in_read_run m (home p x).defined f n))
+run-kept labels p x f n m false = none-with-nothing (run_of (read_place m) f n) ∙ or-true (not (in_read_run m (home p x).defined f n))
   where
     or-true : (a : Bool) → true ≡ (a || true)
     or-true true = refl
@@ -497,12 +494,8 @@ reads-slot-is : (p : Plan) (k : ℕ) (value : ℕ → ℕ) (q : Point) → Named
 reads-slot-is p k value q h =
     ap (list_any (λ u. is_slot (served p u).from)) (made-point k value q h) ∙ slots-made p k value _ (names_of q.place) ∙ ap (any_from_slot p k) (sym (many-names q.place))
 
-length-map : (f : ℕ → ℕ) (xs : List ℕ) → length (map f xs) ≡ length xs
-length-map f [] = refl
-length-map f (x ∷ xs) = omega (arith, length-map f xs)
-
 many-uses : (value : ℕ → ℕ) (q : Point) → Named value q → length q.uses ≡ checks.uses_at (place_node q.place)
-many-uses value q h = ap length h ∙ length-map value (names_of q.place) ∙ sym (many-names q.place)
+many-uses value q h = ap length h ∙ length-of-map value (names_of q.place) ∙ sym (many-names q.place)
 
 any-vars : (g : ℕ → Bool) (vs : List Value) → list_any (λ v. g v.var) vs ≡ list_any g (map (λ v. v.var) vs)
 any-vars g [] = refl
@@ -561,7 +554,7 @@ record WritesFit (labels : List Label) (p : Plan) (k : ℕ) (q : Point) (s : Opt
   writes : list_any (comes_to_slot labels p) (place_values k q.place) ≡ true → is_some s ≡ true
   writes_only : is_some s ≡ true → list_any (λ v. is_used labels v.var) (place_values k q.place) ≡ true
 
-place-is : (labels : List Label) (k : ℕ) (q : Point) → slice_get (points labels) k ≡ Some q → place_at labels k ≡ q.place
+pub place-is : (labels : List Label) (k : ℕ) (q : Point) → slice_get (points labels) k ≡ Some q → place_at labels k ≡ q.place
 place-is labels k q e = ap (λ (z : Point). z.place) (point-there labels k q e)
 
 reads-pass-from : (labels : List Label) (p : Plan) (k : ℕ) (q : Point) (value : ℕ → ℕ) (l : Option ℕ) → Named value q → slice_get (points labels) k ≡ Some q → reads_fit labels p k l ≡ true → ReadsFit p k q l

@@ -2,7 +2,7 @@
 use Rattle.std.proofs.Common.{◌≡◌, ℕ, zero, suc, ◌+◌, ◌<◌, ◌≤◌, true, false, nat_eq, ◌&&◌, inl, ⊎_elim, Option, Some, None, List, [], ◌∷◌, ◌++◌, length, map, refl, sym, ap, subst, ◌∙◌, arith}
 use Rattle.std.specs.Prelude.{slice_get, nat_le}
 use Rattle.std.proofs.lemmas.List.{map-append}
-use Rattle.std.proofs.lemmas.Bool.{and_parts, and_left, and_right, or_left, or_right, false≢true, false_from_ne_true}
+use Rattle.std.proofs.lemmas.Bool.{and_parts, and_left, and_right, or_left, or_right, false≢true}
 use Rattle.nv_base.specs.Sets.{is_in, Within}
 use Rattle.nv_base.proofs.Sets.{same-number}
 use Rattle.nv_base.specs.declared.term.Mem.{Mem}
@@ -10,6 +10,7 @@ use Rattle.ssu_ir.specs.Tree.{Lit, Una, Bin, Clone, Read, Write, Jump, Halt, Lab
 use Rattle.ssu_ir.specs.Points.{Place as Spot, Entry, At, Point, points_from, points}
 use Rattle.ssu_ir.specs.Points as pure
 use Rattle.ssu_ir.specs.Single.{takes_as_many}
+use Rattle.ssu_ir.proofs.Held.{in-left, in-right}
 use Rattle.slot_placement.specs.declared.place.Place.TheVariants.{L, Slot}
 use Rattle.slot_placement.specs.declared.place.Serve.{Serve}
 use Rattle.slot_placement.specs.Plan.{Home, home_in, first, serve, pass}
@@ -17,7 +18,8 @@ use Rattle.slot_placement.specs.Uses.{accesses, Sort, Parameter, Fetched, Value,
 use Rattle.slot_placement.specs.Fits.{write_place, IsOperandAt, IsAddressAt, param_at, label_param, parameter, IsServedAt, IsServed, different_groups, AreApart, same_use}
 use Rattle.held_values.specs.inner.Numbers.{Numbers, values_among}
 use Rattle.slot_placement.specs.inner.Spilled.{slot_number, operand_at, use_serve, read_pass, spilled}
-use Rattle.held_values.proofs.Scoped.{in-itself, in-left, in-right, in-either}
+use Rattle.held_values.proofs.Scoped.{in-itself, in-either}
+use Rattle.held_values.proofs.Marks.{ne-number}
 use Rattle.slot_placement.proofs.Sound.{Each, each-append, entry_params, place_ok, Sound, uses_among}
 use Rattle.slot_placement.proofs.Spilled.{each-left, each-right, each-weaker, first-zero, Apart, apart-append, IsFound, Found, sort_param, param_vars, home-found}
 
@@ -38,9 +40,6 @@ uses-part R (p ∷ ps) k zero m q e f h =
 uses-part R (p ∷ ps) k (suc i) m q e f h = uses-part R ps (suc k) i m q (omega arith) f (each-right R (uses_at k 0 p.uses (place_roles p.place)) (uses_from (suc k) ps) h)
 
 -- no two uses are of one operand
-not-same : (a b : ℕ) → (a ≡ b → ⊥) → nat_eq a b ≡ false
-not-same a b h = false_from_ne_true (nat_eq a b) (λ e. h (same-number a b e))
-
 record FromOperand (k i : ℕ) (u : Use) : Type 0 where
   here : u.point ≡ k
   late : i ≤ u.operand
@@ -63,7 +62,7 @@ apart-at k i [] rs = tt
 apart-at k i (x ∷ xs) [] = tt
 apart-at k i (x ∷ xs) (r ∷ rs) = (
   each-weaker (FromOperand k (suc i)) (λ v. (nat_eq k v.point && nat_eq i v.operand) ≡ false) (uses_at k (suc i) xs rs)
-      (λ v f. let l = f.late in and_right (nat_eq k v.point) (nat_eq i v.operand) (not-same i v.operand (λ e. omega arith)))
+      (λ v f. let l = f.late in and_right (nat_eq k v.point) (nat_eq i v.operand) (ne-number i v.operand (λ e. omega arith)))
       (uses-from-operand k (suc i) xs rs),
   apart-at k (suc i) xs rs,
 )
@@ -74,7 +73,7 @@ apart-from k (q ∷ ps) =
     apart-append (uses_at k 0 q.uses (place_roles q.place)) (uses_from (suc k) ps) (apart-at k 0 q.uses (place_roles q.place)) (apart-from (suc k) ps)
     (each-weaker (FromOperand k 0) (λ u. Each (λ v. same_use u v ≡ false) (uses_from (suc k) ps)) (uses_at k 0 q.uses (place_roles q.place))
     (λ u f. each-weaker (λ v. suc k ≤ v.point) (λ v. same_use u v ≡ false) (uses_from (suc k) ps)
-    (λ v l. let e = f.here in and_left (nat_eq u.point v.point) (nat_eq u.operand v.operand) (not-same u.point v.point (λ g. omega arith)))
+    (λ v l. let e = f.here in and_left (nat_eq u.point v.point) (nat_eq u.operand v.operand) (ne-number u.point v.point (λ g. omega arith)))
     (uses-from-point (suc k) ps))
     (uses-from-operand k 0 q.uses (place_roles q.place)))
 

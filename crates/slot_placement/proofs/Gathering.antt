@@ -1,6 +1,5 @@
 -- What the points give, gathered one by one.
-use Rattle.std.proofs.Common.{◌≡◌, ℕ, suc, ◌+◌, ◌<◌, List, ◌∷◌, ◌++◌, length, map, get_or, drop, sym, ap, ◌∙◌, append_assoc, arith}
-use Rattle.std.proofs.lemmas.List.{drop_more}
+use Rattle.std.proofs.Common.{◌≡◌, ℕ, suc, ◌+◌, ◌<◌, List, ◌++◌, length, map, get_or, drop, sym, ap, ◌∙◌, append_assoc, arith}
 use Rattle.ssu_ir.specs.declared.ssu.Ssu.{Ssu}
 use Rattle.ssu_ir.specs.Tree.{Label}
 use Rattle.ssu_ir.specs.Points.{Place}
@@ -10,9 +9,7 @@ use Rattle.slot_placement.specs.declared.parts.Parts.{Parts}
 use Rattle.slot_placement.specs.Plan.{home_view}
 use Rattle.slot_placement.specs.inner.Parts.{gather, number_of, names_of, used_of, homes_at, firsts_at, serves_at, passes_at, Adds, Gathers}
 use Rattle.held_values.specs.inner.Spots.{spot_place}
-
-next-spot : (spots : List Spot) (k : ℕ) (x : Spot) → k < length spots → x ≡ get_or spots k x → drop k spots ≡ x ∷ drop (k + 1) spots
-next-spot spots k x l e = drop_more spots k x l ∙ ap (λ (y : Spot). y ∷ drop (k + 1) spots) (sym e)
+use Rattle.held_values.proofs.Numbering.{first-spot}
 
 -- one point more
 pub gather-more : {X : Type 0} (f : ℕ → Place → List X) (s : Ssu) (spots : List Spot) (k : ℕ) (x : Spot) (old new goal : List X) → k < length spots → x ≡ get_or spots k x → new ≡ old ++ f k (spot_place s x)
@@ -23,7 +20,7 @@ gather-more f s spots k x old new goal l e n h =
     ap (λ m. m ++ gather f (k + 1) rest) n
     ∙ append_assoc old (f k (spot_place s x)) (gather f (k + 1) rest)
     ∙ ap (λ j. old ++ (f k (spot_place s x) ++ gather f j rest)) next
-    ∙ ap (λ m. old ++ gather f k (map (spot_place s) m)) (sym (next-spot spots k x l e))
+    ∙ ap (λ m. old ++ gather f k (map (spot_place s) m)) (sym (first-spot spots k x l e))
     ∙ h
 
 pub parts-more : (s : Ssu) (labels : List Label) (given : Given) (spots : List Spot) (k : ℕ) (x : Spot) (old new : Parts) → k < length spots → x ≡ get_or spots k x → Adds labels given k (spot_place s x) old new

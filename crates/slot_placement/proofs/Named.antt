@@ -9,10 +9,11 @@ use Rattle.ssu_ir.specs.Points.{Names, own, names_after, Point, tree_points, poi
 use Rattle.ssu_ir.specs.Single.{defined, all_defined, step_names, all_known, is_scoped, fresh_after, is_single, single}
 use Rattle.ssu_ir.specs.Slots.{bare_all}
 use Rattle.ssu_ir.specs.View.{placed_of, labels_view}
+use Rattle.ssu_ir.proofs.Held.{uses-named}
 use Rattle.held_values.specs.inner.Live.{value_by, source_among}
 use Rattle.slot_placement.specs.inner.Parts.{place_names}
 use Rattle.held_values.proofs.Scoped.{Scope, scope-do, scope-first, scope-second, all-in, split-different}
-use Rattle.held_values.proofs.Kept.{use-name, same-values, Sourced, sourced-tail, scope-of-label, whole-parts}
+use Rattle.held_values.proofs.Kept.{same-values, Sourced, sourced-tail, scope-of-label, whole-parts}
 use Rattle.slot_placement.proofs.Sound.{Each, each-append}
 
 -- its uses are the values of its names
@@ -22,7 +23,7 @@ IsNamed value q = q.uses ≡ map value (place_names q.place)
 tree-named : (of value : Names) (above known fresh : List ℕ) (t : Tree) → Scope of value above known fresh t → Each (IsNamed value) (tree_points of above t)
 tree-named of value above known fresh (Do s t) c =
     let sc = and_parts (all_known known (step_names s)) (is_scoped (known ++ (step_values s ++ step_clones s)) t) c.scoped in (
-      sym (same-values of value known (step_uses s) c.same (λ y f. all-in known (step_names s) y sc.0 (use-name s y f))),
+      sym (same-values of value known (step_uses s) c.same (λ y f. all-in known (step_names s) y sc.0 (uses-named s y f))),
       tree-named (names_after of s) value (above ++ step_values s) (known ++ (step_values s ++ step_clones s)) (fresh_after fresh s) t (scope-do of value above known fresh s t c),
     )
 tree-named of value above known fresh (If q v w t u) c =

@@ -20,7 +20,7 @@ use Rattle.slot_placement.specs.Fits.{read_place, IsGeneral, is_slot, same_bank,
 use Rattle.held_values.specs.inner.Numbers.{Numbers, HasBelow, values_among}
 use Rattle.slot_placement.specs.inner.Spilled.{slot_number, sort_home, IsAtHome, AreSpilled, read_pass, write_pass, point_pass, spilled, Covered, IsNumbered}
 use Rattle.held_values.proofs.Scoped.{in-itself, in-either}
-use Rattle.slot_placement.proofs.Sound.{Each, each-append, entry_params, place_results, place_ok, Sound, uses_among, sound-points}
+use Rattle.slot_placement.proofs.Sound.{Each, each-append, entry_params, place_results, place_ok, Sound, uses_among, sound-points, in-self}
 use Rattle.slot_placement.proofs.Spilled.{each-all, all-each, each-at, first-zero, firsts-points, serves-operands, none-early-of, IsFound, serves-found, pass-at, passes-rise, passes-below, Found, found, homed, used-wanted, param_vars, params-wanted, param-home, keeps-held, keeps-waiting, shares-nothing}
 use Rattle.slot_placement.proofs.Fitting.{each-uses, uses-part, apart-from, uses-are, values-are, entries-in, label-entry, roles-at, served-point, operands-apart}
 
@@ -40,14 +40,11 @@ below-numbered labels number n k sort i (x ∷ xs) h = (
   below-numbered labels number n k sort (suc i) xs (λ y j e f. h y j (or_right (nat_eq y x) (is_in y xs) e) f),
 )
 
-in-one : (x : ℕ) → is_in x (x ∷ []) ≡ true
-in-one x = or_left (nat_eq x x) false (in-itself x)
-
 below-place : (labels : List Label) (number : Numbers) (n k : ℕ) (us : List ℕ) (q : Spot) → Covered number n (entry_params q) → Within (place_results q) us → ((x : ℕ) → is_in x us ≡ true → HasBelow number x n) → ((x : ℕ) → is_used labels x ≡ true → is_in x us ≡ true) → Each (IsBelow labels number n) (place_values k q)
 below-place labels number n k us (Entry l ps) c r b u = below-numbered labels number n k (Parameter l) 0 ps (λ x j e f. c.given x e)
-below-place labels number n k us (At (Does (Lit x v))) c r b u = (λ e. b x (r x (in-one x)), tt)
-below-place labels number n k us (At (Does (Una x op y))) c r b u = (λ e. b x (r x (in-one x)), tt)
-below-place labels number n k us (At (Does (Bin x op y z))) c r b u = (λ e. b x (r x (in-one x)), tt)
+below-place labels number n k us (At (Does (Lit x v))) c r b u = (λ e. b x (r x (in-self x)), tt)
+below-place labels number n k us (At (Does (Una x op y))) c r b u = (λ e. b x (r x (in-self x)), tt)
+below-place labels number n k us (At (Does (Bin x op y z))) c r b u = (λ e. b x (r x (in-self x)), tt)
 below-place labels number n k us (At (Does (Clone xs y))) c r b u = tt
 below-place labels number n k us (At (Does (Read m xs y))) c r b u = below-numbered labels number n k (Fetched m) 0 xs (λ x j e f. b x (u x f))
 below-place labels number n k us (At (Does (Write m y xs))) c r b u = tt

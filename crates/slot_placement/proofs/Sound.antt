@@ -2,18 +2,19 @@
 use Rattle.std.proofs.Common.{◌≡◌, ℕ, suc, Bool, true, false, nat_eq, if◌then◌else◌, ◌||◌, ◌&&◌, ◌⊎◌, inl, inr, ⊎_elim, List, [], ◌∷◌, ◌++◌, length, map, refl, sym, ap, ◌∙◌, arith}
 use Rattle.std.specs.Prelude.{slice_get}
 use Rattle.std.specs.List.{list_all}
-use Rattle.std.proofs.lemmas.Bool.{and_parts, and_from, or_cases, false≢true}
+use Rattle.std.proofs.lemmas.Bool.{and_parts, or_cases, false≢true}
 use Rattle.nv_base.specs.Sets.{is_in, all_different, Within}
 use Rattle.nv_base.proofs.Sets.{same-number}
 use Rattle.ssu_ir.specs.Tree.{Step, Lit, Una, Bin, Clone, Read, Write, Last, Jump, Halt, Tree, Do, If, End, Label, Does, Forks, Ends, step_values, step_clones, step_uses, last_uses}
-use Rattle.ssu_ir.specs.Points.{Names, own, names_after, used, held, Place, Entry, At, Point, tree_points, points_from, points}
+use Rattle.ssu_ir.specs.Points.{Names, own, names_after, used, Place, Entry, At, Point, tree_points, points_from, points}
 use Rattle.ssu_ir.specs.Single.{defined, all_defined, step_names, all_known, is_scoped, fresh_after, is_step, is_last, are_nodes, uses_once, clones_early, step_results, results_used, are_addressed, unknown, is_entry, is_single, single}
+use Rattle.ssu_ir.proofs.Held.{uses-named, in-left, in-right, held_from, held_in}
 use Rattle.slot_placement.specs.Uses.{Role, Argument, Ending, Written, roles, step_roles, last_roles, place_roles}
 use Rattle.held_values.specs.inner.Live.{value_by, source_among}
 use Rattle.held_values.specs.inner.Spots.{tree_places}
 use Rattle.held_values.specs.inner.Numbers.{values_among}
-use Rattle.held_values.proofs.Scoped.{in-itself, Scope, scope-do, scope-first, scope-second, in-filter, in-left, in-right, in-either, all-in, split-different}
-use Rattle.held_values.proofs.Kept.{use-name, named-above, trees, Sourced, sourced-tail, scope-of-label}
+use Rattle.held_values.proofs.Scoped.{in-itself, Scope, scope-do, scope-first, scope-second, in-either, all-in, split-different}
+use Rattle.held_values.proofs.Kept.{named-above, trees, Sourced, sourced-tail, scope-of-label}
 use Rattle.held_values.proofs.Numbering.{values_among-append, labels_places, places-of-labels}
 
 -- each element of a list has this, by recursion
@@ -55,7 +56,7 @@ pub record Sound (labels : List Label) (values all_used : List ℕ) (q : Point) 
 
 -- ---- as many roles as uses
 
-length-of-map : (f : ℕ → ℕ) (xs : List ℕ) → length (map f xs) ≡ length xs
+pub length-of-map : (f : ℕ → ℕ) (xs : List ℕ) → length (map f xs) ≡ length xs
 length-of-map f [] = refl
 length-of-map f (x ∷ xs) = omega (arith, length-of-map f xs)
 
@@ -116,7 +117,7 @@ one-result of t z x p h e = ⊎_elim
     (λ (b : false ≡ true). absurd (false≢true b))
     (or_cases (nat_eq x z) false e)
 
-in-self : (z : ℕ) → is_in z (z ∷ []) ≡ true
+pub in-self : (z : ℕ) → is_in z (z ∷ []) ≡ true
 in-self z = ap (λ b. b || false) (in-itself z)
 
 results-in : (of : Names) (s : Step) (t : Tree) (x : ℕ) → ((y : ℕ) → is_in y (step_values s) ≡ true → of y ≡ y) → list_all (λ y. is_in y (used own t)) (step_results s) ≡ true → is_in x (step_results s) ≡ true → is_in x (used (names_after of s) t) ≡ true
@@ -132,12 +133,6 @@ results-in of (Write m y xs) t x p h e = absurd (false≢true e)
 no-params : (x : ℕ) {P : Type 0} → is_in x [] ≡ true → P
 no-params x e = absurd (false≢true e)
 
-held-from : (of : Names) (above : List ℕ) (t : Tree) (x : ℕ) → is_in x (held of above t) ≡ true → (is_in x above ≡ true) × (is_in x (used of t) ≡ true)
-held-from of above t x e = and_parts (is_in x above) (is_in x (used of t)) (sym (in-filter (λ y. is_in y (used of t)) x above) ∙ e)
-
-held-to : (of : Names) (above : List ℕ) (t : Tree) (x : ℕ) → is_in x above ≡ true → is_in x (used of t) ≡ true → is_in x (held of above t) ≡ true
-held-to of above t x a u = in-filter (λ y. is_in y (used of t)) x above ∙ and_from (is_in x above) (is_in x (used of t)) a u
-
 pub tree-sound : (labels : List Label) (values all_used : List ℕ) (of value : Names) (above known fresh : List ℕ) (t : Tree) → Scope of value above known fresh t → Within above values → Within (values_among (tree_places t)) values
     → Within (used of t) all_used → are_nodes labels t ≡ true → results_used t ≡ true → Each (Sound labels values all_used) (tree_points of above t)
 tree-sound labels values all_used of value above known fresh (Do s t) c a d u n r =
@@ -147,10 +142,10 @@ tree-sound labels values all_used of value above known fresh (Do s t) c a d u n 
     let rr = and_parts (list_all (λ x. is_in x (used own t)) (step_results s)) (results_used t) r in
     let below : Within (used (names_after of s) t) all_used = λ x e. u x (in-right x (map of (step_uses s)) (used (names_after of s) t) e) in (
       record {
-        from = λ x e. let w = held-from of above (Do s t) x e in inr (a x w.0, u x w.1);
+        from = λ x e. let w = held_from of above (Do s t) x e in inr (a x w.0, u x w.1);
         entry = λ x e. no-params x e;
-        uses_held = λ x e. held-to of above (Do s t) x
-            (named-above of above known (step_uses s) x c.placed (λ y f. all-in known (step_names s) y sc.0 (use-name s y f)) e)
+        uses_held = λ x e. held_in of above (Do s t) x
+            (named-above of above known (step_uses s) x c.placed (λ y f. all-in known (step_names s) y sc.0 (uses-named s y f)) e)
             (in-left x (map of (step_uses s)) (used (names_after of s) t) e);
         results = λ x e. below x (results-in of s t x (λ y f. c.later y (in-left y vs (step_clones s ++ defined t) f)) rr.0 e);
         node = nn.0;
@@ -169,9 +164,9 @@ tree-sound labels values all_used of value above known fresh (If q v w t u') c a
     λ x e. d x (ap (λ l. is_in x l) (values_among-append (tree_places t) (tree_places u')) ∙ e) in
     let arms : Within (used of t ++ used of u') all_used = λ x e. u x (in-right x (map of (v ∷ w ∷ [])) (used of t ++ used of u') e) in (
       record {
-        from = λ x e. let h = held-from of above (If q v w t u') x e in inr (a x h.0, u x h.1);
+        from = λ x e. let h = held_from of above (If q v w t u') x e in inr (a x h.0, u x h.1);
         entry = λ x e. no-params x e;
-        uses_held = λ x e. held-to of above (If q v w t u') x
+        uses_held = λ x e. held_in of above (If q v w t u') x
             (named-above of above known (v ∷ w ∷ []) x c.placed (λ y f. all-in known (v ∷ w ∷ []) y sc.0 f) e)
             (in-left x (map of (v ∷ w ∷ [])) (used of t ++ used of u') e);
         results = λ x e. no-params x e;
@@ -186,9 +181,9 @@ tree-sound labels values all_used of value above known fresh (If q v w t u') c a
     )
 tree-sound labels values all_used of value above known fresh (End l) c a d u n r = (
   record {
-    from = λ x e. let w = held-from of above (End l) x e in inr (a x w.0, u x w.1);
+    from = λ x e. let w = held_from of above (End l) x e in inr (a x w.0, u x w.1);
     entry = λ x e. no-params x e;
-    uses_held = λ x e. held-to of above (End l) x (named-above of above known (last_uses l) x c.placed (λ y f. all-in known (last_uses l) y c.scoped f) e) e;
+    uses_held = λ x e. held_in of above (End l) x (named-above of above known (last_uses l) x c.placed (λ y f. all-in known (last_uses l) y c.scoped f) e) e;
     results = λ x e. no-params x e;
     node = n;
     many = last-many of l;

@@ -317,7 +317,7 @@ slots-apart : (b : Bool) → b ≡ false → (not (b || false) && true) ≡ true
 slots-apart true e = absurd (false≢true (sym e))
 slots-apart false e = refl
 
-none-with-nothing : (qs : List Place) → none_shared qs [] ≡ true
+pub none-with-nothing : (qs : List Place) → none_shared qs [] ≡ true
 none-with-nothing [] = refl
 none-with-nothing (q ∷ qs) = none-with-nothing qs
 

@@ -70,11 +70,11 @@ pub record Scope (of : Names) (above known : List ℕ) : Type 0 where
   pub within : Within above known
   pub different : all_different above ≡ true
 
-left-of : (x : ℕ) (a b : List ℕ) → is_in x a ≡ true → is_in x (a ++ b) ≡ true
-left-of x a b h = in-append x a b ∙ or_left (is_in x a) (is_in x b) h
+pub in-left : (x : ℕ) (a b : List ℕ) → is_in x a ≡ true → is_in x (a ++ b) ≡ true
+in-left x a b h = in-append x a b ∙ or_left (is_in x a) (is_in x b) h
 
-right-of : (x : ℕ) (a b : List ℕ) → is_in x b ≡ true → is_in x (a ++ b) ≡ true
-right-of x a b h = in-append x a b ∙ or_right (is_in x a) (is_in x b) h
+pub in-right : (x : ℕ) (a b : List ℕ) → is_in x b ≡ true → is_in x (a ++ b) ≡ true
+in-right x a b h = in-append x a b ∙ or_right (is_in x a) (is_in x b) h
 
 -- names that are different from those that are known
 abbrev pub AreNew : List ℕ → List ℕ → Type 0
@@ -120,14 +120,14 @@ value-step : (of : Names) (above known xs : List ℕ) → Scope of above known �
 value-step of above known xs s n d = record {
   copies = λ z h.
       ⊎_elim
-      (λ (e : is_in z known ≡ true). left-of (of z) above xs (s.copies z e))
-      (λ (e : is_in z xs ≡ true). right-of (of z) above xs (subst (λ w. is_in w xs ≡ true) (sym (s.fresh z (n z e))) e))
+      (λ (e : is_in z known ≡ true). in-left (of z) above xs (s.copies z e))
+      (λ (e : is_in z xs ≡ true). in-right (of z) above xs (subst (λ w. is_in w xs ≡ true) (sym (s.fresh z (n z e))) e))
       (or_cases (is_in z known) (is_in z xs) (sym (in-append z known xs) ∙ h));
   fresh = λ z h. s.fresh z ((or_parts (is_in z known) (is_in z xs) (sym (in-append z known xs) ∙ h)).0);
   within = λ z h.
       ⊎_elim
-      (λ (e : is_in z above ≡ true). left-of z known xs (s.within z e))
-      (λ (e : is_in z xs ≡ true). right-of z known xs e)
+      (λ (e : is_in z above ≡ true). in-left z known xs (s.within z e))
+      (λ (e : is_in z xs ≡ true). in-right z known xs e)
       (or_cases (is_in z above) (is_in z xs) (sym (in-append z above xs) ∙ h));
   different = different-both above xs s.different d (λ z i. false_from_ne_true (is_in z above) (λ e. false≢true (sym (n z i) ∙ s.within z e)));
 }
@@ -143,7 +143,7 @@ clone-step of above known xs y s i = record {
   fresh = λ z h.
       let p = or_parts (is_in z known) (is_in z xs) (sym (in-append z known xs) ∙ h) in
       ap (λ b. if b then of y else of z) p.1 ∙ s.fresh z p.0;
-  within = λ z h. left-of z known xs (s.within z h);
+  within = λ z h. in-left z known xs (s.within z h);
   different = s.different;
 }
 
@@ -167,7 +167,7 @@ scope_step of above known (Write m y xs) s k n d = scope-same of above (above ++
 
 -- ---- the points of a tree
 
-uses-named : (s : Step) (x : ℕ) → is_in x (step_uses s) ≡ true → is_in x (step_names s) ≡ true
+pub uses-named : (s : Step) (x : ℕ) → is_in x (step_uses s) ≡ true → is_in x (step_names s) ≡ true
 uses-named (Lit x v) z h = h
 uses-named (Una x op y) z h = h
 uses-named (Bin x op y w) z h = h
@@ -189,8 +189,8 @@ later-do : (of : Names) (above : List ℕ) (s : Step) (t : Tree) → Within (hel
 later-do of above s t v h =
     let p = held_from (names_after of s) (above ++ step_values s) t v h in
     ⊎_elim
-    (λ (e : is_in v above ≡ true). left-of v (held of above (Do s t)) (step_values s) (held_in of above (Do s t) v e (right-of v (map of (step_uses s)) (used (names_after of s) t) p.1)))
-    (λ (e : is_in v (step_values s) ≡ true). right-of v (held of above (Do s t)) (step_values s) e)
+    (λ (e : is_in v above ≡ true). in-left v (held of above (Do s t)) (step_values s) (held_in of above (Do s t) v e (in-right v (map of (step_uses s)) (used (names_after of s) t) p.1)))
+    (λ (e : is_in v (step_values s) ≡ true). in-right v (held of above (Do s t)) (step_values s) e)
     (or_cases (is_in v above) (is_in v (step_values s)) (sym (in-append v above (step_values s)) ∙ p.0))
 
 in-union : (v : ℕ) (a b : List ℕ) → is_in v (union a b) ≡ true → (is_in v a || is_in v b) ≡ true
@@ -201,18 +201,18 @@ in-union v a b h =
     (or_cases (is_in v a) (is_in v (without b a)) (sym (in-append v a (without b a)) ∙ h))
 
 arm-used : (of : Names) (c : Cmp) (x y : ℕ) (t u : Tree) (v : ℕ) → is_in v (used of t ++ used of u) ≡ true → is_in v (used of (If c x y t u)) ≡ true
-arm-used of c x y t u v h = right-of v (of x ∷ of y ∷ []) (used of t ++ used of u) h
+arm-used of c x y t u v h = in-right v (of x ∷ of y ∷ []) (used of t ++ used of u) h
 
 later-if : (of : Names) (above : List ℕ) (c : Cmp) (x y : ℕ) (t u : Tree) → Within (union (held of above t) (held of above u)) (held of above (If c x y t u) ++ [])
 later-if of above c x y t u v h =
-    left-of v (held of above (If c x y t u)) []
+    in-left v (held of above (If c x y t u)) []
     (⊎_elim
     (λ (e : is_in v (held of above t) ≡ true).
     let p = held_from of above t v e in
-    held_in of above (If c x y t u) v p.0 (arm-used of c x y t u v (left-of v (used of t) (used of u) p.1)))
+    held_in of above (If c x y t u) v p.0 (arm-used of c x y t u v (in-left v (used of t) (used of u) p.1)))
     (λ (e : is_in v (held of above u) ≡ true).
     let p = held_from of above u v e in
-    held_in of above (If c x y t u) v p.0 (arm-used of c x y t u v (right-of v (used of t) (used of u) p.1)))
+    held_in of above (If c x y t u) v p.0 (arm-used of c x y t u v (in-right v (used of t) (used of u) p.1)))
     (or_cases (is_in v (held of above t)) (is_in v (held of above u)) (in-union v (held of above t) (held of above u) h)))
 
 shifted : (known v c d : List ℕ) → known ++ (v ++ (c ++ d)) ≡ (known ++ (v ++ c)) ++ d
@@ -228,7 +228,7 @@ tree_held of above known (Do s t) sc h d =
     let k : all_known known (step_uses s) ≡ true = all_from (λ z. is_in z known) (step_uses s) (λ x i. all_at (λ z. is_in z known) (step_names s) x p.0 (uses-named s x i)) in
     All-cons IsHeld _ (tree_points (names_after of s) (above ++ step_values s) t)
     (record {
-      uses = known_held of above known (step_uses s) (Do s t) sc k (λ v i. left-of v (map of (step_uses s)) (used (names_after of s) t) i);
+      uses = known_held of above known (step_uses s) (Do s t) sc k (λ v i. in-left v (map of (step_uses s)) (used (names_after of s) t) i);
       different = held-different of above known (Do s t) sc;
       later = later-do of above s t;
     })
@@ -239,7 +239,7 @@ tree_held of above known (If c x y t u) sc h d =
     let r = different_arms known (defined t) (defined u) d in
     All-cons IsHeld _ (tree_points of above t ++ tree_points of above u)
     (record {
-      uses = known_held of above known (x ∷ y ∷ []) (If c x y t u) sc p.0 (λ v i. left-of v (of x ∷ of y ∷ []) (used of t ++ used of u) i);
+      uses = known_held of above known (x ∷ y ∷ []) (If c x y t u) sc p.0 (λ v i. in-left v (of x ∷ of y ∷ []) (used of t ++ used of u) i);
       different = held-different of above known (If c x y t u) sc;
       later = later-if of above c x y t u;
     })
@@ -265,7 +265,7 @@ label_held k l h d =
     (record {
       uses = λ v i. absurd (false≢true i);
       different = p.first;
-      later = λ v i. left-of v l.params l.params ((held_from own l.params l.body v i).0);
+      later = λ v i. in-left v l.params l.params ((held_from own l.params l.body v i).0);
     })
     (tree_held own l.params l.params l.body (entry_scope l.params p.first) h d)
 

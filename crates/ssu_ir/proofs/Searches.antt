@@ -14,7 +14,7 @@ use Rattle.ssu_ir.specs.inner.Checks.{node_names, step_defs, node_defs, times_in
 use Rattle.ssu_ir.specs.inner.Under.{tree_at, HasTree}
 use Rattle.ssu_ir.proofs.Unders.{NoKids, OneKid, TwoKids, no_kids, one_kid, two_kids, shape}
 
-or-false : (b : Bool) → b ≡ (b || false)
+pub or-false : (b : Bool) → b ≡ (b || false)
 or-false true = refl
 or-false false = refl
 
