@@ -2,7 +2,7 @@
 use Rattle.std.specs.Prelude.{◌≡◌, ◌⊎◌, ℕ, List, codes, length}
 use Rattle.nv_base.specs.Log.{empty_log, noted_all}
 use Rattle.nv_base.specs.Meanings.{FullOutcome, source_writes}
-use Rattle.nv_base.specs.Memories.{Memories}
+use Rattle.nv_base.specs.Memories.{Memories, source_scratch}
 use Rattle.nv_memtext.specs.MemoryText.{Gives, IsBad, IsTooLarge}
 use Rattle.nv_memtext.specs.OutcomeText.{outcome_text}
 use Rattle.uc_isa.specs.Code.{CodeView}
@@ -45,7 +45,7 @@ pub record IsLinted (bytes : List ℕ) (status : Status) (text : List ℕ) : Typ
 
 -- the first scratch word that code may use for itself, where `run` starts it, and how many writes are shown
 abbrev pub spill_base : ℕ
-spill_base = 512
+spill_base = source_scratch
 
 abbrev pub shown_writes : ℕ
 shown_writes = 64
