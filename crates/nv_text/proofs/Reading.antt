@@ -105,7 +105,7 @@ record Final (left : List ℕ) : Type 0 where
 -- where nothing is left, no token
 none_longest : (s : Sort) (n : ℕ) → Longest [] s n → ⊥
 none_longest s n l =
-    let h : length (take n []) ≡ 0 = omega (arith, length-take n (let z : List ℕ = [] in z)) in
+    let h : length {A = ℕ} (take n []) ≡ 0 = omega (arith, length-take n (let z : List ℕ = [] in z)) in
     let e : take n [] ≡ [] = nil_from_length (take n []) h in
     some_bytes s (rw e at l.spells)
 
