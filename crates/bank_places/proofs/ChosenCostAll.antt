@@ -15,6 +15,7 @@ use Rattle.slot_placement.specs.Uses.{Access, accesses, Value, values, Use, uses
 use Rattle.slot_placement.specs.Fits.{IsFirst, is_early, Fits}
 use Rattle.held_values.proofs.Scoped.{in-itself}
 use Rattle.slot_placement.proofs.Sound.{Each}
+use Rattle.slot_placement.proofs.Joined.{values-different}
 use Rattle.zo_model.specs.Program.{cost_where}
 use Rattle.bank_form.specs.declared.column.Column.{Column}
 use Rattle.bank_form.specs.declared.column.Column.TheVariants.{Dir, Stay, Ear, First, PasL, PasS}
@@ -24,7 +25,6 @@ use Rattle.bank_rows.proofs.Families.{role-beginnings}
 use Rattle.bank_places.specs.inner.Facts.{count}
 use Rattle.bank_places.specs.inner.Chosen.{waits, goes_there, chosen, IsChosen}
 use Rattle.bank_places.proofs.Counts.{In, contained-in, map-in, some-counted, each-from}
-use Rattle.bank_places.proofs.FactsAll.{values-differ}
 use Rattle.bank_places.proofs.CostSums.{sum_of, sum-append, cost-append, by_value, one-more, none-more}
 use Rattle.bank_places.proofs.ChosenHolds.{flat-each, if-each, points-each, in-test, only-most, counted-one}
 use Rattle.bank_places.proofs.ChosenForm.{early-written, use-there}
@@ -187,7 +187,7 @@ all-found g (u ∷ us) vs d h =
     omega (arith, a, b)
 
 by-values : (labels : List Label) (g : Use → ℕ) → single labels ≡ true → by_value g (uses labels) (values labels) ≡ sum_of g (uses labels)
-by-values labels g s = all-found g (uses labels) (values labels) (values-differ labels s) (each-from (λ u. is_in u.value (map (λ v. v.var) (values labels)) ≡ true) (uses labels) (λ u i.
+by-values labels g s = all-found g (uses labels) (values labels) (values-different labels s) (each-from (λ u. is_in u.value (map (λ v. v.var) (values labels)) ≡ true) (uses labels) (λ u i.
     let w = use-value labels u s i in
     subst (λ x. is_in x (map (λ v. v.var) (values labels)) ≡ true) w.var (in-test w.value.var (map (λ v. v.var) (values labels)) (map-in (λ (v : Value). v.var) w.value (values labels) w.there))))
 

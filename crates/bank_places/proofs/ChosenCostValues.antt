@@ -12,6 +12,7 @@ use Rattle.slot_placement.specs.Plan.{Plan, home, first}
 use Rattle.slot_placement.specs.Uses.{Sort, Parameter, Result, Fetched, Value, values, Use, uses, uses_of, is_used}
 use Rattle.slot_placement.specs.Fits.{IsGeneral, is_write_register, word_register, is_early, early_uses, maybe, AreCopies, IsPutEarly, is_sort_homed, wants_home, Fits}
 use Rattle.slot_placement.proofs.Sound.{Each}
+use Rattle.slot_placement.proofs.Joined.{values-different}
 use Rattle.zo_model.specs.Program.{cost_where}
 use Rattle.bank_form.specs.declared.column.Bank.TheVariants.{A, B, M}
 use Rattle.bank_form.specs.declared.column.Column.TheVariants.{Fill}
@@ -21,7 +22,6 @@ use Rattle.bank_prog.specs.Meaning.{named_cost}
 use Rattle.bank_places.specs.inner.Chosen.{is_in_bank, waits, goes_there, chosen}
 use Rattle.bank_places.proofs.Counts.{In, in-kept, each-from}
 use Rattle.bank_places.proofs.FactsValues.{same-value, used-of}
-use Rattle.bank_places.proofs.FactsAll.{values-differ}
 use Rattle.bank_places.proofs.FitHomes.{uses-none}
 use Rattle.bank_places.proofs.CostSums.{sum_of, cost-append}
 use Rattle.bank_places.proofs.CostValues.{copied-append, missing, vars-in}
@@ -216,7 +216,7 @@ homeless : (labels : List Label) (p : Plan) (v : Value) → single labels ≡ tr
 homeless labels p v s f i r u = missing p.homes v.var (false_from_ne_true (is_in v.var (map (λ h. h.var) p.homes)) (λ t.
     let n = vars-in v.var (filter (wants_home labels) (values labels)) (f.homes.only v.var t) in
     let k = in-kept (wants_home labels) n.0 (values labels) n.1 in
-    let same : n.0 ≡ v = same-value (values labels) v n.0 (values-differ labels s) i k.0 n.2 in
+    let same : n.0 ≡ v = same-value (values labels) v n.0 (values-different labels s) i k.0 n.2 in
     false≢true (sym (unwanted v.sort r) ∙ subst (λ z. wants_home labels z ≡ true) same k.1)))
   where
     unwanted : (s : Sort) → is_fetched s ≡ true → is_sort_homed (is_used labels v.var) s ≡ false

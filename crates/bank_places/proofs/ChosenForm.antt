@@ -20,6 +20,7 @@ use Rattle.slot_placement.proofs.Fitting.{apart-from, values-are, entries-in}
 use Rattle.held_values.proofs.Scoped.{in-itself}
 use Rattle.slot_placement.proofs.Sound.{Each, each-append, Sound, sound-points, uses_among}
 use Rattle.slot_placement.proofs.Spilled.{Apart, all-each, each-at, sort_param, param_vars}
+use Rattle.slot_placement.proofs.Joined.{values-different}
 use Rattle.held_values.specs.inner.Numbers.{values_among}
 use Rattle.bank_form.specs.declared.column.Column.{Column}
 use Rattle.bank_form.specs.Columns.{is_fetched}
@@ -27,7 +28,6 @@ use Rattle.bank_prog.specs.Meaning.{Chosen}
 use Rattle.bank_places.specs.inner.Chosen.{use_in, use_at, value_in, value_at, chosen, IsChosen}
 use Rattle.bank_places.proofs.Counts.{In, contained-in, in-map, in-kept, each-from}
 use Rattle.bank_places.proofs.CostValues.{vars-in}
-use Rattle.bank_places.proofs.FactsAll.{values-differ}
 use Rattle.bank_places.proofs.FactsValues.{same-value, same-use, used-of}
 
 -- a choice of columns by a placement that fits
@@ -69,7 +69,7 @@ use-found (w ∷ us) u d i = by (nat_eq w.point u.point && nat_eq w.operand u.op
         i
 
 pub value-there : (labels : List Label) (v : Value) → single labels ≡ true → In v (values labels) → value_at labels v.var ≡ v
-value-there labels v s i = value-found (values labels) v (values-differ labels s) i
+value-there labels v s i = value-found (values labels) v (values-different labels s) i
 
 pub use-there : (labels : List Label) (u : Use) → In u (uses labels) → use_at labels u.point u.operand ≡ u
 use-there labels u i = use-found (uses labels) u (apart-from 0 (points labels)) i

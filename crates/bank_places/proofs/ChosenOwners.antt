@@ -22,6 +22,7 @@ use Rattle.slot_placement.proofs.Fitting.{apart-from, vars-of-place}
 use Rattle.held_values.proofs.Scoped.{in-itself, in-either, different-filter, different-without}
 use Rattle.slot_placement.proofs.Sound.{Each, each-append}
 use Rattle.slot_placement.proofs.Spilled.{Apart}
+use Rattle.slot_placement.proofs.Joined.{values-different}
 use Rattle.bank_form.specs.declared.column.Column.{Column}
 use Rattle.bank_form.specs.declared.column.Column.TheVariants.{Dir, Stay, Ear, First, PasL, PasS}
 use Rattle.bank_form.specs.Columns.{each_point, sort_of, eight}
@@ -33,7 +34,6 @@ use Rattle.bank_places.specs.inner.Chosen.{names, value_at, waits, goes_there, u
 use Rattle.bank_places.proofs.Counts.{In, contained-in, count-append, counted-some, some-counted, in-either as in-parts, in-flat, in-map, in-kept, in-if, each-in, each-from}
 use Rattle.bank_places.proofs.FactsThere.{there}
 use Rattle.bank_places.proofs.FactsValues.{sort-found, on-one}
-use Rattle.bank_places.proofs.FactsAll.{values-differ}
 use Rattle.bank_places.proofs.FactsPoints.{in-is}
 use Rattle.bank_places.proofs.ChosenHolds.{most-holds, flat-each, points-each, in-test, pairs-different, most-one, both-most, only-most, one-most, counted-one}
 use Rattle.bank_places.proofs.ChosenForm.{Placed, chosen-on, value-there, point-held, word-is, shared}
@@ -122,7 +122,7 @@ stay-at labels p on x m i f sdram r g s e n d =
     let w = and_parts (nat_eq (first p (value_at labels x).point) f) (stays labels p x) (chosen-on labels p on g (Stay x f) e) in
     let same : value_at labels x ≡ v = ap (value_at labels) (sym at.var) ∙ value-there labels v g.form at.there in
     let begins : first p v.point ≡ f = ap (λ (z : Value). first p z.point) (sym same) ∙ same-number (first p (value_at labels x).point) f w.0 in
-    let sort : v.sort ≡ Fetched m i = sym (sort-found (values labels) v (values-differ labels g.form) at.there) ∙ ap (sort_of labels) at.var ∙ s in
+    let sort : v.sort ≡ Fetched m i = sym (sort-found (values labels) v (values-different labels g.form) at.there) ∙ ap (sort_of labels) at.var ∙ s in
     let used : is_used labels v.var ≡ true = subst (λ y. is_used labels y ≡ true) (sym at.var) t.1 in
     let housed = subst (λ z. IsHome labels p v (home p v.var) z) sort (All-contains (IsHoused labels p) (values labels) v g.fits.values (contained-in v (values labels) at.there)) in
     record {

@@ -16,6 +16,7 @@ use Rattle.slot_placement.specs.Fits.{IsGeneral, is_general, is_write_register, 
 use Rattle.ssu_ir.specs.Single.{single}
 use Rattle.held_values.proofs.Scoped.{in-itself, different-filter}
 use Rattle.slot_placement.proofs.Sound.{Each}
+use Rattle.slot_placement.proofs.Joined.{values-different}
 use Rattle.nv_base.specs.declared.term.Mem.{Mem}
 use Rattle.nv_base.specs.declared.term.Mem.TheVariants.{Sram, Sdram, Scratch}
 use Rattle.zo_model.specs.Program.{cost_where}
@@ -32,7 +33,6 @@ use Rattle.bank_places.specs.inner.Chosen.{is_in_bank, IsChosen}
 use Rattle.bank_places.proofs.Counts.{In, count-append, in-kept, kept-in, each-in, each-from}
 use Rattle.bank_places.proofs.FactsThere.{there}
 use Rattle.bank_places.proofs.FactsValues.{same-value}
-use Rattle.bank_places.proofs.FactsAll.{values-differ}
 use Rattle.bank_places.proofs.FitHomes.{is_home_bank}
 use Rattle.bank_places.proofs.ChosenHolds.{most-holds, points-each, in-test, pairs-different, pairs-map}
 use Rattle.bank_places.proofs.ChosenSource.{in-any-place}
@@ -302,7 +302,7 @@ used-or : (labels : List Label) (p : Plan) (on : Chosen) (v : Value) (h : Bank) 
 used-or labels p on v h g i e f = ⊎_elim
     (λ (d : on (Def v.var h) ≡ true).
     let t = there labels on (Def v.var h) g.is.only d in
-    let same : t.0 ≡ v = same-value (values labels) v t.0 (values-differ labels g.form) i t.1 t.2 in
+    let same : t.0 ≡ v = same-value (values labels) v t.0 (values-different labels g.form) i t.1 t.2 in
     absurd (false≢true (sym (subst (λ (z : Value). is_fetched z.sort ≡ false) same t.3) ∙ f)))
     (λ (d : on (Fill v.var h) ≡ true). (there labels on (Fill v.var h) g.is.only d).0)
     (or_cases (on (Def v.var h)) (on (Fill v.var h)) e)

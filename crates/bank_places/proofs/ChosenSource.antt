@@ -1,5 +1,5 @@
 -- From where a placement that fits serves a use: from a home of the use's value, whose column is on.
-use Rattle.std.proofs.Common.{◌≡◌, ℕ, zero, suc, ◌+◌, ◌<◌, ◌≤◌, nat_eq, Bool, true, false, not, ◌||◌, ◌⊎◌, inl, inr, ⊎_elim, Option, Some, None, List, [], ◌∷◌, ◌++◌, length, map, refl, sym, ap, subst, ◌∙◌, arith}
+use Rattle.std.proofs.Common.{◌≡◌, ℕ, suc, ◌+◌, ◌<◌, ◌≤◌, nat_eq, Bool, true, false, not, ◌||◌, ◌⊎◌, inl, inr, ⊎_elim, Some, List, [], ◌∷◌, ◌++◌, length, map, refl, sym, ap, subst, ◌∙◌, arith}
 use Rattle.std.specs.Prelude.{slice_get, nat_le}
 use Rattle.std.specs.List.{list_any}
 use Rattle.std.proofs.lemmas.Bool.{false≢true, and_parts, or_cases, or_left, or_right}
@@ -15,13 +15,14 @@ use Rattle.slot_placement.specs.declared.place.Place.TheVariants as place
 use Rattle.slot_placement.specs.Places.{same_place}
 use Rattle.slot_placement.specs.Plan.{Plan, home, first}
 use Rattle.slot_placement.specs.Uses.{Sort, Parameter, Result, Fetched, Value, values, Role, Operand, Address, Written, Argument, Ending, Use, uses, uses_of, roles, place_roles, is_used}
-use Rattle.slot_placement.specs.Fits.{read_place, IsGeneral, is_write_register, is_home, param_at, label_param, parameter, Fits, AreCopies}
+use Rattle.slot_placement.specs.Fits.{read_place, IsGeneral, is_write_register, is_home, parameter, Fits, AreCopies}
 use Rattle.held_values.specs.inner.Numbers.{values_among}
 use Rattle.slot_placement.proofs.Places.{same_place-true}
 use Rattle.held_values.proofs.Scoped.{in-itself}
 use Rattle.slot_placement.proofs.Sound.{place_ok, Sound, sound-points, uses_among}
 use Rattle.slot_placement.proofs.Spilled.{each-at, sort_param, param_vars}
-use Rattle.slot_placement.proofs.Fitting.{entries-in, label-entry}
+use Rattle.slot_placement.proofs.Fitting.{entries-in, label-entry, label-param-in}
+use Rattle.slot_placement.proofs.Joined.{values-different}
 use Rattle.bank_form.specs.declared.column.Bank.{Bank}
 use Rattle.bank_form.specs.declared.column.Bank.TheVariants.{A, B, M, T, W}
 use Rattle.bank_form.specs.declared.column.Column.TheVariants.{Def, Fill}
@@ -33,7 +34,6 @@ use Rattle.bank_form.proofs.Itself.{bank-itself}
 use Rattle.bank_places.specs.inner.Facts.{count}
 use Rattle.bank_places.specs.inner.Chosen.{bank_of, is_in_bank}
 use Rattle.bank_places.proofs.Counts.{In, some-counted, each-in, kept-in}
-use Rattle.bank_places.proofs.FactsAll.{values-differ}
 use Rattle.bank_places.proofs.FactsValues.{sort-found, used-of}
 use Rattle.bank_places.proofs.LabelPoints.{used-here}
 use Rattle.bank_places.proofs.ChosenForm.{Placed, Housing, housing, held-value, put-writes, copies-are, IsCopy}
@@ -99,7 +99,7 @@ use-value labels u s i =
     }
 
 pub sort-is : (labels : List Label) (v : Value) → single labels ≡ true → In v (values labels) → sort_of labels v.var ≡ v.sort
-sort-is labels v s i = sort-found (values labels) v (values-differ labels s) i
+sort-is labels v s i = sort-found (values labels) v (values-different labels s) i
 
 -- ---- a home from which a use is served
 
@@ -192,15 +192,6 @@ source-on labels p on v q h g i u s b j = home-counted on v.var h (⊎_elim
 
 -- ---- the parameter for an argument
 
-param-among : (xs : List ℕ) (i : ℕ) → i < length xs → is_in (param_at (slice_get xs i)) xs ≡ true
-param-among [] i l = absurd (omega (arith, l))
-param-among (x ∷ xs) zero l = or_left (nat_eq x x) (is_in x xs) (in-itself x)
-param-among (x ∷ xs) (suc i) l = or_right (nat_eq (param_at (slice_get xs i)) x) (is_in (param_at (slice_get xs i)) xs) (param-among xs i (omega (arith, l)))
-
-label-param-among : (P : List ℕ) (n i : ℕ) (o : Option Label) → ((l : Label) → o ≡ Some l → Within l.params P) → takes_as_many n o ≡ true → i < n → is_in (label_param o i) P ≡ true
-label-param-among P n i (Some l) h e b = let same = same-number (length l.params) n e in h l refl (param_at (slice_get l.params i)) (param-among l.params i (omega (arith, same, b)))
-label-param-among P n i None h e b = absurd (false≢true e)
-
 pub roles-below : (r : Role) (role : ℕ → Role) (i : ℕ) (xs : List ℕ) → In r (roles role i xs) → (j : ℕ) × (j < i + length xs) × (role j ≡ r)
 roles-below r role i [] h = absurd h
 roles-below r role i (x ∷ xs) h = ⊎_elim
@@ -247,7 +238,7 @@ argument-among labels P l i (At (Ends (Jump n xs))) h e j =
     let word : w.0 ≡ i = same-word n l w.0 i w.2 in
     let below = w.1 in
     let many = (and_parts (nat_le 1 n) (takes_as_many (length xs) (slice_get labels n)) e).1 in
-    label-param-among P (length xs) i (slice_get labels l) h (subst (λ k. takes_as_many (length xs) (slice_get labels k) ≡ true) label many) (omega (arith, below, word))
+    label-param-in P (length xs) i (slice_get labels l) h (subst (λ k. takes_as_many (length xs) (slice_get labels k) ≡ true) label many) (omega (arith, below, word))
 argument-among labels P l i (At (Ends (Halt n xs))) h e j = no-endings l i 0 xs j
 
 record ParamValue (x : ℕ) (vs : List Value) : Type 0 where

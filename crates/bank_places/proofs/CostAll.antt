@@ -15,6 +15,7 @@ use Rattle.slot_placement.specs.Uses.{Sort, Parameter, Result, Fetched, Value, v
 use Rattle.slot_placement.proofs.Fitting.{apart-from}
 use Rattle.held_values.proofs.Scoped.{in-itself}
 use Rattle.slot_placement.proofs.Spilled.{all-each}
+use Rattle.slot_placement.proofs.Joined.{values-different}
 use Rattle.zo_model.specs.Program.{cost_where}
 use Rattle.bank_form.specs.declared.column.Bank.TheVariants.{A, B, M}
 use Rattle.bank_form.specs.declared.column.Column.{Column}
@@ -31,7 +32,7 @@ use Rattle.bank_places.proofs.Counts.{In, contained-in, in-map, in-kept, in-if, 
 use Rattle.bank_places.proofs.FactsThere.{uses-among, point-of}
 use Rattle.bank_places.proofs.FactsValues.{Known, role-eight, same-value, used-of}
 use Rattle.bank_places.proofs.FactsUses.{early-there}
-use Rattle.bank_places.proofs.FactsAll.{values-differ, known, facts}
+use Rattle.bank_places.proofs.FactsAll.{known, facts}
 use Rattle.bank_places.proofs.ReadParts.{IsFound, serves-found}
 use Rattle.bank_places.proofs.CostSums.{sum_of, cost-append, cost-one, cost-points, each-once}
 use Rattle.bank_places.proofs.CostKept.{filter-all, sum-kept, sum-less, and_passes, cost-kept, cost-of-kept}
@@ -173,7 +174,7 @@ KeptCost labels on p keep = values_cost p (filter (λ v. keep v.point) (values l
 
 read-off-kept : (labels : List Label) (slots : ℕ) (on : Chosen) (numbers : Numbers) (hs : List Home) → single labels ≡ true → Known labels on → Facts labels slots on → AreRead labels on numbers hs → (keep : ℕ → Bool) → KeepsTogether labels keep → KeptCost labels on (read_off labels slots on numbers hs) keep
 read-off-kept labels slots on numbers hs s g f r keep same =
-    let d = values-differ labels s in
+    let d = values-different labels s in
     let vs = filter (λ (v : Value). keep v.point) (values labels) in
     let us = filter (λ (u : Use). keep u.point) (uses labels) in
     let test : Column → Bool = λ c. keep (column_point labels c) in

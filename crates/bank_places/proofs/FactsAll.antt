@@ -1,18 +1,15 @@
 -- What the lines of a bank program say, as facts.
-use Rattle.std.proofs.Common.{◌≡◌, ℕ, true, ◌&&◌, List, ◌++◌, map, ap, ◌∙◌, arith}
-use Rattle.std.specs.Prelude.{slice_get, All}
-use Rattle.std.specs.List.{flat_map, list_all}
-use Rattle.std.proofs.lemmas.Bool.{and_parts}
-use Rattle.nv_base.specs.Sets.{all_different}
+use Rattle.std.proofs.Common.{◌≡◌, ℕ, true, List, ◌++◌, arith}
+use Rattle.std.specs.Prelude.{All}
+use Rattle.std.specs.List.{flat_map}
 use Rattle.ssu_ir.specs.Tree.{Label}
 use Rattle.ssu_ir.specs.Points.{Point, points}
-use Rattle.ssu_ir.specs.Single.{all_defined, is_entry, is_single, single}
+use Rattle.ssu_ir.specs.Single.{single}
 use Rattle.slot_placement.specs.Uses.{accesses, values, uses}
-use Rattle.held_values.specs.inner.Numbers.{values_among}
-use Rattle.held_values.proofs.Numbering.{places-of-labels, different-labels}
-use Rattle.slot_placement.proofs.Fitting.{apart-from, values-are}
+use Rattle.slot_placement.proofs.Fitting.{apart-from}
 use Rattle.slot_placement.proofs.Sound.{Each}
 use Rattle.slot_placement.proofs.Spilled.{each-all, all-each, each-left, each-right}
+use Rattle.slot_placement.proofs.Joined.{values-different}
 use Rattle.bank_form.specs.Columns.{each_point}
 use Rattle.bank_form.specs.Rows.{Line, lines, parameter_choice, result_choice, access_choice, use_choice, one_choice, use_cover, copy_cover, argument_cover, homes_cover, operand_lines, operand_banks, room_lines, capacity, read_owners, fill_owners, write_owners, owners, adjacency, slot_read, value_written, passes}
 use Rattle.bank_prog.specs.Meaning.{Chosen, Holds}
@@ -21,13 +18,6 @@ use Rattle.bank_places.proofs.Counts.{each-in, each-from, each-flat, each-points
 use Rattle.bank_places.proofs.FactsValues.{Known, value-facts}
 use Rattle.bank_places.proofs.FactsUses.{access-facts, use-facts}
 use Rattle.bank_places.proofs.FactsPoints.{point-facts}
-
--- the variables of the values of a form are different
-pub values-differ : (labels : List Label) → single labels ≡ true → all_different (map (λ v. v.var) (values labels)) ≡ true
-values-differ labels h =
-    let a = and_parts (is_entry (slice_get labels 0)) (all_different (all_defined labels) && list_all (is_single labels) labels) h in
-    let b = and_parts (all_different (all_defined labels)) (list_all (is_single labels) labels) a.1 in
-    ap all_different (values-are 0 (points labels)) ∙ ap (λ ps. all_different (values_among ps)) (places-of-labels 0 labels) ∙ different-labels 0 labels b.0
 
 -- the families of lines
 record Families (labels : List Label) (slots : ℕ) (on : Chosen) : Type 0 where
@@ -116,7 +106,7 @@ families labels slots on h =
 pub known : (labels : List Label) (slots : ℕ) (on : Chosen) → single labels ≡ true → OnlyThere labels on → All (Holds on) (lines labels slots) → Known labels on
 known labels slots on s only h =
     let f = families labels slots on (all-each (Holds on) (lines labels slots) h) in
-    record { only = only; different = values-differ labels s; apart = apart-from 0 (points labels); begins = f.begins }
+    record { only = only; different = values-different labels s; apart = apart-from 0 (points labels); begins = f.begins }
 
 pub facts : (labels : List Label) (slots : ℕ) (on : Chosen) → single labels ≡ true → OnlyThere labels on → All (Holds on) (lines labels slots) → Facts labels slots on
 facts labels slots on s only h =

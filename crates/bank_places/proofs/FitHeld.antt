@@ -20,6 +20,7 @@ use Rattle.bank_form.specs.Columns.{eight, is_fetched}
 use Rattle.bank_form.specs.Rows.{is_written, is_sdram}
 use Rattle.bank_prog.specs.Meaning.{Chosen}
 use Rattle.slot_placement.proofs.Sound.{Each, each-append}
+use Rattle.slot_placement.proofs.Spilled.{none-with-nothing}
 use Rattle.std.proofs.lemmas.Bool.{or_left, or_right}
 use Rattle.bank_places.specs.inner.Facts.{in_bank, StaysIn, PointFacts}
 use Rattle.bank_places.specs.inner.ReadOff.{Numbers, begins, goes_early, pass_l, def_bank, home_place, role_place, word_place, first_word, fills_of, words_of, copies_of, put_home, sort_home, read_off}
@@ -164,10 +165,6 @@ same-read Scratch Scratch i j e = record { side = refl; number = same-number i j
 
 one-apart : (q r : Place) → same_place q r ≡ false → none_shared (q ∷ []) (r ∷ []) ≡ true
 one-apart q r e = and_from (not (same_place q r || false)) true (not_from_false (same_place q r || false) (or_from (same_place q r) false e refl)) refl
-
-pub none-with-nothing : (qs : List Place) → none_shared qs [] ≡ true
-none-with-nothing [] = refl
-none-with-nothing (q ∷ qs) = none-with-nothing qs
 
 pub keeps-held : (labels : List Label) (slots : ℕ) (on : Chosen) (numbers : Numbers) (hs : List Home) (k : ℕ) (q : Point) → PointFacts labels slots on k q → (pass (read_off labels slots on numbers hs) k).l ≡ pass_l on k
     → ((x : ℕ) → is_in x q.before ≡ true → Each (IsHomePlace on numbers x) (general_places (read_off labels slots on numbers hs) x))

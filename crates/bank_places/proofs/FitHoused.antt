@@ -17,6 +17,7 @@ use Rattle.bank_form.specs.Columns.{eight, services, sort_of, is_fetched}
 use Rattle.bank_form.specs.Rows.{def, dir, ear, srv, early, is_written, is_parameter}
 use Rattle.bank_prog.specs.Meaning.{Chosen}
 use Rattle.slot_placement.proofs.Sound.{Each}
+use Rattle.slot_placement.proofs.Slotted.{read-no-slot}
 use Rattle.bank_places.specs.inner.Facts.{count, in_bank, in_register, IsIn, ValueFacts, UseFacts}
 use Rattle.bank_places.specs.inner.ReadOff.{Numbers, begins, goes_early, def_bank, service_on, home_place, first_word, fills_of, copies_of, put_home, sort_home, room, read_off}
 use Rattle.bank_places.proofs.ReadParts.{any-count, count-any, on-none, FirstsThere, first-read}
@@ -82,11 +83,6 @@ other-read numbers x A15 Scratch i = refl
 other-read numbers x W Sram i = refl
 other-read numbers x W Sdram i = refl
 other-read numbers x W Scratch i = refl
-
-pub read-no-slot : (m : Mem) (i : ℕ) → is_slot (read_place m i) ≡ false
-read-no-slot Sram i = refl
-read-no-slot Sdram i = refl
-read-no-slot Scratch i = refl
 
 is-general : (labels : List Label) (slots : ℕ) (on : Chosen) (numbers : Numbers) (hs : List Home) (x : ℕ) (h : Bank) → is_home_bank h ≡ true → numbers h x < room slots h → IsGeneral (read_off labels slots on numbers hs) (home_place numbers h x)
 is-general labels slots on numbers hs x A i l = l

@@ -10,6 +10,7 @@ use Rattle.slot_placement.specs.declared.place.Serve.{Serve}
 use Rattle.slot_placement.specs.Plan.{Home, home, home_in}
 use Rattle.slot_placement.specs.Uses.{Sort, Parameter, Result, Fetched, Value, numbered, place_values, values, place_roles, Use, uses_at, uses, uses_of, is_used}
 use Rattle.slot_placement.specs.Fits.{is_slot, served, is_result, comes_to_slot, PassesSlots}
+use Rattle.slot_placement.proofs.Spilled.{used-wants}
 use Rattle.bank_form.specs.declared.column.Bank.{Bank}
 use Rattle.bank_form.specs.declared.column.Bank.TheVariants.{A, B, M, T, L, A15, W}
 use Rattle.bank_form.specs.declared.column.Column.TheVariants.{Def, Fill, PasL, PasS}
@@ -22,7 +23,7 @@ use Rattle.bank_places.proofs.ReadParts.{IsFound, pass-at}
 use Rattle.bank_places.proofs.FitWords.{early-written}
 use Rattle.bank_places.proofs.FitHomes.{is_home_bank, def-bank-some}
 use Rattle.bank_places.proofs.FitPoints.{passes-slots}
-use Rattle.bank_places.proofs.FitRead.{any-in, Reading, value-facts-of, use-facts-of, home-is, used-wants}
+use Rattle.bank_places.proofs.FitRead.{any-in, Reading, value-facts-of, use-facts-of, home-is}
 use Rattle.bank_places.proofs.FitKnown.{early-word}
 use Rattle.bank_places.proofs.FitStaying.{no-slot-role, from-slot}
 

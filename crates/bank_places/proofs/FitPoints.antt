@@ -14,6 +14,7 @@ use Rattle.slot_placement.specs.Places.{same_place}
 use Rattle.slot_placement.specs.Plan.{Home, Plan, home, first, pass}
 use Rattle.slot_placement.specs.Uses.{Access, place_values, place_roles, uses_at}
 use Rattle.slot_placement.specs.Fits.{read_place, IsFirst, is_slot, served, stays, kept_register, read_places, none_shared, run_of, comes_to_slot, IsEighth, PassesSlots}
+use Rattle.slot_placement.proofs.Spilled.{none-with-nothing}
 use Rattle.bank_form.specs.declared.column.Column.TheVariants.{First, PasL, PasS}
 use Rattle.bank_form.specs.Columns.{eight, may_begin}
 use Rattle.bank_form.specs.Rows.{is_sdram}
@@ -21,7 +22,7 @@ use Rattle.bank_prog.specs.Meaning.{Chosen}
 use Rattle.bank_places.specs.inner.Facts.{some_on, Covers, StaysIn, PointFacts}
 use Rattle.bank_places.specs.inner.ReadOff.{Numbers, first_on, pass_l, pass_s, read_off}
 use Rattle.bank_places.proofs.ReadParts.{is-eighth, first-on-any, some-first-on}
-use Rattle.bank_places.proofs.FitHeld.{Staying, same-read, none-with-nothing}
+use Rattle.bank_places.proofs.FitHeld.{Staying, same-read}
 
 -- ---- a read fills no register in which a value stays
 

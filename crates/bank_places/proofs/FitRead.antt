@@ -19,6 +19,7 @@ use Rattle.slot_placement.proofs.Sound.{Each, entry_params, place_results, Sound
 use Rattle.slot_placement.proofs.Spilled.{all-each, each-at, param_vars, params-wanted, used-wanted}
 use Rattle.place_checks.proofs.Valued.{each-values}
 use Rattle.slot_placement.proofs.Fitting.{each-uses, apart-from, uses-are, values-are, entries-in}
+use Rattle.slot_placement.proofs.Joined.{values-different}
 use Rattle.bank_form.specs.declared.column.Bank.{Bank}
 use Rattle.bank_form.specs.declared.column.Column.TheVariants.{Def, First}
 use Rattle.bank_form.specs.Columns.{eight, may_begin, is_fetched}
@@ -29,7 +30,6 @@ use Rattle.bank_places.specs.inner.ReadOff.{Numbers, begins, sort_place, place_i
 use Rattle.bank_places.proofs.Counts.{In, contained-in, in-kept, each-in}
 use Rattle.bank_places.proofs.FactsThere.{there}
 use Rattle.bank_places.proofs.FactsValues.{same-value}
-use Rattle.bank_places.proofs.FactsAll.{values-differ}
 use Rattle.bank_places.proofs.CostValues.{vars-in}
 use Rattle.bank_places.proofs.ReadParts.{eight-low, FirstsThere, begins-at, IsFound, serves-found}
 use Rattle.bank_places.proofs.FitWords.{IsEarlySame, early-same}
@@ -173,11 +173,6 @@ unread-wants b (Parameter l i) e = refl
 unread-wants b Result e = refl
 unread-wants b (Fetched m i) e = absurd (false≢true (sym e))
 
-pub used-wants : (b : Bool) (sort : Sort) → b ≡ true → is_sort_homed b sort ≡ true
-used-wants b (Parameter l i) e = refl
-used-wants b Result e = refl
-used-wants b (Fetched m i) e = e
-
 each-used : (P : ℕ → Type 0) (k i : ℕ) (xs : List ℕ) (rs : List Role) → ((x : ℕ) → is_in x xs ≡ true → P x) → Each (λ u. P u.value) (uses_at k i xs rs)
 each-used P k i [] rs h = tt
 each-used P k i (x ∷ xs) [] h = tt
@@ -231,7 +226,7 @@ reading-of labels slots on numbers hs form only facts read numbered =
       only = only;
       read = read;
       numbered = numbered;
-      different = values-differ labels form;
+      different = values-different labels form;
       held = held-values labels form;
       used = used-values labels form;
       use_facts = uses_facts;

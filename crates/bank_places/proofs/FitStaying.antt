@@ -10,6 +10,8 @@ use Rattle.slot_placement.specs.declared.place.Serve.{Serve}
 use Rattle.slot_placement.specs.Plan.{Home}
 use Rattle.slot_placement.specs.Uses.{Sort, Parameter, Result, Fetched, Value, values, Role, Operand, Address, Written, Argument, Ending, Use, uses, uses_of, is_used}
 use Rattle.slot_placement.specs.Fits.{is_slot, is_read_register, served, stays, wants_home}
+use Rattle.slot_placement.proofs.Slotted.{read-no-slot}
+use Rattle.slot_placement.proofs.Spilled.{used-wants}
 use Rattle.bank_form.specs.declared.column.Bank.{Bank}
 use Rattle.bank_form.specs.declared.column.Bank.TheVariants.{A, B, M, T, L, A15, W}
 use Rattle.bank_form.specs.declared.column.Column.TheVariants.{Stay, Srv}
@@ -23,10 +25,10 @@ use Rattle.bank_places.proofs.Counts.{In, contained-in, each-in}
 use Rattle.bank_places.proofs.FactsValues.{used-of}
 use Rattle.bank_places.proofs.ReadParts.{count-any, IsFound}
 use Rattle.bank_places.proofs.FitWords.{service-each, service-none, early-written}
-use Rattle.bank_places.proofs.FitHoused.{is_source, all-sources, read-no-slot}
+use Rattle.bank_places.proofs.FitHoused.{is_source, all-sources}
 use Rattle.bank_places.proofs.FitServed.{IsReadPlace}
 use Rattle.bank_places.proofs.FitHeld.{NumbersApart, Staying}
-use Rattle.bank_places.proofs.FitRead.{any-in, IsValue, place-found, Reading, value-facts-of, use-facts-of, home-is, used-wants, begins-of}
+use Rattle.bank_places.proofs.FitRead.{any-in, IsValue, place-found, Reading, value-facts-of, use-facts-of, home-is, begins-of}
 use Rattle.bank_places.proofs.CostValues.{home-in}
 
 -- ---- read values

@@ -12,14 +12,15 @@ use Rattle.held_values.specs.inner.Numbers.{values_among}
 use Rattle.held_values.specs.inner.Spots.{tree_places}
 use Rattle.slot_placement.proofs.Fitting.{values-are}
 use Rattle.held_values.proofs.Numbering.{values_among-append}
-use Rattle.held_values.proofs.Scoped.{split-different, in-itself, in-left as is-left, in-right as is-right, in-either as is-either}
+use Rattle.ssu_ir.proofs.Held.{in-left as is-left, in-right as is-right}
+use Rattle.held_values.proofs.Scoped.{split-different, in-itself, in-either as is-either}
 use Rattle.slot_placement.proofs.Sound.{Each, each-append}
 use Rattle.slot_placement.proofs.Spilled.{all-each, each-left, each-right}
+use Rattle.slot_placement.proofs.Joined.{values-different}
 use Rattle.held_values.proofs.SpotSteps.{places-of-points}
 use Rattle.bank_places.specs.ByLabel.{label_from}
 use Rattle.bank_places.proofs.Counts.{In, in-either}
 use Rattle.bank_places.proofs.FactsThere.{point-of}
-use Rattle.bank_places.proofs.FactsAll.{values-differ}
 use Rattle.bank_places.proofs.FitPasses.{value-point}
 
 -- ---- which points
@@ -170,4 +171,4 @@ same-label u v l n (m ∷ ms) d h i j e =
 
 pub uses-in-label : (labels : List Label) → single labels ≡ true → (u : Use) (v : Value) → In u (uses labels) → In v (values labels) → u.value ≡ v.var → label_from 0 0 labels u.point ≡ label_from 0 0 labels v.point
 uses-in-label labels s u v i j e =
-    same-label u v 0 0 labels (ap all_different (sym (values-are 0 (points labels))) ∙ values-differ labels s) (all-each IsHeld (points labels) (points_held labels s)) i j e
+    same-label u v 0 0 labels (ap all_different (sym (values-are 0 (points labels))) ∙ values-different labels s) (all-each IsHeld (points labels) (points_held labels s)) i j e

@@ -1,13 +1,11 @@
 -- The numbers of the values of each bank's rows are those that a placement asks for.
-use Rattle.std.proofs.Common.{◌≡◌, ℕ, if◌then◌else◌, suc, ◌+◌, ◌<◌, ◌≤◌, Bool, true, false, not, nat_eq, ◌||◌, ◌&&◌, ⊎_elim, Option, Some, None, List, [], ◌∷◌, length, map, filter, unwrap_or, refl, sym, ap, ◌∙◌, arith}
+use Rattle.std.proofs.Common.{◌≡◌, ℕ, if◌then◌else◌, suc, ◌<◌, ◌≤◌, Bool, true, false, nat_eq, ◌||◌, ◌&&◌, ⊎_elim, Option, Some, None, List, [], ◌∷◌, length, map, filter, unwrap_or, refl, sym, ap, ◌∙◌, arith}
 use Rattle.std.specs.Prelude.{All, slice_get, Result as Outcome, Ok, Err, IfOk}
 use Rattle.std.specs.HashMap.{get}
 use Rattle.std.specs.List.{AllZip}
-use Rattle.std.specs.List.Sorted.{IsPermutation}
-use Rattle.std.proofs.lemmas.List.Sorted.{length_permutation, list_any-IsPermutation}
 use Rattle.std.proofs.lemmas.Bool.{or_cases, or_left, or_right, false≢true, lt-ltb}
-use Rattle.nv_base.specs.Sets.{is_in, all_different, different}
-use Rattle.nv_base.proofs.Sets.{different-below, different-length, different-all}
+use Rattle.nv_base.specs.Sets.{is_in, all_different}
+use Rattle.nv_base.proofs.Sets.{different-below, different-all}
 use Rattle.ssu_ir.specs.Tree.{Lit, Una, Bin, Clone, Read, Write, Label, Does, Forks, Ends}
 use Rattle.ssu_ir.specs.Points.{Place as Spot, Entry, At, Point, points}
 use Rattle.ssu_ir.specs.Single.{single}
@@ -18,6 +16,8 @@ use Rattle.held_values.proofs.Scoped.{in-itself, in-filter, in-either, different
 use Rattle.slot_placement.proofs.Sound.{Each, each-append, entry_params, Sound, uses_among, sound-points}
 use Rattle.slot_placement.proofs.Spilled.{each-all, all-each, each-weaker}
 use Rattle.slot_placement.proofs.Fitting.{uses-are}
+use Rattle.slot_placement.proofs.Joined.{different-by-count}
+use Rattle.place_ir.proofs.Pointed.{and-order}
 use Rattle.bank_form.specs.declared.column.Bank.{Bank}
 use Rattle.bank_form.specs.declared.column.Bank.TheVariants.{A, B, M}
 use Rattle.bank_form.specs.Rows.{homes, is_parameter}
@@ -28,29 +28,6 @@ use Rattle.bank_places.specs.inner.ReadOff.{has_home, AreApart, is_held, IsBelow
 use Rattle.bank_places.specs.inner.Reading.{number_in, numbers_of}
 
 -- ---- rows of those values that pass a test
-
-and-turned : (a b : Bool) → (a && b) ≡ (b && a)
-and-turned true true = refl
-and-turned true false = refl
-and-turned false true = refl
-and-turned false false = refl
-
-different-more : (x : ℕ) (xs : List ℕ) (b : Bool) → is_in x xs ≡ b → (different xs ≡ length xs → all_different xs ≡ true) → (if b then different xs else 1 + different xs) ≡ suc (length xs) → (not b && all_different xs) ≡ true
-different-more x xs true f h g = let l = different-length xs in absurd (omega arith)
-different-more x xs false f h g = h (omega arith)
-
-different-by-count : (xs : List ℕ) → different xs ≡ length xs → all_different xs ≡ true
-different-by-count [] e = refl
-different-by-count (x ∷ xs) e = let rest : different xs ≡ length xs → all_different xs ≡ true = λ f. different-by-count xs f in different-more x xs (is_in x xs) refl rest e
-
-pub still-different : (xs ys : List ℕ) → IsPermutation xs ys → all_different xs ≡ true → all_different ys ≡ true
-still-different xs ys p d =
-    let same : (x : ℕ) → is_in x xs ≡ is_in x ys = λ x. list_any-IsPermutation (λ y. nat_eq x y) xs ys p in
-    let a = different-below xs ys (λ x e. sym (same x) ∙ e) in
-    let b = different-below ys xs (λ x e. same x ∙ e) in
-    let c = different-all xs d in
-    let l = length_permutation xs ys p in
-    different-by-count ys (omega arith)
 
 row-kept : (keep : ℕ → Bool) (row : List ℕ) (q : Point) → IsRow row q → IsRowOf keep (filter keep row) q
 row-kept keep row q r =
@@ -63,7 +40,7 @@ row-kept keep row q r =
     let same : (x : ℕ) → is_in x (filter keep row) ≡ is_in x (filter keep q.before) = λ x. in-filter keep x row ∙ ap (λ b. b && keep x) (r.members x) ∙ sym (in-filter keep x q.before) in
     record {
       once = kept;
-      members = λ x. in-filter keep x row ∙ ap (λ b. b && keep x) (r.members x) ∙ and-turned (is_in x q.before) (keep x);
+      members = λ x. in-filter keep x row ∙ ap (λ b. b && keep x) (r.members x) ∙ and-order (is_in x q.before) (keep x);
       count = same-length (filter keep row) (filter keep q.before) kept (different-filter keep q.before once) same;
     }
 

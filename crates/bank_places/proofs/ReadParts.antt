@@ -20,7 +20,7 @@ use Rattle.bank_form.specs.Columns.{eight, services}
 use Rattle.bank_prog.specs.Meaning.{Chosen}
 use Rattle.held_values.proofs.Scoped.{in-itself}
 use Rattle.slot_placement.proofs.Sound.{Each}
-use Rattle.slot_placement.proofs.Spilled.{each-weaker, each-apply, Apart}
+use Rattle.slot_placement.proofs.Spilled.{each-weaker, each-apply, Apart, skip, take-first}
 use Rattle.bank_places.specs.inner.Facts.{count, AccessFacts}
 use Rattle.bank_places.specs.inner.ReadOff.{Numbers, first_on, begins, pass_l, pass_s, service_on, serve_by, use_serve, access_first, pass_by, passes_from, read_off}
 
@@ -219,14 +219,6 @@ IsFound labels on numbers us u = serve_in (map (use_serve labels on numbers) us)
 
 same-keys : (labels : List Label) (on : Chosen) (numbers : Numbers) (u : Use) (k i : ℕ) → (nat_eq (use_serve labels on numbers u).point k && nat_eq (use_serve labels on numbers u).operand i) ≡ (nat_eq u.point k && nat_eq u.operand i)
 same-keys labels on numbers u k i = ap (λ (w : ℕ × ℕ). nat_eq w.0 k && nat_eq w.1 i) (by-operand labels on numbers u)
-
-skip : (b : Bool) (s t r : Serve) → b ≡ false → t ≡ r → (if b then s else t) ≡ r
-skip true s t r e h = absurd (false≢true (sym e))
-skip false s t r e h = h
-
-take-first : (b : Bool) (s t : Serve) → b ≡ true → (if b then s else t) ≡ s
-take-first true s t e = refl
-take-first false s t e = absurd (false≢true e)
 
 pub serves-found : (labels : List Label) (on : Chosen) (numbers : Numbers) (us : List Use) → Apart us → Each (IsFound labels on numbers us) us
 serves-found labels on numbers [] h = tt

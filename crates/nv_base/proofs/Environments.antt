@@ -14,7 +14,7 @@ zero-fits = omega arith
 pub blank-env : IsEnv (λ x. 0)
 blank-env = λ x. zero-fits
 
-either-fits : (b : Bool) (w v : ℕ) → IsWord w → IsWord v → IsWord (if b then w else v)
+pub either-fits : (b : Bool) (w v : ℕ) → IsWord w → IsWord v → IsWord (if b then w else v)
 either-fits true w v f g = f
 either-fits false w v f g = g
 

@@ -529,7 +529,7 @@ slots-place labels p k (At (Does (Write m y xs))) = refl
 slots-place labels p k (At (Forks c y z)) = refl
 slots-place labels p k (At (Ends l)) = refl
 
-and-order : (a b : Bool) → (a && b) ≡ (b && a)
+pub and-order : (a b : Bool) → (a && b) ≡ (b && a)
 and-order true true = refl
 and-order true false = refl
 and-order false true = refl

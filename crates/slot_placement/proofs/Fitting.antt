@@ -155,7 +155,7 @@ param-in [] i l = absurd (omega arith)
 param-in (x ∷ xs) zero l = or_left (nat_eq x x) (is_in x xs) (in-itself x)
 param-in (x ∷ xs) (suc i) l = or_right (nat_eq (param_at (slice_get xs i)) x) (is_in (param_at (slice_get xs i)) xs) (param-in xs i (omega arith))
 
-label-param-in : (P : List ℕ) (n i : ℕ) (o : Option Label) → ((l : Label) → o ≡ Some l → Within l.params P) → takes_as_many n o ≡ true → i < n → is_in (label_param o i) P ≡ true
+pub label-param-in : (P : List ℕ) (n i : ℕ) (o : Option Label) → ((l : Label) → o ≡ Some l → Within l.params P) → takes_as_many n o ≡ true → i < n → is_in (label_param o i) P ≡ true
 label-param-in P n i (Some l) h e b = let same = same-number (length l.params) n e in h l refl (param_at (slice_get l.params i)) (param-in l.params i (omega arith))
 label-param-in P n i None h e b = absurd (false≢true e)
 

@@ -38,10 +38,10 @@ out-of x (v ∷ vs) e = (
     rest true f = absurd (false≢true (sym f))
     rest false f = f
 
-abbrev IsAlone : List Value → Value → Type 0
+abbrev pub IsAlone : List Value → Value → Type 0
 IsAlone vs v = Each (λ w. w.var ≡ v.var → w ≡ v) vs
 
-alone : (vs : List Value) → all_different (map (λ v. v.var) vs) ≡ true → Each (IsAlone vs) vs
+pub alone : (vs : List Value) → all_different (map (λ v. v.var) vs) ≡ true → Each (IsAlone vs) vs
 alone [] h = tt
 alone (v ∷ vs) h =
     let p = and_parts (not (is_in v.var (map (λ (w : Value). w.var) vs))) (all_different (map (λ (w : Value). w.var) vs)) h in
@@ -62,7 +62,7 @@ each-made number Q f (v ∷ vs) h = pick (f v) (each-made number Q f vs h.1)
     pick true rest = (h.0, rest)
     pick false rest = rest
 
-wanted-each : (f : Value → Bool) (vs : List Value) → Each (λ v. f v ≡ true → is_in v.var (map (λ w. w.var) (filter f vs)) ≡ true) vs
+pub wanted-each : (f : Value → Bool) (vs : List Value) → Each (λ v. f v ≡ true → is_in v.var (map (λ w. w.var) (filter f vs)) ≡ true) vs
 wanted-each f [] = tt
 wanted-each f (v ∷ vs) = (
   λ e. first (f v) e,
@@ -78,7 +78,7 @@ wanted-each f (v ∷ vs) = (
     later w true e = or_right (nat_eq w.var v.var) (is_in w.var (map (λ (u : Value). u.var) (filter f vs))) e
     later w false e = e
 
-found-home : (homes : List Home) (x : ℕ) (it : Home) → Each (λ h. h.var ≡ x → h ≡ it) homes → is_in x (map (λ h. h.var) homes) ≡ true → home_in homes x ≡ it
+pub found-home : (homes : List Home) (x : ℕ) (it : Home) → Each (λ h. h.var ≡ x → h ≡ it) homes → is_in x (map (λ h. h.var) homes) ≡ true → home_in homes x ≡ it
 found-home [] x it h e = absurd (false≢true e)
 found-home (d ∷ homes) x it h e = pick (nat_eq d.var x) refl (λ a. found-home homes x it h.1 a)
   where

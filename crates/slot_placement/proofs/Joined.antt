@@ -137,11 +137,11 @@ different-more : (x : ℕ) (xs : List ℕ) (b : Bool) → is_in x xs ≡ b → (
 different-more x xs true f h g = let l = different-length xs in absurd (omega arith)
 different-more x xs false f h g = h (omega arith)
 
-different-by-count : (xs : List ℕ) → different xs ≡ length xs → all_different xs ≡ true
+pub different-by-count : (xs : List ℕ) → different xs ≡ length xs → all_different xs ≡ true
 different-by-count [] e = refl
 different-by-count (x ∷ xs) e = let rest : different xs ≡ length xs → all_different xs ≡ true = λ f. different-by-count xs f in different-more x xs (is_in x xs) refl rest e
 
-still-different : (xs ys : List ℕ) → IsPermutation xs ys → all_different xs ≡ true → all_different ys ≡ true
+pub still-different : (xs ys : List ℕ) → IsPermutation xs ys → all_different xs ≡ true → all_different ys ≡ true
 still-different xs ys p d =
     let same : (x : ℕ) → is_in x xs ≡ is_in x ys = λ x. list_any-IsPermutation (λ y. nat_eq x y) xs ys p in
     let a = different-below xs ys (λ x e. sym (same x) ∙ e) in
@@ -165,7 +165,7 @@ different-if : (v : Value) (rest : List Value) (b : Bool) → is_in v.var (map (
 different-if v rest true out h = and_from (not (is_in v.var (map (λ (w : Value). w.var) rest))) (all_different (map (λ (w : Value). w.var) rest)) (not_from_false (is_in v.var (map (λ (w : Value). w.var) rest)) out) h
 different-if v rest false out h = h
 
-different-kept : (f : Value → Bool) (vs : List Value) → all_different (map (λ v. v.var) vs) ≡ true → all_different (map (λ v. v.var) (filter f vs)) ≡ true
+pub different-kept : (f : Value → Bool) (vs : List Value) → all_different (map (λ v. v.var) vs) ≡ true → all_different (map (λ v. v.var) (filter f vs)) ≡ true
 different-kept f [] h = refl
 different-kept f (v ∷ vs) h =
     let p = and_parts (not (is_in v.var (map (λ (w : Value). w.var) vs))) (all_different (map (λ (w : Value). w.var) vs)) h in
@@ -173,7 +173,7 @@ different-kept f (v ∷ vs) h =
     (false_from_ne_true (is_in v.var (map (λ (w : Value). w.var) (filter f vs))) (λ e. false≢true (sym (not-true (is_in v.var (map (λ (w : Value). w.var) vs)) p.0) ∙ in-kept f vs v.var e)))
     (different-kept f vs p.1)
 
-values-different : (labels : List Label) → single labels ≡ true → all_different (map (λ v. v.var) (values labels)) ≡ true
+pub values-different : (labels : List Label) → single labels ≡ true → all_different (map (λ v. v.var) (values labels)) ≡ true
 values-different labels form =
     let a = and_parts (is_entry (slice_get labels 0)) (all_different (all_defined labels) && list_all (is_single labels) labels) form in
     let b = and_parts (all_different (all_defined labels)) (list_all (is_single labels) labels) a.1 in
@@ -183,7 +183,7 @@ vars-made : (number : Numbers) (vs : List Value) → map (λ h. h.var) (map (val
 vars-made number [] = refl
 vars-made number (v ∷ vs) = ap (λ x. x ∷ map (λ h. h.var) (map (value_home number) vs)) (home-var (slot_number number v.var) v.var v.sort) ∙ ap (λ l. v.var ∷ l) (vars-made number vs)
 
-rises : (hs : List KeptHome) → IsNonDecreasingBy (λ h. h.var) hs → all_different (map (λ h. h.var) (map home_view hs)) ≡ true → Rises (map (λ h. h.var) (map home_view hs))
+pub rises : (hs : List KeptHome) → IsNonDecreasingBy (λ h. h.var) hs → all_different (map (λ h. h.var) (map home_view hs)) ≡ true → Rises (map (λ h. h.var) (map home_view hs))
 rises [] n d = tt
 rises (h ∷ []) n d = tt
 rises (h ∷ g ∷ hs) n d =

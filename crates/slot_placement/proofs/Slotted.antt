@@ -89,7 +89,7 @@ other-bank n Sram i = refl
 other-bank n Sdram i = refl
 other-bank n Scratch i = refl
 
-read-no-slot : (m : Mem) (i : ℕ) → is_slot (read_place m i) ≡ false
+pub read-no-slot : (m : Mem) (i : ℕ) → is_slot (read_place m i) ≡ false
 read-no-slot Sram i = refl
 read-no-slot Sdram i = refl
 read-no-slot Scratch i = refl

@@ -60,7 +60,7 @@ pub length-of-map : (f : ℕ → ℕ) (xs : List ℕ) → length (map f xs) ≡ 
 length-of-map f [] = refl
 length-of-map f (x ∷ xs) = omega (arith, length-of-map f xs)
 
-length-roles : (role : ℕ → Role) (i : ℕ) (xs : List ℕ) → length (roles role i xs) ≡ length xs
+pub length-roles : (role : ℕ → Role) (i : ℕ) (xs : List ℕ) → length (roles role i xs) ≡ length xs
 length-roles role i [] = refl
 length-roles role i (x ∷ xs) = omega (arith, length-roles role (suc i) xs)
 

@@ -136,11 +136,11 @@ apart-append (u ∷ a) b h g e = (both a h.0, apart-append a b h.1 g e.1)
     both [] k = e.0
     both (v ∷ a) k = (k.0, both a k.1)
 
-skip : (b : Bool) (s t r : Serve) → b ≡ false → t ≡ r → (if b then s else t) ≡ r
+pub skip : (b : Bool) (s t r : Serve) → b ≡ false → t ≡ r → (if b then s else t) ≡ r
 skip true s t r e h = absurd (false≢true (sym e))
 skip false s t r e h = h
 
-take-first : (b : Bool) (s t : Serve) → b ≡ true → (if b then s else t) ≡ s
+pub take-first : (b : Bool) (s t : Serve) → b ≡ true → (if b then s else t) ≡ s
 take-first true s t e = refl
 take-first false s t e = absurd (false≢true e)
 
@@ -223,7 +223,7 @@ homed labels number homes (v ∷ vs) x h e =
     homed-in labels number homes v (filter (wants_home labels) vs) x h.0 (λ f. homed labels number homes vs x h.1 f) (wants_home labels v) refl e
 
 -- a value that is used wants a home
-used-wants : (b : Bool) (sort : Sort) → b ≡ true → is_sort_homed b sort ≡ true
+pub used-wants : (b : Bool) (sort : Sort) → b ≡ true → is_sort_homed b sort ≡ true
 used-wants b (Parameter l i) e = refl
 used-wants b Result e = refl
 used-wants b (Fetched m i) e = e

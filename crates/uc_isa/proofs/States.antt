@@ -42,7 +42,7 @@ un-fits (Shl k) x s h = una-fits (una.Shl k) x s h
 un-fits (Shr k) x s h = una-fits (una.Shr k) x s h
 un-fits (Rol k) x s h = una-fits (una.Rol k) x s h
 
-bank-set : (n : ℕ) (bank : List ℕ) (r v : ℕ) → IsBank n bank → IsWord v → IsBank n (slice_set bank r v)
+pub bank-set : (n : ℕ) (bank : List ℕ) (r v : ℕ) → IsBank n bank → IsWord v → IsBank n (slice_set bank r v)
 bank-set n bank r v h w = (length-set bank r v ∙ h.0, All-set IsWord bank r v w h.1)
 
 result-state : (d : Dst) (v : ℕ) (e : Engine) → IsEngine e → IsWord v → IsEngine (with_result d v e)
@@ -53,7 +53,7 @@ result-state (dst.SD r) v e h w = record { bank_a = h.bank_a; bank_b = h.bank_b;
 result-state dst.Nowhere v e h w = h
 
 -- flags and place may be any
-other-state : (e : Engine) (z c : Bool) (place : ℕ) → IsEngine e → IsEngine (record e { z = z; c = c; place = place })
+pub other-state : (e : Engine) (z c : Bool) (place : ℕ) → IsEngine e → IsEngine (record e { z = z; c = c; place = place })
 other-state e z c place h = record { bank_a = h.bank_a; bank_b = h.bank_b; bank_l = h.bank_l; bank_s = h.bank_s; bank_ld = h.bank_ld; bank_sd = h.bank_sd }
 
 length-filled : (bank : List ℕ) (r : ℕ) (ws : List ℕ) → length bank ≡ 8 → r + length ws ≤ 8 → length (filled bank r ws) ≡ 8
@@ -67,12 +67,12 @@ bank-filled : (bank : List ℕ) (r : ℕ) (ws : List ℕ) → IsBank 8 bank → 
 bank-filled bank r ws h fits w =
     (length-filled bank r ws h.0 fits, All-append IsWord (take r bank ++ ws) (drop (r + length ws) bank) (All-append IsWord (take r bank) ws (All-take IsWord r bank h.1) w) (All-drop IsWord (r + length ws) bank h.1))
 
-read-state : (m : Mem) (r : ℕ) (ws : List ℕ) (e : Engine) → IsEngine e → r + length ws ≤ 8 → All IsWord ws → IsEngine (with_read m r ws e)
+pub read-state : (m : Mem) (r : ℕ) (ws : List ℕ) (e : Engine) → IsEngine e → r + length ws ≤ 8 → All IsWord ws → IsEngine (with_read m r ws e)
 read-state Sram r ws e h fits w = record { bank_a = h.bank_a; bank_b = h.bank_b; bank_l = bank-filled e.l r ws h.bank_l fits w; bank_s = h.bank_s; bank_ld = h.bank_ld; bank_sd = h.bank_sd }
 read-state Sdram r ws e h fits w = record { bank_a = h.bank_a; bank_b = h.bank_b; bank_l = h.bank_l; bank_s = h.bank_s; bank_ld = bank-filled e.ld r ws h.bank_ld fits w; bank_sd = h.bank_sd }
 read-state Scratch r ws e h fits w = record { bank_a = h.bank_a; bank_b = h.bank_b; bank_l = bank-filled e.l r ws h.bank_l fits w; bank_s = h.bank_s; bank_ld = h.bank_ld; bank_sd = h.bank_sd }
 
-written-fits : (m : Mem) (e : Engine) → IsEngine e → All IsWord (write_registers m e)
+pub written-fits : (m : Mem) (e : Engine) → IsEngine e → All IsWord (write_registers m e)
 written-fits Sram e h = h.bank_s.1
 written-fits Sdram e h = h.bank_sd.1
 written-fits Scratch e h = h.bank_s.1

@@ -12,8 +12,9 @@ use Rattle.slot_placement.specs.declared.place.First.{First}
 use Rattle.slot_placement.specs.declared.place.Serve.{Serve}
 use Rattle.slot_placement.specs.declared.place.Pass.{Pass}
 use Rattle.slot_placement.specs.Plan.{first_in, serve_in, pass_in}
-use Rattle.slot_placement.specs.Uses.{Access, accesses_from, accesses, place_accesses, Role, roles, step_roles, last_roles, Operand, Written, Argument, Ending, Use, uses_at, uses_from, uses, place_roles}
+use Rattle.slot_placement.specs.Uses.{Access, accesses_from, accesses, place_accesses, Role, step_roles, last_roles, Operand, Written, Argument, Ending, Use, uses_at, uses_from, uses, place_roles}
 use Rattle.slot_placement.specs.Fits.{Rises, at_operand, use_operand}
+use Rattle.slot_placement.proofs.Sound.{length-roles}
 use Rattle.held_values.proofs.Scoped.{in-itself}
 use Rattle.ucode_emit.specs.inner.Marks.{Mark, tree_marks, marks_from, marks}
 use Rattle.ucode_emit.specs.inner.Cursors.{place_operands, operands_from, marks_operands, step_access, place_access, marks_accesses, IsCut, AreServed, of_point, further}
@@ -272,21 +273,17 @@ uses_numbered k i [] rs e = refl
 uses_numbered k i (x ∷ xs) [] e = absurd (omega (arith, e))
 uses_numbered k i (x ∷ xs) (r ∷ rs) e = let z : length rs ≡ length xs = omega (arith, e) in ap (λ l. (k, i) ∷ l) (uses_numbered k (suc i) xs rs z)
 
-roles_many : (role : ℕ → Role) (i : ℕ) (xs : List ℕ) → length (roles role i xs) ≡ length xs
-roles_many role i [] = refl
-roles_many role i (x ∷ xs) = ap suc (roles_many role (suc i) xs)
-
 step_many : (s : Step) → length (step_roles s) ≡ length (step_uses s)
 step_many (Lit x v) = refl
 step_many (Una x op y) = refl
 step_many (Bin x op y z) = refl
 step_many (Clone xs y) = refl
 step_many (Read m xs y) = refl
-step_many (Write m y xs) = ap suc (roles_many (Written m) 0 xs)
+step_many (Write m y xs) = ap suc (length-roles (Written m) 0 xs)
 
 last_many : (l : Last) → length (last_roles l) ≡ length (last_uses l)
-last_many (Jump l xs) = roles_many (Argument l) 0 xs
-last_many (Halt e xs) = roles_many Ending 0 xs
+last_many (Jump l xs) = length-roles (Argument l) 0 xs
+last_many (Halt e xs) = length-roles Ending 0 xs
 
 at_node : (k : ℕ) (of : Names) (xs : List ℕ) (rs : List Role) → length rs ≡ length xs → map use_operand (uses_at k 0 (map of xs) rs) ≡ operands_from k 0 (length xs)
 at_node k of xs rs e = uses_numbered k 0 (map of xs) rs (e ∙ sym (length-map xs of)) ∙ ap (operands_from k 0) (length-map xs of)

@@ -24,6 +24,7 @@ use Rattle.uc_isa.specs.Step.{address, onward, write_registers}
 use Rattle.uc_isa.specs.Straight.{Stands as InCode}
 use Rattle.uc_isa.proofs.PieceSteps.{leads-read, ends-read, leads-write, ends-write}
 use Rattle.uc_isa.proofs.RegisterLemmas.{written-run}
+use Rattle.uc_isa.proofs.States.{other-state, written-fits}
 use Rattle.slot_placement.specs.declared.place.Place.{Place}
 use Rattle.slot_placement.specs.declared.place.Place.TheVariants.{A, B, L, LD, S, SD, Slot}
 use Rattle.slot_placement.specs.Fits.{write_place}
@@ -31,7 +32,7 @@ use Rattle.par_move.specs.Moves.{Words}
 use Rattle.ucode_emit.specs.inner.Pieces.{address_of}
 use Rattle.ucode_emit.specs.inner.Machine.{Stands, Led, Over, filled}
 use Rattle.ucode_emit.specs.inner.Layers.{IsAddress}
-use Rattle.ucode_emit.proofs.MachineResults.{HasWords, address_word, other_state, written_fits}
+use Rattle.ucode_emit.proofs.MachineResults.{HasWords, address_word}
 use Rattle.ucode_emit.proofs.MachineOperations.{instr_here, got_some, seen_alike}
 use Rattle.ucode_emit.proofs.MachineReads.{with_words_read, read_stands}
 
@@ -131,7 +132,7 @@ taken_are base at mem f ws e w m le h each =
 
 pub taken_fit : (mem : Mem) (f n : ℕ) (ws : List ℕ) (m : Moment) (base at : ℕ) (e : Words) (w : World) → Stands base at e w m → take n (drop f (write_registers mem m.engine)) ≡ ws → All IsWord ws
 taken_fit mem f n ws m base at e w h is =
-    subst (λ l. All IsWord l) is (All-take IsWord n (drop f (write_registers mem m.engine)) (All-drop IsWord f (write_registers mem m.engine) (written_fits mem m.engine h.engine)))
+    subst (λ l. All IsWord l) is (All-take IsWord n (drop f (write_registers mem m.engine)) (All-drop IsWord f (write_registers mem m.engine) (written-fits mem m.engine h.engine)))
 
 -- the moment behind a write
 abbrev pub with_words_written : Mem → ℕ → List ℕ → Memories → Moment → Moment
@@ -165,7 +166,7 @@ written_stands base at mem a b ws q r e w m same s fits h st both =
     scratch_kept mem b ws m.packet r (base + k) h.memories sizes st (source_apart mem b (length ws) (base + k) s (omega (arith, h.spills.0))) (omega (arith, h.spills.1, lt)) ∙ h.words (Slot k) lt in
     record {
       place = ap (λ n. n + 1) h.place;
-      engine = other_state m.engine m.engine.z m.engine.c (m.engine.place + 1) h.engine;
+      engine = other-state m.engine m.engine.z m.engine.c (m.engine.place + 1) h.engine;
       memories = sizes;
       spills = h.spills;
       base_kept = h.base_kept;

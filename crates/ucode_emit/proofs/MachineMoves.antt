@@ -22,13 +22,13 @@ use Rattle.uc_isa.proofs.Leading.{leads-none, leads-then}
 use Rattle.uc_isa.proofs.Listing.{stands-left, stands-right}
 use Rattle.uc_isa.proofs.OwnWrites.{own-write, own-seen}
 use Rattle.uc_isa.proofs.PieceSteps.{leads-un, leads-read, leads-write}
-use Rattle.uc_isa.proofs.States.{operand-fits}
+use Rattle.uc_isa.proofs.States.{operand-fits, other-state}
 use Rattle.slot_placement.specs.declared.place.Place.{Place}
 use Rattle.slot_placement.specs.declared.place.Place.TheVariants.{A, B, L, LD, S, SD, Slot}
 use Rattle.par_move.specs.Moves.{Move, Words, put, one_by_one}
 use Rattle.ucode_emit.specs.inner.Pieces.{source, target, move_instr}
 use Rattle.ucode_emit.specs.inner.Machine.{IsReadable, IsWritable, IsDirect, read_slot, write_slot, copied, AreDirect, Stands, move_instrs, Led}
-use Rattle.ucode_emit.proofs.MachineResults.{HasWords, operand_word, resulted, put_stands, other_state}
+use Rattle.ucode_emit.proofs.MachineResults.{HasWords, operand_word, resulted, put_stands}
 use Rattle.ucode_emit.proofs.MachineOperations.{instr_here}
 use Rattle.ucode_emit.proofs.MachineReads.{with_words_read, read_stands}
 use Rattle.ucode_emit.proofs.MachineAccesses.{one_fetched, one_taken, one_same, scratch_kept, taken_fit, with_words_written}
@@ -123,7 +123,7 @@ slot_stands base at a k v q e w m lt there fits h st =
     let alike : SeenAlike m later = own-seen base m later h.spills.0 (own-write base a (v ∷ []) m (onward m.engine) q st (omega (arith, there)) (omega (arith, there, lt))) in
     record {
       place = ap (λ n. n + 1) h.place;
-      engine = other_state m.engine m.engine.z m.engine.c (m.engine.place + 1) h.engine;
+      engine = other-state m.engine m.engine.z m.engine.c (m.engine.place + 1) h.engine;
       memories = sizes;
       spills = h.spills;
       base_kept = h.base_kept;

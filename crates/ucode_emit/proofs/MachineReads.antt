@@ -14,13 +14,14 @@ use Rattle.uc_isa.specs.Registers.Register.{InA, InB, InL, InS, InLD, InSD}
 use Rattle.uc_isa.specs.Step.{with_read, onward}
 use Rattle.uc_isa.proofs.Places.{place-with_read}
 use Rattle.uc_isa.proofs.RegisterLemmas.{fills-run}
+use Rattle.uc_isa.proofs.States.{other-state, read-state}
 use Rattle.slot_placement.specs.declared.place.Place.{Place}
 use Rattle.slot_placement.specs.declared.place.Place.TheVariants.{A, B, L, LD, S, SD, Slot}
 use Rattle.slot_placement.specs.Places.{same_place}
 use Rattle.slot_placement.specs.Fits.{read_place}
 use Rattle.par_move.specs.Moves.{Words}
 use Rattle.ucode_emit.specs.inner.Machine.{word_at, Stands, filled}
-use Rattle.ucode_emit.proofs.MachineResults.{HasWords, other_state, read_state}
+use Rattle.ucode_emit.proofs.MachineResults.{HasWords}
 
 -- ---- a run of words over a bank
 
@@ -141,7 +142,7 @@ read_stands base at k f ws e w m le fits h =
     let to : Engine = with_read k f ws m.engine in
     record {
       place = ap (λ n. n + 1) (place-with_read k f ws m.engine ∙ h.place);
-      engine = other_state to to.z to.c (to.place + 1) (read_state k f ws m.engine h.engine le fits);
+      engine = other-state to to.z to.c (to.place + 1) (read-state k f ws m.engine h.engine le fits);
       memories = h.memories;
       spills = h.spills;
       base_kept = read_base base k f ws m h.base_kept;

@@ -1,19 +1,15 @@
 -- Engines that can be, and what stands in the places behind an instruction that puts a word into a register.
-use Rattle.std.proofs.Common.{◌≡◌, ℕ, ◌+◌, ◌<◌, ◌≤◌, List, ◌++◌, Bool, length, take, drop, All, refl, sym, ap, ◌∙◌, subst, ⊎_elim, if◌then◌else◌, nat_eq, arith, get_or-set_same, get_or-set_other}
+use Rattle.std.proofs.Common.{◌≡◌, ℕ, ◌+◌, ◌<◌, List, Bool, refl, sym, ap, ◌∙◌, subst, ⊎_elim, if◌then◌else◌, nat_eq, arith, get_or-set_same, get_or-set_other}
 use Rattle.std.proofs.lemmas.Bool.{cases_eq, eq-eqb, ne_eqb}
-use Rattle.std.proofs.lemmas.List.{length-set}
-use Rattle.std.proofs.lemmas.List.Elements.{All-append, All-take, All-drop, All-set}
 use Rattle.std.specs.Prelude.{slice_index, slice_set}
-use Rattle.nv_base.specs.declared.term.Mem.{Mem}
-use Rattle.nv_base.specs.declared.term.Mem.TheVariants.{Sram, Sdram, Scratch}
 use Rattle.nv_base.specs.Words.{IsWord}
 use Rattle.nv_base.specs.World.{World}
-use Rattle.nv_base.proofs.Stretches.{splice-length}
 use Rattle.uc_isa.specs.declared.engine.Engine.{Engine}
 use Rattle.uc_isa.specs.Engine.{IsBank, IsEngine}
 use Rattle.uc_isa.specs.Pieces.{Moment}
-use Rattle.uc_isa.specs.Step.{operand, address, with_result, with_read, write_registers, filled as with_run}
+use Rattle.uc_isa.specs.Step.{operand, address, with_result}
 use Rattle.uc_isa.proofs.Places.{place-with_result}
+use Rattle.uc_isa.proofs.States.{bank-set, other-state}
 use Rattle.slot_placement.specs.declared.place.Place.{Place}
 use Rattle.slot_placement.specs.declared.place.Place.TheVariants.{A, B, L, LD, S, SD, Slot}
 use Rattle.par_move.specs.Moves.{Words, put}
@@ -27,38 +23,14 @@ HasWords base e m = (q : Place) → IsPlace q → word_at base m q ≡ e q
 
 -- ---- engines that can be
 
-bank_set : (n : ℕ) (bank : List ℕ) (k v : ℕ) → IsBank n bank → IsWord v → IsBank n (slice_set bank k v)
-bank_set n bank k v h w = (length-set bank k v ∙ h.0, All-set IsWord bank k v w h.1)
-
 result_state : (d : Place) (v : ℕ) (e : Engine) → IsEngine e → IsWord v → IsEngine (with_result (target d) v e)
-result_state (A k) v e h w = record { bank_a = bank_set 16 e.a k v h.bank_a w; bank_b = h.bank_b; bank_l = h.bank_l; bank_s = h.bank_s; bank_ld = h.bank_ld; bank_sd = h.bank_sd }
-result_state (B k) v e h w = record { bank_a = h.bank_a; bank_b = bank_set 16 e.b k v h.bank_b w; bank_l = h.bank_l; bank_s = h.bank_s; bank_ld = h.bank_ld; bank_sd = h.bank_sd }
-result_state (S k) v e h w = record { bank_a = h.bank_a; bank_b = h.bank_b; bank_l = h.bank_l; bank_s = bank_set 8 e.s k v h.bank_s w; bank_ld = h.bank_ld; bank_sd = h.bank_sd }
-result_state (SD k) v e h w = record { bank_a = h.bank_a; bank_b = h.bank_b; bank_l = h.bank_l; bank_s = h.bank_s; bank_ld = h.bank_ld; bank_sd = bank_set 8 e.sd k v h.bank_sd w }
+result_state (A k) v e h w = record { bank_a = bank-set 16 e.a k v h.bank_a w; bank_b = h.bank_b; bank_l = h.bank_l; bank_s = h.bank_s; bank_ld = h.bank_ld; bank_sd = h.bank_sd }
+result_state (B k) v e h w = record { bank_a = h.bank_a; bank_b = bank-set 16 e.b k v h.bank_b w; bank_l = h.bank_l; bank_s = h.bank_s; bank_ld = h.bank_ld; bank_sd = h.bank_sd }
+result_state (S k) v e h w = record { bank_a = h.bank_a; bank_b = h.bank_b; bank_l = h.bank_l; bank_s = bank-set 8 e.s k v h.bank_s w; bank_ld = h.bank_ld; bank_sd = h.bank_sd }
+result_state (SD k) v e h w = record { bank_a = h.bank_a; bank_b = h.bank_b; bank_l = h.bank_l; bank_s = h.bank_s; bank_ld = h.bank_ld; bank_sd = bank-set 8 e.sd k v h.bank_sd w }
 result_state (L k) v e h w = h
 result_state (LD k) v e h w = h
 result_state (Slot k) v e h w = h
-
--- flags and place may be any
-pub other_state : (e : Engine) (z c : Bool) (place : ℕ) → IsEngine e → IsEngine (record e { z = z; c = c; place = place })
-other_state e z c place h = record { bank_a = h.bank_a; bank_b = h.bank_b; bank_l = h.bank_l; bank_s = h.bank_s; bank_ld = h.bank_ld; bank_sd = h.bank_sd }
-
-bank_run : (bank : List ℕ) (f : ℕ) (ws : List ℕ) → IsBank 8 bank → f + length ws ≤ 8 → All IsWord ws → IsBank 8 (with_run bank f ws)
-bank_run bank f ws h fits w =
-    let inside : f + length ws ≤ length bank = omega (arith, h.0) in (
-      splice-length f ws bank inside ∙ h.0,
-      All-append IsWord (take f bank ++ ws) (drop (f + length ws) bank) (All-append IsWord (take f bank) ws (All-take IsWord f bank h.1) w) (All-drop IsWord (f + length ws) bank h.1),
-    )
-
-pub read_state : (m : Mem) (f : ℕ) (ws : List ℕ) (e : Engine) → IsEngine e → f + length ws ≤ 8 → All IsWord ws → IsEngine (with_read m f ws e)
-read_state Sram f ws e h fits w = record { bank_a = h.bank_a; bank_b = h.bank_b; bank_l = bank_run e.l f ws h.bank_l fits w; bank_s = h.bank_s; bank_ld = h.bank_ld; bank_sd = h.bank_sd }
-read_state Sdram f ws e h fits w = record { bank_a = h.bank_a; bank_b = h.bank_b; bank_l = h.bank_l; bank_s = h.bank_s; bank_ld = bank_run e.ld f ws h.bank_ld fits w; bank_sd = h.bank_sd }
-read_state Scratch f ws e h fits w = record { bank_a = h.bank_a; bank_b = h.bank_b; bank_l = bank_run e.l f ws h.bank_l fits w; bank_s = h.bank_s; bank_ld = h.bank_ld; bank_sd = h.bank_sd }
-
-pub written_fits : (m : Mem) (e : Engine) → IsEngine e → All IsWord (write_registers m e)
-written_fits Sram e h = h.bank_s.1
-written_fits Sdram e h = h.bank_sd.1
-written_fits Scratch e h = h.bank_s.1
 
 -- ---- operands
 
@@ -141,7 +113,7 @@ result_base base (Slot k) v z c m p h = absurd p
 pub put_stands : (base at : ℕ) (d : Place) (v : ℕ) (z c : Bool) (e : Words) (w : World) (m : Moment) → IsWritable d → IsWord v → Stands base at e w m → Stands base (at + 1) (put e d v) w (resulted d v z c m)
 put_stands base at d v z c e w m p fits h = record {
   place = ap (λ n. n + 1) (place-with_result (target d) v m.engine ∙ h.place);
-  engine = other_state (with_result (target d) v m.engine) z c ((with_result (target d) v m.engine).place + 1) (result_state d v m.engine h.engine fits);
+  engine = other-state (with_result (target d) v m.engine) z c ((with_result (target d) v m.engine).place + 1) (result_state d v m.engine h.engine fits);
   memories = h.memories;
   spills = h.spills;
   base_kept = result_base base d v z c m p h.base_kept;
@@ -164,7 +136,7 @@ flagged_words base z c place e m h (Slot j) i = h (Slot j) i
 pub flagged_stands : (base at to : ℕ) (z c : Bool) (e : Words) (w : World) (m : Moment) → Stands base at e w m → Stands base to e w (record m { engine = record m.engine { z = z; c = c; place = to } })
 flagged_stands base at to z c e w m h = record {
   place = refl;
-  engine = other_state m.engine z c to h.engine;
+  engine = other-state m.engine z c to h.engine;
   memories = h.memories;
   spills = h.spills;
   base_kept = h.base_kept;

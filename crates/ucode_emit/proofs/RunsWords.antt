@@ -12,6 +12,7 @@ use Rattle.nv_base.specs.Sets.{is_in, all_different, Within, AgreeOn}
 use Rattle.nv_base.specs.Words.{Env, IsEnv, IsWord, word, shifted_left, assigned, assigned_all}
 use Rattle.nv_base.proofs.Sets.{agree-all, within-left}
 use Rattle.nv_base.proofs.Frames.{source-stretch}
+use Rattle.nv_base.proofs.Environments.{either-fits}
 use Rattle.ssu_ir.specs.Tree.{Clone}
 use Rattle.ssu_ir.specs.Points.{Names, names_after}
 use Rattle.ssu_ir.specs.Meaning.{assigned_each}
@@ -69,12 +70,8 @@ pub words_mapped : (env : Env) (xs : List ℕ) → IsEnv env → All IsWord (map
 words_mapped env [] h = All-nil IsWord
 words_mapped env (x ∷ xs) h = All-cons IsWord (env x) (map env xs) (h x) (words_mapped env xs h)
 
-pub either_word : (b : Bool) (w v : ℕ) → IsWord w → IsWord v → IsWord (if b then w else v)
-either_word true w v h g = h
-either_word false w v h g = g
-
 pub each_words : (env : Env) (xs : List ℕ) (w : ℕ) → IsEnv env → IsWord w → IsEnv (assigned_each env xs w)
-each_words env xs w h g = λ y. either_word (is_in y xs) w (env y) g (h y)
+each_words env xs w h g = λ y. either-fits (is_in y xs) w (env y) g (h y)
 
 -- ---- copies
 
