@@ -6,6 +6,7 @@ use Rattle.ssu_ir.specs.Tree.{Label}
 use Rattle.slot_placement.specs.Fits.{is_result}
 use Rattle.slot_placement.specs.Uses.{Access, accesses, Sort, Parameter, Result, Fetched, Value, values, place_values, Role, Operand, Address, Written, Argument, Ending, Use, uses, is_used}
 use Rattle.slot_placement.proofs.Sound.{Each}
+use Rattle.slot_placement.proofs.Slotted.{each-any}
 use Rattle.zo_model.specs.Program.{cost_where}
 use Rattle.bank_form.specs.declared.column.Bank.TheVariants.{A, B, M, T, L, A15, W}
 use Rattle.bank_form.specs.declared.column.Column.{Column}
@@ -16,7 +17,7 @@ use Rattle.bank_prog.specs.Meaning.{Chosen, named_cost}
 use Rattle.bank_form.specs.Program.{number_of}
 use Rattle.bank_rows.proofs.PlainLines.{mapped-each, each-kept}
 use Rattle.nova_back.specs.inner.Paired.{paired}
-use Rattle.nova_back.proofs.PairedOn.{IsPaired, off, each-any}
+use Rattle.nova_back.proofs.PairedOn.{IsPaired, off}
 use Rattle.bank_places.proofs.ChosenHolds.{flat-each, if-each, points-each}
 use Rattle.bank_places.proofs.CostSums.{cost-append}
 

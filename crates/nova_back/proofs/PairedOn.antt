@@ -149,10 +149,6 @@ first-most on c cs h = let a = count-more on c cs in let b = count-none on cs h 
 pub first-one : (on : Chosen) (c : Column) (cs : List Column) → on c ≡ true → Each (λ d. on d ≡ false) cs → count on (c ∷ cs) ≡ 1
 first-one on c cs e h = count-on on c cs e ∙ ap suc (count-none on cs h)
 
-pub each-any : {X : Type 0} (P : X → Type 0) (xs : List X) → ((x : X) → P x) → Each P xs
-each-any P [] h = tt
-each-any P (x ∷ xs) h = (h x, each-any P xs h)
-
 -- ---- uses and their values
 
 -- the point of a use

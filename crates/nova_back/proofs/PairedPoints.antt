@@ -12,6 +12,7 @@ use Rattle.slot_placement.specs.Fits.{is_result, point_values}
 use Rattle.slot_placement.specs.Uses.{Access, reads_at, writes_at, Sort, Parameter, Result, Fetched, Value, values, place_values, Role, Operand, Address, Written, Argument, Ending, Use, uses_at, uses, place_roles, is_used}
 use Rattle.held_values.proofs.Scoped.{different-filter}
 use Rattle.slot_placement.proofs.Sound.{Each, each-append}
+use Rattle.slot_placement.proofs.Slotted.{each-any}
 use Rattle.bank_form.specs.declared.column.Bank.{Bank}
 use Rattle.bank_form.specs.declared.column.Bank.TheVariants.{A, B, M, T, L, A15, W}
 use Rattle.bank_form.specs.declared.column.Column.{Column}
@@ -24,7 +25,7 @@ use Rattle.bank_form.specs.Rows.{at_most, covers, home, srv_at, two_operands, bo
 use Rattle.bank_rows.proofs.Present.{srv-there}
 use Rattle.bank_rows.proofs.PlainLines.{mapped-each}
 use Rattle.nova_back.specs.inner.Paired.{is_there, is_second, serves_a, serves_b}
-use Rattle.nova_back.proofs.PairedOn.{IsPaired, on-paired, off, contained-there, count-off, count-none, first-most, each-any, use-at, home-most, home-b-most, home-m-none}
+use Rattle.nova_back.proofs.PairedOn.{IsPaired, on-paired, off, contained-there, count-off, count-none, first-most, use-at, home-most, home-b-most, home-m-none}
 use Rattle.nova_back.proofs.PairedRows.{AreOff, zero-most, zero-covers, numbered-off, at-a, at-off, serves-none}
 use Rattle.bank_places.specs.inner.Facts.{count}
 use Rattle.bank_places.proofs.ChosenHolds.{most-holds, flat-each, if-each, points-each, only-most}

@@ -11,7 +11,7 @@ use Rattle.ssu_ir.specs.Tree.{Label, Lit, Una, Bin, Clone, Read, Write, Does, Fo
 use Rattle.slot_placement.specs.Fits.{is_result, parameter}
 use Rattle.slot_placement.specs.Uses.{Access, place_accesses, accesses_from, accesses, Value, values, Role, Operand, Address, Written, Argument, Ending, Use, uses_of, uses, is_used}
 use Rattle.held_values.specs.inner.Numbers.{values_among}
-use Rattle.slot_placement.proofs.Slotted.{first-fits}
+use Rattle.slot_placement.proofs.Slotted.{first-fits, each-any}
 use Rattle.slot_placement.proofs.Sound.{Each, each-append, Sound, sound-points, place_ok, uses_among}
 use Rattle.bank_form.specs.declared.column.Bank.{Bank}
 use Rattle.bank_form.specs.declared.column.Bank.TheVariants.{A, B, M, T, L, A15, W}
@@ -25,7 +25,7 @@ use Rattle.bank_form.specs.Rows.{at_most, covers, exactly_one, homes, banks, def
 use Rattle.bank_rows.proofs.Present.{contains-beginning, first-there, srv-there}
 use Rattle.bank_rows.proofs.PlainLines.{mapped-each}
 use Rattle.nova_back.specs.inner.Paired.{is_second, serves_a, serves_b, serves, paired}
-use Rattle.nova_back.proofs.PairedOn.{IsPaired, off, put, is_operand, first-use, not-both, count-off, count-none, first-most, first-one, each-any, used-value, is-used, home-most, home-a-some, home-b-most, home-b-some, home-m-none, put-a}
+use Rattle.nova_back.proofs.PairedOn.{IsPaired, off, put, is_operand, first-use, not-both, count-off, count-none, first-most, first-one, used-value, is-used, home-most, home-a-some, home-b-most, home-b-some, home-m-none, put-a}
 use Rattle.bank_places.specs.inner.Facts.{count}
 use Rattle.bank_places.proofs.ChosenHolds.{most-holds, covers-hold, one-holds, flat-each, if-each}
 use Rattle.bank_places.proofs.ChosenSource.{argument-value}

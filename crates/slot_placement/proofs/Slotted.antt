@@ -24,7 +24,7 @@ use Rattle.slot_placement.proofs.Sound.{Each, each-append, entry_params, place_r
 use Rattle.slot_placement.proofs.Spilled.{each-all, all-each, each-at, first-zero, firsts-points, serves-operands, none-early-of, IsFound, serves-found, pass-at, passes-rise, passes-below, Found, found, homed, used-wanted, param_vars, params-wanted, param-home, keeps-held, keeps-waiting, shares-nothing}
 use Rattle.slot_placement.proofs.Fitting.{each-uses, uses-part, apart-from, uses-are, values-are, entries-in, label-entry, roles-at, served-point, operands-apart}
 
-each-any : {X : Type 0} (P : X → Type 0) (xs : List X) → ((x : X) → P x) → Each P xs
+pub each-any : {X : Type 0} (P : X → Type 0) (xs : List X) → ((x : X) → P x) → Each P xs
 each-any P [] h = tt
 each-any P (x ∷ xs) h = (h x, each-any P xs h)
 
