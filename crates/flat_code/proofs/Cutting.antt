@@ -1,7 +1,8 @@
 -- The numbers that shifts cut out of words.
-use Rattle.std.proofs.Common.{◌≡◌, ◌∙◌, ap, sym, ℕ, suc, ◌+◌, ◌-◌, ◌*◌, ◌/◌, ◌%◌, ◌^◌, ◌<◌, ◌≤◌, List, [], ◌∷◌, ◌++◌, take, drop, length, get_or, append_assoc, length-append, subst, arith, bit_or}
+use Rattle.std.proofs.Common.{◌≡◌, ◌∙◌, ap, sym, ℕ, suc, ◌+◌, ◌-◌, ◌*◌, ◌/◌, ◌%◌, ◌^◌, ◌<◌, ◌≤◌, List, [], ◌∷◌, ◌++◌, take, drop, length, get_or, append_assoc, length-append, arith, bit_or}
 use Rattle.std.proofs.Math.Seq.{take-length, split_at}
-use Rattle.std.proofs.lemmas.Nat.{shr-shr, shl-shr, field_of, mod-pow-add, mod_low, or_shifted, pow_pos, pow-add, shr_below}
+use Rattle.std.proofs.lemmas.Nat.{shr-shr, shl-shr, field_of, mod-pow-add, mod_low, or_shifted, pow_pos, pow-add}
+use Rattle.nv_base.proofs.Rotation.{comes_round}
 use Rattle.nv_base.specs.Words.{shifted_left, shifted_right}
 use Rattle.nv_ast.specs.Bits.{bits, number, packed, slice}
 use Rattle.nv_layout.proofs.BitLists.{length-bits, bits-split, number-append, number-bits, packed-append, packed-cons, packed-one, length-front, slice-bits, slice-middle, two_at}
@@ -46,9 +47,6 @@ high-part w s n a b h =
     ∙ ap (λ j. (w % 2 ^ k) * 2 ^ j / 2 ^ d) f
     ∙ raised-again (w % 2 ^ k) l d
 
-pub low-below : (v l : ℕ) → v < 2 ^ 32 → l ≤ 32 → v / 2 ^ (32 - l) < 2 ^ l
-low-below v l small h = let e : 32 ≡ l + (32 - l) = omega arith in shr_below v l (32 - l) (subst (λ k. v < 2 ^ k) e small)
-
 all-there : (n : ℕ) (w : List ℕ) → length w ≡ n → take n w ≡ w
 all-there n w e = ap (λ k. take k w) (sym e) ∙ take-length w
 
@@ -66,7 +64,7 @@ across-number w v s n small a b h =
     let d : 64 - s - n ≡ 32 - l = omega arith in
     let e : 32 ≡ s + k = omega arith in
     let f : 32 ≡ l + (32 - l) = omega arith in
-    let ub : u < 2 ^ l = low-below v l small (omega arith) in
+    let ub : u < 2 ^ l = comes_round v l small (omega arith) in
     let lp : length p ≡ s = length-bits s (w / 2 ^ k) in
     let lk : length (bits k w) ≡ k = length-bits k w in
     let ll : length (bits l u) ≡ l = length-bits l u in

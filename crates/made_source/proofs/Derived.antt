@@ -1,5 +1,6 @@
 -- The tokens of a made source spell its program.
 use Rattle.std.proofs.Common.{◌≡◌, ℕ, zero, suc, ◌+◌, ◌<◌, List, [], ◌∷◌, length, refl, arith}
+use Rattle.nv_ast.proofs.Short.{zero_is_not_five}
 use Rattle.nv_ast.specs.declared.token.Token.{Token}
 use Rattle.nv_ast.specs.declared.token.Sort.TheVariants.{Sign}
 use Rattle.nv_ast.specs.declared.tree.Op.{Op}
@@ -11,9 +12,6 @@ use Rattle.made_source.specs.Made.{name_of}
 use Rattle.made_source.specs.inner.Lines.{IsLine, AreLines}
 use Rattle.made_source.specs.inner.Program.{span, size_of, operator_of, left_place, sign_place, right_place, end_place, next_place, place_behind, line_tokens, lines_tokens, tokens_of, name_tree, statement_of, statements_of, program_of}
 use Rattle.made_source.specs.declared.draws.Line.{Line}
-
-no-zero : ◌≡◌ {A = ℕ} 0 5 → ⊥
-no-zero h = cc
 
 no-two : ◌≡◌ {A = ℕ} 2 5 → ⊥
 no-two h = cc
@@ -49,11 +47,11 @@ of-five : (o : ℕ) (t : Token) (a p b q : ℕ) (k : List Token) → o < 5 → t
 of-five zero t a p b q k h s =
     let e = between a p Add b q in
     let ts = sides a p t b q k in
-    up 7 e ts k (up 6 e ts k (up 5 e ts k (up 4 e ts k (up 3 e ts k (up 2 e ts k (up 1 e ts k (above 0 Add t a p b q k s refl no-zero)))))))
+    up 7 e ts k (up 6 e ts k (up 5 e ts k (up 4 e ts k (up 3 e ts k (up 2 e ts k (up 1 e ts k (above 0 Add t a p b q k s refl zero_is_not_five)))))))
 of-five (suc zero) t a p b q k h s =
     let e = between a p Sub b q in
     let ts = sides a p t b q k in
-    up 7 e ts k (up 6 e ts k (up 5 e ts k (up 4 e ts k (up 3 e ts k (up 2 e ts k (up 1 e ts k (above 0 Sub t a p b q k s refl no-zero)))))))
+    up 7 e ts k (up 6 e ts k (up 5 e ts k (up 4 e ts k (up 3 e ts k (up 2 e ts k (up 1 e ts k (above 0 Sub t a p b q k s refl zero_is_not_five)))))))
 of-five (suc (suc zero)) t a p b q k h s =
     let e = between a p And b q in
     let ts = sides a p t b q k in

@@ -1,5 +1,5 @@
 -- Faults that aren't there.
-use Rattle.std.proofs.Common.{◌≡◌, refl, ℕ, ◌≤◌, Bool, true, false, ◌||◌, List, [], ◌∷◌, ◌++◌, nat_lt, rules, tests}
+use Rattle.std.proofs.Common.{◌≡◌, refl, ℕ, Bool, true, false, List, [], ◌∷◌, ◌++◌}
 use Rattle.nv_ast.specs.declared.token.Span.{Span}
 use Rattle.nv_ast.specs.Tests.{where_true}
 use Rattle.nv_ast.specs.Faults.{at_span}
@@ -22,10 +22,3 @@ no_kinds s (x ∷ xs) e = absurd (not_empty (x, s) (at_span s xs) e)
 pub not_where : {A : Type 0} (b : Bool) (x : A) → where_true b x ≡ [] → b ≡ false
 not_where true x e = absurd (not_empty x [] e)
 not_where false x e = refl
-
-pub at_most : (m n : ℕ) → nat_lt m n ≡ false → n ≤ m
-at_most m n e = search (tests, rules)
-
-pub not_either : (a b : Bool) → (a || b) ≡ false → a ≡ false
-not_either true b e = e
-not_either false b e = refl

@@ -1,6 +1,7 @@
 -- The parameters of main have at most 8 words.
 use Rattle.std.proofs.Common.{◌≡◌, ◌∙◌, refl, subst, ℕ, ◌≤◌, Bool, true, false, cond, ◌||◌, List, [], ◌∷◌, ◌++◌, arith, nat_lt, bytes_eq, Some}
 use Rattle.std.specs.Cmp.Lexicographic.{nat_list_eq_equiv}
+use Rattle.std.proofs.lemmas.Bool.{ltb-false, or_parts}
 use Rattle.nv_ast.specs.Tree.{FunTree, DeclTree, LayoutDecl, ExceptionDecl, GroupDecl}
 use Rattle.nv_ast.specs.Tests.{names_of, look_up}
 use Rattle.nv_ast.specs.Outline.{Layouts}
@@ -9,7 +10,7 @@ use Rattle.nv_ast.specs.Scope.{Signature, Known, nothing_known, signature, signa
 use Rattle.nv_ast.specs.Faults.{main_name, at_span, named_types_faults, type_faults, variable_twice, type_names, wide_main, name_faults, signature_faults, signatures_faults, bodies_faults, decl_faults, decls_faults, known_behind, no_main}
 use Rattle.nv_ast.specs.Sizes.{signature_words}
 use Rattle.nv_ast.specs.Laws.{MainIsNarrow}
-use Rattle.nv_ast.proofs.Faultless.{no_front, no_rest, no_kinds, not_where, at_most, not_either}
+use Rattle.nv_ast.proofs.Faultless.{no_front, no_rest, no_kinds, not_where}
 
 narrow_signature : (layouts : Layouts) (f : FunTree) (b : Bool) → bytes_eq f.name main_name ≡ b → signature_faults layouts f ≡ [] → b ≡ true → total_named_words (signature layouts f).params ≤ 8
 narrow_signature layouts f b is e yes_ =
@@ -17,7 +18,7 @@ narrow_signature layouts f b is e yes_ =
     let own = no_rest (variable_twice (type_names f.params)) _ (no_rest (type_faults layouts f.result) _ (no_rest (named_types_faults layouts f.params) _ kinds)) in
     let g = signature layouts f in
     let wide : wide_main g ≡ [] = subst (λ t. cond t (wide_main g) [] ≡ []) (is ∙ yes_) own in
-    at_most 8 (total_named_words g.params) (not_either (nat_lt 8 (total_named_words g.params)) (some_named_bool g.params || nat_lt 8 (words g.result)) (not_where _ 23 wide))
+    ltb-false 8 (total_named_words g.params) (or_parts (nat_lt 8 (total_named_words g.params)) (some_named_bool g.params || nat_lt 8 (words g.result)) (not_where _ 23 wide)).0
 
 narrow_signatures : (layouts : Layouts) (fs : List FunTree) → signatures_faults layouts fs ≡ [] → signature_words (look_up main_name (signatures layouts fs)) ≤ 8
 narrow_signatures layouts [] e = omega arith

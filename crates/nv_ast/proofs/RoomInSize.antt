@@ -1,5 +1,6 @@
 -- The room of a program without a fault is at most 5 times its expanded size and 8.
 use Rattle.std.proofs.Common.{◌≡◌, refl, ℕ, ◌+◌, ◌*◌, ◌≤◌, ◌<◌, min, List, [], ◌∷◌, ◌++◌, arith, nat_lt}
+use Rattle.std.proofs.lemmas.Bool.{ltb-false}
 use Rattle.nv_ast.specs.Tree.{FunTree, DeclTree, LayoutDecl, ExceptionDecl, GroupDecl}
 use Rattle.nv_ast.specs.Tests.{value_at, names_of}
 use Rattle.nv_ast.specs.Types.{Tys, total_words, types_of}
@@ -7,7 +8,7 @@ use Rattle.nv_ast.specs.Scope.{Known, nothing_known, in_group, known_after}
 use Rattle.nv_ast.specs.Faults.{main_name, at_span, declared_before, types_faults, wide_exception, decl_faults, decls_faults, known_behind, no_main}
 use Rattle.nv_ast.specs.Sizes.{GroupNumbers, numbered, body_vars, group_size, group_need, sizes_behind, needs_behind}
 use Rattle.nv_ast.specs.Laws.{RoomIsBounded}
-use Rattle.nv_ast.proofs.Faultless.{no_front, no_rest, no_kinds, not_where, at_most}
+use Rattle.nv_ast.proofs.Faultless.{no_front, no_rest, no_kinds, not_where}
 use Rattle.nv_ast.proofs.NeedInSize.{Fit, fit_at, AreLow, Before, need_in}
 
 group_in : (sizes needs : GroupNumbers) (k : Known) → Before sizes needs k → (fs : List FunTree) → group_need needs k fs ≤ 5 * group_size sizes k fs
@@ -32,7 +33,7 @@ low_exception : (k : Known) (x : List ℕ) (ts : _) (s : _) → decl_faults k (E
 low_exception k x ts s e =
     let kinds = no_kinds s _ e in
     let wide = no_rest (types_faults k.layouts ts) (wide_exception (types_of k.layouts ts)) (no_rest (declared_before x (names_of k.exceptions)) (types_faults k.layouts ts ++ wide_exception (types_of k.layouts ts)) kinds) in
-    at_most 8 (total_words (types_of k.layouts ts)) (not_where (nat_lt 8 (total_words (types_of k.layouts ts))) 23 wide)
+    ltb-false 8 (total_words (types_of k.layouts ts)) (not_where (nat_lt 8 (total_words (types_of k.layouts ts))) 23 wide)
 
 behind_in : (sizes needs : GroupNumbers) (k : Known) (ds : List DeclTree) → Before sizes needs k → decls_faults k ds ≡ [] → Fit (sizes_behind sizes k ds) (needs_behind needs k ds)
 behind_in sizes needs k [] is e = is.fit

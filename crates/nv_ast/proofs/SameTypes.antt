@@ -1,12 +1,8 @@
 -- The test of types finds equal ones.
-use Rattle.std.proofs.Common.{◌≡◌, ◌∙◌, refl, ap, Bool, true, false, ◌&&◌, List, ℕ, bytes_eq}
+use Rattle.std.proofs.Common.{◌≡◌, ◌∙◌, refl, ap, true, false, ◌&&◌, List, ℕ, bytes_eq}
 use Rattle.std.specs.Cmp.Lexicographic.{bytes_decides}
-use Rattle.std.proofs.lemmas.Bool.{false≢true}
+use Rattle.std.proofs.lemmas.Bool.{false≢true, and_parts}
 use Rattle.nv_ast.specs.Types.{Ty, WordTy, BoolTy, TupleTy, RecordTy, Tys, no_tys, ty_and, NamedTys, no_named_tys, named_ty_and, same_type, same_types, same_named_types}
-
-both_true : (a b : Bool) → (a && b) ≡ true → (a ≡ true) × (b ≡ true)
-both_true true b h = (refl, h)
-both_true false b h = absurd (false≢true h)
 
 mutual
   pub same_itself : (t : Ty) → same_type t t ≡ true
@@ -35,14 +31,14 @@ mutual
   pub parts_sound : (ts us : Tys) → same_types ts us ≡ true → ts ≡ us
   parts_sound no_tys no_tys h = refl
   parts_sound (ty_and t ts) (ty_and u us) h =
-      let both = both_true (same_type t u) (same_types ts us) h in
+      let both = and_parts (same_type t u) (same_types ts us) h in
       ap (λ (x : Ty). ty_and x ts) (same_sound t u both.0) ∙ ap (ty_and u) (parts_sound ts us both.1)
   parts_sound _ _ h = absurd (false≢true h)
 
   pub fields_sound : (ts us : NamedTys) → same_named_types ts us ≡ true → ts ≡ us
   fields_sound no_named_tys no_named_tys h = refl
   fields_sound (named_ty_and x t ts) (named_ty_and y u us) h =
-      let name = both_true (bytes_eq x y) (same_type t u && same_named_types ts us) h in
-      let both = both_true (same_type t u) (same_named_types ts us) name.1 in
+      let name = and_parts (bytes_eq x y) (same_type t u && same_named_types ts us) h in
+      let both = and_parts (same_type t u) (same_named_types ts us) name.1 in
       ap (λ (z : List ℕ). named_ty_and z t ts) ((bytes_decides x y).0 name.0) ∙ ap (λ (z : Ty). named_ty_and y z ts) (same_sound t u both.0) ∙ ap (named_ty_and y u) (fields_sound ts us both.1)
   fields_sound _ _ h = absurd (false≢true h)

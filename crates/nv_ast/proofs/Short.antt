@@ -4,7 +4,7 @@ use Rattle.nv_ast.specs.Laws.{ShortProgram}
 use Rattle.nv_ast.specs.declared.tree.Op.TheVariants.{Add, Sub}
 use Rattle.nv_ast.specs.Grammar.{next_decl, no_decl, group, no_fun, function, empty_params, word_type, tail_alone, operators, chain, una, post, number, variable, no_dot, no_operator, operator}
 
-zero_is_not_five : ◌≡◌ {A = ℕ} 0 5 → ⊥
+pub zero_is_not_five : ◌≡◌ {A = ℕ} 0 5 → ⊥
 zero_is_not_five h = cc
 
 pub short : ShortProgram

@@ -1,7 +1,7 @@
 -- Accesses that are apart, and accesses that a source can make.
 use Rattle.std.proofs.Common.{◌≡◌, ℕ, ◌+◌, ◌≤◌, ◌⊎◌, inl, inr, ◌*◌, zero, suc, List, [], ◌∷◌, Option, Bool, true, false, Some, None, length, take, drop, refl, sym, ap, ◌∙◌, if◌then◌else◌, nat_le, arith}
 use Rattle.std.specs.Prelude.{unwrap_or}
-use Rattle.std.proofs.lemmas.Bool.{false≢true}
+use Rattle.std.proofs.lemmas.Bool.{false≢true, leb-true}
 use Rattle.nv_base.specs.declared.term.Atom.{Atom}
 use Rattle.nv_base.specs.declared.term.Atom.TheVariants.{Var, Lit}
 use Rattle.nv_base.specs.declared.term.Mem.{Mem}
@@ -35,9 +35,6 @@ stored-if : (b : Bool) (new q : Memories) → (if b then Some new else None) ≡
 stored-if true new q e = let same : new ≡ q = cc in (refl, same)
 stored-if false new q e = cc
 
-fits-from : (m n : ℕ) → nat_le m n ≡ true → m ≤ n
-fits-from m n e = grind arith
-
 stored-fits : (m : Mem) (at : ℕ) (ws : List ℕ) (p q : Memories) → stored m at ws p ≡ Some q
     → (nat_le (first_word m at + length ws) (length (words_at m p)) ≡ true) × (with_words m p (splice (first_word m at) ws (words_at m p)) ≡ q)
 stored-fits m at ws p q e = stored-if (nat_le (first_word m at + length ws) (length (words_at m p))) (with_words m p (splice (first_word m at) ws (words_at m p))) q e
@@ -65,21 +62,21 @@ frame-at Scratch Scratch at n at' ws p (inr apart) fits = untouched at n at' ws 
 pub fetched-elsewhere : (m m' : Mem) (at n at' : ℕ) (ws : List ℕ) (p q : Memories) → AreApart m at n m' at' (length ws) → stored m' at' ws p ≡ Some q → fetched m at n q ≡ fetched m at n p
 fetched-elsewhere m m' at n at' ws p q apart e =
     let s = stored-fits m' at' ws p q e in
-    ap (fetched m at n) (sym s.1) ∙ frame-at m m' at n at' ws p apart (fits-from (first_word m' at' + length ws) (length (words_at m' p)) s.0)
+    ap (fetched m at n) (sym s.1) ∙ frame-at m m' at n at' ws p apart (leb-true (first_word m' at' + length ws) (length (words_at m' p)) s.0)
 
 -- ---- the order of two stores that are apart
 
 size-if : (c : Bool) (m m' : Mem) (a : ℕ) (ws : List ℕ) (p : Memories) → nat_le (a + length ws) (length (words_at m' p)) ≡ c → length (words_at m (spliced c m' a ws p)) ≡ length (words_at m p)
 size-if false m m' a ws p e = refl
-size-if true Sram Sram a ws p e = splice-length a ws p.sram (fits-from (a + length ws) (length p.sram) e)
+size-if true Sram Sram a ws p e = splice-length a ws p.sram (leb-true (a + length ws) (length p.sram) e)
 size-if true Sram Sdram a ws p e = refl
 size-if true Sram Scratch a ws p e = refl
 size-if true Sdram Sram a ws p e = refl
-size-if true Sdram Sdram a ws p e = splice-length a ws p.sdram (fits-from (a + length ws) (length p.sdram) e)
+size-if true Sdram Sdram a ws p e = splice-length a ws p.sdram (leb-true (a + length ws) (length p.sdram) e)
 size-if true Sdram Scratch a ws p e = refl
 size-if true Scratch Sram a ws p e = refl
 size-if true Scratch Sdram a ws p e = refl
-size-if true Scratch Scratch a ws p e = splice-length a ws p.scratch (fits-from (a + length ws) (length p.scratch) e)
+size-if true Scratch Scratch a ws p e = splice-length a ws p.scratch (leb-true (a + length ws) (length p.scratch) e)
 
 -- stores keep the sizes of memories
 pub applied-size : (m : Mem) (w : Write) (p : Memories) → length (words_at m (applied w p)) ≡ length (words_at m p)
@@ -91,19 +88,19 @@ order-if false c m m' at at' ws vs p apart e f = refl
 order-if true false m m' at at' ws vs p apart e f = refl
 order-if true true Sram Sram at at' ws vs p (inl other) e f = absurd (other refl)
 order-if true true Sram Sram at at' ws vs p (inr apart) e f =
-    ap (with_words Sram p) (swapped at at' ws vs p.sram apart (fits-from (at + length ws) (length p.sram) e) (fits-from (at' + length vs) (length p.sram) f))
+    ap (with_words Sram p) (swapped at at' ws vs p.sram apart (leb-true (at + length ws) (length p.sram) e) (leb-true (at' + length vs) (length p.sram) f))
 order-if true true Sram Sdram at at' ws vs p apart e f = refl
 order-if true true Sram Scratch at at' ws vs p apart e f = refl
 order-if true true Sdram Sram at at' ws vs p apart e f = refl
 order-if true true Sdram Sdram at at' ws vs p (inl other) e f = absurd (other refl)
 order-if true true Sdram Sdram at at' ws vs p (inr apart) e f =
-    ap (with_words Sdram p) (swapped (2 * at) (2 * at') ws vs p.sdram apart (fits-from (2 * at + length ws) (length p.sdram) e) (fits-from (2 * at' + length vs) (length p.sdram) f))
+    ap (with_words Sdram p) (swapped (2 * at) (2 * at') ws vs p.sdram apart (leb-true (2 * at + length ws) (length p.sdram) e) (leb-true (2 * at' + length vs) (length p.sdram) f))
 order-if true true Sdram Scratch at at' ws vs p apart e f = refl
 order-if true true Scratch Sram at at' ws vs p apart e f = refl
 order-if true true Scratch Sdram at at' ws vs p apart e f = refl
 order-if true true Scratch Scratch at at' ws vs p (inl other) e f = absurd (other refl)
 order-if true true Scratch Scratch at at' ws vs p (inr apart) e f =
-    ap (with_words Scratch p) (swapped at at' ws vs p.scratch apart (fits-from (at + length ws) (length p.scratch) e) (fits-from (at' + length vs) (length p.scratch) f))
+    ap (with_words Scratch p) (swapped at at' ws vs p.scratch apart (leb-true (at + length ws) (length p.scratch) e) (leb-true (at' + length vs) (length p.scratch) f))
 
 -- the fitting of a write behind another
 behind : (w v : Write) (p : Memories) → applied w (applied v p) ≡ spliced (nat_le (first_word w.mem w.at + length w.words) (length (words_at w.mem p))) w.mem (first_word w.mem w.at) w.words (applied v p)
@@ -192,4 +189,4 @@ pub source-stretch : (env : Env) (m : Mem) (a : Atom) (n : ℕ) → is_address m
 source-stretch env Sram a n e = tt
 source-stretch env Sdram a n e = tt
 source-stretch env Scratch (Var x) n e = absurd (false≢true e)
-source-stretch env Scratch (Lit at) n e = word-small at n (fits-from (at + n) 512 e)
+source-stretch env Scratch (Lit at) n e = word-small at n (leb-true (at + n) 512 e)

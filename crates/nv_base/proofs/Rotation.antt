@@ -15,7 +15,7 @@ moved x k le =
     (m, ap (λ n. x * 2 ^ k % 2 ^ n) (sym whole) ∙ mod-pow-add (x * 2 ^ k) (32 - k) k ∙ ap (λ n. m * 2 ^ k + n) (mul-mod_left x (2 ^ k)) ∙ last)
 
 -- what comes round has k digits
-comes_round : (x k : ℕ) → x < 2 ^ 32 → k ≤ 32 → x / 2 ^ (32 - k) < 2 ^ k
+pub comes_round : (x k : ℕ) → x < 2 ^ 32 → k ≤ 32 → x / 2 ^ (32 - k) < 2 ^ k
 comes_round x k fits le =
     let whole : k + (32 - k) ≡ 32 = omega arith in
     let product : 2 ^ k * 2 ^ (32 - k) ≡ 2 ^ 32 = sym (pow-add 2 k (32 - k)) ∙ ap (λ n. 2 ^ n) whole in

@@ -2,7 +2,7 @@ use nv_ast::Name;
 
 /// A name comes back by its bytes, and is equal to its copy.
 #[test]
-#[tactic(auto, using(crate::proofs::NameForm::h_ttl))]
+#[tactic(auto, using(nv_ast::proofs::Names::h_ttl))]
 fn names_are_their_bytes(rt: HostRuntime) {
     let name = Name::new(rt.alloc(), b"h_ttl").expect(&rt, "memory");
     let copy = name.clone().expect(&rt, "memory");

@@ -1,5 +1,6 @@
 -- A text has one meaning: names are faulty at one line, and good names give one list of instructions.
 use Rattle.std.proofs.Common.{◌≡◌, ℕ, ◌+◌, ◌<◌, ◌≤◌, ◌⊎◌, inl, inr, List, [], ◌∷◌, ◌++◌, suc, length, take, drop, get_or, refl, sym, ap, ◌∙◌, subst, arith, length-append}
+use Rattle.uc_isa.proofs.FirstBroken.{not-before}
 use Rattle.uc_isa.specs.declared.instruction.Instr.{Instr}
 use Rattle.uc_isa.specs.declared.instruction.Instr.TheVariants.{Br}
 use Rattle.asm_items.specs.Items.{Item, label, plain, jump, count, Stands, IsAt, Misnames, IsInstruction}
@@ -11,9 +12,6 @@ use Rattle.asm_items.specs.inner.Seen.{seen, all_seen}
 use Rattle.asm_items.specs.declared.item.Item.{Item as ReadItem}
 use Rattle.asm_items.proofs.StandLemmas.{stands-alike, stands-before, declared-here, count-append, count-instruction, stands-at, length-front, take-more-seen}
 
-same-number : (m n : ℕ) → (m < n → ⊥) → (n < m → ⊥) → m ≡ n
-same-number m n f g = omega arith
-
 -- where no name is declared twice, each has one place
 declared-twice : (items front back front' back' : List Item) (name : List ℕ) → AreNamed items → Stands items front (label name) back → Stands items front' (label name) back' → length front < length front' → ⊥
 declared-twice items front back front' back' name named s t lt =
@@ -22,7 +20,7 @@ declared-twice items front back front' back' name named s t lt =
 
 at-one : (items : List Item) (name : List ℕ) (p q : ℕ) → AreNamed items → IsAt items name p → IsAt items name q → p ≡ q
 at-one items name p q named h k =
-    let same = same-number (length h.0) (length k.0) (declared-twice items h.0 h.1 k.0 k.1 name named h.2 k.2) (declared-twice items k.0 k.1 h.0 h.1 name named k.2 h.2) in
+    let same = not-before (length h.0) (length k.0) (declared-twice items h.0 h.1 k.0 k.1 name named h.2 k.2) (declared-twice items k.0 k.1 h.0 h.1 name named k.2 h.2) in
     let fronts = (stands-alike items h.0 k.0 h.1 k.1 (label name) (label name) h.2 k.2 same).0 in
     h.3 ∙ (ap (λ (is : List Item). count is) fronts ∙ sym k.3)
 
@@ -38,7 +36,7 @@ resolved-one items (jump cond name ∷ xs) l m named h k =
 -- one line is the first with a name's fault
 pub misnamed-one : (items front front' : List Item) → FirstMisnamed items front → FirstMisnamed items front' → length front ≡ length front'
 misnamed-one items front front' h k =
-    same-number (length front) (length front') (λ lt. k.first front h.back h.item h.stands lt h.misnamed) (λ lt. h.first front' k.back k.item k.stands lt k.misnamed)
+    not-before (length front) (length front') (λ lt. k.first front h.back h.item h.stands lt h.misnamed) (λ lt. h.first front' k.back k.item k.stands lt k.misnamed)
 
 pub misnamed-not : (items front : List Item) → FirstMisnamed items front → ¬ AreNamed items
 misnamed-not items front h named = named front h.back h.item h.stands h.misnamed
@@ -53,7 +51,7 @@ pub line-one : (items : List Item) (place m n : ℕ) → IsLineOf items place m 
 line-one items place m n h k =
     let hb = h.before in
     let kb = k.before in
-    let same = same-number (length h.front) (length k.front)
+    let same = not-before (length h.front) (length k.front)
     (λ lt. let less = lesser-place items h.front h.back k.front k.back h.item k.item h.stands k.stands h.instruction lt in omega arith)
     (λ lt. let less = lesser-place items k.front k.back h.front h.back k.item h.item k.stands h.stands k.instruction lt in omega arith) in
     let a = h.line in

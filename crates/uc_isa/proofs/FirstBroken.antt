@@ -16,7 +16,7 @@ lawful-breaks_none code place i rule h (inr (inr (inr (inr (inr (inr b)))))) = b
 lawful-unbroken : (code : List Instr) (place rule : ℕ) → IsLawfulPlace code place → IsBroken code place rule → ⊥
 lawful-unbroken code place rule h b = lawful-breaks_none code place b.0 rule (h b.0 b.1) b.2
 
-not-before : (a b : ℕ) → (a < b → ⊥) → (b < a → ⊥) → a ≡ b
+pub not-before : (a b : ℕ) → (a < b → ⊥) → (b < a → ⊥) → a ≡ b
 not-before a b f g = omega arith
 
 pub least-one : (code : List Instr) (place r r' : ℕ) → IsLeastBroken code place r → IsLeastBroken code place r' → r ≡ r'

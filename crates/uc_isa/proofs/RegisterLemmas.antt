@@ -90,12 +90,9 @@ pub puts-flags : (d : Dst) (v w : ℕ) (c : Bool) (e : Engine) → IsEngine e �
 puts-flags d v w c e h = puts-result d v e (with_flags w c (with_result d v e)).z c h
 
 -- the words of a run, and those beside it
-front-length : (bank : List ℕ) (r : ℕ) → r ≤ length bank → length (take r bank) ≡ r
-front-length bank r le = length-take-le r bank le
-
 filled-run : (bank : List ℕ) (r : ℕ) (ws : List ℕ) (i : ℕ) → r + length ws ≤ length bank → i < length ws → slice_index (filled bank r ws) (r + i) ≡ slice_index ws i
 filled-run bank r ws i le lt =
-    let front : length (take r bank) ≡ r = front-length bank r (omega arith) in
+    let front : length (take r bank) ≡ r = length-take-le r bank (omega arith) in
     let both : length (take r bank ++ ws) ≡ length (take r bank) + length ws = length-append (take r bank) ws in
     let back : (r + i) - r ≡ i = omega arith in
     get_or_append_left (take r bank ++ ws) (drop (r + length ws) bank) 0 (r + i) (omega arith)
@@ -104,7 +101,7 @@ filled-run bank r ws i le lt =
 
 filled-before : (bank : List ℕ) (r : ℕ) (ws : List ℕ) (j : ℕ) → r + length ws ≤ length bank → j < r → slice_index (filled bank r ws) j ≡ slice_index bank j
 filled-before bank r ws j le lt =
-    let front : length (take r bank) ≡ r = front-length bank r (omega arith) in
+    let front : length (take r bank) ≡ r = length-take-le r bank (omega arith) in
     let both : length (take r bank ++ ws) ≡ length (take r bank) + length ws = length-append (take r bank) ws in
     get_or_append_left (take r bank ++ ws) (drop (r + length ws) bank) 0 j (omega arith)
     ∙ get_or_append_left (take r bank) ws 0 j (omega arith)
@@ -112,7 +109,7 @@ filled-before bank r ws j le lt =
 
 filled-behind : (bank : List ℕ) (r : ℕ) (ws : List ℕ) (j : ℕ) → r + length ws ≤ length bank → r + length ws ≤ j → slice_index (filled bank r ws) j ≡ slice_index bank j
 filled-behind bank r ws j le behind =
-    let front : length (take r bank) ≡ r = front-length bank r (omega arith) in
+    let front : length (take r bank) ≡ r = length-take-le r bank (omega arith) in
     let both : length (take r bank ++ ws) ≡ length (take r bank) + length ws = length-append (take r bank) ws in
     let back : (r + length ws) + (j - (r + length ws)) ≡ j = omega arith in
     get_or-append_right (take r bank ++ ws) (drop (r + length ws) bank) (r + length ws) j 0 (omega arith) behind
