@@ -1,5 +1,6 @@
 -- The numbers of the values of each bank's rows are those that a placement asks for.
 use Rattle.std.proofs.Common.{◌≡◌, ℕ, if◌then◌else◌, suc, ◌<◌, ◌≤◌, Bool, true, false, nat_eq, ◌||◌, ◌&&◌, ⊎_elim, Option, Some, None, List, [], ◌∷◌, length, map, filter, unwrap_or, refl, sym, ap, ◌∙◌, arith}
+use Rattle.std.proofs.Math.Bool.{and_comm}
 use Rattle.std.specs.Prelude.{All, slice_get, Result as Outcome, Ok, Err, IfOk}
 use Rattle.std.specs.HashMap.{get}
 use Rattle.std.specs.List.{AllZip}
@@ -17,7 +18,6 @@ use Rattle.slot_placement.proofs.Sound.{Each, each-append, entry_params, Sound, 
 use Rattle.slot_placement.proofs.Spilled.{each-all, all-each, each-weaker}
 use Rattle.slot_placement.proofs.Fitting.{uses-are}
 use Rattle.slot_placement.proofs.Joined.{different-by-count}
-use Rattle.place_ir.proofs.Pointed.{and-order}
 use Rattle.bank_form.specs.declared.column.Bank.{Bank}
 use Rattle.bank_form.specs.declared.column.Bank.TheVariants.{A, B, M}
 use Rattle.bank_form.specs.Rows.{homes, is_parameter}
@@ -40,7 +40,7 @@ row-kept keep row q r =
     let same : (x : ℕ) → is_in x (filter keep row) ≡ is_in x (filter keep q.before) = λ x. in-filter keep x row ∙ ap (λ b. b && keep x) (r.members x) ∙ sym (in-filter keep x q.before) in
     record {
       once = kept;
-      members = λ x. in-filter keep x row ∙ ap (λ b. b && keep x) (r.members x) ∙ and-order (is_in x q.before) (keep x);
+      members = λ x. in-filter keep x row ∙ ap (λ b. b && keep x) (r.members x) ∙ and_comm (is_in x q.before) (keep x);
       count = same-length (filter keep row) (filter keep q.before) kept (different-filter keep q.before once) same;
     }
 

@@ -1,5 +1,6 @@
 -- Which values are defined at a point or above it: those whose point has it below.
 use Rattle.std.proofs.Common.{◌≡◌, ℕ, suc, ◌+◌, ◌<◌, ◌≤◌, Bool, true, false, ◌&&◌, ◌||◌, if◌then◌else◌, nat_eq, nat_le, List, [], ◌∷◌, ◌++◌, length, map, get_or, Option, Some, refl, sym, ap, subst, ◌∙◌, arith}
+use Rattle.std.proofs.Math.Bool.{or_assoc}
 use Rattle.std.proofs.Math.Bool.{or-false}
 use Rattle.std.proofs.lemmas.List.{append-nil}
 use Rattle.std.proofs.lemmas.Bool.{false≢true, le-leb, lt-leb}
@@ -20,10 +21,6 @@ use Rattle.bank_rows.specs.inner.Waiting.{point_in, covers}
 and-false : (a : Bool) → (a && false) ≡ false
 and-false true = refl
 and-false false = refl
-
-or-assoc : (a b c : Bool) → ((a || b) || c) ≡ (a || (b || c))
-or-assoc true b c = refl
-or-assoc false b c = refl
 
 -- ---- points that have a point below
 
@@ -50,7 +47,7 @@ under-append x j [] qs k = let n : j ≡ j + 0 = omega arith in ap (λ m. under 
 under-append x j (q ∷ ps) qs k =
     let n : suc j + length ps ≡ j + suc (length ps) = omega arith in
     let h = is_in x (place_values q.place) && (nat_le j k && nat_le k (j + q.below)) in
-    ap (λ b. h || b) (under-append x (suc j) ps qs k ∙ ap (λ m. under x (suc j) ps k || under x m qs k) n) ∙ sym (or-assoc h (under x (suc j) ps k) (under x (j + suc (length ps)) qs k))
+    ap (λ b. h || b) (under-append x (suc j) ps qs k ∙ ap (λ m. under x (suc j) ps k || under x m qs k) n) ∙ sym (or_assoc h (under x (suc j) ps k) (under x (j + suc (length ps)) qs k))
 
 under-late : (x : ℕ) (of : Names) (above : List ℕ) (t : Tree) (j k : ℕ) → j + nodes t ≤ k → under x j (tree_points of above t) k ≡ false
 under-late x of above (Do s t) j k h =
@@ -88,7 +85,7 @@ first-here x j n vs ps =
 behind-first : (x j n k : ℕ) (above vs : List ℕ) (ps : List Point) → suc j ≤ k → k ≤ j + n
     → (is_in x (above ++ vs) || under x (suc j) ps k) ≡ (is_in x above || ((is_in x vs && (nat_le j k && nat_le k (j + n))) || under x (suc j) ps k))
 behind-first x j n k above vs ps a b =
-    ap (λ c. c || under x (suc j) ps k) (in-append x above vs) ∙ or-assoc (is_in x above) (is_in x vs) (under x (suc j) ps k)
+    ap (λ c. c || under x (suc j) ps k) (in-append x above vs) ∙ or_assoc (is_in x above) (is_in x vs) (under x (suc j) ps k)
     ∙ ap (λ c. is_in x above || (c || under x (suc j) ps k)) (sym (within (is_in x vs) j n k (omega (arith, a)) b))
 
 tree-tested : (x : ℕ) (of : Names) (above : List ℕ) (t : Tree) (j : ℕ) → Tested x (λ k. is_in x above || under x j (tree_points of above t) k) j (tree_points of above t)

@@ -3,6 +3,7 @@ use Rattle.std.proofs.Common.{◌≡◌, ℕ, ◌+◌, ◌*◌, ◌<◌, ◌≤�
 use Rattle.std.specs.Prelude.{slice_get}
 use Rattle.std.specs.List.{list_all}
 use Rattle.std.proofs.Math.Nat.{le_trans}
+use Rattle.std.proofs.lemmas.Bool.{and_parts}
 use Rattle.nv_ast.specs.Sizes.{expanded_size, main_words, room}
 use Rattle.nv_ast.specs.Tree.{ProgramTree}
 use Rattle.nv_base.specs.Meanings.{KeepsOutcomes}
@@ -47,18 +48,14 @@ use Rattle.nova_commands.specs.declared.build.CompileError.TheVariants as compil
 
 -- ---- a program's main counts, so its size is at least 1
 
-second-true : (x y : Bool) → (x && y) ≡ true → y ≡ true
-second-true true y h = h
-second-true false y h = absurd cc
-
 main-counts : (funs : List FlatFun) (o : Option FlatFun) (e : ℕ) → is_main funs o ≡ true → IsAtMost (main_bulk funs o) (of_size e) → 1 ≤ e
 main-counts funs (Some f) e h most = let labels = most.labels in omega arith
 main-counts funs None e h most = absurd cc
 
 some-size : (funs : List FlatFun) (main e : ℕ) → is_program funs main ≡ true → IsAtMost (bulk funs main) (of_size e) → 1 ≤ e
 some-size funs main e h most =
-    let later = second-true (list_all (is_function funs) funs) (agree (all_raised funs) && is_main funs (slice_get funs main)) h in
-    main-counts funs (slice_get funs main) e (second-true (agree (all_raised funs)) (is_main funs (slice_get funs main)) later) most
+    let later = (and_parts (list_all (is_function funs) funs) (agree (all_raised funs) && is_main funs (slice_get funs main)) h).1 in
+    main-counts funs (slice_get funs main) e ((and_parts (agree (all_raised funs)) (is_main funs (slice_get funs main)) later).1) most
 
 eight : (n : ℕ) → 8 ≤ n + 8
 eight n = omega arith

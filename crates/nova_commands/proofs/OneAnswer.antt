@@ -1,8 +1,7 @@
 -- The contents of a command's inputs decide the answer.
 use Rattle.std.proofs.Common.{◌≡◌, ℕ, ◌<◌, ◌≤◌, ◌⊎◌, inl, inr, List, [], ◌∷◌, Ok, Err, length, refl, ap, sym, ◌∙◌, subst, codes, arith}
-use Rattle.nv_memtext.specs.MemoryText.{Gives, IsBad}
-use Rattle.nv_memtext.proofs.ExactLemmas.{gives_one, gives_not_large, large_one, given_answer, bad_answer}
-use Rattle.nv_memtext.specs.declared.read.MemError.TheVariants.{Bad}
+use Rattle.nv_memtext.specs.MemoryText.{Gives}
+use Rattle.nv_memtext.proofs.ExactLemmas.{gives_one, gives_not_large, gives_not_bad, large_one, bad_one}
 use Rattle.nv_base.specs.Memories.{Memories}
 use Rattle.nv_base.specs.Meanings.{FullOutcome}
 use Rattle.nv_base.specs.declared.outcome.Outcome.{Outcome}
@@ -134,14 +133,8 @@ assembly-good : (text : List ℕ) (e : Refusal) (c : CodeView) → IsCodeOf text
 assembly-good text e c g h = let a = why text e h in code-unless c a.error (given-answer text (Err a.error) tt a.is_true c g) a.caused
 
 -- memory texts
-bad_line-one : (params : ℕ) (t : List ℕ) (n m : ℕ) → IsBad params t n → IsBad params t m → n ≡ m
-bad_line-one params t n m h k = bad_answer params t (Err (Bad n)) tt h m k
-
-given-bad : (params : ℕ) (t : List ℕ) (p : Memories) (args : List ℕ) (n : ℕ) → Gives params t p args → IsBad params t n → ⊥
-given-bad params t p args n g h = given_answer params t (Err (Bad n)) tt h p args g
-
 memory-one : (params : ℕ) (t : List ℕ) (e e' : Refusal) → IsMemoryRefusedFor params t e → IsMemoryRefusedFor params t e' → e ≡ e'
-memory-one params t (BadMemoryText n) (BadMemoryText m) h k = ap (λ (x : ℕ). BadMemoryText x) (bad_line-one params t n m h k)
+memory-one params t (BadMemoryText n) (BadMemoryText m) h k = ap (λ (x : ℕ). BadMemoryText x) (bad_one params t n m h k)
 memory-one params t (BadMemoryText n) (TooLarge m) h k = absurd (h.not_large m k)
 memory-one params t (BadMemoryText n) _ h k = absurd k
 memory-one params t (TooLarge n) (TooLarge m) h k = ap (λ (x : ℕ). TooLarge x) (large_one t n m h k)
@@ -150,7 +143,7 @@ memory-one params t (TooLarge n) _ h k = absurd k
 memory-one params t _ e' h k = absurd h
 
 memory-good : (params : ℕ) (t : List ℕ) (e : Refusal) (p : Memories) (args : List ℕ) → Gives params t p args → IsMemoryRefusedFor params t e → ⊥
-memory-good params t (BadMemoryText n) p args g h = given-bad params t p args n g h
+memory-good params t (BadMemoryText n) p args g h = gives_not_bad params t p args n g h
 memory-good params t (TooLarge n) p args g h = gives_not_large params t p args n g h
 memory-good params t _ p args g h = h
 

@@ -123,10 +123,10 @@ memory_format params = record { whole = λ ls w. lines w; fewer = front_fewer pa
 gives_text : (params : ℕ) (bytes : List ℕ) (p : Memories) (args : List ℕ) → Gives params bytes p args → IsText (IsWhole params) bytes
 gives_text params bytes p args g = record { lines = g.lines; spelled = g.spelled; whole = record { memories = p; args = args; text = g.text } }
 
-gives_not_bad : (params : ℕ) (bytes : List ℕ) (p : Memories) (args : List ℕ) (n : ℕ) → Gives params bytes p args → IsBad params bytes n → ⊥
+pub gives_not_bad : (params : ℕ) (bytes : List ℕ) (p : Memories) (args : List ℕ) (n : ℕ) → Gives params bytes p args → IsBad params bytes n → ⊥
 gives_not_bad params bytes p args n g b = no_text (IsFront params) (IsWhole params) bytes n (memory_format params) b.fault (gives_text params bytes p args g)
 
-bad_one : (params : ℕ) (bytes : List ℕ) (m n : ℕ) → IsBad params bytes m → IsBad params bytes n → m ≡ n
+pub bad_one : (params : ℕ) (bytes : List ℕ) (m n : ℕ) → IsBad params bytes m → IsBad params bytes n → m ≡ n
 bad_one params bytes m n b d = one_fault (IsFront params) (IsWhole params) bytes m n (memory_format params) b.fault d.fault
 
 pub given_answer : (params : ℕ) (bytes : List ℕ) (r : Result Job MemError) → IfOk r (λ job. Gives params bytes job.packet job.args) → IfErr r (IsTrueError params bytes) → (p : Memories) (args : List ℕ) → Gives params bytes p args → AnswersJob r p args

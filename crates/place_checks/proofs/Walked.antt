@@ -1,5 +1,6 @@
 -- Points that are found by walks from the labels.
 use Rattle.std.proofs.Common.{◌≡◌, ℕ, zero, suc, ◌+◌, ◌<◌, ◌≤◌, Bool, true, false, ◌||◌, ◌⊎◌, ⊎_elim, List, [], ◌∷◌, ◌++◌, Option, Some, None, length, map, refl, sym, ap, subst, ◌∙◌, arith, drop}
+use Rattle.std.proofs.Math.Bool.{or_assoc}
 use Rattle.std.specs.Prelude.{slice_get, slice_index_or}
 use Rattle.std.proofs.lemmas.List.{drop_more, drop_all}
 use Rattle.nv_base.specs.declared.term.Cmp.{Cmp}
@@ -342,10 +343,6 @@ above-as t k x test z e =
     let same : false ≡ test = cc in
     subst (λ n. IsAboveAt t n x test) (sym z) (subst (IsAboveAt t 0 x) same (above-here t x))
 
-or-regroup : (a b c : Bool) → ((a || b) || c) ≡ (a || (b || c))
-or-regroup true b c = refl
-or-regroup false b c = refl
-
 above-do : (s : Step) (t : Tree) (k m x : ℕ) (test : Bool) → k ≡ suc m → IsAboveAt t m x test → IsAboveAt (Do s t) k x (is_in x (step_values s) || test)
 above-do s t k m x test e w =
     let P : ℕ → Type 0 = λ n. IsAboveAt (Do s t) n x (is_in x (step_values s) || test) in
@@ -353,7 +350,7 @@ above-do s t k m x test e w =
       within = let l = w.within in omega arith;
       there = λ of above.
           let h = w.there (names_after of s) (above ++ step_values s) in
-          record { point = h.point; found = h.found; is = h.is ∙ ap (λ b. b || test) (in-append x above (step_values s)) ∙ or-regroup (is_in x above) (is_in x (step_values s)) test };
+          record { point = h.point; found = h.found; is = h.is ∙ ap (λ b. b || test) (in-append x above (step_values s)) ∙ or_assoc (is_in x above) (is_in x (step_values s)) test };
     })
 
 above-first : (c : Cmp) (v w : ℕ) (t u : Tree) (k m x : ℕ) (test : Bool) → k ≡ suc m → IsAboveAt t m x test → IsAboveAt (If c v w t u) k x test

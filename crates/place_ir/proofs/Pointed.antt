@@ -1,5 +1,6 @@
 -- What is asked at one point, as it is tested and as the rules say it.
 use Rattle.std.proofs.Common.{◌≡◌, ◌≢◌, ℕ, zero, suc, ◌+◌, ◌-◌, ◌<◌, ◌≤◌, Bool, true, false, not, ◌&&◌, ◌||◌, nat_eq, ◌⊎◌, inl, inr, ⊎_elim, List, [], ◌∷◌, ◌++◌, Option, Some, None, length, map, filter, refl, sym, ap, subst, ◌∙◌, arith}
+use Rattle.std.proofs.Math.Bool.{and_comm}
 use Rattle.std.specs.Prelude.{slice_get, is_some, nat_le, nat_lt}
 use Rattle.std.specs.List.{list_all, list_any}
 use Rattle.std.proofs.lemmas.Bool.{and_parts, and_from, or_cases, or_left, or_right, false≢true, false_from_ne_true, lt-ltb, ltb-true, le-ltb, le-leb, leb-true, eqb-false, not-true, not_from_false, cases_Bool}
@@ -529,15 +530,9 @@ slots-place labels p k (At (Does (Write m y xs))) = refl
 slots-place labels p k (At (Forks c y z)) = refl
 slots-place labels p k (At (Ends l)) = refl
 
-pub and-order : (a b : Bool) → (a && b) ≡ (b && a)
-and-order true true = refl
-and-order true false = refl
-and-order false true = refl
-and-order false false = refl
-
 slot-value-is : (labels : List Label) (p : Plan) (r : Bool) (x : ℕ) → found labels p ≡ uses labels → slot-value labels p r x ≡ to_slot labels p r x
 slot-value-is labels p r x e =
-    and-order (is_used labels x) (list_any is_slot (home p x).copied || (r && is_slot (home p x).defined))
+    and_comm (is_used labels x) (list_any is_slot (home p x).copied || (r && is_slot (home p x).defined))
     ∙ ap (λ b. (list_any is_slot (home p x).copied || (r && is_slot (home p x).defined)) && b) (sym (used-is (uses labels) x) ∙ ap (λ us. used us x) (sym e))
 
 writes-slot-is : (labels : List Label) (p : Plan) (k : ℕ) (q : Spot) → found labels p ≡ uses labels → list_any (comes_to_slot labels p) (place_values k q) ≡ list_any (to_slot labels p (is_result (place_node q))) (pure.place_values q)
