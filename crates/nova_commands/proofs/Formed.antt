@@ -117,7 +117,7 @@ banks-of p labels slots budget c r form report found light cheap = record {
 large : (p : ProgramTree) (labels : List Label) (slots n : ℕ) → IsFormOf p labels → IsTooLarge labels slots n → HasLargeBanks p slots n
 large p labels slots n form h = (labels, form, h)
 
-fewer : (s k r : ℕ) → s < k → k ≤ r → s < r
+pub fewer : (s k r : ℕ) → s < k → k ≤ r → s < r
 fewer s k r lt le = omega arith
 
 without : (p : ProgramTree) (labels : List Label) (slots budget : ℕ) (v : Verdict) (r : Report) → IsFormOf p labels → IsWithout labels slots budget v r → HasNoBanks p slots budget v r

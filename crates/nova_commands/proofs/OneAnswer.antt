@@ -1,5 +1,5 @@
 -- The contents of a command's inputs decide the answer.
-use Rattle.std.proofs.Common.{◌≡◌, ℕ, ◌<◌, ◌≤◌, ◌⊎◌, inl, inr, List, [], ◌∷◌, Ok, Err, length, refl, ap, sym, ◌∙◌, subst, codes, arith}
+use Rattle.std.proofs.Common.{◌≡◌, ℕ, ◌⊎◌, inl, inr, List, [], ◌∷◌, Ok, Err, length, refl, ap, sym, ◌∙◌, subst, codes}
 use Rattle.nv_memtext.specs.MemoryText.{Gives}
 use Rattle.nv_memtext.proofs.ExactLemmas.{gives_one, gives_not_large, gives_not_bad, large_one, bad_one}
 use Rattle.nv_base.specs.Memories.{Memories}
@@ -25,6 +25,7 @@ use Rattle.nova_front.proofs.OneSource.{source-program}
 use Rattle.nv_ast.specs.Sizes.{main_words}
 use Rattle.nv_ast.specs.Tree.{ProgramTree}
 use Rattle.nv_meaning.specs.Meaning.{source as meaning}
+use Rattle.nova_commands.proofs.Formed.{fewer}
 use Rattle.nova_commands.specs.Answers.{Makes, Prints, CanMake, CanEnd, Refuses, MustRefuse}
 use Rattle.object_commands.specs.Assembly.{AsmRefuses, IsListed}
 use Rattle.command_line.specs.Command.{Command, Compile, Run, Exec, Asm, Dis, Lint, Check, Gen}
@@ -267,12 +268,9 @@ prints-one (Check report) (b ∷ []) s s' fs t t' h k = checked-one b s s' t t' 
 prints-one _ _ s s' fs t t' h k = absurd k
 
 -- how a command ends that can make something
-above : (store n k : ℕ) → store < n → n ≤ k → store < k
-above store n k h le = omega arith
-
 unfit-end : (p : ProgramTree) (slots store : ℕ) (e : Refusal) → IsUnfit p slots store e → IsEndOf p slots store (refusal_status e)
 unfit-end p slots store (SourceLarge n) h = (n, h)
-unfit-end p slots store (StoreFull n) h = above store n (form_bound p) h.long h.bounded
+unfit-end p slots store (StoreFull n) h = fewer store n (form_bound p) h.long h.bounded
 unfit-end p slots store _ h = absurd h
 
 pub made-end : (c : Command) (bs : List (List ℕ)) (s : Status) (fs : List File) (t : List ℕ) → Makes c bs s fs t → CanMake c bs → CanEnd c bs s

@@ -1,4 +1,5 @@
-//! What the commands for objects and assembly texts make of the contents of their files, or why they are refused; and what any command makes, saved.
+//! What the commands for objects and assembly texts make of the contents of their files, or why they are refused; and what
+//! any command makes, saved.
 #![tactic(auto)]
 
 mod assemble;
