@@ -196,8 +196,9 @@ fn other_page_1(name: &[u8]) -> Option<&'static str> {
                 name: "status 9",
                 text: r#"status 9, infeasible
 
-`infeasible` with status 9 is said by `compile`. No choice of banks is possible with so few slots: more values are held at once than registers and slots can
-have. It comes only where more than 15 values are held at once, and more than there are slots. REPORT alone is saved. It proves that, and `check` says so.
+`infeasible` with status 9 is said by `compile`. No choice of banks meets the rows of the bank program with so few slots: more values are held at once than
+registers and slots can have. It comes only where more than 15 values are held at once, and more than there are slots. REPORT alone is saved. Its certificate
+proves that no choice meets these rows, and `check` tests it.
 Here forty words are held, and the two banks and the read registers have 38. Two slots don't help either, since a slot is written and read by way of a
 transfer register. Give it more slots, or use the words sooner:
 
@@ -224,8 +225,9 @@ transfer register. Give it more slots, or use the words sooner:
                 name: "infeasible",
                 text: r#"status 9, infeasible
 
-`infeasible` with status 9 is said by `compile`. No choice of banks is possible with so few slots: more values are held at once than registers and slots can
-have. It comes only where more than 15 values are held at once, and more than there are slots. REPORT alone is saved. It proves that, and `check` says so.
+`infeasible` with status 9 is said by `compile`. No choice of banks meets the rows of the bank program with so few slots: more values are held at once than
+registers and slots can have. It comes only where more than 15 values are held at once, and more than there are slots. REPORT alone is saved. Its certificate
+proves that no choice meets these rows, and `check` tests it.
 Here forty words are held, and the two banks and the read registers have 38. Two slots don't help either, since a slot is written and read by way of a
 transfer register. Give it more slots, or use the words sooner:
 
