@@ -72,6 +72,23 @@ def examples(top):
     return found
 
 
+def handwritten(top):
+    """The microcode by hand for the examples is lawful, and comes to the example's outcome."""
+    found = []
+    for file in sorted(os.listdir(os.path.join(top, "bench/handwritten"))):
+        name, kind = os.path.splitext(file)
+        if kind != ".asm":
+            continue
+        text, output = read(top, f"bench/handwritten/{file}"), read(top, f"examples/{name}.out")
+        length = sum(not it.endswith(":") for it in text.split("\n")[1:-1])
+        row = Row("bench/handwritten", file)
+        row.files = {"t": text.encode(), "m": read(top, f"examples/{name}.mem").encode()}
+        row.calls = [Call(["asm", "t", "o"], 0, f"assembled {length}\n".encode(), {"o": ANY}), Call(["lint", "o"], 0, f"lawful {length}\n".encode())]
+        row.calls.append(Call(["run", "o", "m", "steps=1000"], status_of(output), output.encode()))
+        found.append(row)
+    return found
+
+
 def compiled(where, source, status, output):
     row = Row(where, source or "the empty text")
     row.files = {"s.nova": source.encode()}
@@ -260,4 +277,4 @@ def command_lines(top):
 
 
 def all_rows(top):
-    return [row for of in (examples, language, machine, certificates, faults, command_lines) for row in of(top)]
+    return [row for of in (examples, handwritten, language, machine, certificates, faults, command_lines) for row in of(top)]
