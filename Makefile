@@ -1,0 +1,36 @@
+# What people type. The proofs are checked by Rattle's command `rt`, which has to be on the path.
+PREFIX ?= /usr/local
+PROGRAMS = novac nova_forms nova_explain
+BUILT = $(foreach it,$(PROGRAMS),crates/$(it)/out/$(it))
+
+.PHONY: all test rows check bench install clean
+
+# Proves and builds the programs.
+all: $(BUILT)
+
+# A program is built by a run of it, here on words that are refused.
+$(BUILT):
+	cd crates/$(notdir $@) && { rt run -- absent || test -x out/$(notdir $@); }
+
+# The gate: proofs, must-fail edits, tests and rows.
+test:
+	.ci/run
+
+# The rows of tests/ on the programs as they are built.
+rows: all
+	tests/run
+
+# Proves one crate over what earlier checks kept: make check CRATE=uc_isa
+check:
+	cd crates/$(CRATE) && rt check
+
+bench: all
+	cd crates/zo_bench && { rt run -- absent || test -x out/zo_bench; }
+	bench/run
+
+install: all
+	install -d $(DESTDIR)$(PREFIX)/bin
+	install $(BUILT) $(DESTDIR)$(PREFIX)/bin
+
+clean:
+	rm -rf crates/*/out
