@@ -4,8 +4,10 @@ import importlib.machinery
 import json
 import os
 import re
+import struct
 import subprocess
 import sys
+import tempfile
 import types
 
 import pages
@@ -259,12 +261,66 @@ def dumps(top):
     return found + ([] if ran.stdout == wanted and not ran.stderr else [ran.stdout + ran.stderr])
 
 
+def piped(top, words, given=b""):
+    """What examples/packet writes, or what it says where it refuses."""
+    ran = subprocess.run([sys.executable, os.path.join(top, "examples", "packet"), *words], input=given, capture_output=True)
+    return ran.stdout if ran.returncode == 0 else ran.stderr
+
+
+def captures(top):
+    """A packet goes into a capture file and comes back; both byte orders and both units of time are read, by number."""
+    packet, memory = module(top, "examples/packet"), HEADER.replace("c6336407\n", "c6336407 00000000\n").encode()
+    data = bytes.fromhex("45000014 12340000 4001d6a9 c0000201 c6336407")
+    found = []
+    with tempfile.TemporaryDirectory() as folder:
+        file = os.path.join(folder, "it.pcap")
+        found += [piped(top, ["--back", "--bytes", "20", "--pcap", file], memory)]
+        with open(file, "rb") as it:
+            found += [] if it.read() == packet.capture_of(data, 101) else ["another capture"]
+        for order in "<>":
+            for magic in (0xA1B2C3D4, 0xA1B23C4D):
+                frame = bytes(14) + data
+                records = b"".join(struct.pack(order + "IIII", 1, 2, len(it), len(it)) + it for it in (b"\1", frame))
+                with open(file, "wb") as it:
+                    it.write(struct.pack(order + "IHHiIII", magic, 2, 4, 0, 0, 65535, 1) + records)
+                read = piped(top, ["--pcap", file, "--number", "2", "--skip", "14", "--args", "00000000"])
+                found += [] if read == memory else [read]
+        for words, said in [(["--number", "3"], b"packet: the capture has 2 packets\n"), (["--number", "9"], b"packet: the capture has 2 packets\n")]:
+            read = piped(top, ["--pcap", file, *words])
+            found += [] if read == said else [read]
+        with open(file, "r+b") as it:
+            it.truncate(os.path.getsize(file) - 1)
+        read = piped(top, ["--pcap", file, "--number", "2"])
+        found += [] if read == b"packet: the capture ends inside packet 2\n" else [read]
+    return [it.decode() if isinstance(it, bytes) else it for it in found if it]
+
+
+def tables(top):
+    """A CSV file with a heading becomes words of SRAM: numbers, addresses and prefixes; another cell is refused with its row."""
+    found = []
+    with tempfile.TemporaryDirectory() as folder:
+        file = os.path.join(folder, "routes.csv")
+        for text, wanted in [
+            ("route,port\n10.1.0.0/16,3\n192.0.2.1,0x10\n\n", "memory 9 3\nargs 00000000\nsram 4 0a010000 ffff0000 00000003 c0000201 00000010\n"),
+            ("1,2,3,4,5\n6,7,8,9,10\n", "memory 14 3\nargs 00000000\nsram 4 00000001 00000002 00000003 00000004 00000005 00000006 00000007 00000008\nsram 12 00000009 0000000a\n"),
+        ]:
+            with open(file, "w") as it:
+                it.write(text)
+            read = piped(top, ["--args", "00000000", "--table", f"4:{file}"], DUMPS[0].encode()).decode()
+            found += [] if read == wanted + HEADER.split("\n")[2] + " 00000000\n" else [read]
+        with open(file, "w") as it:
+            it.write("1,2\n3,10.1.0.1/16\n")
+        read = piped(top, ["--table", f"0:{file}"], DUMPS[0].encode()).decode()
+        found += [] if read == f"packet: {file}, row 2: '10.1.0.1/16' is no word, address or prefix\n" else [read]
+    return found
+
+
 def all_rows(top):
     rows = [("each keyword is coloured by both editors' files", highlighting), ("the editors' files are as made", as_made)]
     rows += [("the pages of nova_explain are those of docs/FAULTS.md", pages_as_made)]
     rows += [("what has to be believed is listed in docs/PROOFS.md", believed_as_made)]
     rows += [("README has short lines and sentences", readable), ("the files that the pages name are there", named_files)]
-    rows += [("a packet's hex dump and back", there_and_back), ("forms of hex dumps", dumps)]
+    rows += [("a packet's hex dump and back", there_and_back), ("forms of hex dumps", dumps), ("capture files", captures), ("tables from a CSV file", tables)]
     sources = sorted(it for it in os.listdir(os.path.join(top, "examples")) if it.endswith(".nova"))
     made = [MadeRow(seed, size, top) for seed, size in ((0, 2), (1, 60))]
     return [ToolRow(name, body, top) for name, body in rows] + [ReportRow(it, top) for it in sources] + made + [CrowdedRow(top), SumRow(top)]
