@@ -179,6 +179,12 @@ def believed_as_made(top):
     return [] if same else ["docs/PROOFS.md is to be written again by bench/believed --page"]
 
 
+def nothing_new_twice(top):
+    """No function and no lemma stands twice but those that bench/repeated.txt lists, and these still do."""
+    ran = subprocess.run([sys.executable, os.path.join(top, "bench", "repeated")], capture_output=True, text=True)
+    return [] if ran.returncode == 0 else [it for it in ran.stdout.split("\n") if it.startswith(("NEW", "GONE"))] + [ran.stderr]
+
+
 LONGEST_LINE, LONGEST_SENTENCE = 160, 30
 NAMED_FILE = re.compile(
     r"`([\w./+-]+\.(?:rt|antt|md|py|txt|asm|report|vim|json))`|\b((?:crates|docs|tests|bench|examples|editors)/[\w./+-]*\w)"
@@ -320,7 +326,7 @@ def all_rows(top):
     rows += [("the pages of nova_explain are those of docs/FAULTS.md", pages_as_made)]
     rows += [("what has to be believed is listed in docs/PROOFS.md", believed_as_made)]
     rows += [("README has short lines and sentences", readable), ("the files that the pages name are there", named_files)]
-    rows += [("a packet's hex dump and back", there_and_back), ("forms of hex dumps", dumps), ("capture files", captures), ("tables from a CSV file", tables)]
+    rows += [("a packet's hex dump and back", there_and_back), ("forms of hex dumps", dumps), ("nothing stands twice that didn't", nothing_new_twice), ("capture files", captures), ("tables from a CSV file", tables)]
     sources = sorted(it for it in os.listdir(os.path.join(top, "examples")) if it.endswith(".nova"))
     made = [MadeRow(seed, size, top) for seed, size in ((0, 2), (1, 60))]
     return [ToolRow(name, body, top) for name, body in rows] + [ReportRow(it, top) for it in sources] + made + [CrowdedRow(top), SumRow(top)]
