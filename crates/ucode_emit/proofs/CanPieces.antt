@@ -26,8 +26,8 @@ use Rattle.ucode_emit.proofs.Placing.{Part, part_head, entry_later}
 
 -- ---- moves
 
-pub can_moves : (ms : List Move) → AreDirect ms → CanAll ms
-can_moves ms h = λ i d lt. direct_can (get_or ms i d).0 (get_or ms i d).1 (h i d lt)
+pub can_moves : (slots : ℕ) (ms : List Move) → slots ≤ 128 → AreDirect slots ms → CanAll ms
+can_moves slots ms n h = λ i d lt. direct_can slots (get_or ms i d).0 (get_or ms i d).1 n (h i d lt)
 
 -- ---- literals
 
@@ -51,8 +51,8 @@ narrow_short v h = short_by v (nat_lt v (2 ^ 16)) (nat_eq (v % 2 ^ 8) 0 && nat_l
 
 -- ---- steps
 
-define_can : (p : Plan) (k x : ℕ) → IsWritable (result_place p k x) → AreDirect (to_slot p k x ++ copies p k x) → CanDefine p k x
-define_can p k x w d = (w, can_moves (to_slot p k x ++ copies p k x) d)
+define_can : (p : Plan) (k x : ℕ) → p.slots ≤ 128 → IsWritable (result_place p k x) → AreDirect p.slots (to_slot p k x ++ copies p k x) → CanDefine p k x
+define_can p k x n w d = (w, can_moves p.slots (to_slot p k x ++ copies p k x) n d)
 
 few : (f n : ℕ) → f + n ≤ 8 → n ≤ 8
 few f n h = omega arith
@@ -61,34 +61,34 @@ pub can_step : (labels : List Label) (p : Plan) (k : ℕ) (of : Names) (above : 
 can_step labels p k of above (Lit x v) t ms h a =
     let d = (ready_layer labels p h).literal k of above x v 0 t no_words no_places a (idle labels p k (root_point of above (Do (Lit x v) t))) in
     let f = node_here labels p k of above (Do (Lit x v) t) h a in
-    (narrow_short v f.fits, define_can p k x d.0 d.1.0)
+    (narrow_short v f.fits, define_can p k x h.fits.slots d.0 d.1.0)
 can_step labels p k of above (Una x op y) t ms h a =
     let q = root_point of above (Do (Una x op y) t) in
     let o = (ready_layer labels p h).one_operand k of above x y op t no_words no_places a (idle labels p k q) in
     let d = (ready_layer labels p h).unary k of above x y 0 op t no_words no_places a (idle labels p k q) in
-    (can_moves (operands p k 1) o.0.0, o.1, define_can p k x d.0 d.1.0)
+    (can_moves p.slots (operands p k 1) h.fits.slots o.0.0, o.1, define_can p k x h.fits.slots d.0 d.1.0)
 can_step labels p k of above (Bin x op y z) t ms h a =
     let q = root_point of above (Do (Bin x op y z) t) in
     let o = (ready_layer labels p h).two_operands k of above x y z op t no_words no_places a (idle labels p k q) in
     let d = (ready_layer labels p h).binary k of above x y z 0 op t no_words no_places a (idle labels p k q) in
-    (can_moves (operands p k 2) o.0.0, o.1, o.2, define_can p k x d.0 d.1.0)
+    (can_moves p.slots (operands p k 2) h.fits.slots o.0.0, o.1, o.2, define_can p k x h.fits.slots d.0 d.1.0)
 can_step labels p k of above (Clone xs y) t ms h a = tt
 can_step labels p k of above (Read m xs y) t ms h a =
     let q = root_point of above (Do (Read m xs y) t) in
     let o = (ready_layer labels p h).read_address k of above m xs y t no_words no_places a (idle labels p k q) in
     let d = (ready_layer labels p h).read k of above m xs xs y t no_words no_places a refl (idle labels p k q) in
-    (can_moves (operands p k 1) o.0.0, o.1, few (first p k) (length xs) o.2, can_moves (all_copies p k xs) d.0)
+    (can_moves p.slots (operands p k 1) h.fits.slots o.0.0, o.1, few (first p k) (length xs) o.2, can_moves p.slots (all_copies p k xs) h.fits.slots d.0)
 can_step labels p k of above (Write m y xs) t ms h a =
     let q = root_point of above (Do (Write m y xs) t) in
     let o = (ready_layer labels p h).written k of above m xs y t no_words no_places a (idle labels p k q) in
-    (can_moves (operands p k 1 ++ words p k 1 (length xs)) o.0.0, o.1, few (first p k) (length xs) o.2)
+    (can_moves p.slots (operands p k 1 ++ words p k 1 (length xs)) h.fits.slots o.0.0, o.1, few (first p k) (length xs) o.2)
 
 -- ---- forks
 
 pub can_fork : (labels : List Label) (p : Plan) (k : ℕ) (of : Names) (above : List ℕ) (c : Cmp) (x y : ℕ) (t u : Tree) (ms : List Move) → Placed labels p → PointsAt labels k of above (If c x y t u) → CanNode p k ms (Forks c x y)
 can_fork labels p k of above c x y t u ms h a =
     let o = (ready_layer labels p h).compared k of above c x y t u no_words no_places a (idle labels p k (root_point of above (If c x y t u))) in
-    (can_moves (operands p k 2) o.0.0, o.1, o.2)
+    (can_moves p.slots (operands p k 2) h.fits.slots o.0.0, o.1, o.2)
 
 -- ---- jumps and ends
 
@@ -98,12 +98,12 @@ can_last labels p k of above (Jump l xs) ms h a s =
     let f = node_here labels p k of above (End (Jump l xs)) h a in
     let to = takes_some (length xs) (slice_get labels l) (and_parts (nat_le 1 l) (takes_as_many (length xs) (slice_get labels l)) f.fits).1 in
     let d = (ready_layer labels p h).jump k of above l xs to.0 ms no_words no_words no_places a to.1 (λ i x y e g. refl) s (idle labels p k q) in
-    can_moves (single_moves (pass p k).l ms) d.0
+    can_moves p.slots (single_moves (pass p k).l ms) h.fits.slots d.0
 can_last labels p k of above (Halt c xs) ms h a s =
     let q = root_point of above (End (Halt c xs)) in
     let f = node_here labels p k of above (End (Halt c xs)) h a in
     let d = (ready_layer labels p h).halt k of above c xs ms no_words no_places a s (idle labels p k q) in
-    (can_moves (single_moves (pass p k).l ms) d.0, leb-true (length xs) 8 f.fits)
+    (can_moves p.slots (single_moves (pass p k).l ms) h.fits.slots d.0, leb-true (length xs) 8 f.fits)
 
 -- the point to which a jump goes
 abbrev pub jump_to : List Label → Last → ℕ
@@ -117,17 +117,17 @@ entry_can : (labels : List Label) (p : Plan) (mss : Sequences) (l k : ℕ) (it :
 entry_can labels p mss zero zero it h s e n m =
     let q = sequence_here (parallel_moves p labels) mss 0 (entry_moves p 0 it.params) s (m.each 0 (entry_moves p 0 it.params) refl) in
     let d = (ready_layer labels p h).begins it (sequence_at mss 0) it.params own (given it.params) e refl (λ i x w f g. same_Some x w (sym f ∙ g)) q (λ i w g. get-index it.params i w 0 g) in
-    can_moves (single_moves None (sequence_at mss 0)) d.0
+    can_moves p.slots (single_moves None (sequence_at mss 0)) h.fits.slots d.0
 entry_can labels p mss (suc l) zero it h s e n m = let z = entry_later labels l it e in absurd (omega (arith, z, n))
 entry_can labels p mss l (suc k) it h s e n m =
     let there : slice_get (parallel_moves p labels) (suc k) ≡ Some [] = part_head (suc k) [] (tree_moves p (suc (suc k)) it.body) (parallel_moves p labels) m in
     let is : sequence_at mss (suc k) ≡ [] = none_stand (sequence_at mss (suc k)) (sequence_here (parallel_moves p labels) mss (suc k) [] s there).kinds in
-    subst (λ ms. CanAll (single_moves None ms)) (sym is) (can_moves [] (All-nil _))
+    subst (λ ms. CanAll (single_moves None ms)) (sym is) (can_moves p.slots [] h.fits.slots (All-nil _))
 
 copies_can : (labels : List Label) (p : Plan) (l k : ℕ) (it : Label) → Placed labels p → slice_get labels l ≡ Some it → entry_point labels l ≡ k → PointsAt labels (suc k) own it.params it.body → CanAll (all_copies p k it.params)
 copies_can labels p l k it h e n a =
     let d = (ready_layer labels p h).entry l it no_words no_places e (subst (λ j. PointsAt labels (suc j) own it.params it.body) (sym n) a) (λ x i. refl) in
-    subst (λ j. CanAll (all_copies p j it.params)) n (can_moves (all_copies p (entry_point labels l) it.params) d.0)
+    subst (λ j. CanAll (all_copies p j it.params)) n (can_moves p.slots (all_copies p (entry_point labels l) it.params) h.fits.slots d.0)
 
 pub can_front : (labels : List Label) (p : Plan) (mss : Sequences) (l k : ℕ) (it : Label) → Placed labels p → AreSequences (parallel_moves p labels) mss → slice_get labels l ≡ Some it → entry_point labels l ≡ k
     → Part k (label_moves p k it) (parallel_moves p labels) → PointsAt labels (suc k) own it.params it.body → CanAll (single_moves None (sequence_at mss k) ++ all_copies p k it.params)

@@ -152,19 +152,19 @@ in_first_bank Sram k = refl
 in_first_bank Sdram k = refl
 in_first_bank Scratch k = refl
 
-address_free : (m : Mem) {from at : Place} → IsAddressAt from at → CanServe from → access_weight m (address_of at) ≡ 0
-address_free m (IsAddressAt.in_a {k}) c = in_first_bank m k
-address_free m (IsAddressAt.in_b {k}) c = not_fifteen m k c
-address_free m (IsAddressAt.from_l {k}) c = in_first_bank m 15
-address_free m (IsAddressAt.from_ld {k}) c = in_first_bank m 15
-address_free m (IsAddressAt.from_slot {k}) c = in_first_bank m 15
+address_free : (slots : ℕ) (m : Mem) {from at : Place} → IsAddressAt from at → CanServe slots from → access_weight m (address_of at) ≡ 0
+address_free slots m (IsAddressAt.in_a {k}) c = in_first_bank m k
+address_free slots m (IsAddressAt.in_b {k}) c = not_fifteen m k c
+address_free slots m (IsAddressAt.from_l {k}) c = in_first_bank m 15
+address_free slots m (IsAddressAt.from_ld {k}) c = in_first_bank m 15
+address_free slots m (IsAddressAt.from_slot {k}) c = in_first_bank m 15
 
 use_free : (labels : List Label) (p : Plan) (k : ℕ) (of : Names) (above : List ℕ) (t : Tree) (x : ℕ) (m : Mem) → Placed labels p → PointsAt labels k of above t
     → IsHere labels p k (record { point = k; operand = 0; value = x; role = Address }) → is_in x (root_point of above t).uses ≡ true → access_weight m (address_of (operand_at p k 0)) ≡ 0
 use_free labels p k of above t x m h a u i =
     let s = here_at labels p k of above t h a in
     let source = source_of labels p k (root_point of above t) (record { point = k; operand = 0; value = x; role = Address }) h s u.0.1 i u.0.0.0 in
-    address_free m u.0.0.1 source.serves
+    address_free p.slots m u.0.0.1 source.serves
 
 -- ---- steps
 

@@ -129,7 +129,7 @@ read_brought labels p k of above m xs ws y t env e h s n d =
 
 pub read : (labels : List Label) (p : Plan) → Placed labels p → (k : ℕ) (of : Names) (above : List ℕ) (m : Mem) (xs ws : List ℕ) (y : ℕ) (t : Tree) (env : Env) (e : Words) → PointsAt labels k of above (Do (Read m xs y) t) → length ws ≡ length xs
     → Ready labels p k (root_point of above (Do (Read m xs y) t)) env e
-    → Behind (all_copies p k xs) (filled e m (first p k) ws) (Ready labels p (suc k) (root_point of (above ++ xs) t) (assigned_all env xs ws))
+    → Behind p.slots (all_copies p k xs) (filled e m (first p k) ws) (Ready labels p (suc k) (root_point of (above ++ xs) t) (assigned_all env xs ws))
 read labels p h k of above m xs ws y t env e a n d =
     let q = root_point of above (Do (Read m xs y) t) in
     let r = root_point of (above ++ xs) t in

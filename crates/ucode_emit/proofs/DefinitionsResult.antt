@@ -157,20 +157,20 @@ put_there_all labels p k q r x w env e h s d =
 
 -- ---- instructions
 
-result_take : (labels : List Label) (p : Plan) (x : ℕ) → Placed labels p → ResultHome labels p x → CanTake (home p x).defined
+result_take : (labels : List Label) (p : Plan) (x : ℕ) → Placed labels p → ResultHome labels p x → CanTake p.slots (home p x).defined
 result_take labels p x h o =
     ⊎_elim
-    (λ (c : IsGeneral p (home p x).defined × AreCopies labels p x (home p x)). general_take p (home p x).defined h.fits.slots c.0)
-    (λ (c : IsPutEarly labels p x (home p x)). let w = early_use labels p x c in subst CanTake (sym c.at) (register_take labels p w.place c.use_ h w.there w.early))
+    (λ (c : IsGeneral p (home p x).defined × AreCopies labels p x (home p x)). general_take p (home p x).defined c.0)
+    (λ (c : IsPutEarly labels p x (home p x)). let w = early_use labels p x c in subst (CanTake p.slots) (sym c.at) (register_take labels p w.place c.use_ h w.there w.early))
     o
 
-writable_by : (b : Bool) (s : Option ℕ) (d : Place) → is_slot d ≡ b → named s < 8 → CanTake d → IsWritable (place_by b s d)
-writable_by true s d e n t = n
-writable_by false s d e n t = take_writable d e t
+writable_by : (slots : ℕ) (b : Bool) (s : Option ℕ) (d : Place) → is_slot d ≡ b → named s < 8 → CanTake slots d → IsWritable (place_by b s d)
+writable_by slots true s d e n t = n
+writable_by slots false s d e n t = take_writable slots d e t
 
-direct_by : (b : Bool) (s : Option ℕ) (d : Place) → is_slot d ≡ b → named s < 8 → CanTake d → AllByRecursion OneInstr (moves_by b s d)
-direct_by true s d e n t = (take_slot s d e n t, tt)
-direct_by false s d e n t = tt
+direct_by : (slots : ℕ) (b : Bool) (s : Option ℕ) (d : Place) → is_slot d ≡ b → named s < 8 → CanTake slots d → AllByRecursion (OneInstr slots) (moves_by b s d)
+direct_by slots true s d e n t = (take_slot slots s d e n t, tt)
+direct_by slots false s d e n t = tt
 
 give_general : (labels : List Label) (p : Plan) (x : ℕ) (b : Bool) → is_slot (home p x).defined ≡ b → IsGeneral p (home p x).defined → AreCopies labels p x (home p x) → CanGive p x
 give_general labels p x true e g c = inl (c.from_slot e)
@@ -187,7 +187,7 @@ result_gives labels p x o =
 
 abbrev pub ResultReady : List Label → Plan → ℕ → Point → ℕ → ℕ → Env → Words → Type 0
 ResultReady labels p k r x w env e =
-    IsWritable (result_place p k x) × Behind (to_slot p k x ++ copies p k x) (put e (result_place p k x) w) (Ready labels p (suc k) r (assigned env x w))
+    IsWritable (result_place p k x) × Behind p.slots (to_slot p k x ++ copies p k x) (put e (result_place p k x) w) (Ready labels p (suc k) r (assigned env x w))
 
 pub result_ready : (labels : List Label) (p : Plan) (k : ℕ) (q r : Point) (x w : ℕ) (env : Env) (e : Words) → Placed labels p → ResultSpot labels p k q r x → Ready labels p k q env e → ResultReady labels p k r x w env e
 result_ready labels p k q r x w env e h s d =
@@ -199,10 +199,10 @@ result_ready labels p k q r x w env e h s d =
     let one : copies p k x ++ [] ≡ copies p k x = append-nil (copies p k x) in
     let ready = ready_behind labels p k q r (x ∷ []) (assigned env x w) e' h s.spot (put_there_all labels p k q r x w env e h s d) in
     let direct = copies_are_direct labels p k q r (x ∷ []) h s.spot (λ y i u. subst (CanGive p) (sym (in_one y x i)) (result_gives labels p x o)) in (
-      writable_by b (pass p k).s (home p x).defined refl n t,
+      writable_by p.slots b (pass p k).s (home p x).defined refl n t,
       (
-        All-from_recursion OneInstr (to_slot p k x ++ copies p k x)
-            (all_both OneInstr (to_slot p k x) (copies p k x) (direct_by b (pass p k).s (home p x).defined refl n t) (recursion_from_All OneInstr (copies p k x) (subst AreDirect one direct))),
+        All-from_recursion (OneInstr p.slots) (to_slot p k x ++ copies p k x)
+            (all_both (OneInstr p.slots) (to_slot p k x) (copies p k x) (direct_by p.slots b (pass p k).s (home p x).defined refl n t) (recursion_from_All (OneInstr p.slots) (copies p k x) (subst (AreDirect p.slots) one direct))),
         subst (Ready labels p (suc k) r (assigned env x w)) (ap (λ ms. one_by_one ms e') one ∙ sym (one_append (to_slot p k x) (copies p k x) (put e (result_place p k x) w))) ready,
       ),
     )
@@ -212,7 +212,7 @@ step_result labels p k q r x h s v i = record { spot = s; values = v; held = sym
 
 pub literal : (labels : List Label) (p : Plan) → Placed labels p → (k : ℕ) (of : Names) (above : List ℕ) (x v w : ℕ) (t : Tree) (env : Env) (e : Words) → PointsAt labels k of above (Do (Lit x v) t)
     → Ready labels p k (root_point of above (Do (Lit x v) t)) env e
-    → IsWritable (result_place p k x) × Behind (to_slot p k x ++ copies p k x) (put e (result_place p k x) w) (Ready labels p (suc k) (root_point of (above ++ x ∷ []) t) (assigned env x w))
+    → IsWritable (result_place p k x) × Behind p.slots (to_slot p k x ++ copies p k x) (put e (result_place p k x) w) (Ready labels p (suc k) (root_point of (above ++ x ∷ []) t) (assigned env x w))
 literal labels p h k of above x v w t env e a d =
     let q = root_point of above (Do (Lit x v) t) in
     let r = root_point of (above ++ x ∷ []) t in
@@ -220,7 +220,7 @@ literal labels p h k of above x v w t env e a d =
 
 pub unary : (labels : List Label) (p : Plan) → Placed labels p → (k : ℕ) (of : Names) (above : List ℕ) (x y w : ℕ) (op : Unary) (t : Tree) (env : Env) (e : Words) → PointsAt labels k of above (Do (Una x op y) t)
     → Ready labels p k (root_point of above (Do (Una x op y) t)) env e
-    → IsWritable (result_place p k x) × Behind (to_slot p k x ++ copies p k x) (put e (result_place p k x) w) (Ready labels p (suc k) (root_point of (above ++ x ∷ []) t) (assigned env x w))
+    → IsWritable (result_place p k x) × Behind p.slots (to_slot p k x ++ copies p k x) (put e (result_place p k x) w) (Ready labels p (suc k) (root_point of (above ++ x ∷ []) t) (assigned env x w))
 unary labels p h k of above x y w op t env e a d =
     let q = root_point of above (Do (Una x op y) t) in
     let r = root_point of (above ++ x ∷ []) t in
@@ -228,7 +228,7 @@ unary labels p h k of above x y w op t env e a d =
 
 pub binary : (labels : List Label) (p : Plan) → Placed labels p → (k : ℕ) (of : Names) (above : List ℕ) (x y z w : ℕ) (op : Binary) (t : Tree) (env : Env) (e : Words) → PointsAt labels k of above (Do (Bin x op y z) t)
     → Ready labels p k (root_point of above (Do (Bin x op y z) t)) env e
-    → IsWritable (result_place p k x) × Behind (to_slot p k x ++ copies p k x) (put e (result_place p k x) w) (Ready labels p (suc k) (root_point of (above ++ x ∷ []) t) (assigned env x w))
+    → IsWritable (result_place p k x) × Behind p.slots (to_slot p k x ++ copies p k x) (put e (result_place p k x) w) (Ready labels p (suc k) (root_point of (above ++ x ∷ []) t) (assigned env x w))
 binary labels p h k of above x y z w op t env e a d =
     let q = root_point of above (Do (Bin x op y z) t) in
     let r = root_point of (above ++ x ∷ []) t in

@@ -41,7 +41,7 @@ argument_sent labels p k q of l xs to j x y h s u e i g f =
     let at : (serve p k j).at ≡ (home p y).defined = i.0.0.1 ∙ ap (λ z. (home p z).defined) (param_is labels l to j y e f) in record {
       source = source_of labels p k q (record { point = k; operand = j; value = of x; role = Argument l j }) h s i.0.1 used i.0.0.0;
       passes = i.1;
-      moved = subst IsMoved (sym at) (general_moved p (home p y).defined h.fits.slots (param_home labels p l to j y h e f).0);
+      moved = subst (IsMoved p.slots) (sym at) (general_moved p (home p y).defined (param_home labels p l to j y h e f).0);
     }
 
 target_of : (labels : List Label) (l count : ℕ) (to : Label) → slice_get labels l ≡ Some to → takes_as_many count (slice_get labels l) ≡ true → length to.params ≡ count
@@ -50,7 +50,7 @@ target_of labels l count to e h = eqb-true (length to.params) count (sym (ap (ta
 pub jump : (labels : List Label) (p : Plan) → Placed labels p → (k : ℕ) (of : Names) (above : List ℕ) (l : ℕ) (xs : List ℕ) (to : Label) (ms : List Move) (env new : Env) (e : Words) → PointsAt labels k of above (End (Jump l xs)) → slice_get labels l ≡ Some to
     → ((i x y : ℕ) → slice_get xs i ≡ Some x → slice_get to.params i ≡ Some y → new y ≡ env (of x))
     → IsSequence (served_moves p k 0 (length xs)) ms → Ready labels p k (root_point of above (End (Jump l xs))) env e
-    → Behind (single_moves (pass p k).l ms) e (Entered p to.params new)
+    → Behind p.slots (single_moves (pass p k).l ms) e (Entered p to.params new)
 jump labels p h k of above l xs to ms env new e a g v sq d =
     let q = root_point of above (End (Jump l xs)) in
     let s = here_at labels p k of above (End (Jump l xs)) h a in
@@ -85,12 +85,12 @@ ending_sent labels p k q of xs j x h s u n i g =
     let used = ap (is_in (of x)) u ∙ at_in (of x) (map of xs) j (map_get of xs j x g) in record {
       source = source_of labels p k q (record { point = k; operand = j; value = of x; role = Ending j }) h s i.0.1 used i.0.0.0;
       passes = i.1;
-      moved = subst IsMoved (sym i.0.0.1) n;
+      moved = subst (IsMoved p.slots) (sym i.0.0.1) n;
     }
 
 pub halt : (labels : List Label) (p : Plan) → Placed labels p → (k : ℕ) (of : Names) (above : List ℕ) (c : ℕ) (xs : List ℕ) (ms : List Move) (env : Env) (e : Words) → PointsAt labels k of above (End (Halt c xs))
     → IsSequence (served_moves p k 0 (length xs)) ms → Ready labels p k (root_point of above (End (Halt c xs))) env e
-    → Behind (single_moves (pass p k).l ms) e (λ e'. (i x : ℕ) → slice_get xs i ≡ Some x → e' (A i) ≡ env (of x))
+    → Behind p.slots (single_moves (pass p k).l ms) e (λ e'. (i x : ℕ) → slice_get xs i ≡ Some x → e' (A i) ≡ env (of x))
 halt labels p h k of above c xs ms env e a sq d =
     let q = root_point of above (End (Halt c xs)) in
     let s = here_at labels p k of above (End (Halt c xs)) h a in

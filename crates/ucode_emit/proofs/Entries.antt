@@ -69,7 +69,7 @@ params_differ labels p l it h e = (formed_at labels (entry_point labels l) (entr
 -- ---- the entry
 
 pub entry : (labels : List Label) (p : Plan) → Placed labels p → (l : ℕ) (it : Label) (env : Env) (e : Words) → slice_get labels l ≡ Some it → PointsAt labels (suc (entry_point labels l)) own it.params it.body
-    → Entered p it.params env e → Behind (all_copies p (entry_point labels l) it.params) e (Ready labels p (suc (entry_point labels l)) (root_point own it.params it.body) env)
+    → Entered p it.params env e → Behind p.slots (all_copies p (entry_point labels l) it.params) e (Ready labels p (suc (entry_point labels l)) (root_point own it.params it.body) env)
 entry labels p h l it env e f a d =
     let k = entry_point labels l in
     let q = entry_at l it in
@@ -106,20 +106,20 @@ abbrev pub IsLow : Place → Type 0
 IsLow (A k) = k < 16
 IsLow _ = ⊥
 
-abbrev pub IsMoved : Place → Type 0
-IsMoved (A k) = k < 16
-IsMoved (B k) = k < 15
-IsMoved (Slot k) = k < 128
-IsMoved _ = ⊥
+abbrev pub IsMoved : ℕ → Place → Type 0
+IsMoved slots (A k) = k < 16
+IsMoved slots (B k) = k < 15
+IsMoved slots (Slot k) = k < slots
+IsMoved slots _ = ⊥
 
-pub general_moved : (p : Plan) (r : Place) → p.slots ≤ 128 → IsGeneral p r → IsMoved r
-general_moved p (A k) n h = omega arith
-general_moved p (B k) n h = h
-general_moved p (Slot k) n h = omega arith
-general_moved p (L k) n h = absurd h
-general_moved p (LD k) n h = absurd h
-general_moved p (S k) n h = absurd h
-general_moved p (SD k) n h = absurd h
+pub general_moved : (p : Plan) (r : Place) → IsGeneral p r → IsMoved p.slots r
+general_moved p (A k) h = omega arith
+general_moved p (B k) h = h
+general_moved p (Slot k) h = h
+general_moved p (L k) h = absurd h
+general_moved p (LD k) h = absurd h
+general_moved p (S k) h = absurd h
+general_moved p (SD k) h = absurd h
 
 put_agree_if : (b : Bool) (v v' u u' : ℕ) → v ≡ v' → u ≡ u' → (if b then v else u) ≡ (if b then v' else u')
 put_agree_if true v v' u u' h g = h
@@ -135,55 +135,55 @@ Alike e e' = (q : Place) → (q ≡ S 0 → ⊥) → e q ≡ e' q
 a_no_s : (k n : ℕ) → A k ≡ S n → ⊥
 a_no_s k n e = false≢true (sym (ap is_general e))
 
-move_alike : (from at : Place) → IsLow from → IsMoved at → (e e' : Words) → Alike e e' → Alike (one_by_one (single_move None from at) e) (put e' at (e' from))
-move_alike (A k) (A j) f t e e' h q n = put_agree e e' (A j) q (e (A k)) (e' (A k)) (h (A k) (a_no_s k 0)) (h q n)
-move_alike (A k) (B j) f t e e' h q n = put_agree e e' (B j) q (e (A k)) (e' (A k)) (h (A k) (a_no_s k 0)) (h q n)
-move_alike (A k) (Slot j) f t e e' h q n =
+move_alike : (slots : ℕ) (from at : Place) → IsLow from → IsMoved slots at → (e e' : Words) → Alike e e' → Alike (one_by_one (single_move None from at) e) (put e' at (e' from))
+move_alike slots (A k) (A j) f t e e' h q n = put_agree e e' (A j) q (e (A k)) (e' (A k)) (h (A k) (a_no_s k 0)) (h q n)
+move_alike slots (A k) (B j) f t e e' h q n = put_agree e e' (B j) q (e (A k)) (e' (A k)) (h (A k) (a_no_s k 0)) (h q n)
+move_alike slots (A k) (Slot j) f t e e' h q n =
     let m = put e (S 0) (e (A k)) in
     put_agree m e' (Slot j) q (m (S 0)) (e' (A k)) (put_here e (S 0) (e (A k)) ∙ h (A k) (a_no_s k 0)) (put-other e (S 0) q (e (A k)) n ∙ h q n)
-move_alike (A k) (L j) f t e e' h q n = absurd t
-move_alike (A k) (LD j) f t e e' h q n = absurd t
-move_alike (A k) (S j) f t e e' h q n = absurd t
-move_alike (A k) (SD j) f t e e' h q n = absurd t
-move_alike (B k) at f t e e' h q n = absurd f
-move_alike (L k) at f t e e' h q n = absurd f
-move_alike (LD k) at f t e e' h q n = absurd f
-move_alike (S k) at f t e e' h q n = absurd f
-move_alike (SD k) at f t e e' h q n = absurd f
-move_alike (Slot k) at f t e e' h q n = absurd f
+move_alike slots (A k) (L j) f t e e' h q n = absurd t
+move_alike slots (A k) (LD j) f t e e' h q n = absurd t
+move_alike slots (A k) (S j) f t e e' h q n = absurd t
+move_alike slots (A k) (SD j) f t e e' h q n = absurd t
+move_alike slots (B k) at f t e e' h q n = absurd f
+move_alike slots (L k) at f t e e' h q n = absurd f
+move_alike slots (LD k) at f t e e' h q n = absurd f
+move_alike slots (S k) at f t e e' h q n = absurd f
+move_alike slots (SD k) at f t e e' h q n = absurd f
+move_alike slots (Slot k) at f t e e' h q n = absurd f
 
-abbrev pub FromLow : Move → Type 0
-FromLow m = IsLow m.0 × IsMoved m.1
+abbrev pub FromLow : ℕ → Move → Type 0
+FromLow slots m = IsLow m.0 × IsMoved slots m.1
 
-moves_alike : (ms : List Move) → AllByRecursion FromLow ms → (e e' : Words) → Alike e e' → Alike (one_by_one (single_moves None ms) e) (one_by_one ms e')
-moves_alike [] a e e' h q n = h q n
-moves_alike (m ∷ ms) a e e' h q n =
+moves_alike : (slots : ℕ) (ms : List Move) → AllByRecursion (FromLow slots) ms → (e e' : Words) → Alike e e' → Alike (one_by_one (single_moves None ms) e) (one_by_one ms e')
+moves_alike slots [] a e e' h q n = h q n
+moves_alike slots (m ∷ ms) a e e' h q n =
     ap (λ (f : Words). f q) (one_append (single_move None m.0 m.1) (single_moves None ms) e)
-    ∙ moves_alike ms a.1 (one_by_one (single_move None m.0 m.1) e) (put e' m.1 (e' m.0)) (move_alike m.0 m.1 a.0.0 a.0.1 e e' h) q n
+    ∙ moves_alike slots ms a.1 (one_by_one (single_move None m.0 m.1) e) (put e' m.1 (e' m.0)) (move_alike slots m.0 m.1 a.0.0 a.0.1 e e' h) q n
 
-move_direct : (from at : Place) → IsLow from → IsMoved at → AllByRecursion OneInstr (single_move None from at)
-move_direct (A k) (A j) f t = (in_one f t, tt)
-move_direct (A k) (B j) f t = (in_one f t, tt)
-move_direct (A k) (Slot j) f t = let z : 0 < 8 = omega arith in (in_one f z, (write_slot z t, tt))
-move_direct (A k) (L j) f t = absurd t
-move_direct (A k) (LD j) f t = absurd t
-move_direct (A k) (S j) f t = absurd t
-move_direct (A k) (SD j) f t = absurd t
-move_direct (B k) at f t = absurd f
-move_direct (L k) at f t = absurd f
-move_direct (LD k) at f t = absurd f
-move_direct (S k) at f t = absurd f
-move_direct (SD k) at f t = absurd f
-move_direct (Slot k) at f t = absurd f
+move_direct : (slots : ℕ) (from at : Place) → IsLow from → IsMoved slots at → AllByRecursion (OneInstr slots) (single_move None from at)
+move_direct slots (A k) (A j) f t = (in_one f t, tt)
+move_direct slots (A k) (B j) f t = (in_one f t, tt)
+move_direct slots (A k) (Slot j) f t = let z : 0 < 8 = omega arith in (in_one f z, (write_slot z t, tt))
+move_direct slots (A k) (L j) f t = absurd t
+move_direct slots (A k) (LD j) f t = absurd t
+move_direct slots (A k) (S j) f t = absurd t
+move_direct slots (A k) (SD j) f t = absurd t
+move_direct slots (B k) at f t = absurd f
+move_direct slots (L k) at f t = absurd f
+move_direct slots (LD k) at f t = absurd f
+move_direct slots (S k) at f t = absurd f
+move_direct slots (SD k) at f t = absurd f
+move_direct slots (Slot k) at f t = absurd f
 
-moves_direct : (ms : List Move) → AllByRecursion FromLow ms → AllByRecursion OneInstr (single_moves None ms)
-moves_direct [] a = tt
-moves_direct (m ∷ ms) a = all_both OneInstr (single_move None m.0 m.1) (single_moves None ms) (move_direct m.0 m.1 a.0.0 a.0.1) (moves_direct ms a.1)
+moves_direct : (slots : ℕ) (ms : List Move) → AllByRecursion (FromLow slots) ms → AllByRecursion (OneInstr slots) (single_moves None ms)
+moves_direct slots [] a = tt
+moves_direct slots (m ∷ ms) a = all_both (OneInstr slots) (single_move None m.0 m.1) (single_moves None ms) (move_direct slots m.0 m.1 a.0.0 a.0.1) (moves_direct slots ms a.1)
 
 later : (x y : ℕ) (xs : List ℕ) → is_in y xs ≡ true → is_in y (x ∷ xs) ≡ true
 later x y xs i = or_right (nat_eq y x) (is_in y xs) i
 
-entry_low : (p : Plan) (i : ℕ) (xs : List ℕ) → i + length xs ≤ 16 → ((x : ℕ) → is_in x xs ≡ true → IsMoved (home p x).defined) → AllByRecursion FromLow (entry_moves p i xs)
+entry_low : (p : Plan) (i : ℕ) (xs : List ℕ) → i + length xs ≤ 16 → ((x : ℕ) → is_in x xs ≡ true → IsMoved p.slots (home p x).defined) → AllByRecursion (FromLow p.slots) (entry_moves p i xs)
 entry_low p i [] n h = tt
 entry_low p i (x ∷ xs) n h =
     let low : i < 16 = omega arith in
@@ -223,20 +223,20 @@ few_params labels p it h e =
 
 pub begins : (labels : List Label) (p : Plan) → Placed labels p → (it : Label) (ms : List Move) (args : List ℕ) (env : Env) (e : Words) → slice_get labels 0 ≡ Some it → length args ≡ length it.params
     → ((i x w : ℕ) → slice_get it.params i ≡ Some x → slice_get args i ≡ Some w → env x ≡ w)
-    → IsSequence (entry_moves p 0 it.params) ms → Begun args e → Behind (single_moves None ms) e (Entered p it.params env)
+    → IsSequence (entry_moves p 0 it.params) ms → Begun args e → Behind p.slots (single_moves None ms) e (Entered p it.params env)
 begins labels p h it ms args env e f n v sq b =
     let most : length it.params ≤ 8 = few_params labels p it h f in
     let few : 0 + length it.params ≤ 16 = omega arith in
     let t : 15 < 16 = omega arith in
-    let low = stand_all IsLow IsMoved t t sq.kinds (entry_low p 0 it.params few (λ x i. general_moved p (home p x).defined h.fits.slots (param_general labels p 0 it x h f i).0)) in (
-      All-from_recursion OneInstr (single_moves None ms) (moves_direct ms low),
+    let low = stand_all IsLow (IsMoved p.slots) t t sq.kinds (entry_low p 0 it.params few (λ x i. general_moved p (home p x).defined (param_general labels p 0 it x h f i).0)) in (
+      All-from_recursion (OneInstr p.slots) (single_moves None ms) (moves_direct p.slots ms low),
       λ x i.
           let a = in_at x it.params i in
           let w = word_there it.params args a.place x n a.there in
           let g = (param_general labels p 0 it x h f i).0 in
           let d = (home p x).defined in
           let z : 0 + a.place ≡ a.place = omega arith in
-          moves_alike ms low e e (λ q m. refl) d (general_no_write p d 0 g)
+          moves_alike p.slots ms low e e (λ q m. refl) d (general_no_write p d 0 g)
           ∙ (sq.effect e d (general_no_temporary p d g)
           ∙ (entry_at_once p 0 it.params e a.place x (params_differ labels p 0 it h f) (λ y u c k. params_apart labels p 0 it y u h f c k) a.there
           ∙ (ap (λ k. e (A k)) z ∙ (b a.place w.0 w.1 ∙ sym (v a.place x w.0 a.there w.1))))),

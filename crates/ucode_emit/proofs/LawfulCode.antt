@@ -31,16 +31,16 @@ moved_both [] b = refl
 moved_both (m ∷ a) b = ap (λ l. Moved m.0 m.1 ∷ l) (moved_both a b)
 
 tree_good : (labels : List Label) (p : Plan) (mss : Sequences) (code : List Instr) (places : List ℕ) (k at : ℕ) (of : Names) (above : List ℕ) (t : Tree) → Placed labels p → ReadyLayer labels p
-    → AreSequences (parallel_moves p labels) mss → TreeAt labels p mss code places k at of above t → AreGood (tree_items labels p mss k t)
+    → AreSequences (parallel_moves p labels) mss → TreeAt labels p mss code places k at of above t → AreGood p.slots (tree_items labels p mss k t)
 tree_good labels p mss code places k at of above (Do s t) h r q a =
-    all_both IsGood (step_items p k s) (tree_items labels p mss (suc k) t) (step_good labels p k of above s t h r a.points_)
+    all_both (IsGood p.slots) (step_items p k s) (tree_items labels p mss (suc k) t) (step_good labels p k of above s t h r a.points_)
     (tree_good labels p mss code places (suc k) (at + length (step_items p k s)) (names_after of s) (above ++ step_values s) t h r q (tree_rest labels p mss code places k at of above s t a))
 tree_good labels p mss code places k at of above (If c x y t u) h r q a =
     let first = at + length (fork_items p k (failing c) 0) in
     let second = first + length (tree_items labels p mss (suc k) t) in
-    all_both IsGood (fork_items p k (failing c) (suc k + nodes t)) (tree_items labels p mss (suc k) t ++ tree_items labels p mss (suc k + nodes t) u)
+    all_both (IsGood p.slots) (fork_items p k (failing c) (suc k + nodes t)) (tree_items labels p mss (suc k) t ++ tree_items labels p mss (suc k + nodes t) u)
     (fork_good labels p k of above c x y (suc k + nodes t) t u h r a.points_)
-    (all_both IsGood (tree_items labels p mss (suc k) t) (tree_items labels p mss (suc k + nodes t) u)
+    (all_both (IsGood p.slots) (tree_items labels p mss (suc k) t) (tree_items labels p mss (suc k + nodes t) u)
     (tree_good labels p mss code places (suc k) first of above t h r q (tree_first labels p mss code places k at of above c x y t u a))
     (tree_good labels p mss code places (suc k + nodes t) second of above u h r q (tree_second labels p mss code places k at of above c x y t u a)))
 tree_good labels p mss code places k at of above (End l) h r q a =
@@ -48,33 +48,33 @@ tree_good labels p mss code places k at of above (End l) h r q a =
     (sequence_here (parallel_moves p labels) mss k (last_moves p k l) q (part_head k (last_moves p k l) [] (parallel_moves p labels) a.moves))
 
 label_good : (labels : List Label) (p : Plan) (mss : Sequences) (l : ℕ) (it : Label) → Placed labels p → ReadyLayer labels p → AreSequences (parallel_moves p labels) mss → slice_get labels l ≡ Some it
-    → AreGood (label_items labels p mss (entry_point labels l) it)
+    → AreGood p.slots (label_items labels p mss (entry_point labels l) it)
 label_good labels p mss l it h r q e =
     let k = entry_point labels l in
     let a = label_at labels p mss l it e in
     let front = front_good labels p mss l k it r q e refl a.moves in
     let copied = entry_good labels p l it r e a.body.points_ in
-    all_both IsGood (moved (front_moves mss k ++ all_copies p k it.params)) (tree_items labels p mss (suc k) it.body)
-    (subst AreGood (sym (moved_both (front_moves mss k) (all_copies p k it.params))) (all_both IsGood (moved (front_moves mss k)) (moved (all_copies p k it.params)) front copied))
+    all_both (IsGood p.slots) (moved (front_moves mss k ++ all_copies p k it.params)) (tree_items labels p mss (suc k) it.body)
+    (subst (AreGood p.slots) (sym (moved_both (front_moves mss k) (all_copies p k it.params))) (all_both (IsGood p.slots) (moved (front_moves mss k)) (moved (all_copies p k it.params)) front copied))
     (tree_good labels p mss (code_of labels p mss) (starts labels p mss) (suc k) _ own it.params it.body h r q a.body)
 
 labels_good : (labels : List Label) (p : Plan) (mss : Sequences) (k l : ℕ) (ls : List Label) → Placed labels p → ReadyLayer labels p → AreSequences (parallel_moves p labels) mss
-    → ((j : ℕ) → entry_point labels (l + j) ≡ k + entry_point ls j) → ((j : ℕ) (it : Label) → slice_get ls j ≡ Some it → slice_get labels (l + j) ≡ Some it) → AreGood (items_from labels p mss k ls)
+    → ((j : ℕ) → entry_point labels (l + j) ≡ k + entry_point ls j) → ((j : ℕ) (it : Label) → slice_get ls j ≡ Some it → slice_get labels (l + j) ≡ Some it) → AreGood p.slots (items_from labels p mss k ls)
 labels_good labels p mss k l [] h r q e f = tt
 labels_good labels p mss k l (x ∷ ls) h r q e f =
     let z : l ≡ l + 0 = omega arith in
     let w : k + 0 ≡ k = omega arith in
     let here : entry_point labels l ≡ k = ap (entry_point labels) z ∙ (e 0 ∙ w) in
     let there : slice_get labels l ≡ Some x = ap (slice_get labels) z ∙ f 0 x refl in
-    all_both IsGood (label_items labels p mss k x) (items_from labels p mss (suc k + nodes x.body) ls)
-    (subst (λ j. AreGood (label_items labels p mss j x)) here (label_good labels p mss l x h r q there))
+    all_both (IsGood p.slots) (label_items labels p mss k x) (items_from labels p mss (suc k + nodes x.body) ls)
+    (subst (λ j. AreGood p.slots (label_items labels p mss j x)) here (label_good labels p mss l x h r q there))
     (labels_good labels p mss (suc k + nodes x.body) (suc l) ls h r q
     (λ j. let n : suc l + j ≡ l + suc j = omega arith in
     let m : k + (suc (nodes x.body) + entry_point ls j) ≡ suc k + nodes x.body + entry_point ls j = omega arith in
     ap (entry_point labels) n ∙ (e (suc j) ∙ m))
     (λ j it g. let n : suc l + j ≡ l + suc j = omega arith in ap (slice_get labels) n ∙ f (suc j) it g))
 
-pub items_good : (labels : List Label) (p : Plan) (mss : Sequences) → Placed labels p → ReadyLayer labels p → AreSequences (parallel_moves p labels) mss → AreGood (items labels p mss)
+pub items_good : (labels : List Label) (p : Plan) (mss : Sequences) → Placed labels p → ReadyLayer labels p → AreSequences (parallel_moves p labels) mss → AreGood p.slots (items labels p mss)
 items_good labels p mss h r q =
     labels_good labels p mss 0 0 labels h r q
     (λ j. let n : 0 + j ≡ j = omega arith in let m : entry_point labels j ≡ 0 + entry_point labels j = omega arith in ap (entry_point labels) n ∙ m)
@@ -198,9 +198,9 @@ code_lawful labels p mss h r q place i e =
     let code = code_of labels p mss in
     let long : length code ≡ length all = length-map all (instr_of places) in
     let g = got (instr_of places) all place i e in
-    let good = all_get IsGood all place g.0 (items_good labels p mss h r q) g.1.0 in
+    let good = all_get (IsGood p.slots) all place g.0 (items_good labels p mss h r q) g.1.0 in
     let some = code_some labels p mss h in
     let within = labels_within labels p mss 0 0 (length code) labels (omega (arith, long)) in
     subst (λ j. IsLawfulAt code place j) g.1.1
-    (item_lawful code places place g.0 good (λ j. index_within places j (length code) within (omega (arith, some)))
+    (item_lawful p.slots code places place g.0 h.fits.slots good (λ j. index_within places j (length code) within (omega (arith, some)))
     (λ n. ends_there all place g.0 (Moved temporary temporary) (items_end labels p mss h (Moved temporary temporary)) g.1.0 (n ∙ long)))

@@ -1,9 +1,9 @@
 -- Items whose instructions keep the rules wherever they stand.
-use Rattle.std.proofs.Common.{◌≡◌, ℕ, ◌+◌, ◌*◌, ◌%◌, ◌<◌, ◌≤◌, ◌⊎◌, ◌&&◌, ◌||◌, inl, inr, Bool, true, false, eqb, if◌then◌else◌, List, [], ◌∷◌, refl, sym, subst, ⊎_elim, arith}
+use Rattle.std.proofs.Common.{◌≡◌, ℕ, ◌+◌, ◌*◌, ◌%◌, ◌<◌, ◌≤◌, ◌⊎◌, ◌&&◌, ◌||◌, inl, inr, Bool, true, false, eqb, if◌then◌else◌, List, [], ◌∷◌, map, refl, sym, subst, ⊎_elim, arith}
 use Rattle.std.specs.Prelude.{⊤, nat_eq, nat_lt, nat_le, ◌/◌, ◌^◌}
 use Rattle.std.specs.List.{AllByRecursion}
 use Rattle.std.proofs.lemmas.Bool.{and_parts, or_cases, false≢true, eqb-true, leb-true}
-use Rattle.std.proofs.lemmas.List.Elements.{recursion_from_All}
+use Rattle.std.proofs.lemmas.List.Elements.{All-from_recursion, recursion_from_All}
 use Rattle.nv_base.specs.declared.term.Mem.{Mem}
 use Rattle.nv_base.specs.declared.term.Mem.TheVariants.{Sram, Sdram, Scratch}
 use Rattle.nv_base.specs.declared.term.Una.{Una as Unary}
@@ -24,23 +24,58 @@ use Rattle.slot_placement.specs.declared.place.Place.{Place}
 use Rattle.slot_placement.specs.declared.place.Place.TheVariants.{A, B, L, LD, S, SD, Slot}
 use Rattle.slot_placement.specs.Fits.{IsFirst, different_groups}
 use Rattle.par_move.specs.Moves.{Move}
-use Rattle.ucode_emit.specs.inner.Pieces.{Item, Moved, Plain, Branch, move_instr, instr_of, moved, source, target, un_op, shift_of}
-use Rattle.ucode_emit.specs.inner.Machine.{IsReadable, IsDirect, read_slot, write_slot, copied, AreDirect}
+use Rattle.ucode_emit.specs.SpillBase.{IsOtherSource, IsOtherTarget, KeepsToSlots, KeepsBase, SpillsByBase}
+use Rattle.ucode_emit.specs.inner.Pieces.{Item, Moved, Plain, Branch, move_instr, instr_of, moved, source, target, address_of, un_op, shift_of}
+use Rattle.ucode_emit.specs.inner.Machine.{IsReadable, IsWritable, IsDirect, read_slot, write_slot, copied, AreDirect}
+use Rattle.ucode_emit.specs.inner.Layers.{IsAddress}
 use Rattle.std.specs.Prelude.{slice_index_or, length}
 
 -- ---- instructions by themselves
 
--- what an instruction keeps in code of any length
-pub record KeepsOwn (i : Instr) : Type 0 where
+-- what an instruction keeps in code of any length, with so many slots
+pub record KeepsOwn (slots : ℕ) (i : Instr) : Type 0 where
   pub operands : Rule1 i
   pub run_inside : Rule2 i
   pub pairs : Rule3 i
   pub numbers : Rule4 i
   pub target : (len : ℕ) → Rule5 len i
   pub halt : Rule6 i
+  pub base : KeepsBase slots i
 
-pub un_own : (d : Dst) (op : UnOp) (x : Src) → IsShift op → KeepsOwn (instr.Un d op x)
-un_own d op x h = record {
+-- ---- B15 in instructions of places
+
+pub other_source : (x : Place) → IsReadable x → IsOtherSource (source x)
+other_source (A k) h = tt
+other_source (B k) h = λ e. omega (arith, e, h)
+other_source (L k) h = tt
+other_source (LD k) h = tt
+other_source (S k) h = absurd h
+other_source (SD k) h = absurd h
+other_source (Slot k) h = absurd h
+
+pub other_target : (d : Place) → IsWritable d → IsOtherTarget (target d)
+other_target (A k) h = tt
+other_target (B k) h = λ e. omega (arith, e, h)
+other_target (L k) h = absurd h
+other_target (LD k) h = absurd h
+other_target (S k) h = tt
+other_target (SD k) h = tt
+other_target (Slot k) h = absurd h
+
+pub other_address : (slots : ℕ) (m : Mem) (n : ℕ) (x : Place) (off : ℕ) → IsAddress x → KeepsToSlots slots m n (address_of x) off
+other_address slots m n (A k) off h = tt
+other_address slots m n (B k) off h = λ e. absurd (omega (arith, e, h))
+other_address slots m n (L k) off h = absurd h
+other_address slots m n (LD k) off h = absurd h
+other_address slots m n (S k) off h = absurd h
+other_address slots m n (SD k) off h = absurd h
+other_address slots m n (Slot k) off h = absurd h
+
+-- ---- instructions
+
+pub un_own : (slots : ℕ) (d : Dst) (op : UnOp) (x : Src) → IsShift op → IsOtherTarget d → IsOtherSource x → KeepsOwn slots (instr.Un d op x)
+un_own slots d op x h a b = record {
+  base = (a, b);
   operands = tt;
   run_inside = tt;
   pairs = tt;
@@ -49,8 +84,9 @@ un_own d op x h = record {
   halt = tt;
 }
 
-pub alu_own : (d : Dst) (op : Binary) (x y : Src) → AreApart x y → KeepsOwn (instr.Alu d op x y)
-alu_own d op x y h = record {
+pub alu_own : (slots : ℕ) (d : Dst) (op : Binary) (x y : Src) → AreApart x y → IsOtherTarget d → IsOtherSource x → IsOtherSource y → KeepsOwn slots (instr.Alu d op x y)
+alu_own slots d op x y h a b c = record {
+  base = (a, b, c);
   operands = h;
   run_inside = tt;
   pairs = tt;
@@ -71,8 +107,9 @@ shift_by false false = inr (inr refl)
 pub shift_is : (v : ℕ) → (shift_of v ≡ 0) ⊎ ((shift_of v ≡ 8) ⊎ (shift_of v ≡ 16))
 shift_is v = shift_by (nat_lt v (2 ^ 16)) (nat_eq (v % 2 ^ 8) 0 && nat_lt (v / 2 ^ 8) (2 ^ 16))
 
-pub immed_own : (d : Dst) (w v : ℕ) → KeepsOwn (instr.Immed d w (shift_of v))
-immed_own d w v = record {
+pub immed_own : (slots : ℕ) (d : Dst) (w v : ℕ) → IsOtherTarget d → KeepsOwn slots (instr.Immed d w (shift_of v))
+immed_own slots d w v a = record {
+  base = a;
   operands = tt;
   run_inside = tt;
   pairs = tt;
@@ -81,8 +118,9 @@ immed_own d w v = record {
   halt = tt;
 }
 
-pub halt_own : (k n : ℕ) → n ≤ 8 → KeepsOwn (instr.Halt k n)
-halt_own k n h = record {
+pub halt_own : (slots k n : ℕ) → n ≤ 8 → KeepsOwn slots (instr.Halt k n)
+halt_own slots k n h = record {
+  base = tt;
   operands = tt;
   run_inside = tt;
   pairs = tt;
@@ -132,8 +170,9 @@ paired_is Sram n r h c = tt
 paired_is Sdram n r h c = (even_half r h.1.0 h.1.1, (pairs_count n c).1)
 paired_is Scratch n r h c = tt
 
-pub read_own : (m : Mem) (r n : ℕ) (x : Gpr) (off : ℕ) → IsRun r n → IsPaired m r n → off ≤ 127 → KeepsOwn (instr.Read m r n x off)
-read_own m r n x off a b c = record {
+pub read_own : (slots : ℕ) (m : Mem) (r n : ℕ) (x : Gpr) (off : ℕ) → IsRun r n → IsPaired m r n → off ≤ 127 → KeepsToSlots slots m n x off → KeepsOwn slots (instr.Read m r n x off)
+read_own slots m r n x off a b c d = record {
+  base = d;
   operands = tt;
   run_inside = a;
   pairs = b;
@@ -142,8 +181,9 @@ read_own m r n x off a b c = record {
   halt = tt;
 }
 
-pub write_own : (m : Mem) (r n : ℕ) (x : Gpr) (off : ℕ) → IsRun r n → IsPaired m r n → off ≤ 127 → KeepsOwn (instr.Write m r n x off)
-write_own m r n x off a b c = record {
+pub write_own : (slots : ℕ) (m : Mem) (r n : ℕ) (x : Gpr) (off : ℕ) → IsRun r n → IsPaired m r n → off ≤ 127 → KeepsToSlots slots m n x off → KeepsOwn slots (instr.Write m r n x off)
+write_own slots m r n x off a b c d = record {
+  base = d;
   operands = tt;
   run_inside = a;
   pairs = b;
@@ -195,42 +235,45 @@ apart_sources (Slot i) y a b e = absurd a
 
 -- ---- moves
 
-slot_read : (k r : ℕ) → k < 128 → r < 8 → KeepsOwn (instr.Read Scratch r 1 (gpr.B 15) k)
-slot_read k r a b = read_own Scratch r 1 (gpr.B 15) k (omega arith, omega arith) tt (omega arith)
+one_slot : (slots k : ℕ) → k < slots → KeepsToSlots slots Scratch 1 (gpr.B 15) k
+one_slot slots k h e = (refl, omega (arith, h))
 
-slot_written : (r k : ℕ) → r < 8 → k < 128 → KeepsOwn (instr.Write Scratch r 1 (gpr.B 15) k)
-slot_written r k a b = write_own Scratch r 1 (gpr.B 15) k (omega arith, omega arith) tt (omega arith)
+slot_read : (slots k r : ℕ) → slots ≤ 128 → k < slots → r < 8 → KeepsOwn slots (instr.Read Scratch r 1 (gpr.B 15) k)
+slot_read slots k r n a b = read_own slots Scratch r 1 (gpr.B 15) k (omega arith, omega arith) tt (omega arith) (one_slot slots k a)
 
-copy_own : (from at : Place) → IsReadable from → KeepsOwn (move_instr from at)
-copy_own (A k) at h = un_own (target at) Copy (source (A k)) tt
-copy_own (B k) at h = un_own (target at) Copy (source (B k)) tt
-copy_own (L k) at h = un_own (target at) Copy (source (L k)) tt
-copy_own (LD k) at h = un_own (target at) Copy (source (LD k)) tt
-copy_own (S k) at h = absurd h
-copy_own (SD k) at h = absurd h
-copy_own (Slot k) at h = absurd h
+slot_written : (slots r k : ℕ) → slots ≤ 128 → r < 8 → k < slots → KeepsOwn slots (instr.Write Scratch r 1 (gpr.B 15) k)
+slot_written slots r k n a b = write_own slots Scratch r 1 (gpr.B 15) k (omega arith, omega arith) tt (omega arith) (one_slot slots k b)
 
-pub move_own : (from at : Place) → IsDirect from at → KeepsOwn (move_instr from at)
-move_own from at (read_slot {k} {r} a b) = slot_read k r a b
-move_own from at (write_slot {r} {k} a b) = slot_written r k a b
-move_own from at (copied a b) = copy_own from at a
+copy_own : (slots : ℕ) (from at : Place) → IsReadable from → IsWritable at → KeepsOwn slots (move_instr from at)
+copy_own slots (A k) at h w = un_own slots (target at) Copy (source (A k)) tt (other_target at w) (other_source (A k) h)
+copy_own slots (B k) at h w = un_own slots (target at) Copy (source (B k)) tt (other_target at w) (other_source (B k) h)
+copy_own slots (L k) at h w = un_own slots (target at) Copy (source (L k)) tt (other_target at w) (other_source (L k) h)
+copy_own slots (LD k) at h w = un_own slots (target at) Copy (source (LD k)) tt (other_target at w) (other_source (LD k) h)
+copy_own slots (S k) at h w = absurd h
+copy_own slots (SD k) at h w = absurd h
+copy_own slots (Slot k) at h w = absurd h
+
+pub move_own : (slots : ℕ) (from at : Place) → slots ≤ 128 → IsDirect slots from at → KeepsOwn slots (move_instr from at)
+move_own slots from at n (read_slot {k} {r} a b) = slot_read slots k r n a b
+move_own slots from at n (write_slot {r} {k} a b) = slot_written slots r k n a b
+move_own slots from at n (copied a b) = copy_own slots from at a b
 
 -- ---- items
 
-abbrev pub IsGood : Item → Type 0
-IsGood (Moved from at) = IsDirect from at
-IsGood (Plain i) = KeepsOwn i
-IsGood (Branch c point) = ⊤
+abbrev pub IsGood : ℕ → Item → Type 0
+IsGood slots (Moved from at) = IsDirect slots from at
+IsGood slots (Plain i) = KeepsOwn slots i
+IsGood slots (Branch c point) = ⊤
 
-abbrev pub AreGood : List Item → Type 0
-AreGood is = AllByRecursion IsGood is
+abbrev pub AreGood : ℕ → List Item → Type 0
+AreGood slots is = AllByRecursion (IsGood slots) is
 
-good_moves : (ms : List Move) → AllByRecursion (λ m. IsDirect m.0 m.1) ms → AreGood (moved ms)
-good_moves [] h = tt
-good_moves (m ∷ ms) h = (h.0, good_moves ms h.1)
+good_moves : (slots : ℕ) (ms : List Move) → AllByRecursion (λ m. IsDirect slots m.0 m.1) ms → AreGood slots (moved ms)
+good_moves slots [] h = tt
+good_moves slots (m ∷ ms) h = (h.0, good_moves slots ms h.1)
 
-pub moves_good : (ms : List Move) → AreDirect ms → AreGood (moved ms)
-moves_good ms h = good_moves ms (recursion_from_All (λ m. IsDirect m.0 m.1) ms h)
+pub moves_good : (slots : ℕ) (ms : List Move) → AreDirect slots ms → AreGood slots (moved ms)
+moves_good slots ms h = good_moves slots ms (recursion_from_All (λ m. IsDirect slots m.0 m.1) ms h)
 
 -- the engine never goes on behind this item
 abbrev pub IsEnd : Item → Type 0
@@ -238,8 +281,8 @@ IsEnd (Moved from at) = ⊥
 IsEnd (Plain i) = IsLast i
 IsEnd (Branch c point) = c ≡ Always
 
-own_lawful : (code : List Instr) (place : ℕ) (i : Instr) → KeepsOwn i → (place + 1 ≡ length code → IsLast i) → IsLawfulAt code place i
-own_lawful code place i h l = record {
+own_lawful : (slots : ℕ) (code : List Instr) (place : ℕ) (i : Instr) → KeepsOwn slots i → (place + 1 ≡ length code → IsLast i) → IsLawfulAt code place i
+own_lawful slots code place i h l = record {
   operands = h.operands;
   run_inside = h.run_inside;
   pairs = h.pairs;
@@ -250,11 +293,11 @@ own_lawful code place i h l = record {
 }
 
 -- an item is lawful where branches go into the code and it ends the code where it is the last
-pub item_lawful : (code : List Instr) (places : List ℕ) (place : ℕ) (it : Item) → IsGood it → ((j : ℕ) → slice_index_or places j 0 < length code) → (place + 1 ≡ length code → IsEnd it)
+pub item_lawful : (slots : ℕ) (code : List Instr) (places : List ℕ) (place : ℕ) (it : Item) → slots ≤ 128 → IsGood slots it → ((j : ℕ) → slice_index_or places j 0 < length code) → (place + 1 ≡ length code → IsEnd it)
     → IsLawfulAt code place (instr_of places it)
-item_lawful code places place (Moved from at) g b l = own_lawful code place (move_instr from at) (move_own from at g) (λ e. absurd (l e))
-item_lawful code places place (Plain i) g b l = own_lawful code place i g l
-item_lawful code places place (Branch c point) g b l = record {
+item_lawful slots code places place (Moved from at) n g b l = own_lawful slots code place (move_instr from at) (move_own slots from at n g) (λ e. absurd (l e))
+item_lawful slots code places place (Plain i) n g b l = own_lawful slots code place i g l
+item_lawful slots code places place (Branch c point) n g b l = record {
   operands = tt;
   run_inside = tt;
   pairs = tt;
@@ -263,3 +306,17 @@ item_lawful code places place (Branch c point) g b l = record {
   halt = tt;
   last = λ e. subst (λ d. IsLast (instr.Br d (slice_index_or places point 0))) (sym (l e)) tt;
 }
+
+-- ---- B15 in the code
+
+item_base : (slots : ℕ) (places : List ℕ) (it : Item) → slots ≤ 128 → IsGood slots it → KeepsBase slots (instr_of places it)
+item_base slots places (Moved from at) n g = (move_own slots from at n g).base
+item_base slots places (Plain i) n g = g.base
+item_base slots places (Branch c point) n g = tt
+
+items_base : (slots : ℕ) (places : List ℕ) (is : List Item) → slots ≤ 128 → AreGood slots is → AllByRecursion (KeepsBase slots) (map (instr_of places) is)
+items_base slots places [] n g = tt
+items_base slots places (it ∷ is) n g = (item_base slots places it n g.0, items_base slots places is n g.1)
+
+pub spills_by_base : (slots : ℕ) (places : List ℕ) (is : List Item) → slots ≤ 128 → AreGood slots is → SpillsByBase slots (map (instr_of places) is)
+spills_by_base slots places is n g = All-from_recursion (KeepsBase slots) (map (instr_of places) is) (items_base slots places is n g)

@@ -28,7 +28,7 @@ use Rattle.ucode_emit.proofs.PointsLabels.{Formed, formed_at}
 use Rattle.ucode_emit.proofs.PointsUsed.{root_at}
 use Rattle.ucode_emit.proofs.DefinitionsDirect.{access_at}
 use Rattle.ucode_emit.proofs.Placing.{there_by_length, Part, part_head, entry_later}
-use Rattle.ucode_emit.proofs.LawfulItems.{KeepsOwn, un_own, alu_own, immed_own, halt_own, read_own, write_own, run_is, paired_is, count_is, apart_sources, IsGood, AreGood, moves_good}
+use Rattle.ucode_emit.proofs.LawfulItems.{KeepsOwn, un_own, alu_own, immed_own, halt_own, read_own, write_own, run_is, paired_is, count_is, apart_sources, other_source, other_target, other_address, IsGood, AreGood, moves_good}
 
 -- ---- all words are 0: then all stands ready anywhere
 
@@ -51,28 +51,29 @@ node_here labels p k of above t h a = formed_at labels k (root_point of above t)
 
 -- ---- steps
 
-defines_good : (p : Plan) (k x : ℕ) (op : Dst → Instr) → KeepsOwn (op (target (result_place p k x))) → AreDirect (to_slot p k x ++ copies p k x) → AreGood (defines p k x op)
-defines_good p k x op h d = (h, moves_good (to_slot p k x ++ copies p k x) d)
+defines_good : (p : Plan) (k x : ℕ) (op : Dst → Instr) → KeepsOwn p.slots (op (target (result_place p k x))) → AreDirect p.slots (to_slot p k x ++ copies p k x) → AreGood p.slots (defines p k x op)
+defines_good p k x op h d = (h, moves_good p.slots (to_slot p k x ++ copies p k x) d)
 
-pub step_good : (labels : List Label) (p : Plan) (k : ℕ) (of : Names) (above : List ℕ) (s : Step) (t : Tree) → Placed labels p → ReadyLayer labels p → PointsAt labels k of above (Do s t) → AreGood (step_items p k s)
+pub step_good : (labels : List Label) (p : Plan) (k : ℕ) (of : Names) (above : List ℕ) (s : Step) (t : Tree) → Placed labels p → ReadyLayer labels p → PointsAt labels k of above (Do s t) → AreGood p.slots (step_items p k s)
 step_good labels p k of above (Lit x v) t h r a =
     let d = r.literal k of above x v 0 t no_words no_places a (idle labels p k (root_point of above (Do (Lit x v) t))) in
-    defines_good p k x (λ d. instr.Immed d (v / 2 ^ shift_of v) (shift_of v)) (immed_own (target (result_place p k x)) (v / 2 ^ shift_of v) v) d.1.0
+    defines_good p k x (λ d. instr.Immed d (v / 2 ^ shift_of v) (shift_of v)) (immed_own p.slots (target (result_place p k x)) (v / 2 ^ shift_of v) v (other_target (result_place p k x) d.0)) d.1.0
 step_good labels p k of above (Una x op y) t h r a =
     let q = root_point of above (Do (Una x op y) t) in
     let o = r.one_operand k of above x y op t no_words no_places a (idle labels p k q) in
     let d = r.unary k of above x y 0 op t no_words no_places a (idle labels p k q) in
     let f = node_here labels p k of above (Do (Una x op y) t) h a in
-    all_both IsGood (moved (operands p k 1)) (defines p k x (λ d. instr.Un d (un_op op) (source (operand_at p k 0)))) (moves_good (operands p k 1) o.0.0)
-    (defines_good p k x (λ d. instr.Un d (un_op op) (source (operand_at p k 0))) (un_own (target (result_place p k x)) (un_op op) (source (operand_at p k 0)) (count_is op f.fits)) d.1.0)
+    all_both (IsGood p.slots) (moved (operands p k 1)) (defines p k x (λ d. instr.Un d (un_op op) (source (operand_at p k 0)))) (moves_good p.slots (operands p k 1) o.0.0)
+    (defines_good p k x (λ d. instr.Un d (un_op op) (source (operand_at p k 0))) (un_own p.slots (target (result_place p k x)) (un_op op) (source (operand_at p k 0)) (count_is op f.fits) (other_target (result_place p k x) d.0) (other_source (operand_at p k 0) o.1)) d.1.0)
 step_good labels p k of above (Bin x op y z) t h r a =
     let q = root_point of above (Do (Bin x op y z) t) in
     let o = r.two_operands k of above x y z op t no_words no_places a (idle labels p k q) in
     let d = r.binary k of above x y z 0 op t no_words no_places a (idle labels p k q) in
     let f = h.fits.points k q (root_at labels k of above (Do (Bin x op y z) t) a) in
-    all_both IsGood (moved (operands p k 2)) (defines p k x (λ d. instr.Alu d op (source (operand_at p k 0)) (source (operand_at p k 1)))) (moves_good (operands p k 2) o.0.0)
+    all_both (IsGood p.slots) (moved (operands p k 2)) (defines p k x (λ d. instr.Alu d op (source (operand_at p k 0)) (source (operand_at p k 1)))) (moves_good p.slots (operands p k 2) o.0.0)
     (defines_good p k x (λ d. instr.Alu d op (source (operand_at p k 0)) (source (operand_at p k 1)))
-    (alu_own (target (result_place p k x)) op (source (operand_at p k 0)) (source (operand_at p k 1)) (apart_sources (operand_at p k 0) (operand_at p k 1) o.1 o.2 f.operands)) d.1.0)
+    (alu_own p.slots (target (result_place p k x)) op (source (operand_at p k 0)) (source (operand_at p k 1)) (apart_sources (operand_at p k 0) (operand_at p k 1) o.1 o.2 f.operands)
+    (other_target (result_place p k x) d.0) (other_source (operand_at p k 0) o.1) (other_source (operand_at p k 1) o.2)) d.1.0)
 step_good labels p k of above (Clone xs y) t h r a = tt
 step_good labels p k of above (Read m xs y) t h r a =
     let q = root_point of above (Do (Read m xs y) t) in
@@ -80,30 +81,31 @@ step_good labels p k of above (Read m xs y) t h r a =
     let d = r.read k of above m xs xs y t no_words no_places a refl (idle labels p k q) in
     let f = node_here labels p k of above (Do (Read m xs y) t) h a in
     let g = access_at labels p k q h (root_at labels k of above (Do (Read m xs y) t) a) in
-    all_both IsGood (moved (operands p k 1)) (Plain (instr.Read m (first p k) (length xs) (address_of (operand_at p k 0)) 0) ∷ moved (all_copies p k xs)) (moves_good (operands p k 1) o.0.0) (
-      read_own m (first p k) (length xs) (address_of (operand_at p k 0)) 0 (run_is m (length xs) (first p k) g.0 f.fits) (paired_is m (length xs) (first p k) g.0 f.fits) (omega arith),
-      moves_good (all_copies p k xs) d.0,
+    all_both (IsGood p.slots) (moved (operands p k 1)) (Plain (instr.Read m (first p k) (length xs) (address_of (operand_at p k 0)) 0) ∷ moved (all_copies p k xs)) (moves_good p.slots (operands p k 1) o.0.0) (
+      read_own p.slots m (first p k) (length xs) (address_of (operand_at p k 0)) 0 (run_is m (length xs) (first p k) g.0 f.fits) (paired_is m (length xs) (first p k) g.0 f.fits) (omega arith) (other_address p.slots m (length xs) (operand_at p k 0) 0 o.1),
+      moves_good p.slots (all_copies p k xs) d.0,
     )
 step_good labels p k of above (Write m y xs) t h r a =
     let q = root_point of above (Do (Write m y xs) t) in
     let o = r.written k of above m xs y t no_words no_places a (idle labels p k q) in
     let f = node_here labels p k of above (Do (Write m y xs) t) h a in
     let g = access_at labels p k q h (root_at labels k of above (Do (Write m y xs) t) a) in
-    all_both IsGood (moved (operands p k 1 ++ words p k 1 (length xs))) (Plain (instr.Write m (first p k) (length xs) (address_of (operand_at p k 0)) 0) ∷ []) (moves_good (operands p k 1 ++ words p k 1 (length xs)) o.0.0) (
-      write_own m (first p k) (length xs) (address_of (operand_at p k 0)) 0 (run_is m (length xs) (first p k) g.0 f.fits) (paired_is m (length xs) (first p k) g.0 f.fits) (omega arith),
+    all_both (IsGood p.slots) (moved (operands p k 1 ++ words p k 1 (length xs))) (Plain (instr.Write m (first p k) (length xs) (address_of (operand_at p k 0)) 0) ∷ []) (moves_good p.slots (operands p k 1 ++ words p k 1 (length xs)) o.0.0) (
+      write_own p.slots m (first p k) (length xs) (address_of (operand_at p k 0)) 0 (run_is m (length xs) (first p k) g.0 f.fits) (paired_is m (length xs) (first p k) g.0 f.fits) (omega arith) (other_address p.slots m (length xs) (operand_at p k 0) 0 o.1),
       tt,
     )
 
 -- ---- forks
 
 pub fork_good : (labels : List Label) (p : Plan) (k : ℕ) (of : Names) (above : List ℕ) (c : Cmp) (x y second : ℕ) (t u : Tree) → Placed labels p → ReadyLayer labels p → PointsAt labels k of above (If c x y t u)
-    → AreGood (fork_items p k (failing c) second)
+    → AreGood p.slots (fork_items p k (failing c) second)
 fork_good labels p k of above c x y second t u h r a =
     let q = root_point of above (If c x y t u) in
     let o = r.compared k of above c x y t u no_words no_places a (idle labels p k q) in
     let f = h.fits.points k q (root_at labels k of above (If c x y t u) a) in
-    all_both IsGood (moved (operands p k 2)) (Plain (instr.Alu dst.Nowhere Sub (source (operand_at p k 0)) (source (operand_at p k 1))) ∷ Branch (failing c) second ∷ []) (moves_good (operands p k 2) o.0.0) (
-      alu_own dst.Nowhere Sub (source (operand_at p k 0)) (source (operand_at p k 1)) (apart_sources (operand_at p k 0) (operand_at p k 1) o.1 o.2 f.operands),
+    all_both (IsGood p.slots) (moved (operands p k 2)) (Plain (instr.Alu dst.Nowhere Sub (source (operand_at p k 0)) (source (operand_at p k 1))) ∷ Branch (failing c) second ∷ []) (moves_good p.slots (operands p k 2) o.0.0) (
+      alu_own p.slots dst.Nowhere Sub (source (operand_at p k 0)) (source (operand_at p k 1)) (apart_sources (operand_at p k 0) (operand_at p k 1) o.1 o.2 f.operands) tt
+          (other_source (operand_at p k 0) o.1) (other_source (operand_at p k 1) o.2),
       (tt, tt),
     )
 
@@ -114,18 +116,18 @@ takes_some n (Some l) e = (l, refl)
 takes_some n None e = absurd (false≢true e)
 
 pub last_good : (labels : List Label) (p : Plan) (k : ℕ) (of : Names) (above : List ℕ) (l : Last) (ms : List Move) → Placed labels p → ReadyLayer labels p → PointsAt labels k of above (End l)
-    → IsSequence (last_moves p k l) ms → AreGood (last_items labels p k l ms)
+    → IsSequence (last_moves p k l) ms → AreGood p.slots (last_items labels p k l ms)
 last_good labels p k of above (Jump l xs) ms h r a s =
     let q = root_point of above (End (Jump l xs)) in
     let f = node_here labels p k of above (End (Jump l xs)) h a in
     let to = takes_some (length xs) (slice_get labels l) (and_parts (nat_le 1 l) (takes_as_many (length xs) (slice_get labels l)) f.fits).1 in
     let d = r.jump k of above l xs to.0 ms no_words no_words no_places a to.1 (λ i x y e g. refl) s (idle labels p k q) in
-    all_both IsGood (moved (single_moves (pass p k).l ms)) (Branch Always (entry_point labels l) ∷ []) (moves_good (single_moves (pass p k).l ms) d.0) (tt, tt)
+    all_both (IsGood p.slots) (moved (single_moves (pass p k).l ms)) (Branch Always (entry_point labels l) ∷ []) (moves_good p.slots (single_moves (pass p k).l ms) d.0) (tt, tt)
 last_good labels p k of above (Halt c xs) ms h r a s =
     let q = root_point of above (End (Halt c xs)) in
     let f = node_here labels p k of above (End (Halt c xs)) h a in
     let d = r.halt k of above c xs ms no_words no_places a s (idle labels p k q) in
-    all_both IsGood (moved (single_moves (pass p k).l ms)) (Plain (instr.Halt c (length xs)) ∷ []) (moves_good (single_moves (pass p k).l ms) d.0) (halt_own c (length xs) (leb-true (length xs) 8 f.fits), tt)
+    all_both (IsGood p.slots) (moved (single_moves (pass p k).l ms)) (Plain (instr.Halt c (length xs)) ∷ []) (moves_good p.slots (single_moves (pass p k).l ms) d.0) (halt_own p.slots c (length xs) (leb-true (length xs) 8 f.fits), tt)
 
 -- ---- where labels begin
 
@@ -144,24 +146,24 @@ given xs _ = 0
 abbrev pub front_moves : Sequences → ℕ → List Move
 front_moves mss k = single_moves None (sequence_at mss k)
 
-nothing_moved : (mss : Sequences) (k : ℕ) → sequence_at mss k ≡ [] → AreGood (moved (front_moves mss k))
-nothing_moved mss k e = subst (λ ms. AreGood (moved (single_moves None ms))) (sym e) tt
+nothing_moved : (slots : ℕ) (mss : Sequences) (k : ℕ) → sequence_at mss k ≡ [] → AreGood slots (moved (front_moves mss k))
+nothing_moved slots mss k e = subst (λ ms. AreGood slots (moved (single_moves None ms))) (sym e) tt
 
-first_good : (labels : List Label) (p : Plan) (mss : Sequences) (it : Label) → ReadyLayer labels p → slice_get labels 0 ≡ Some it → IsSequence (entry_moves p 0 it.params) (sequence_at mss 0) → AreGood (moved (front_moves mss 0))
+first_good : (labels : List Label) (p : Plan) (mss : Sequences) (it : Label) → ReadyLayer labels p → slice_get labels 0 ≡ Some it → IsSequence (entry_moves p 0 it.params) (sequence_at mss 0) → AreGood p.slots (moved (front_moves mss 0))
 first_good labels p mss it r e s =
     let d = r.begins it (sequence_at mss 0) it.params own (given it.params) e refl (λ i x w f g. same_Some x w (sym f ∙ g)) s (λ i w g. get-index it.params i w 0 g) in
-    moves_good (front_moves mss 0) d.0
+    moves_good p.slots (front_moves mss 0) d.0
 
 pub front_good : (labels : List Label) (p : Plan) (mss : Sequences) (l k : ℕ) (it : Label) → ReadyLayer labels p → AreSequences (parallel_moves p labels) mss → slice_get labels l ≡ Some it → entry_point labels l ≡ k
-    → Part k (label_moves p k it) (parallel_moves p labels) → AreGood (moved (front_moves mss k))
+    → Part k (label_moves p k it) (parallel_moves p labels) → AreGood p.slots (moved (front_moves mss k))
 front_good labels p mss zero zero it r s e n m =
     first_good labels p mss it r e (sequence_here (parallel_moves p labels) mss 0 (entry_moves p 0 it.params) s (m.each 0 (entry_moves p 0 it.params) refl))
 front_good labels p mss (suc l) zero it r s e n m = let z = entry_later labels l it e in absurd (omega (arith, z, n))
 front_good labels p mss l (suc k) it r s e n m =
     let there : slice_get (parallel_moves p labels) (suc k) ≡ Some [] = part_head (suc k) [] (tree_moves p (suc (suc k)) it.body) (parallel_moves p labels) m in
-    nothing_moved mss (suc k) (none_stand (sequence_at mss (suc k)) (sequence_here (parallel_moves p labels) mss (suc k) [] s there).kinds)
+    nothing_moved p.slots mss (suc k) (none_stand (sequence_at mss (suc k)) (sequence_here (parallel_moves p labels) mss (suc k) [] s there).kinds)
 
 -- the front of a label
 pub entry_good : (labels : List Label) (p : Plan) (l : ℕ) (it : Label) → ReadyLayer labels p → slice_get labels l ≡ Some it → PointsAt labels (suc (entry_point labels l)) own it.params it.body
-    → AreGood (moved (all_copies p (entry_point labels l) it.params))
-entry_good labels p l it r e a = let d = r.entry l it no_words no_places e a (λ x i. refl) in moves_good (all_copies p (entry_point labels l) it.params) d.0
+    → AreGood p.slots (moved (all_copies p (entry_point labels l) it.params))
+entry_good labels p l it r e a = let d = r.entry l it no_words no_places e a (λ x i. refl) in moves_good p.slots (all_copies p (entry_point labels l) it.params) d.0

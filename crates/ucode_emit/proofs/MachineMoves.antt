@@ -152,23 +152,23 @@ spill_leads code base at r k e w m b a c h =
 
 -- ---- any moves
 
-move_leads : (code : List Instr) (base at : ℕ) (x d : Place) (e : Words) (w : World) (m : Moment)
-    → IsDirect x d → InCode code at (move_instr x d ∷ []) → Stands base at e w m → Led code base 1 m (at + 1) (put e d (e x)) w
-move_leads code base at x d e w m (read_slot {k} {r} a b) c h = slot_leads code base at k r e w m a b c h
-move_leads code base at x d e w m (write_slot {r} {k} a b) c h = spill_leads code base at r k e w m a b c h
-move_leads code base at x d e w m (copied r p) c h =
+move_leads : (code : List Instr) (base at slots : ℕ) (x d : Place) (e : Words) (w : World) (m : Moment)
+    → slots ≤ 128 → IsDirect slots x d → InCode code at (move_instr x d ∷ []) → Stands base at e w m → Led code base 1 m (at + 1) (put e d (e x)) w
+move_leads code base at slots x d e w m n (read_slot {k} {r} a b) c h = let t : k < 128 = omega arith in slot_leads code base at k r e w m t b c h
+move_leads code base at slots x d e w m n (write_slot {r} {k} a b) c h = let t : k < 128 = omega arith in spill_leads code base at r k e w m a t c h
+move_leads code base at slots x d e w m n (copied r p) c h =
     copy_leads code base at x d e w m r p (subst (λ i. InCode code at (i ∷ [])) (copy_instr x d r) c) h
 
-all_lead : (code : List Instr) (base at : ℕ) (ms : List Move) (e : Words) (w : World) (m : Moment)
-    → AllByRecursion (λ n. IsDirect n.0 n.1) ms → InCode code at (move_instrs ms) → Stands base at e w m → Led code base (length ms) m (at + length ms) (one_by_one ms e) w
-all_lead code base at [] e w m d c h =
+all_lead : (code : List Instr) (base at slots : ℕ) (ms : List Move) (e : Words) (w : World) (m : Moment)
+    → slots ≤ 128 → AllByRecursion (λ n. IsDirect slots n.0 n.1) ms → InCode code at (move_instrs ms) → Stands base at e w m → Led code base (length ms) m (at + length ms) (one_by_one ms e) w
+all_lead code base at slots [] e w m n d c h =
     let same : at ≡ at + 0 = omega arith in
     record { later = m; leads = leads-none code base m; stands = subst (λ n. Stands base n e w m) same h }
-all_lead code base at (x ∷ ms) e w m d c h =
+all_lead code base at slots (x ∷ ms) e w m n d c h =
     let i : Instr = move_instr x.0 x.1 in
     let e' : Words = put e x.1 (e x.0) in
-    let first : Led code base 1 m (at + 1) e' w = move_leads code base at x.0 x.1 e w m d.0 (stands-left code at (i ∷ []) (move_instrs ms) c) h in
-    let rest : Led code base (length ms) first.later (at + 1 + length ms) (one_by_one ms e') w = all_lead code base (at + 1) ms e' w first.later d.1 (stands-right code at (i ∷ []) (move_instrs ms) c) first.stands in
+    let first : Led code base 1 m (at + 1) e' w = move_leads code base at slots x.0 x.1 e w m n d.0 (stands-left code at (i ∷ []) (move_instrs ms) c) h in
+    let rest : Led code base (length ms) first.later (at + 1 + length ms) (one_by_one ms e') w = all_lead code base (at + 1) slots ms e' w first.later n d.1 (stands-right code at (i ∷ []) (move_instrs ms) c) first.stands in
     let as_many : 1 + length ms ≡ length (x ∷ ms) = omega arith in
     let far : at + 1 + length ms ≡ at + length (x ∷ ms) = omega arith in
     record {
@@ -177,6 +177,6 @@ all_lead code base at (x ∷ ms) e w m d c h =
       stands = subst (λ n. Stands base n (one_by_one ms e') w rest.later) far rest.stands;
     }
 
-pub moves : (code : List Instr) (base at : ℕ) (ms : List Move) (e : Words) (w : World) (m : Moment)
-    → AreDirect ms → InCode code at (move_instrs ms) → Stands base at e w m → Led code base (length ms) m (at + length ms) (one_by_one ms e) w
-moves code base at ms e w m d c h = all_lead code base at ms e w m (recursion_from_All (λ n. IsDirect n.0 n.1) ms d) c h
+pub moves : (code : List Instr) (base at slots : ℕ) (ms : List Move) (e : Words) (w : World) (m : Moment)
+    → slots ≤ 128 → AreDirect slots ms → InCode code at (move_instrs ms) → Stands base at e w m → Led code base (length ms) m (at + length ms) (one_by_one ms e) w
+moves code base at slots ms e w m n d c h = all_lead code base at slots ms e w m n (recursion_from_All (λ i. IsDirect slots i.0 i.1) ms d) c h

@@ -36,7 +36,7 @@ result_state (Slot k) v e h w = h
 
 pub operand_word : (base : ℕ) (x : Place) (e : Words) (m : Moment) → IsReadable x → HasWords base e m → operand (source x) m.engine ≡ e x
 operand_word base (A k) e m i h = h (A k) i
-operand_word base (B k) e m i h = h (B k) i
+operand_word base (B k) e m i h = let b : k < 16 = omega arith in h (B k) b
 operand_word base (L k) e m i h = h (L k) i
 operand_word base (LD k) e m i h = h (LD k) i
 operand_word base (S k) e m i h = absurd i
@@ -45,7 +45,7 @@ operand_word base (Slot k) e m i h = absurd i
 
 pub address_word : (base : ℕ) (x : Place) (e : Words) (m : Moment) → IsAddress x → HasWords base e m → address (address_of x) m.engine ≡ e x
 address_word base (A k) e m i h = h (A k) i
-address_word base (B k) e m i h = h (B k) i
+address_word base (B k) e m i h = let b : k < 16 = omega arith in h (B k) b
 address_word base (L k) e m i h = absurd i
 address_word base (LD k) e m i h = absurd i
 address_word base (S k) e m i h = absurd i

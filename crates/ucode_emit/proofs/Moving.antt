@@ -1,4 +1,5 @@
 -- A move that is one instruction has the ends that are asked of it.
+use Rattle.std.proofs.Common.{ℕ, ◌≤◌, arith}
 use Rattle.slot_placement.specs.declared.place.Place.{Place}
 use Rattle.slot_placement.specs.declared.place.Place.TheVariants.{A, B, L, LD, S, SD, Slot}
 use Rattle.ucode_emit.specs.inner.Machine.{IsReadable, IsWritable, IsDirect, read_slot, write_slot, copied}
@@ -13,7 +14,7 @@ copy_can (S k) at h g = absurd h
 copy_can (SD k) at h g = absurd h
 copy_can (Slot k) at h g = absurd h
 
-pub direct_can : (from at : Place) → IsDirect from at → CanMove from at
-direct_can from at (read_slot {k} {r} a b) = (a, b)
-direct_can from at (write_slot {r} {k} a b) = (a, b)
-direct_can from at (copied a b) = copy_can from at a b
+pub direct_can : (slots : ℕ) (from at : Place) → slots ≤ 128 → IsDirect slots from at → CanMove from at
+direct_can slots from at n (read_slot {k} {r} a b) = (omega (arith, n, a), b)
+direct_can slots from at n (write_slot {r} {k} a b) = (a, omega (arith, n, b))
+direct_can slots from at n (copied a b) = copy_can from at a b

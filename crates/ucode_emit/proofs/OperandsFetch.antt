@@ -76,17 +76,17 @@ ready_put labels p k q env e r w h s a d = record {
 }
 
 -- moves of single instructions that go where words pass
-abbrev pub Goes : Option ℕ → Move → Type 0
-Goes l m = OneInstr m × Passing l m.1
+abbrev pub Goes : ℕ → Option ℕ → Move → Type 0
+Goes slots l m = OneInstr slots m × Passing l m.1
 
-pub ready_moves : (labels : List Label) (p : Plan) (k : ℕ) (q : Point) (env : Env) (ms : List Move) (e : Words) → Placed labels p → Here labels k q → AllByRecursion (Goes (pass p k).l) ms → Ready labels p k q env e
+pub ready_moves : (labels : List Label) (p : Plan) (k : ℕ) (q : Point) (env : Env) (ms : List Move) (e : Words) → Placed labels p → Here labels k q → AllByRecursion (Goes p.slots (pass p k).l) ms → Ready labels p k q env e
     → Ready labels p k q env (one_by_one ms e)
 ready_moves labels p k q env [] e h s a d = d
 ready_moves labels p k q env (m ∷ ms) e h s a d = ready_moves labels p k q env ms (put e m.1 (e m.0)) h s a.1 (ready_put labels p k q env e m.1 (e m.0) h s a.0.1 d)
 
-goes_direct : (l : Option ℕ) (ms : List Move) → AllByRecursion (Goes l) ms → AllByRecursion OneInstr ms
-goes_direct l [] h = tt
-goes_direct l (m ∷ ms) h = (h.0.0, goes_direct l ms h.1)
+goes_direct : (slots : ℕ) (l : Option ℕ) (ms : List Move) → AllByRecursion (Goes slots l) ms → AllByRecursion (OneInstr slots) ms
+goes_direct slots l [] h = tt
+goes_direct slots l (m ∷ ms) h = (h.0.0, goes_direct slots l ms h.1)
 
 -- ---- the moves of one operand
 
@@ -99,45 +99,44 @@ read_moves from at = if is_slot from && is_read_register at then (from, at) ∷ 
 temp_none : (l : Option ℕ) (from at : Place) → (at ≡ temporary → ⊥) → temp_moves l from at ≡ []
 temp_none l from at n = ap (λ b. if b then brought l from at else []) (same_place-false at temporary n)
 
-temp_goes : (l : Option ℕ) {from at : Place} → IsOperandAt l from at → CanServe from → named l < 8 → (is_slot from ≡ true → is_some l ≡ true) → AllByRecursion (Goes l) (temp_moves l from at)
-temp_goes l (IsOperandAt.in_a {k}) c n s = subst (AllByRecursion (Goes l)) (sym (temp_none l (A k) (A k) (serves_spare (A k) c))) tt
-temp_goes l (IsOperandAt.in_b {k}) c n s = tt
-temp_goes l (IsOperandAt.in_l {k}) c n s = tt
-temp_goes l (IsOperandAt.in_ld {k}) c n s = tt
-temp_goes l (IsOperandAt.read_slot {k} {r} e) c n s = tt
-temp_goes l (IsOperandAt.from_slot {k}) c n s =
+temp_goes : (slots : ℕ) (l : Option ℕ) {from at : Place} → IsOperandAt l from at → CanServe slots from → named l < 8 → (is_slot from ≡ true → is_some l ≡ true) → AllByRecursion (Goes slots l) (temp_moves l from at)
+temp_goes slots l (IsOperandAt.in_a {k}) c n s = subst (AllByRecursion (Goes slots l)) (sym (temp_none l (A k) (A k) (serves_spare slots (A k) c))) tt
+temp_goes slots l (IsOperandAt.in_b {k}) c n s = tt
+temp_goes slots l (IsOperandAt.in_l {k}) c n s = tt
+temp_goes slots l (IsOperandAt.in_ld {k}) c n s = tt
+temp_goes slots l (IsOperandAt.read_slot {k} {r} e) c n s = tt
+temp_goes slots l (IsOperandAt.from_slot {k}) c n s =
     let t : 15 < 16 = omega arith in
     ((IsDirect.read_slot c n, inr (named l, named_some l (s refl), refl)), ((in_one n t, inl refl), tt))
-temp_goes l (IsOperandAt.from_b {k}) c n s =
+temp_goes slots l (IsOperandAt.from_b {k}) c n s =
     let t : 15 < 16 = omega arith in
-    let b : k < 16 = omega arith in
-    ((in_one b t, inl refl), tt)
-temp_goes l (IsOperandAt.from_l {k}) c n s = let t : 15 < 16 = omega arith in ((in_one c t, inl refl), tt)
-temp_goes l (IsOperandAt.from_ld {k}) c n s = let t : 15 < 16 = omega arith in ((in_one c t, inl refl), tt)
+    ((in_one c t, inl refl), tt)
+temp_goes slots l (IsOperandAt.from_l {k}) c n s = let t : 15 < 16 = omega arith in ((in_one c t, inl refl), tt)
+temp_goes slots l (IsOperandAt.from_ld {k}) c n s = let t : 15 < 16 = omega arith in ((in_one c t, inl refl), tt)
 
-read_goes : (l : Option ℕ) {from at : Place} → IsOperandAt l from at → CanServe from → named l < 8 → AllByRecursion (Goes l) (read_moves from at)
-read_goes l (IsOperandAt.in_a {k}) c n = tt
-read_goes l (IsOperandAt.in_b {k}) c n = tt
-read_goes l (IsOperandAt.in_l {k}) c n = tt
-read_goes l (IsOperandAt.in_ld {k}) c n = tt
-read_goes l (IsOperandAt.read_slot {k} {r} e) c n =
+read_goes : (slots : ℕ) (l : Option ℕ) {from at : Place} → IsOperandAt l from at → CanServe slots from → named l < 8 → AllByRecursion (Goes slots l) (read_moves from at)
+read_goes slots l (IsOperandAt.in_a {k}) c n = tt
+read_goes slots l (IsOperandAt.in_b {k}) c n = tt
+read_goes slots l (IsOperandAt.in_l {k}) c n = tt
+read_goes slots l (IsOperandAt.in_ld {k}) c n = tt
+read_goes slots l (IsOperandAt.read_slot {k} {r} e) c n =
     let b : r < 8 = subst (λ j. j < 8) (ap named e) n in
     ((IsDirect.read_slot c b, inr (r, e, refl)), tt)
-read_goes l (IsOperandAt.from_slot {k}) c n = tt
-read_goes l (IsOperandAt.from_b {k}) c n = tt
-read_goes l (IsOperandAt.from_l {k}) c n = tt
-read_goes l (IsOperandAt.from_ld {k}) c n = tt
+read_goes slots l (IsOperandAt.from_slot {k}) c n = tt
+read_goes slots l (IsOperandAt.from_b {k}) c n = tt
+read_goes slots l (IsOperandAt.from_l {k}) c n = tt
+read_goes slots l (IsOperandAt.from_ld {k}) c n = tt
 
-readable : (l : Option ℕ) {from at : Place} → IsOperandAt l from at → CanServe from → named l < 8 → IsReadable at
-readable l (IsOperandAt.in_a {k}) c n = let b : k < 16 = omega arith in b
-readable l (IsOperandAt.in_b {k}) c n = let b : k < 16 = omega arith in b
-readable l (IsOperandAt.in_l {k}) c n = c
-readable l (IsOperandAt.in_ld {k}) c n = c
-readable l (IsOperandAt.read_slot {k} {r} e) c n = subst (λ j. j < 8) (ap named e) n
-readable l (IsOperandAt.from_slot {k}) c n = let t : 15 < 16 = omega arith in t
-readable l (IsOperandAt.from_b {k}) c n = let t : 15 < 16 = omega arith in t
-readable l (IsOperandAt.from_l {k}) c n = let t : 15 < 16 = omega arith in t
-readable l (IsOperandAt.from_ld {k}) c n = let t : 15 < 16 = omega arith in t
+readable : (slots : ℕ) (l : Option ℕ) {from at : Place} → IsOperandAt l from at → CanServe slots from → named l < 8 → IsReadable at
+readable slots l (IsOperandAt.in_a {k}) c n = let b : k < 16 = omega arith in b
+readable slots l (IsOperandAt.in_b {k}) c n = c
+readable slots l (IsOperandAt.in_l {k}) c n = c
+readable slots l (IsOperandAt.in_ld {k}) c n = c
+readable slots l (IsOperandAt.read_slot {k} {r} e) c n = subst (λ j. j < 8) (ap named e) n
+readable slots l (IsOperandAt.from_slot {k}) c n = let t : 15 < 16 = omega arith in t
+readable slots l (IsOperandAt.from_b {k}) c n = let t : 15 < 16 = omega arith in t
+readable slots l (IsOperandAt.from_l {k}) c n = let t : 15 < 16 = omega arith in t
+readable slots l (IsOperandAt.from_ld {k}) c n = let t : 15 < 16 = omega arith in t
 
 -- the three ways in which an operand comes where it is wanted
 data Way (from at : Place) : Type 0 where
@@ -156,18 +155,18 @@ way l (IsOperandAt.from_b {k}) = to_own refl
 way l (IsOperandAt.from_l {k}) = to_own refl
 way l (IsOperandAt.from_ld {k}) = to_own refl
 
-temp_brings : (l : Option ℕ) {from at : Place} → IsOperandAt l from at → CanServe from → (e : Words) → at ≡ temporary → one_by_one (temp_moves l from at) e temporary ≡ e from
-temp_brings l (IsOperandAt.in_a {k}) c e t = absurd (serves_spare (A k) c t)
-temp_brings l (IsOperandAt.in_b {k}) c e t = absurd (false≢true (same_place-from (B k) temporary t))
-temp_brings l (IsOperandAt.in_l {k}) c e t = absurd (false≢true (same_place-from (L k) temporary t))
-temp_brings l (IsOperandAt.in_ld {k}) c e t = absurd (false≢true (same_place-from (LD k) temporary t))
-temp_brings l (IsOperandAt.read_slot {k} {r} g) c e t = absurd (false≢true (same_place-from (L r) temporary t))
-temp_brings l (IsOperandAt.from_slot {k}) c e t =
+temp_brings : (slots : ℕ) (l : Option ℕ) {from at : Place} → IsOperandAt l from at → CanServe slots from → (e : Words) → at ≡ temporary → one_by_one (temp_moves l from at) e temporary ≡ e from
+temp_brings slots l (IsOperandAt.in_a {k}) c e t = absurd (serves_spare slots (A k) c t)
+temp_brings slots l (IsOperandAt.in_b {k}) c e t = absurd (false≢true (same_place-from (B k) temporary t))
+temp_brings slots l (IsOperandAt.in_l {k}) c e t = absurd (false≢true (same_place-from (L k) temporary t))
+temp_brings slots l (IsOperandAt.in_ld {k}) c e t = absurd (false≢true (same_place-from (LD k) temporary t))
+temp_brings slots l (IsOperandAt.read_slot {k} {r} g) c e t = absurd (false≢true (same_place-from (L r) temporary t))
+temp_brings slots l (IsOperandAt.from_slot {k}) c e t =
     let e' = put e (L (named l)) (e (Slot k)) in
     put_here e' temporary (e' (L (named l))) ∙ put_here e (L (named l)) (e (Slot k))
-temp_brings l (IsOperandAt.from_b {k}) c e t = put_here e temporary (e (B k))
-temp_brings l (IsOperandAt.from_l {k}) c e t = put_here e temporary (e (L k))
-temp_brings l (IsOperandAt.from_ld {k}) c e t = put_here e temporary (e (LD k))
+temp_brings slots l (IsOperandAt.from_b {k}) c e t = put_here e temporary (e (B k))
+temp_brings slots l (IsOperandAt.from_l {k}) c e t = put_here e temporary (e (L k))
+temp_brings slots l (IsOperandAt.from_ld {k}) c e t = put_here e temporary (e (LD k))
 
 temp_spares : (l : Option ℕ) (from at : Place) (e : Words) → (at ≡ temporary → ⊥) → one_by_one (temp_moves l from at) e ≡ e
 temp_spares l from at e n = ap (λ ms. one_by_one ms e) (temp_none l from at n)
@@ -208,12 +207,12 @@ address_at l (IsAddressAt.from_l {k}) = IsOperandAt.from_l
 address_at l (IsAddressAt.from_ld {k}) = IsOperandAt.from_ld
 address_at l (IsAddressAt.from_slot {k}) = IsOperandAt.from_slot
 
-address_is : {from at : Place} → IsAddressAt from at → CanServe from → IsAddress at
-address_is (IsAddressAt.in_a {k}) c = let b : k < 16 = omega arith in b
-address_is (IsAddressAt.in_b {k}) c = let b : k < 16 = omega arith in b
-address_is (IsAddressAt.from_l {k}) c = let t : 15 < 16 = omega arith in t
-address_is (IsAddressAt.from_ld {k}) c = let t : 15 < 16 = omega arith in t
-address_is (IsAddressAt.from_slot {k}) c = let t : 15 < 16 = omega arith in t
+address_is : (slots : ℕ) {from at : Place} → IsAddressAt from at → CanServe slots from → IsAddress at
+address_is slots (IsAddressAt.in_a {k}) c = let b : k < 16 = omega arith in b
+address_is slots (IsAddressAt.in_b {k}) c = c
+address_is slots (IsAddressAt.from_l {k}) c = let t : 15 < 16 = omega arith in t
+address_is slots (IsAddressAt.from_ld {k}) c = let t : 15 < 16 = omega arith in t
+address_is slots (IsAddressAt.from_slot {k}) c = let t : 15 < 16 = omega arith in t
 
 pub record FetchAddress (labels : List Label) (p : Plan) (k : ℕ) (q : Point) (x : ℕ) : Type 0 where
   pub fetch : Fetch labels p k q x 0
@@ -224,7 +223,7 @@ pub fetch_address : (labels : List Label) (p : Plan) (k : ℕ) (q : Point) (x : 
 fetch_address labels p k q x h s u i =
     let source = source_of labels p k q (record { point = k; operand = 0; value = x; role = Address }) h s u.0.1 i u.0.0.0 in record {
       fetch = record { source = source; at_it = address_at (pass p k).l u.0.0.1; passes = u.1 };
-      address = address_is u.0.0.1 source.serves;
+      address = address_is p.slots u.0.0.1 source.serves;
     }
 
 -- ---- one operand
@@ -232,16 +231,16 @@ fetch_address labels p k q x h s u i =
 two_lists : (a c : List Move) (e : Words) → one_by_one ((a ++ []) ++ (c ++ [])) e ≡ one_by_one c (one_by_one a e)
 two_lists a c e = one_append (a ++ []) (c ++ []) e ∙ (ap (one_by_one (c ++ [])) (one_append a [] e) ∙ one_append c [] (one_by_one a e))
 
-one_word : (l : Option ℕ) {from at : Place} (e : Words) (w : ℕ) → IsOperandAt l from at → CanServe from → Way from at → e from ≡ w → one_by_one (temp_moves l from at) e from ≡ w
+one_word : (slots : ℕ) (l : Option ℕ) {from at : Place} (e : Words) (w : ℕ) → IsOperandAt l from at → CanServe slots from → Way from at → e from ≡ w → one_by_one (temp_moves l from at) e from ≡ w
     → one_by_one (read_moves from at) (one_by_one (temp_moves l from at) e) from ≡ w → one_by_one (read_moves from at) (one_by_one (temp_moves l from at) e) at ≡ w
-one_word l {from} {at} e w o c (stays_there z) h0 h1 h2 = ap (one_by_one (read_moves from at) (one_by_one (temp_moves l from at) e)) z ∙ h2
-one_word l {from} {at} e w o c (to_own z) h0 h1 h2 =
+one_word slots l {from} {at} e w o c (stays_there z) h0 h1 h2 = ap (one_by_one (read_moves from at) (one_by_one (temp_moves l from at) e)) z ∙ h2
+one_word slots l {from} {at} e w o c (to_own z) h0 h1 h2 =
     let e1 = one_by_one (temp_moves l from at) e in
-    ap (one_by_one (read_moves from at) e1) z ∙ (read_spares_own from at e1 ∙ (temp_brings l o c e z ∙ h0))
-one_word l {from} {at} e w o c (to_read a b) h0 h1 h2 = read_brings from at (one_by_one (temp_moves l from at) e) a b ∙ h1
+    ap (one_by_one (read_moves from at) e1) z ∙ (read_spares_own from at e1 ∙ (temp_brings slots l o c e z ∙ h0))
+one_word slots l {from} {at} e w o c (to_read a b) h0 h1 h2 = read_brings from at (one_by_one (temp_moves l from at) e) a b ∙ h1
 
 pub one_fetched : (labels : List Label) (p : Plan) (k : ℕ) (q : Point) (x : ℕ) (env : Env) (e : Words) → Placed labels p → Here labels k q → Fetch labels p k q x 0 → Ready labels p k q env e
-    → Behind (operands p k 1) e (λ e'. OperandsReady labels p k q (x ∷ []) env e') × IsReadable (operand_at p k 0)
+    → Behind p.slots (operands p k 1) e (λ e'. OperandsReady labels p k q (x ∷ []) env e') × IsReadable (operand_at p k 0)
 one_fetched labels p k q x env e h s f d =
     let l = (pass p k).l in
     let from = (serve p k 0).from in
@@ -249,21 +248,21 @@ one_fetched labels p k q x env e h s f d =
     let n = eighth_named l (h.fits.points k q s.at).passes.read in
     let ts = temp_moves l from at in
     let rs = read_moves from at in
-    let gt : AllByRecursion (Goes l) ts = temp_goes l f.at_it f.source.serves n f.passes in
-    let gr : AllByRecursion (Goes l) rs = read_goes l f.at_it f.source.serves n in
+    let gt : AllByRecursion (Goes p.slots l) ts = temp_goes p.slots l f.at_it f.source.serves n f.passes in
+    let gr : AllByRecursion (Goes p.slots l) rs = read_goes p.slots l f.at_it f.source.serves n in
     let e1 = one_by_one ts e in
     let e2 = one_by_one rs e1 in
     let d1 = ready_moves labels p k q env ts e h s gt d in
     let d2 = ready_moves labels p k q env rs e1 h s gr d1 in
     let word_of = λ (g : Words) (r : Ready labels p k q env g). source_word labels p k q x from env g f.source r in
-    let w : e2 at ≡ env x = one_word l e (env x) f.at_it f.source.serves (way l f.at_it) (word_of e d) (word_of e1 d1) (word_of e2 d2) in
-    let all = all_both (Goes l) (ts ++ []) (rs ++ []) (all_both (Goes l) ts [] gt tt) (all_both (Goes l) rs [] gr tt) in
+    let w : e2 at ≡ env x = one_word p.slots l e (env x) f.at_it f.source.serves (way l f.at_it) (word_of e d) (word_of e1 d1) (word_of e2 d2) in
+    let all = all_both (Goes p.slots l) (ts ++ []) (rs ++ []) (all_both (Goes p.slots l) ts [] gt tt) (all_both (Goes p.slots l) rs [] gr tt) in
     let ready : OperandsReady labels p k q (x ∷ []) env e2 = record { values = (w, tt); ready = d2 } in (
       (
-        All-from_recursion OneInstr (operands p k 1) (goes_direct l (operands p k 1) all),
+        All-from_recursion (OneInstr p.slots) (operands p k 1) (goes_direct p.slots l (operands p k 1) all),
         subst (OperandsReady labels p k q (x ∷ []) env) (sym (two_lists ts rs e)) ready,
       ),
-      readable l f.at_it f.source.serves n,
+      readable p.slots l f.at_it f.source.serves n,
     )
 
 -- ---- two operands
@@ -308,33 +307,33 @@ after_first l from at e = one_by_one (temp_moves l from at) e
 abbrev after_read : Place → Place → Words → Words
 after_read from at e = one_by_one (read_moves from at) e
 
-first_word : (l : Option ℕ) {f0 a0 : Place} (f1 a1 : Place) (e : Words) (w : ℕ) → IsOperandAt l f0 a0 → CanServe f0 → different_groups a0 a1 ≡ true → Way f0 a0 → e f0 ≡ w
+first_word : (slots : ℕ) (l : Option ℕ) {f0 a0 : Place} (f1 a1 : Place) (e : Words) (w : ℕ) → IsOperandAt l f0 a0 → CanServe slots f0 → different_groups a0 a1 ≡ true → Way f0 a0 → e f0 ≡ w
     → after_first l f1 a1 (after_first l f0 a0 e) f0 ≡ w → after_read f1 a1 (after_read f0 a0 (after_first l f1 a1 (after_first l f0 a0 e))) f0 ≡ w
     → after_read f1 a1 (after_read f0 a0 (after_first l f1 a1 (after_first l f0 a0 e))) a0 ≡ w
-first_word l {f0} {a0} f1 a1 e w o c n (stays_there z) h0 h2 h4 = ap (after_read f1 a1 (after_read f0 a0 (after_first l f1 a1 (after_first l f0 a0 e)))) z ∙ h4
-first_word l {f0} {a0} f1 a1 e w o c n (to_own z) h0 h2 h4 =
+first_word slots l {f0} {a0} f1 a1 e w o c n (stays_there z) h0 h2 h4 = ap (after_read f1 a1 (after_read f0 a0 (after_first l f1 a1 (after_first l f0 a0 e)))) z ∙ h4
+first_word slots l {f0} {a0} f1 a1 e w o c n (to_own z) h0 h2 h4 =
     let e1 = after_first l f0 a0 e in
     let e2 = after_first l f1 a1 e1 in
     let e3 = after_read f0 a0 e2 in
     ap (after_read f1 a1 e3) z
     ∙ (read_spares_own f1 a1 e3
-    ∙ (read_spares_own f0 a0 e2 ∙ (ap (λ (g : Words). g temporary) (temp_spares l f1 a1 e1 (λ y. groups_own a0 a1 n z y)) ∙ (temp_brings l o c e z ∙ h0))))
-first_word l {f0} {a0} f1 a1 e w o c n (to_read a b) h0 h2 h4 =
+    ∙ (read_spares_own f0 a0 e2 ∙ (ap (λ (g : Words). g temporary) (temp_spares l f1 a1 e1 (λ y. groups_own a0 a1 n z y)) ∙ (temp_brings slots l o c e z ∙ h0))))
+first_word slots l {f0} {a0} f1 a1 e w o c n (to_read a b) h0 h2 h4 =
     let e2 = after_first l f1 a1 (after_first l f0 a0 e) in
     let other : is_read_register a1 ≡ false = false_from_ne_true (is_read_register a1) (λ y. groups_read a0 a1 n b y) in
     ap (λ (g : Words). g a0) (read_none f1 a1 (after_read f0 a0 e2) other) ∙ (read_brings f0 a0 e2 a b ∙ h2)
 
-second_word : (l : Option ℕ) (f0 a0 : Place) {f1 a1 : Place} (e1 : Words) (w : ℕ) → IsOperandAt l f1 a1 → CanServe f1 → Way f1 a1 → e1 f1 ≡ w → after_read f0 a0 (after_first l f1 a1 e1) f1 ≡ w
+second_word : (slots : ℕ) (l : Option ℕ) (f0 a0 : Place) {f1 a1 : Place} (e1 : Words) (w : ℕ) → IsOperandAt l f1 a1 → CanServe slots f1 → Way f1 a1 → e1 f1 ≡ w → after_read f0 a0 (after_first l f1 a1 e1) f1 ≡ w
     → after_read f1 a1 (after_read f0 a0 (after_first l f1 a1 e1)) f1 ≡ w → after_read f1 a1 (after_read f0 a0 (after_first l f1 a1 e1)) a1 ≡ w
-second_word l f0 a0 {f1} {a1} e1 w o c (stays_there z) h1 h3 h4 = ap (after_read f1 a1 (after_read f0 a0 (after_first l f1 a1 e1))) z ∙ h4
-second_word l f0 a0 {f1} {a1} e1 w o c (to_own z) h1 h3 h4 =
+second_word slots l f0 a0 {f1} {a1} e1 w o c (stays_there z) h1 h3 h4 = ap (after_read f1 a1 (after_read f0 a0 (after_first l f1 a1 e1))) z ∙ h4
+second_word slots l f0 a0 {f1} {a1} e1 w o c (to_own z) h1 h3 h4 =
     let e2 = after_first l f1 a1 e1 in
     let e3 = after_read f0 a0 e2 in
-    ap (after_read f1 a1 e3) z ∙ (read_spares_own f1 a1 e3 ∙ (read_spares_own f0 a0 e2 ∙ (temp_brings l o c e1 z ∙ h1)))
-second_word l f0 a0 {f1} {a1} e1 w o c (to_read a b) h1 h3 h4 = read_brings f1 a1 (after_read f0 a0 (after_first l f1 a1 e1)) a b ∙ h3
+    ap (after_read f1 a1 e3) z ∙ (read_spares_own f1 a1 e3 ∙ (read_spares_own f0 a0 e2 ∙ (temp_brings slots l o c e1 z ∙ h1)))
+second_word slots l f0 a0 {f1} {a1} e1 w o c (to_read a b) h1 h3 h4 = read_brings f1 a1 (after_read f0 a0 (after_first l f1 a1 e1)) a b ∙ h3
 
 pub two_fetched : (labels : List Label) (p : Plan) (k : ℕ) (q : Point) (x y : ℕ) (env : Env) (e : Words) → Placed labels p → Here labels k q → Fetch labels p k q x 0 → Fetch labels p k q y 1 → different_groups (serve p k 0).at (serve p k 1).at ≡ true
-    → Ready labels p k q env e → Behind (operands p k 2) e (λ e'. OperandsReady labels p k q (x ∷ y ∷ []) env e') × IsReadable (operand_at p k 0) × IsReadable (operand_at p k 1)
+    → Ready labels p k q env e → Behind p.slots (operands p k 2) e (λ e'. OperandsReady labels p k q (x ∷ y ∷ []) env e') × IsReadable (operand_at p k 0) × IsReadable (operand_at p k 1)
 two_fetched labels p k q x y env e h s f g apart d =
     let l = (pass p k).l in
     let f0 = (serve p k 0).from in
@@ -346,10 +345,10 @@ two_fetched labels p k q x y env e h s f g apart d =
     let t1 = temp_moves l f1 a1 in
     let r0 = read_moves f0 a0 in
     let r1 = read_moves f1 a1 in
-    let gt0 : AllByRecursion (Goes l) t0 = temp_goes l f.at_it f.source.serves n f.passes in
-    let gt1 : AllByRecursion (Goes l) t1 = temp_goes l g.at_it g.source.serves n g.passes in
-    let gr0 : AllByRecursion (Goes l) r0 = read_goes l f.at_it f.source.serves n in
-    let gr1 : AllByRecursion (Goes l) r1 = read_goes l g.at_it g.source.serves n in
+    let gt0 : AllByRecursion (Goes p.slots l) t0 = temp_goes p.slots l f.at_it f.source.serves n f.passes in
+    let gt1 : AllByRecursion (Goes p.slots l) t1 = temp_goes p.slots l g.at_it g.source.serves n g.passes in
+    let gr0 : AllByRecursion (Goes p.slots l) r0 = read_goes p.slots l f.at_it f.source.serves n in
+    let gr1 : AllByRecursion (Goes p.slots l) r1 = read_goes p.slots l g.at_it g.source.serves n in
     let e1 = one_by_one t0 e in
     let e2 = one_by_one t1 e1 in
     let e3 = one_by_one r0 e2 in
@@ -360,15 +359,15 @@ two_fetched labels p k q x y env e h s f g apart d =
     let d4 = ready_moves labels p k q env r1 e3 h s gr1 d3 in
     let word0 = λ (c : Words) (r : Ready labels p k q env c). source_word labels p k q x f0 env c f.source r in
     let word1 = λ (c : Words) (r : Ready labels p k q env c). source_word labels p k q y f1 env c g.source r in
-    let w0 : e4 a0 ≡ env x = first_word l f1 a1 e (env x) f.at_it f.source.serves apart (way l f.at_it) (word0 e d) (word0 e2 d2) (word0 e4 d4) in
-    let w1 : e4 a1 ≡ env y = second_word l f0 a0 e1 (env y) g.at_it g.source.serves (way l g.at_it) (word1 e1 d1) (word1 e3 d3) (word1 e4 d4) in
-    let back = all_both (Goes l) r0 (r1 ++ []) gr0 (all_both (Goes l) r1 [] gr1 tt) in
-    let all = all_both (Goes l) (t0 ++ (t1 ++ [])) (r0 ++ (r1 ++ [])) (all_both (Goes l) t0 (t1 ++ []) gt0 (all_both (Goes l) t1 [] gt1 tt)) back in
+    let w0 : e4 a0 ≡ env x = first_word p.slots l f1 a1 e (env x) f.at_it f.source.serves apart (way l f.at_it) (word0 e d) (word0 e2 d2) (word0 e4 d4) in
+    let w1 : e4 a1 ≡ env y = second_word p.slots l f0 a0 e1 (env y) g.at_it g.source.serves (way l g.at_it) (word1 e1 d1) (word1 e3 d3) (word1 e4 d4) in
+    let back = all_both (Goes p.slots l) r0 (r1 ++ []) gr0 (all_both (Goes p.slots l) r1 [] gr1 tt) in
+    let all = all_both (Goes p.slots l) (t0 ++ (t1 ++ [])) (r0 ++ (r1 ++ [])) (all_both (Goes p.slots l) t0 (t1 ++ []) gt0 (all_both (Goes p.slots l) t1 [] gt1 tt)) back in
     let ready : OperandsReady labels p k q (x ∷ y ∷ []) env e4 = record { values = (w0, (w1, tt)); ready = d4 } in (
       (
-        All-from_recursion OneInstr (operands p k 2) (goes_direct l (operands p k 2) all),
+        All-from_recursion (OneInstr p.slots) (operands p k 2) (goes_direct p.slots l (operands p k 2) all),
         subst (OperandsReady labels p k q (x ∷ y ∷ []) env) (sym (four_lists t0 t1 r0 r1 e)) ready,
       ),
-      readable l f.at_it f.source.serves n,
-      readable l g.at_it g.source.serves n,
+      readable p.slots l f.at_it f.source.serves n,
+      readable p.slots l g.at_it g.source.serves n,
     )

@@ -162,35 +162,35 @@ settled_held labels p k q x h s i = settled_above labels p k q x h s.at (s.known
 -- ---- homes from which words are served
 
 -- a place from which a word can be moved, but the compiler's own register
-abbrev pub CanServe : Place → Type 0
-CanServe (A k) = k < 15
-CanServe (B k) = k < 15
-CanServe (L k) = k < 8
-CanServe (LD k) = k < 8
-CanServe (S k) = ⊥
-CanServe (SD k) = ⊥
-CanServe (Slot k) = k < 128
+abbrev pub CanServe : ℕ → Place → Type 0
+CanServe slots (A k) = k < 15
+CanServe slots (B k) = k < 15
+CanServe slots (L k) = k < 8
+CanServe slots (LD k) = k < 8
+CanServe slots (S k) = ⊥
+CanServe slots (SD k) = ⊥
+CanServe slots (Slot k) = k < slots
 
-pub serves_spare : (r : Place) → CanServe r → r ≡ temporary → ⊥
-serves_spare r c e = let n : 15 < 15 = subst CanServe e c in omega arith
+pub serves_spare : (slots : ℕ) (r : Place) → CanServe slots r → r ≡ temporary → ⊥
+serves_spare slots r c e = let n : 15 < 15 = subst (CanServe slots) e c in omega arith
 
-general_serves : (p : Plan) (r : Place) → p.slots ≤ 128 → IsGeneral p r → CanServe r
-general_serves p (A k) n h = h
-general_serves p (B k) n h = h
-general_serves p (Slot k) n h = omega arith
-general_serves p (L k) n h = absurd h
-general_serves p (LD k) n h = absurd h
-general_serves p (S k) n h = absurd h
-general_serves p (SD k) n h = absurd h
+general_serves : (p : Plan) (r : Place) → IsGeneral p r → CanServe p.slots r
+general_serves p (A k) h = h
+general_serves p (B k) h = h
+general_serves p (Slot k) h = h
+general_serves p (L k) h = absurd h
+general_serves p (LD k) h = absurd h
+general_serves p (S k) h = absurd h
+general_serves p (SD k) h = absurd h
 
-read_serves : (r : Place) → is_read_register r ≡ true → IsBounded r → CanServe r
-read_serves (A k) e h = absurd (false≢true e)
-read_serves (B k) e h = absurd (false≢true e)
-read_serves (L k) e h = h
-read_serves (LD k) e h = h
-read_serves (S k) e h = absurd (false≢true e)
-read_serves (SD k) e h = absurd (false≢true e)
-read_serves (Slot k) e h = absurd (false≢true e)
+read_serves : (slots : ℕ) (r : Place) → is_read_register r ≡ true → IsBounded r → CanServe slots r
+read_serves slots (A k) e h = absurd (false≢true e)
+read_serves slots (B k) e h = absurd (false≢true e)
+read_serves slots (L k) e h = h
+read_serves slots (LD k) e h = h
+read_serves slots (S k) e h = absurd (false≢true e)
+read_serves slots (SD k) e h = absurd (false≢true e)
+read_serves slots (Slot k) e h = absurd (false≢true e)
 
 -- a home is where its value is defined, and it can be read, or it is a general place to which the value is copied
 data Kind (p : Plan) (x : ℕ) (r : Place) : Type 0 where
@@ -218,9 +218,9 @@ kind_of labels p x r h s i =
     (λ (k : list_any (same_place r) (home p x).copied ≡ true). kind_copied labels p x r h w (targets labels p x r s k))
     (or_cases (same_place r (home p x).defined) (list_any (same_place r) (home p x).copied) d.1)
 
-kind_serves : (p : Plan) (x : ℕ) (r : Place) → p.slots ≤ 128 → IsBounded (home p x).defined → Kind p x r → CanServe r
-kind_serves p x r n b (general g) = general_serves p r n g
-kind_serves p x r n b (fetched f e) = read_serves r f (subst IsBounded (sym e) b)
+kind_serves : (p : Plan) (x : ℕ) (r : Place) → IsBounded (home p x).defined → Kind p x r → CanServe p.slots r
+kind_serves p x r b (general g) = general_serves p r g
+kind_serves p x r b (fetched f e) = read_serves p.slots r f (subst IsBounded (sym e) b)
 
 place_left : (r : Place) (a b : List Place) → has_place r a ≡ true → has_place r (a ++ b) ≡ true
 place_left r a b h = list_any-append (same_place r) a b ∙ or_left (has_place r a) (has_place r b) h
@@ -247,7 +247,7 @@ use_stays labels p u t h =
 pub record Source (labels : List Label) (p : Plan) (q : Point) (x : ℕ) (from : Place) : Type 0 where
   pub held : is_in x q.before ≡ true
   pub lasts : has_place from (lasting labels p x) ≡ true
-  pub serves : CanServe from
+  pub serves : CanServe p.slots from
 
 pub source_word : (labels : List Label) (p : Plan) (k : ℕ) (q : Point) (x : ℕ) (from : Place) (env : Env) (e : Words) → Source labels p q x from → Ready labels p k q env e → e from ≡ env x
 source_word labels p k q x from env e s d = d.held x s.held from s.lasts
@@ -261,7 +261,7 @@ source_of labels p k q u h s t i g =
     let kind = kind_of labels p u.value r h d g in record {
       held = b;
       lasts = kind_lasts labels p u.value r (home_listed p u.value r g) (λ c. use_stays labels p u t c) kind;
-      serves = kind_serves p u.value r h.fits.slots (bounded_above labels p k q u.value h s.at (s.known u.value b) (s.used_it u.value b)) kind;
+      serves = kind_serves p u.value r (bounded_above labels p k q u.value h s.at (s.known u.value b) (s.used_it u.value b)) kind;
     }
 
 -- ---- the uses of a point

@@ -86,23 +86,23 @@ after_one code base n a b f l (inr r) = inr (record {
 
 -- moves, and then other items
 pub run_front : (g : Setting) (base at n : ℕ) (ms : List Move) (is : List Item) (e : Words) (w : World) (m : Moment) (f : FullOutcome)
-    → ItemsIn (code_in g) (places_in g) at (moved ms ++ is) → AreDirect ms → Stands base at e w m
+    → ItemsIn (code_in g) (places_in g) at (moved ms ++ is) → AreDirect g.plan.slots ms → Stands base at e w m
     → ((b : Moment) → ItemsIn (code_in g) (places_in g) (at + length ms) is → Stands base (at + length ms) (one_by_one ms e) w b → Result (code_in g) base n b f)
     → Result (code_in g) base n m f
 run_front g base at n ms is e w m f h d s k =
     let front = subst (λ l. InCode (code_in g) at l) (moves_as_items (places_in g) ms) (items_left (code_in g) (places_in g) at (moved ms) is h) in
     let rest = items_right (code_in g) (places_in g) at (at + length ms) (moved ms) is (ap (λ j. at + j) (sym (items_long ms))) h in
-    let l = g.machine.moves (code_in g) base at ms e w m d front s in
+    let l = g.machine.moves (code_in g) base at g.plan.slots ms e w m g.placed.fits.slots d front s in
     after_steps (code_in g) base (length ms) n m l.later f l.leads (k l.later rest l.stands)
 
 -- moves at the end of a piece
 pub run_back : (g : Setting) (base at n : ℕ) (ms : List Move) (e : Words) (w : World) (m : Moment) (f : FullOutcome)
-    → ItemsIn (code_in g) (places_in g) at (moved ms) → AreDirect ms → Stands base at e w m
+    → ItemsIn (code_in g) (places_in g) at (moved ms) → AreDirect g.plan.slots ms → Stands base at e w m
     → ((b : Moment) → Stands base (at + length (moved ms)) (one_by_one ms e) w b → Result (code_in g) base n b f)
     → Result (code_in g) base n m f
 run_back g base at n ms e w m f h d s k =
     let front = subst (λ l. InCode (code_in g) at l) (moves_as_items (places_in g) ms) h in
-    let l = g.machine.moves (code_in g) base at ms e w m d front s in
+    let l = g.machine.moves (code_in g) base at g.plan.slots ms e w m g.placed.fits.slots d front s in
     after_steps (code_in g) base (length ms) n m l.later f l.leads
     (k l.later (subst (λ j. Stands base (at + j) (one_by_one ms e) w l.later) (sym (items_long ms)) l.stands))
 
@@ -114,7 +114,7 @@ piece_end at ms i rest = piece_sum at (length ms) (length (moved ms)) (length (m
 
 -- moves, one instruction, and moves
 pub run_piece : (g : Setting) (base at n : ℕ) (ms back : List Move) (i : Item) (e e1 : Words) (w w1 : World) (m : Moment) (f : FullOutcome)
-    → ItemsIn (code_in g) (places_in g) at (moved ms ++ i ∷ moved back) → AreDirect ms → AreDirect back → Stands base at e w m
+    → ItemsIn (code_in g) (places_in g) at (moved ms ++ i ∷ moved back) → AreDirect g.plan.slots ms → AreDirect g.plan.slots back → Stands base at e w m
     → ((to : ℕ) (b : Moment) → InCode (code_in g) to (instr_of (places_in g) i ∷ []) → Stands base to (one_by_one ms e) w b → Led (code_in g) base 1 b (to + 1) e1 w1)
     → ((b : Moment) → Stands base (at + length (moved ms ++ i ∷ moved back)) (one_by_one back e1) w1 b → Result (code_in g) base n b f)
     → Result (code_in g) base n m f
@@ -130,7 +130,7 @@ run_piece g base at n ms back i e e1 w w1 m f h d d1 s act k =
 
 -- moves, and one instruction with which the run ends
 pub run_end : (g : Setting) (base at n : ℕ) (ms : List Move) (i : Item) (is : List Item) (e : Words) (w : World) (m : Moment) (f : FullOutcome)
-    → ItemsIn (code_in g) (places_in g) at (moved ms ++ i ∷ is) → AreDirect ms → Stands base at e w m
+    → ItemsIn (code_in g) (places_in g) at (moved ms ++ i ∷ is) → AreDirect g.plan.slots ms → Stands base at e w m
     → ((to : ℕ) (b : Moment) → InCode (code_in g) to (instr_of (places_in g) i ∷ []) → Stands base to (one_by_one ms e) w b → Over (code_in g) base 1 b f)
     → Result (code_in g) base n m f
 run_end g base at n ms i is e w m f h d s act =

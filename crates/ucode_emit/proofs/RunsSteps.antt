@@ -91,7 +91,7 @@ lit_runs g base n k at of known above number x v t go env vals e w m tree rules 
     let r = g.layer.literal k of above x v (word v) t vals e tree.points_ st.ready in
     run_piece g base at n [] back (Plain (instr.Immed (target d) (v / 2 ^ shift_of v) (shift_of v))) e (put e d (word v)) w w m (go (assigned env x (word v)) w)
     (items_left (code_in g) (places_in g) at (step_items g.plan k (Lit x v)) (tree_items g.labels g.plan g.mss (suc k) t) tree.in_code)
-    (All-nil (λ q. IsDirect q.0 q.1)) r.1.0 s
+    (All-nil (λ q. IsDirect g.plan.slots q.0 q.1)) r.1.0 s
     (λ to b one there.
     subst (λ z. Led (code_in g) base 1 b (to + 1) (put e d z) w) (literal_word v narrow)
     (g.machine.literal (code_in g) base to (v / 2 ^ shift_of v) (shift_of v) d e w b r.0 one there))
@@ -181,7 +181,7 @@ clone_runs g base n k at of known above number xs y t go env vals e w m tree rul
 
 -- before an access: its address is in its register, with the word that the form says, and that is one that a source can use
 record AccessReady (g : Setting) (k n : ℕ) (c : Mem) (front : List Move) (at_word : ℕ) (r : Point) (vals : Env) (e : Words) : Type 0 where
-  direct : AreDirect front
+  direct : AreDirect g.plan.slots front
   same : one_by_one front e (operand_at g.plan k 0) ≡ at_word
   lies : IsSourceStretch c (one_by_one front e (operand_at g.plan k 0)) n
   address : IsAddress (operand_at g.plan k 0)
@@ -295,7 +295,7 @@ write_runs g base n k at of known above number c xs y t go env vals e w m (Some 
     let a = r.access in
     run_piece g base at n front [] (Plain (instr.Write c f (length xs) (address_of from) 0)) e e1 w (wrote c (env y) ws q w) m (go env (wrote c (env y) ws q w))
     (items_left (code_in g) (places_in g) at (step_items g.plan k (Write c y xs)) (tree_items g.labels g.plan g.mss (suc k) t) tree.in_code)
-    a.direct (All-nil (λ q. IsDirect q.0 q.1)) s
+    a.direct (All-nil (λ q. IsDirect g.plan.slots q.0 q.1)) s
     (λ to b one there.
     subst (λ z. Led (code_in g) base 1 b (to + 1) e1 (wrote c z ws q w)) a.same
     (g.machine.write (code_in g) base to c f from ws q e1 w b a.address a.room a.lies

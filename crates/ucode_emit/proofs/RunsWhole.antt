@@ -87,7 +87,7 @@ front_of g k to ms = single_moves None ms ++ all_copies g.plan k to.params
 
 body_runs : (g : Setting) (base n : ℕ) (next : Next) → Jumps g base n next → (l : ℕ) (to : Label) (ws : List ℕ) (e : Words) (w : World) (m : Moment) → slice_get g.labels l ≡ Some to → All IsWord ws → HasSizes w.packet
     → (here : AtLabel g (entry_point g.labels l) to)
-    → AreDirect (front_of g (entry_point g.labels l) to (sequence_at g.mss (entry_point g.labels l)))
+    → AreDirect g.plan.slots (front_of g (entry_point g.labels l) to (sequence_at g.mss (entry_point g.labels l)))
     → Ready g.labels g.plan (suc (entry_point g.labels l)) (root_point own to.params to.body) (assigned_all blank to.params ws) (one_by_one (front_of g (entry_point g.labels l) to (sequence_at g.mss (entry_point g.labels l))) e)
     → Stands base here.at e w m → Result (code_in g) base n m (does next to.body (assigned_all blank to.params ws) w)
 body_runs g base n next jumps l to ws e w m found fit sizes here direct ready s =
@@ -133,7 +133,7 @@ label_runs g base n next jumps l to ws e w m found fit sizes entered s =
     let still : [] ≡ sequence_at g.mss k = sym (no_moves g l to found here) in
     let r = g.layer.entry (suc l) to env e found here.body.points_ entered in
     body_runs g base n next jumps (suc l) to ws e w m found fit sizes here
-    (subst (λ z. AreDirect (front_of g k to z)) still r.0)
+    (subst (λ z. AreDirect g.plan.slots (front_of g k to z)) still r.0)
     (subst (λ z. Ready g.labels g.plan (suc k) (root_point own to.params to.body) env (one_by_one (front_of g k to z) e)) still r.1)
     (subst (λ j. Stands base j e w m) (get-index (places_in g) k here.at 0 here.begins) s)
 
@@ -184,7 +184,7 @@ start_runs g base args p it found start n =
     let at : here.at ≡ 0 = same_Some here.at 0 (sym here.begins ∙ starts_first g.labels g.plan g.mss g.labels it found) in
     subst (λ o. Result (code_in g) base n m (enter (run g.labels n) o args (begun p))) (sym found)
     (body_runs g base n (run g.labels n) (jump_runs g base n) 0 it args e (begun p) m found start.words.1 start.memories here
-    (All-append (λ q. IsDirect q.0 q.1) first behind b.0 r.0)
+    (All-append (λ q. IsDirect g.plan.slots q.0 q.1) first behind b.0 r.0)
     (subst (λ x. Ready g.labels g.plan (suc k) (root_point own it.params it.body) env x) (sym (one_append first behind e)) r.1)
     (subst (λ j. Stands base j e (begun p) m) (sym at) s.0))
 

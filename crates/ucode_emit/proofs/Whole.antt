@@ -12,6 +12,7 @@ use Rattle.ssu_ir.specs.Single.{single}
 use Rattle.slot_placement.specs.Costs.{cost}
 use Rattle.slot_placement.specs.Fits.{Fits}
 use Rattle.slot_placement.specs.Plan.{Plan}
+use Rattle.ucode_emit.specs.SpillBase.{SpillsByBase}
 use Rattle.ucode_emit.specs.inner.Pieces.{instr_of, items, starts}
 use Rattle.ucode_emit.specs.inner.Emitted.{settled}
 use Rattle.ucode_emit.specs.inner.Layers.{Placed}
@@ -19,6 +20,7 @@ use Rattle.ucode_emit.specs.inner.Drafted.{AreDrafted, AreEmitted}
 use Rattle.ucode_emit.proofs.CostWhole.{code_light}
 use Rattle.ucode_emit.proofs.Agreeing.{code_agrees}
 use Rattle.ucode_emit.proofs.Layer.{ready_layer}
+use Rattle.ucode_emit.proofs.LawfulItems.{spills_by_base}
 use Rattle.ucode_emit.proofs.LawfulCode.{items_good, code_some, code_lawful}
 use Rattle.ucode_emit.proofs.LawfulLength.{code_few}
 use Rattle.ucode_emit.proofs.LengthWhole.{code_bounded}
@@ -32,7 +34,7 @@ pub emitted : (labels : List Label) (p : Plan) (code list : List Instr) (places 
 emitted labels p code list places h d e = record {
   mss = d.mss;
   sequences = d.sequences;
-  code_ = e ∙ (ap (λ ps. map (settled ps) code) d.places_ ∙ (ap (map (settled (starts labels p d.mss))) d.code_ ∙ settles (starts labels p d.mss) (items labels p d.mss) (items_good labels p d.mss h (ready_layer labels p h) d.sequences)));
+  code_ = e ∙ (ap (λ ps. map (settled ps) code) d.places_ ∙ (ap (map (settled (starts labels p d.mss))) d.code_ ∙ settles p.slots (starts labels p d.mss) (items labels p d.mss) h.fits.slots (items_good labels p d.mss h (ready_layer labels p h) d.sequences)));
 }
 
 pub some_code : (labels : List Label) (p : Plan) (list : List Instr) → Placed labels p → AreEmitted labels p list → 1 ≤ length list
@@ -49,6 +51,10 @@ light_code labels p list h e = subst (λ l. moves l [] [] ≤ cost labels p) (sy
 
 pub lawful_code : (labels : List Label) (p : Plan) (list : List Instr) → Placed labels p → AreEmitted labels p list → IsLawful list
 lawful_code labels p list h e = subst IsLawful (sym e.code_) (code_lawful labels p e.mss h (ready_layer labels p h) e.sequences)
+
+pub based_code : (labels : List Label) (p : Plan) (list : List Instr) → Placed labels p → AreEmitted labels p list → SpillsByBase p.slots list
+based_code labels p list h e =
+    subst (SpillsByBase p.slots) (sym e.code_) (spills_by_base p.slots (starts labels p e.mss) (items labels p e.mss) h.fits.slots (items_good labels p e.mss h (ready_layer labels p h) e.sequences))
 
 -- code as its parameters and its instructions
 pub agreeing_code : (labels : List Label) (p : Plan) (c : CodeView) → Placed labels p → AreEmitted labels p c.list → c.params ≡ ssu_params labels → Agrees (ssu_params labels) (ssu_meaning labels) c

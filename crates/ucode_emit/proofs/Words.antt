@@ -53,9 +53,9 @@ spares_if false l from at t e h g = bring_spares l from at t e h g
 brought_spares : (l : Option ℕ) (from at t : Place) (e : Words) → (t ≡ at → ⊥) → (is_slot from ≡ true → t ≡ L (named l) → ⊥) → one_by_one (brought l from at) e t ≡ e t
 brought_spares l from at t e h g = spares_if (same_place from at) l from at t e h g
 
-direct_if : (b : Bool) (l : Option ℕ) (from at : Place) → AllByRecursion OneInstr (bring l from at) → AllByRecursion OneInstr (if b then [] else bring l from at)
-direct_if true l from at h = tt
-direct_if false l from at h = h
+direct_if : (slots : ℕ) (b : Bool) (l : Option ℕ) (from at : Place) → AllByRecursion (OneInstr slots) (bring l from at) → AllByRecursion (OneInstr slots) (if b then [] else bring l from at)
+direct_if slots true l from at h = tt
+direct_if slots false l from at h = h
 
 write_place_same : (m : Mem) (i j : ℕ) → write_place m i ≡ write_place m j → i ≡ j
 write_place_same Sram i j e = eqb-true i j (same_place-from (S i) (S j) e)
@@ -192,24 +192,24 @@ words_spare p k j (suc n) t e h g =
 
 -- ---- instructions
 
-word_direct : (labels : List Label) (p : Plan) (k : ℕ) (q : Point) (m : Mem) (v i : ℕ) → Placed labels p → Here labels k q → first p k + i < 8 → Word labels p k q m v i → AllByRecursion OneInstr (fetched p k (suc i))
+word_direct : (labels : List Label) (p : Plan) (k : ℕ) (q : Point) (m : Mem) (v i : ℕ) → Placed labels p → Here labels k q → first p k + i < 8 → Word labels p k q m v i → AllByRecursion (OneInstr p.slots) (fetched p k (suc i))
 word_direct labels p k q m v i h s b w =
     let l = (pass p k).l in
     let from = (serve p k (suc i)).from in
     let at = (serve p k (suc i)).at in
     let n = eighth_named l (h.fits.points k q s.at).passes.read in
     ⊎_elim
-    (λ (c : Source labels p q v from). direct_if (same_place from at) l from at (bring_direct l from at (source_is labels p k q v from h s c w.passes) (subst IsWritable (sym w.at_it) (write_writable m (first p k + i) b)) n))
-    (λ (c : from ≡ at). subst (λ (y : Bool). AllByRecursion OneInstr (if y then [] else bring l from at)) (sym (same_place-from from at c)) tt)
+    (λ (c : Source labels p q v from). direct_if p.slots (same_place from at) l from at (bring_direct p.slots l from at (source_is labels p k q v from h s c w.passes) (subst IsWritable (sym w.at_it) (write_writable m (first p k + i) b)) n))
+    (λ (c : from ≡ at). subst (λ (y : Bool). AllByRecursion (OneInstr p.slots) (if y then [] else bring l from at)) (sym (same_place-from from at c)) tt)
     w.comes
 
-words_direct : (labels : List Label) (p : Plan) (k : ℕ) (q : Point) (of : Names) (m : Mem) (xs : List ℕ) (j n : ℕ) → Placed labels p → Here labels k q → AllWords labels p k q of m xs → first p k + length xs ≤ 8 → j + n ≡ length xs → AllByRecursion OneInstr (words p k (suc j) n)
+words_direct : (labels : List Label) (p : Plan) (k : ℕ) (q : Point) (of : Names) (m : Mem) (xs : List ℕ) (j n : ℕ) → Placed labels p → Here labels k q → AllWords labels p k q of m xs → first p k + length xs ≤ 8 → j + n ≡ length xs → AllByRecursion (OneInstr p.slots) (words p k (suc j) n)
 words_direct labels p k q of m xs j zero h s w b z = tt
 words_direct labels p k q of m xs j (suc n) h s w b z =
     let less : j < length xs = omega arith in
     let low : first p k + j < 8 = omega arith in
     let x = some-there xs j less in
-    all_both OneInstr (fetched p k (suc j)) (words p k (suc (suc j)) n) (word_direct labels p k q m (of x.0) j h s low (w j x.0 x.1)) (words_direct labels p k q of m xs (suc j) n h s w b (omega arith))
+    all_both (OneInstr p.slots) (fetched p k (suc j)) (words p k (suc (suc j)) n) (word_direct labels p k q m (of x.0) j h s low (w j x.0 x.1)) (words_direct labels p k q of m xs (suc j) n h s w b (omega arith))
 
 -- ---- the uses of a write
 
@@ -344,7 +344,7 @@ part_none labels p k q of m xs env e w d = record {
 
 pub written : (labels : List Label) (p : Plan) → Placed labels p → (k : ℕ) (of : Names) (above : List ℕ) (m : Mem) (xs : List ℕ) (y : ℕ) (t : Tree) (env : Env) (e : Words) → PointsAt labels k of above (Do (Write m y xs) t)
     → let q = root_point of above (Do (Write m y xs) t) in Ready labels p k q env e
-    → Behind (operands p k 1 ++ words p k 1 (length xs)) e (λ e'. OperandsReady labels p k q (of y ∷ []) env e'
+    → Behind p.slots (operands p k 1 ++ words p k 1 (length xs)) e (λ e'. OperandsReady labels p k q (of y ∷ []) env e'
     × ((i x : ℕ) → slice_get xs i ≡ Some x → e' (write_place m (first p k + i)) ≡ env (of x))) × IsAddress (operand_at p k 0) × (first p k + length xs ≤ 8)
 written labels p h k of above m xs y t env e a d =
     let q = root_point of above (Do (Write m y xs) t) in
@@ -368,8 +368,8 @@ written labels p h k of above m xs y t env e a d =
       ready = record { held = end_.held; early = early_kept labels p k of above m xs y t env e0 h s w ready0 there };
     } in (
       (
-        All-from_recursion OneInstr (operands p k 1 ++ words p k 1 (length xs))
-            (all_both OneInstr (operands p k 1) (words p k 1 (length xs)) (recursion_from_All OneInstr (operands p k 1) o.0) (words_direct labels p k q of m xs 0 (length xs) h s w b n)),
+        All-from_recursion (OneInstr p.slots) (operands p k 1 ++ words p k 1 (length xs))
+            (all_both (OneInstr p.slots) (operands p k 1) (words p k 1 (length xs)) (recursion_from_All (OneInstr p.slots) (operands p k 1) o.0) (words_direct labels p k q of m xs 0 (length xs) h s w b n)),
         subst (λ (g : Words). OperandsReady labels p k q (of y ∷ []) env g × ((i x : ℕ) → slice_get xs i ≡ Some x → g (write_place m (first p k + i)) ≡ env (of x)))
             (sym (one_append (operands p k 1) (words p k 1 (length xs)) e)) (ready, there),
       ),

@@ -1,1 +1,2 @@
+pub mod SpillBase
 pub mod inner

@@ -10,6 +10,7 @@ ghost use Rattle.ssu_ir.specs.View.{labels_view};
 ghost use Rattle.slot_placement.specs.Costs.{cost};
 ghost use Rattle.slot_placement.specs.Fits.{Fits};
 ghost use Rattle.slot_placement.specs.Plan.{plan_view};
+ghost use Rattle.ucode_emit.specs.SpillBase.{SpillsByBase};
 ghost use Rattle.ucode_emit.specs.inner.Drafted.{AreEmitted};
 
 use crate::drafted::draft_of;
@@ -48,6 +49,8 @@ pub fn emit(alloc: Global, s: &Ssu, p: &Placement) -> Result<Code, NoMemory>
     requires fits { Fits (labels_view s.now) (plan_view p.now) }
     requires few { measures.size (labels_view s.now) ≤ 2 ^ 26 }
     ensures lawful { IfOk result (λ c. IsLawful c.list) }
+    // By way of B15 the slots are accessed, and no others; nothing else is done with it.
+    ensures spills { IfOk result (λ c. SpillsByBase (plan_view p.now).slots c.list) }
     ensures agrees { IfOk result (λ c. Agrees (ssu_params (labels_view s.now)) (ssu_meaning (labels_view s.now)) c) }
     ensures light { IfOk result (λ c. moves c.list [] [] ≤ cost (labels_view s.now) (plan_view p.now)) }
     ensures short { IfOk result (λ c. length c.list ≤ measures.code_bound (labels_view s.now)) }

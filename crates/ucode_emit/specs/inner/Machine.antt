@@ -34,10 +34,10 @@ IsPlace (S k) = k < 8
 IsPlace (SD k) = k < 8
 IsPlace (Slot k) = k < 128
 
--- a register that an instruction can read, and one that it can write
+-- a register that an instruction can read, and one that it can write, but the spill base in B15
 abbrev pub IsReadable : Place → Type 0
 IsReadable (A k) = k < 16
-IsReadable (B k) = k < 16
+IsReadable (B k) = k < 15
 IsReadable (L k) = k < 8
 IsReadable (LD k) = k < 8
 IsReadable _ = ⊥
@@ -49,14 +49,14 @@ IsWritable (S k) = k < 8
 IsWritable (SD k) = k < 8
 IsWritable _ = ⊥
 
--- a move that is one instruction, and that leaves the spill base in B15
-pub data IsDirect : Place → Place → Type 0 where
-  read_slot : {k r : ℕ} → k < 128 → r < 8 → IsDirect (Slot k) (L r)
-  write_slot : {r k : ℕ} → r < 8 → k < 128 → IsDirect (S r) (Slot k)
-  copied : {from at : Place} → IsReadable from → IsWritable at → IsDirect from at
+-- a move that is one instruction, has the spill base in B15 for nothing but the addresses of so many slots, and leaves it there
+pub data IsDirect (slots : ℕ) : Place → Place → Type 0 where
+  read_slot : {k r : ℕ} → k < slots → r < 8 → IsDirect slots (Slot k) (L r)
+  write_slot : {r k : ℕ} → r < 8 → k < slots → IsDirect slots (S r) (Slot k)
+  copied : {from at : Place} → IsReadable from → IsWritable at → IsDirect slots from at
 
-abbrev pub AreDirect : List Move → Type 0
-AreDirect ms = All (λ m. IsDirect m.0 m.1) ms
+abbrev pub AreDirect : ℕ → List Move → Type 0
+AreDirect slots ms = All (λ m. IsDirect slots m.0 m.1) ms
 
 -- a moment of the engine that stands at a place of the code, with these words in its places, and looks to a source like this world
 pub record Stands (base at : ℕ) (e : Words) (w : World) (m : Moment) : Type 0 where

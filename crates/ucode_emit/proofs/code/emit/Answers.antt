@@ -5,8 +5,9 @@ use Rattle.ssu_ir.specs.Measures.{code_bound}
 use Rattle.ssu_ir.specs.View.{labels_view}
 use Rattle.slot_placement.specs.Costs.{cost}
 use Rattle.slot_placement.specs.Plan.{plan_view}
+use Rattle.ucode_emit.specs.SpillBase.{SpillsByBase}
 use Rattle.ucode_emit.specs.inner.Drafted.{AreEmitted}
-use Rattle.ucode_emit.proofs.Whole.{some_code, few_code, short_code, light_code, lawful_code, agreeing_code, placed}
+use Rattle.ucode_emit.proofs.Whole.{some_code, few_code, short_code, light_code, lawful_code, based_code, agreeing_code, placed}
 use Rattle.ucode_emit.proofs.code.emit.Goals as goal
 
 pub new-requires-clause-some : goal.new-requires-clause-some
@@ -18,6 +19,11 @@ new-requires-clause-few c = few_code (labels_view c.args.s.now) (plan_view c.arg
 pub returns-clause-lawful : goal.returns-clause-lawful
 returns-clause-lawful c =
     subst IsLawful (sym c.new.ensures.list) (lawful_code (labels_view c.args.s.now) (plan_view c.args.p.now) c.in_ok-list.list.items (placed c.requires.single c.requires.fits) c.in_ok-list.ensures)
+
+pub returns-clause-spills : goal.returns-clause-spills
+returns-clause-spills c =
+    let p = plan_view c.args.p.now in
+    subst (SpillsByBase p.slots) (sym c.new.ensures.list) (based_code (labels_view c.args.s.now) p c.in_ok-list.list.items (placed c.requires.single c.requires.fits) c.in_ok-list.ensures)
 
 pub returns-clause-agrees : goal.returns-clause-agrees
 returns-clause-agrees c =
