@@ -135,6 +135,10 @@ def language(top):
     return found
 
 
+def idioms(top):
+    return worked(top, "docs/IDIOMS.md")
+
+
 def machine(top):
     """docs/MACHINE.md: each assembly text is assembled, and a listing is itself; a memory text and an outcome text that
     follow it are what the code runs on and prints."""
@@ -277,4 +281,4 @@ def command_lines(top):
 
 
 def all_rows(top):
-    return [row for of in (examples, handwritten, language, machine, certificates, faults, command_lines) for row in of(top)]
+    return [row for of in (examples, handwritten, language, idioms, machine, certificates, faults, command_lines) for row in of(top)]
