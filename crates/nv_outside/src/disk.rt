@@ -1,23 +1,16 @@
 // The files of the system.
-ghost use Rattle.std.specs.Prelude.{◌≡◌, ◌≢◌, ◌↔◌, None, IsOk, IfOk, IfErr};
-ghost use Rattle.std.specs.Fs.{file_type, IsFile};
-ghost use Rattle.std.specs.IoError.{error_kind};
+ghost use Rattle.std.specs.Prelude.{◌≡◌, None};
+ghost use Rattle.nv_outside.specs.Calls.{counted};
 ghost use Rattle.nv_outside.specs.System.{disk_call_count, disk_load_count, disk_save_count};
-ghost use Rattle.nv_outside.specs.declared.disk.Way.{Way};
 
 use crate::files::{Files, Loaded, Saved};
-use crate::stream::{fill, read_whole};
-use arrayvec::ArrayString;
-use std::fmt::Write as _;
-use std::fs::{File, Metadata, OpenOptions, Permissions};
-use std::io::ErrorKind;
+use crate::saving::{SaveCalls, save_whole};
+use crate::stream::read_whole;
+use std::fs::{File, Metadata, OpenFile, OpenOptions, Permissions};
+use std::io::{ErrorKind, Write};
+use std::path::PathBuf;
 use std::random::RandomSource;
 use std::{fs, io, rt};
-
-// The longest path that is made for a temporary file, and how many names are tried for one.
-const PATH_BYTES: usize = 4096;
-
-const TEMPORARY_NAMES: u32 = 1000;
 
 /// The files of the system, over the runtime that `main` is given. A name is a path. It tells nothing of
 /// what the files hold, and keeps one count of failed loads and one of failed saves for all names.
@@ -55,7 +48,7 @@ impl<'a, R: rt::Files + RandomSource + AllocGlobal> Files for DiskFiles<'a, R> {
 
     ghost held = { λ _ _. None };
 
-    ghost calls_made = { disk_call_count };
+    ghost history = { λ f calls. disk_call_count f ≡ counted calls };
 
     ghost load_faults = { λ f _. disk_load_count f };
 
@@ -75,7 +68,11 @@ impl<'a, R: rt::Files + RandomSource + AllocGlobal> Files for DiskFiles<'a, R> {
 
     fn save(&mut self, name: &str, bytes: &[u8]) -> Saved {
         self.calls = self.calls.saturating_add(1);
-        match write_whole(self.rt, name, bytes) {
+        let mut calls = DiskCalls {
+            rt: self.rt,
+            file: None,
+        };
+        match save_whole(&mut calls, name, bytes) {
             Ok(()) => Saved::Done,
             Err(_) => {
                 self.save_faults = self.save_faults.saturating_add(1);
@@ -85,137 +82,77 @@ impl<'a, R: rt::Files + RandomSource + AllocGlobal> Files for DiskFiles<'a, R> {
     }
 }
 
-// How a file comes to have other bytes.
+// The calls of a save, over the runtime that `main` is given, with the file that was made last.
 #[derive(Drop)]
-enum Way {
-    // A new file takes the name, which nothing has.
-    New,
-    // A new file with these permissions takes the name of a regular one.
-    Replace(Permissions),
-    // What has the name is written to.
-    InPlace,
+struct DiskCalls<'a, R: rt::Files> {
+    rt: &'a R,
+    file: Option<R::File>,
 }
 
-// How a file is written, by a look at what has its name, links followed. A look that fails otherwise than
-// by 'not found' answers nothing.
-fn way_by(look: io::Result<Metadata>) -> io::Result<Way>
-    ensures looked { IfOk look (λ seen. IfOk result (λ it. (it ≡ Way.InPlace ↔ (IsFile (file_type seen) → ⊥)) × (it ≢ Way.New))) }
-    ensures answered { IsOk look → IsOk result }
-    ensures unseen { IfErr look (λ e. IfOk result (λ it. (it ≡ Way.New) × (error_kind e ≡ ErrorKind.NotFound))) }
-{
-    match look {
-        Ok(seen) => {
-            if seen.is_file() {
-                Ok(Way::Replace(seen.permissions()))
-            } else {
-                Ok(Way::InPlace)
-            }
-        }
-        Err(e) => {
-            if e.kind() == ErrorKind::NotFound {
-                Ok(Way::New)
-            } else {
-                Err(e)
-            }
-        }
+impl<'a, R: rt::Files + RandomSource + AllocGlobal> SaveCalls for DiskCalls<'a, R> {
+    // The system doesn't tell what was called.
+    ghost history = { λ _ _. Unit {0} };
+
+    ghost leads_to = { λ _ _. Unit {0} };
+
+    fn look(&self, name: &str) -> io::Result<Metadata> {
+        fs::metadata(self.rt, name)
     }
-}
 
-// Makes these bytes the whole of a file.
-fn write_whole<R: rt::Files + RandomSource + AllocGlobal>(
-    rt: &R,
-    name: &str,
-    bytes: &[u8],
-) -> io::Result<()> {
-    match way_by(fs::metadata(rt, name))? {
-        Way::Replace(permissions) => replace_regular(rt, name, bytes, permissions),
-        Way::InPlace => fs::write(rt, name, bytes),
-        Way::New => match way_by(fs::symlink_metadata(rt, name))? {
-            Way::New => replace(rt, name, bytes, None),
-            // A link that leads nowhere: the file that it names is made.
-            _ => fs::write(rt, name, bytes),
-        },
+    fn look_at_link(&self, name: &str) -> io::Result<Metadata> {
+        fs::symlink_metadata(self.rt, name)
     }
-}
 
-// Replaces a regular file, that which a link leads to.
-fn replace_regular<R: rt::Files + RandomSource + AllocGlobal>(
-    rt: &R,
-    name: &str,
-    bytes: &[u8],
-    permissions: Permissions,
-) -> io::Result<()> {
-    // A file that may not be written may not be replaced either.
-    OpenOptions::new().write(true).open(rt, name)?;
-    if fs::symlink_metadata(rt, name)?.is_symlink() {
-        let path = fs::canonicalize(rt, name)?;
-        replace(rt, path.as_str(), bytes, Some(permissions))
-    } else {
-        replace(rt, name, bytes, Some(permissions))
+    fn follow(&self, name: &str) -> io::Result<PathBuf> {
+        fs::canonicalize(self.rt, name)
     }
-}
 
-// Writes a temporary file beside a file, and gives it the file's name. Where the folder doesn't let it, the
-// file is written in place.
-fn replace<R: rt::Files + RandomSource>(
-    rt: &R,
-    name: &str,
-    bytes: &[u8],
-    permissions: Option<Permissions>,
-) -> io::Result<()> {
-    match replaced(rt, name, bytes, permissions) {
-        Err(e) if e.kind() == ErrorKind::PermissionDenied => fs::write(rt, name, bytes),
-        other => other,
+    fn check_writable(&self, name: &str) -> io::Result<()> {
+        OpenOptions::new().write(true).open(self.rt, name)?;
+        Ok(())
     }
-}
 
-// Writes a temporary file beside a file, and gives it the file's name; where that fails, none stays.
-fn replaced<R: rt::Files + RandomSource>(
-    rt: &R,
-    name: &str,
-    bytes: &[u8],
-    permissions: Option<Permissions>,
-) -> io::Result<()> {
-    let (temporary, mut file) = create_temporary(rt, name)?;
-    let moved = match fill(&mut file, bytes, permissions) {
-        Ok(()) => fs::rename(rt, temporary.as_str(), name),
-        Err(e) => Err(e),
-    };
-    if moved.is_err() {
-        let _ = fs::remove_file(rt, temporary.as_str());
+    fn any_number(&self) -> io::Result<u64> {
+        let mut random = [0u8; 8];
+        self.rt.fill_bytes(&mut random)?;
+        Ok(u64::from_le_bytes(random))
     }
-    moved
-}
 
-// A new file in the folder of a file, and its path. The names begin at a random number, so what killed runs
-// left takes none of them.
-fn create_temporary<R: rt::Files + RandomSource>(
-    rt: &R,
-    name: &str,
-) -> io::Result<(ArrayString<PATH_BYTES>, R::File)> {
-    let folder = match name.rsplit_once('/') {
-        Some((folder, _)) => folder,
-        None => ".",
-    };
-    let mut random = [0u8; 8];
-    rt.fill_bytes(&mut random)?;
-    let first = u64::from_le_bytes(random);
-    for number in 0..TEMPORARY_NAMES {
-        let path = temporary_path(folder, first, number)?;
-        match File::create_new(rt, path.as_str()) {
-            Ok(file) => return Ok((path, file)),
-            Err(e) if e.kind() == ErrorKind::AlreadyExists => {}
-            Err(e) => return Err(e),
+    fn create_new(&mut self, path: &str) -> io::Result<()> {
+        self.file = Some(File::create_new(self.rt, path)?);
+        Ok(())
+    }
+
+    fn set_permissions(&mut self, permissions: Permissions) -> io::Result<()> {
+        match &self.file {
+            Some(file) => file.set_permissions(permissions),
+            None => Err(io::Error::from(ErrorKind::NotFound)),
         }
     }
-    Err(io::Error::from(ErrorKind::AlreadyExists))
-}
 
-// The path of a temporary file.
-fn temporary_path(folder: &str, first: u64, number: u32) -> io::Result<ArrayString<PATH_BYTES>> {
-    let mut path = ArrayString::new();
-    match write!(path, "{folder}/.novac-{first}-{number}.tmp") {
-        Ok(()) => Ok(path),
-        Err(_) => Err(io::Error::from(ErrorKind::InvalidFilename)),
+    fn write_all(&mut self, bytes: &[u8]) -> io::Result<()> {
+        match &mut self.file {
+            Some(file) => file.write_all(bytes),
+            None => Err(io::Error::from(ErrorKind::NotFound)),
+        }
+    }
+
+    fn sync_all(&mut self) -> io::Result<()> {
+        match &self.file {
+            Some(file) => file.sync_all(),
+            None => Err(io::Error::from(ErrorKind::NotFound)),
+        }
+    }
+
+    fn rename(&mut self, from: &str, to: &str) -> io::Result<()> {
+        fs::rename(self.rt, from, to)
+    }
+
+    fn remove(&mut self, path: &str) -> io::Result<()> {
+        fs::remove_file(self.rt, path)
+    }
+
+    fn overwrite(&mut self, path: &str, bytes: &[u8]) -> io::Result<()> {
+        fs::write(self.rt, path, bytes)
     }
 }

@@ -1,6 +1,7 @@
 // A store of files, by name.
-ghost use Rattle.std.specs.Prelude.{◌≡◌, ◌≢◌, ℕ, List, ◌++◌, ◌<◌, ◌≤◌, Some, length};
-ghost use Rattle.nv_outside.specs.Causes.{one_more, Rose};
+ghost use Rattle.std.specs.Prelude.{◌≡◌, ◌≢◌, ℕ, List, [], ◌∷◌, ◌++◌, ◌<◌, ◌≤◌, Some, length};
+ghost use Rattle.nv_outside.specs.Calls.{Call, Load, Save, Asked};
+ghost use Rattle.nv_outside.specs.Causes.{Rose};
 ghost use Rattle.nv_outside.specs.Holding.{Holding, Replaced, SameElsewhere, IsLonger};
 ghost use Rattle.nv_outside.specs.declared.files.Loaded.{Loaded};
 ghost use Rattle.nv_outside.specs.declared.files.Saved.{Saved};
@@ -30,8 +31,9 @@ pub enum Saved {
 /// A store of files, each a list of bytes under a name.
 ///
 /// A store that tells what it holds says of each load and save what it did to these bytes. Every
-/// store counts its loads and saves together, and, for each name, the loads and the saves that failed; a
-/// count starts at 0, never falls, and stands still at the end of its type.
+/// store counts, for each name, the loads and the saves that failed; a count starts at 0, never falls, and
+/// stands still at the end of its type. And it has a history: of each list of calls that were made before a
+/// load or a save, the list with this call behind it was made after it.
 pub trait Files {
     /// Whether stores of this kind tell what they hold.
     ghost tells: { Type 0 };
@@ -39,8 +41,8 @@ pub trait Files {
     /// What the store holds, where it tells.
     ghost held: { Self → Holding };
 
-    /// How many loads and saves there were.
-    ghost calls_made: { Self → ℕ };
+    /// Which loads and saves there were, in their order. A store may know less than that, as how many there were.
+    ghost history: { Self → List Call → Type 0 };
 
     /// How often loads of each name have failed.
     ghost load_faults: { Self → List ℕ → ℕ };
@@ -58,7 +60,7 @@ pub trait Files {
         ensures not_done { result ≢ Loaded.Done → into.new.items ≡ into.old.items }
         ensures cause { result ≡ Loaded.Failed → Rose (load_faults self.old name.now) (load_faults self.new name.now) }
         ensures held { held self.new ≡ held self.old }
-        ensures called { calls_made self.new ≡ one_more (calls_made self.old) }
+        ensures asked { Asked history self.old self.new (Load name.now ∷ []) }
         ensures load_faults { (q : List ℕ) → load_faults self.old q ≤ load_faults self.new q }
         ensures save_faults { (q : List ℕ) → save_faults self.old q ≤ save_faults self.new q };
 
@@ -67,7 +69,7 @@ pub trait Files {
     fn save(&mut self, name: &str, bytes: &[u8]) -> Saved
         ensures done { tells → result ≡ Saved.Done → Replaced (held self.old) (held self.new) name.now bytes.now }
         ensures elsewhere { tells → SameElsewhere (held self.old) (held self.new) name.now }
-        ensures called { calls_made self.new ≡ one_more (calls_made self.old) }
+        ensures asked { Asked history self.old self.new (Save name.now ∷ []) }
         ensures cause { result ≡ Saved.Failed → Rose (save_faults self.old name.now) (save_faults self.new name.now) }
         ensures load_faults { (q : List ℕ) → load_faults self.old q ≤ load_faults self.new q }
         ensures save_faults { (q : List ℕ) → save_faults self.old q ≤ save_faults self.new q };

@@ -6,6 +6,7 @@ mod disk;
 mod files;
 mod memory;
 mod output;
+pub mod saving;
 mod sink;
 pub mod stream;
 

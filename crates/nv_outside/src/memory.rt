@@ -1,5 +1,6 @@
 // A store of files and a sink in memory, whose calls fail where they are told to.
 ghost use Rattle.std.specs.Prelude.{◌≡◌, ◌≢◌, ◌+◌, ◌-◌, ◌^◌, ◌<◌, ◌≤◌, ◌⊎◌, ◌↔◌, ◌++◌, [], ℕ, List, None, Some, Contains, OnOk, OnErr, length, min, option_copied, option_map};
+ghost use Rattle.nv_outside.specs.Calls.{counted};
 ghost use Rattle.nv_outside.specs.Causes.{one_more, Rose};
 ghost use Rattle.nv_outside.specs.Holding.{Replaced, SameElsewhere, IsLonger, AppendsFront};
 ghost use Rattle.nv_outside.specs.Memory.{holding_of, files_of, next_call, failing_calls, load_count, save_count, refused_count, IsNumbered, written_of, next_put, failing_puts, put_count, refused_puts, IsNumberedPut};
@@ -93,7 +94,7 @@ impl Files for MemFiles {
 
     ghost held = { files_of };
 
-    ghost calls_made = { next_call };
+    ghost history = { λ f calls. next_call f ≡ counted calls };
 
     ghost load_faults = { λ f _. load_count f };
 

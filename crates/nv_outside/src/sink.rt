@@ -13,8 +13,8 @@ pub enum Put {
     Failed,
 }
 
-/// A place that output is written to, piece by piece. It counts the pieces that failed, from 0; the
-/// count never falls, and stands still at the end of its type.
+/// A place that output is written to, piece by piece. It counts the pieces that failed, and no others, from 0;
+/// the count never falls, and stands still at the end of its type.
 pub trait Sink {
     /// Whether sinks of this kind tell what was written.
     ghost tells: { Type 0 };
@@ -30,5 +30,6 @@ pub trait Sink {
         ensures done { tells → result ≡ Put.Done → written self.new ≡ written self.old ++ bytes.now }
         ensures failed { tells → result ≡ Put.Failed → AppendsFront (written self.old) (written self.new) bytes.now }
         ensures cause { result ≡ Put.Failed → Rose (faults self.old) (faults self.new) }
+        ensures no_cause { result ≡ Put.Done → faults self.new ≡ faults self.old }
         ensures faults { faults self.old ≤ faults self.new };
 }

@@ -1,12 +1,9 @@
-//! A whole file from a reader, and to a writer, whatever pieces they take.
-ghost use Rattle.std.specs.Prelude.{◌≡◌, ◌≢◌, ◌<◌, ◌≤◌, ◌++◌, ℕ, List, OnOk, IfSome, length};
-ghost use Rattle.std.specs.Io.KnownBytes.{Appends};
+//! A whole file from a reader, whatever pieces it gives.
+ghost use Rattle.std.specs.Prelude.{◌≡◌, ◌≢◌, ◌<◌, ◌≤◌, ◌++◌, ℕ, List, IfSome, length};
 ghost use Rattle.nv_outside.specs.declared.files.Loaded.{Loaded};
 
 use crate::files::Loaded;
-use std::fs::{OpenFile, Permissions};
-use std::io;
-use std::io::{ErrorKind, Read, Write};
+use std::io::{ErrorKind, Read};
 
 /// Appends what a file has left, where that is at most `limit` bytes. Of a longer one at most a buffer more is
 /// read. A read that is interrupted is tried again.
@@ -51,20 +48,4 @@ fn append<F: Read>(file: &mut F, limit: u64, into: &mut Vec<u8>) -> Loaded
         }
     }
     Loaded::Failed
-}
-
-/// Writes these bytes to a new file, which is given the permissions, if any, and sees that they have reached the
-/// disk.
-pub fn fill<F: Write + OpenFile>(
-    file: &mut F,
-    bytes: &[u8],
-    permissions: Option<Permissions>,
-) -> io::Result<()>
-    ensures { OnOk result (Appends (F.contents file.old) (F.contents file.new) bytes.now) }
-{
-    if let Some(permissions) = permissions {
-        file.set_permissions(permissions)?;
-    }
-    file.write_all(bytes)?;
-    file.sync_all()
 }

@@ -1,0 +1,24 @@
+use Rattle.std.proofs.Common.{◌∷◌}
+use Rattle.std.specs.IoError.{error_kind}
+use Rattle.nv_outside.specs.Steps.{SetPermissions, putting, filling, Makes, IsCutOff}
+use Rattle.nv_outside.proofs.Steps.{on-err, on-err-map, cut-now, cut-later}
+use Rattle.nv_outside.proofs.saving.fill.Goals as goal
+
+pub returns-in_err-set_permissions-in-Some-clause-cut_off : goal.returns-in_err-set_permissions-in-Some-clause-cut_off
+returns-in_err-set_permissions-in-Some-clause-cut_off g c =
+    rw c.in-Some.is (
+    on-err c.from_residual.result (Makes g.C.SaveCalls.history c.args.calls.now c.set_permissions.new.self (IsCutOff (SetPermissions c.in-Some.permissions ∷ putting c.args.bytes.now c.args.path.now c.args.name.now)))
+    (cut-now g.C.SaveCalls.history c.args.calls.now c.set_permissions.new.self (SetPermissions c.in-Some.permissions) (putting c.args.bytes.now c.args.path.now c.args.name.now) (error_kind c.in_err-set_permissions-in-Some.field-0.0) c.in_err-set_permissions-in-Some.ensures.made)
+    )
+
+pub returns-in_ok-set_permissions-in-Some-clause-cut_off : goal.returns-in_ok-set_permissions-in-Some-clause-cut_off
+returns-in_ok-set_permissions-in-Some-clause-cut_off g c =
+    rw c.in-Some.is (
+    on-err-map c.put.result (Makes g.C.SaveCalls.history c.set_permissions.new.self c.put.new.calls (IsCutOff (putting c.args.bytes.now c.args.path.now c.args.name.now)))
+    (Makes g.C.SaveCalls.history c.args.calls.now c.put.new.calls (IsCutOff (SetPermissions c.in-Some.permissions ∷ putting c.args.bytes.now c.args.path.now c.args.name.now)))
+    (λ later. cut-later g.C.SaveCalls.history c.args.calls.now c.set_permissions.new.self c.put.new.calls (SetPermissions c.in-Some.permissions) (putting c.args.bytes.now c.args.path.now c.args.name.now) c.in_ok-set_permissions-in-Some.ensures.made later)
+    c.put.ensures.cut_off
+    )
+
+pub returns-in-None-clause-cut_off : goal.returns-in-None-clause-cut_off
+returns-in-None-clause-cut_off g c = rw c.in-None.is c.put-in-None.ensures.cut_off
