@@ -2,11 +2,13 @@
 the interpreter below, come to the outcome of each example; and what is said of a few small sources."""
 import os
 import re
+import resource
 import subprocess
 
 from documents import blocks, read
 
 MASK = 0xFFFFFFFF
+FORMS = ("flat", "lowered", "inlined", "closed", "simplified", "single", "measures")
 COPIES = "fun main[]: word { let (a, b, c, d, e, f, g, h) = sram[8](0); sram(8) <- (a, b, c, d, e, f, g, h); a + b + c + d + e + f + g + h }"
 LOOP = "fun loop[i: word, s: word]: word { if (i == 8) s else let v = sram[1](i); loop[i + 1, s + v] } fun main[]: word { loop[0, 0] }"
 TRIES = (
@@ -258,6 +260,36 @@ def forty(top):
     return differences
 
 
+# Sources whose forms are as deep as a source of allowed size makes them.
+DEEPEST = {
+    "tail calls through 2,047 groups": "fun g0[]: () { () }\n" + "".join(f"fun g{i + 1}[]: () {{ g{i}[] }}\n" for i in range(2046)) + "fun main[]: () { g2046[] }",
+    "choices in one another, through 683 groups":
+        "fun g0[]: () { () }\n" + "".join(f"fun g{i + 1}[]: () {{ if (true) g{i}[] else () }}\n" for i in range(682)) + "fun main[]: () { g682[] }",
+    "97 pairs of brackets": "fun main[a: word]: word { " + "(" * 97 + "a" + ")" * 97 + " }",
+    "96 choices, in else arms": "fun main[a: word]: word { " + "".join(f"if (a == {i}) {i} else " for i in range(96)) + "a }",
+    "48 handlers in one another": "exception E[word]; fun main[a: word]: word { " + "try { " * 48 + "raise E[a]" + " } handle E[x] { x + 1 }" * 48 + " }",
+}
+
+
+def deepest(top, text):
+    """Each form of a source comes out in 8 MiB of stack, which is also what dropping the forms between takes."""
+
+    def limited():
+        resource.setrlimit(resource.RLIMIT_STACK, (8 << 20, 8 << 20))
+
+    def differences(at):
+        path, found = os.path.join(at, "s.nova"), []
+        with open(path, "w", encoding="utf-8") as it:
+            it.write(text)
+        for form in FORMS:
+            ran = subprocess.run([built(top), path, form], capture_output=True, timeout=60, preexec_fn=limited)
+            if ran.returncode or ran.stderr or not ran.stdout:
+                found.append(f"{form}: status {ran.returncode}")
+        return found
+
+    return differences
+
+
 def refusals(top):
     def differences(at):
         bad = os.path.join(at, "bad.nova")
@@ -281,4 +313,5 @@ def all_rows(top):
     rows += [("a call names its handlers, the nearest first", handlers(top)), ("forty values are held at once", forty(top))]
     rows += [("the forms in docs/ARCHITECTURE.md", worked(top))]
     rows += [("words, files and sources that are refused", refusals(top))]
+    rows += [(f"each form in 8 MiB of stack: {name}", deepest(top, text)) for name, text in DEEPEST.items()]
     return [FormsRow(name, body) for name, body in rows]

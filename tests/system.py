@@ -363,10 +363,12 @@ def other_names(it):
     it.has("t", "u", "l")
 
 
-@row("temporary files that killed runs left are in nobody's way")
+@row("temporary files that killed runs left are in nobody's way, and stay")
 def leftovers(it):
+    # A run's names begin at a random number of 64 bits, so none of these is likely to be taken again: that a name which is taken
+    # fails no save is proved, and tried over a store that has it (machine_tests).
     it.put("t", TEXT)
-    left = [f".novac-{number}.tmp" for number in range(1000)]
+    left = [f".novac-{first}-{number}.tmp" for first in (0, 1, 2**63, 2**64 - 1) for number in range(250)]
     for name in left:
         it.put(name, b"")
     it.runs("asm t o", 0, "assembled 1\n")
@@ -397,6 +399,40 @@ def unreadable(it):
     it.runs("asm d o", 3, "cannot read d\n")
     it.runs("asm t/x o", 3, "cannot read t/x\n")
     it.has("t", "d")
+
+
+# Words
+
+
+@row("a word that isn't text is no command")
+def no_text(it):
+    it.put("t", TEXT)
+    for words in [[b"asm", b"t", b"o\xff"], [b"\xff"], [b"lint", b"\xc3"], [b"asm", b"t", b"o", b"\xed\xa0\x80"]]:
+        ran = subprocess.run([it.novac.encode(), *words], cwd=it.at, capture_output=True, timeout=SECONDS)
+        it.holds((ran.returncode, ran.stdout, ran.stderr) == (2, b"usage\n", b""), f"{words}: {ran}")
+    it.has("t")
+
+
+@row("without memory for the words the status is 5, and nothing is printed")
+def no_room(it):
+    # Words that are longer than what a small process has besides: from the least address space in which the program begins
+    # on, first their copies want memory, and then none does.
+    words, seen = ["w" * 100000] * 15, []
+    for kib in range(2048, 16384, 64):
+        limit = kib * 1024
+
+        def limited():
+            resource.setrlimit(resource.RLIMIT_AS, (limit, limit))
+
+        try:
+            ran = subprocess.run([it.novac, *words], cwd=it.at, stdin=subprocess.DEVNULL, capture_output=True, timeout=SECONDS, preexec_fn=limited)
+        except (OSError, subprocess.SubprocessError):
+            continue
+        if ran.returncode >= 0:
+            seen.append((ran.returncode, ran.stdout, ran.stderr))
+        if ran.returncode == 2:
+            break
+    it.holds(len(seen) > 1 and set(seen[:-1]) == {(5, b"", b"")} and seen[-1] == (2, b"usage\n", b""), f"statuses and outputs {seen[:3]} .. {seen[-1:]}")
 
 
 def all_rows():

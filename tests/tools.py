@@ -69,7 +69,8 @@ class SumRow:
 
 
 class MadeRow:
-    """What `gen` says of a made source is what `compile` says of its text, and what `run` and `exec` come to on 1 and 2."""
+    """What `gen` says of a made source is what `compile` says of its text, and what `run` and `exec` come to on 1 and 2; and it says so
+    twice."""
 
     where = "tests/tools.py"
 
@@ -88,7 +89,8 @@ class MadeRow:
         ended = [said(*words).split("\n")[0] for words in (("run", "o", "m", "steps=100000000"), ("exec", "s", "m", "steps=1"))]
         wanted = f"gen {self.seed} {self.size} source {len(text)} length {' '.join(compiled[1:])} outcome {ended[0][6:]}\n"
         found = said("gen", str(self.seed), str(self.size))
-        return [] if found == wanted and ended[0] == ended[1] else [f"{found!r}, wanted {wanted!r}, {ended}"]
+        again = said("gen", str(self.seed), str(self.size))
+        return [] if found == wanted == again and ended[0] == ended[1] else [f"{found!r}, then {again!r}, wanted {wanted!r}, {ended}"]
 
 
 class CrowdedRow:
@@ -328,5 +330,5 @@ def all_rows(top):
     rows += [("README has short lines and sentences", readable), ("the files that the pages name are there", named_files)]
     rows += [("a packet's hex dump and back", there_and_back), ("forms of hex dumps", dumps), ("nothing stands twice that didn't", nothing_new_twice), ("capture files", captures), ("tables from a CSV file", tables)]
     sources = sorted(it for it in os.listdir(os.path.join(top, "examples")) if it.endswith(".nova"))
-    made = [MadeRow(seed, size, top) for seed, size in ((0, 2), (1, 60))]
+    made = [MadeRow(seed, size, top) for seed, size in ((0, 2), (1, 60), (0, 500))]
     return [ToolRow(name, body, top) for name, body in rows] + [ReportRow(it, top) for it in sources] + made + [CrowdedRow(top), SumRow(top)]

@@ -18,6 +18,7 @@ impl Reply {
     /// Prints the text, and gives the status, or a write fault where the sink failed.
     pub fn print<K: Sink>(&self, out: &mut K) -> Status
         ensures status { (result ≡ self.now.status) ⊎ (result ≡ Status.WriteFault) }
+        ensures unfailed { result ≢ Status.WriteFault → K.faults out.new ≡ K.faults out.old }
         ensures written { K.tells → result ≢ Status.WriteFault → K.written out.new ≡ K.written out.old ++ self.now.text.items }
         ensures front { K.tells → AppendsFront (K.written out.old) (K.written out.new) self.now.text.items }
         ensures printed { ((result ≡ Status.WriteFault) × Rose (K.faults out.old) (K.faults out.new)) ⊎ ((result ≡ self.now.status) × (K.tells → K.written out.new ≡ K.written out.old ++ self.now.text.items)) }

@@ -26,6 +26,8 @@ mod programs;
 #[cfg(test)]
 mod programs_text;
 #[cfg(test)]
+mod saves;
+#[cfg(test)]
 mod search;
 #[cfg(test)]
 mod simulator;

@@ -1,30 +1,26 @@
-// A reader or a writer that is interrupted is asked again, and a fault in mid-stream shows.
+// A reader that is interrupted is asked again, and a fault in mid-stream shows.
 ghost use Rattle.std.specs.Prelude.{◌≤◌, IfOk};
 
 use nv_outside::Loaded;
-use nv_outside::stream::{fill, read_whole};
-use std::fs::{Metadata, OpenFile};
+use nv_outside::stream::read_whole;
 use std::io;
-use std::io::{ErrorKind, Read, Write};
+use std::io::{ErrorKind, Read};
 use std::test::Fail;
 
-// A file that gives or takes a byte at a time, three in all. Its call number 1 fails so, and its sync where it is
-// told to.
+// A file that gives a byte at a time, three in all. Its call number 1 fails so.
 #[derive(Drop)]
 struct Faulty {
     calls: u32,
     moved: usize,
     fault: ErrorKind,
-    syncs: bool,
 }
 
 // A file of which nothing was asked yet.
-fn file_with(fault: ErrorKind, syncs: bool) -> Faulty {
+fn file_with(fault: ErrorKind) -> Faulty {
     Faulty {
         calls: 0,
         moved: 0,
         fault,
-        syncs,
     }
 }
 
@@ -51,42 +47,10 @@ impl Read for Faulty {
     }
 }
 
-impl Write for Faulty {
-    fn write(&mut self, buf: &[u8]) -> io::Result<usize> {
-        self.step(buf.len())
-    }
-
-    fn flush(&mut self) -> io::Result<()> {
-        Ok(())
-    }
-}
-
-impl OpenFile for Faulty {
-    fn metadata(&self) -> io::Result<Metadata> {
-        Ok(Metadata::of_file(0))
-    }
-
-    fn set_len(&self, _size: u64) -> io::Result<()> {
-        Ok(())
-    }
-
-    fn sync_all(&self) -> io::Result<()> {
-        if self.syncs {
-            Ok(())
-        } else {
-            Err(io::Error::from(ErrorKind::StorageFull))
-        }
-    }
-
-    fn sync_data(&self) -> io::Result<()> {
-        Ok(())
-    }
-}
-
 #[test]
 fn a_read_that_is_interrupted_is_tried_again(rt: HostRuntime) -> Result<(), Fail> {
     let mut into = vec![in rt.alloc(); 7]?;
-    let mut file = file_with(ErrorKind::Interrupted, true);
+    let mut file = file_with(ErrorKind::Interrupted);
     assert_eq!(rt; read_whole(&mut file, 3, &mut into), Loaded::Done);
     assert_eq!(rt; into.as_slice(), [7, 9, 9, 9].as_slice());
     Ok(())
@@ -95,21 +59,8 @@ fn a_read_that_is_interrupted_is_tried_again(rt: HostRuntime) -> Result<(), Fail
 #[test]
 fn a_read_that_fails_in_mid_stream_leaves_nothing(rt: HostRuntime) -> Result<(), Fail> {
     let mut into = vec![in rt.alloc(); 7]?;
-    let mut file = file_with(ErrorKind::BrokenPipe, true);
+    let mut file = file_with(ErrorKind::BrokenPipe);
     assert_eq!(rt; read_whole(&mut file, 3, &mut into), Loaded::Failed);
     assert_eq!(rt; into.as_slice(), [7].as_slice());
     Ok(())
-}
-
-// Whether a file with this fault takes three bytes, all of them.
-fn takes(fault: ErrorKind, syncs: bool) -> bool {
-    let mut file = file_with(fault, syncs);
-    fill(&mut file, b"abc", None).is_ok() && file.moved == 3
-}
-
-#[test]
-fn a_write_or_a_sync_that_fails_shows(rt: HostRuntime) {
-    assert!(rt; takes(ErrorKind::Interrupted, true));
-    assert!(rt; !takes(ErrorKind::StorageFull, true));
-    assert!(rt; !takes(ErrorKind::Interrupted, false));
 }

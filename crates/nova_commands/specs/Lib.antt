@@ -1,4 +1,5 @@
 pub mod Loading
+pub mod Calling
 pub mod Reading
 pub mod Forms
 pub mod Headline

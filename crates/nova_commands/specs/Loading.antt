@@ -1,5 +1,6 @@
 -- What a command reads: its inputs, in the order of the words.
-use Rattle.std.specs.Prelude.{◌≡◌, ◌≤◌, ◌⊎◌, ℕ, List, [], ◌∷◌, Some, length, ⊤}
+use Rattle.std.specs.Prelude.{◌≡◌, ◌≤◌, ◌⊎◌, ℕ, List, [], ◌∷◌, Some, length, map, ⊤}
+use Rattle.nv_outside.specs.Calls.{Call, Load}
 use Rattle.nv_outside.specs.Holding.{Holding, IsLonger}
 use Rattle.command_line.specs.Command.{Command, Compile, Run, Exec, Asm, Dis, Lint, Check, Gen}
 use Rattle.command_line.specs.Limits.{source_limit, object_limit, memory_limit, assembly_limit, report_limit}
@@ -24,6 +25,10 @@ inputs_of (Dis object) = input object object_limit ∷ []
 inputs_of (Lint object) = input object object_limit ∷ []
 inputs_of (Check report) = input report report_limit ∷ []
 inputs_of (Gen seed size) = []
+
+-- the loads of these inputs
+abbrev pub loads_of : List Input → List Call
+loads_of inputs = map (λ i. Load i.name) inputs
 
 -- an input has these bytes, at most as many as it may have; they are what the store holds, where it tells
 pub record IsRead (Tells : Type 0) (held : Holding) (i : Input) (bytes : List ℕ) : Type 0 where

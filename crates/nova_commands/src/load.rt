@@ -1,10 +1,11 @@
 //! The inputs of a command, loaded.
 ghost use Rattle.std.specs.Prelude.{◌≡◌, ◌≤◌, ◌⊎◌, ◌∷◌, [], ℕ, List, IfOk, IfErr};
+ghost use Rattle.nv_outside.specs.Calls.{Load, Asked, AsksAtMost};
 ghost use Rattle.nv_outside.specs.Causes.{Rose};
 ghost use Rattle.command_line.specs.inner.Words.{command_as};
 ghost use Rattle.command_line.specs.Lines.{IsUncaused};
 ghost use Rattle.command_line.specs.Limits.{memory_limit};
-ghost use Rattle.nova_commands.specs.Loading.{input, inputs_of, IsRead, AreRead, StopsAt, IsUnread};
+ghost use Rattle.nova_commands.specs.Loading.{input, inputs_of, loads_of, IsRead, AreRead, StopsAt, IsUnread};
 ghost use Rattle.nova_commands.specs.inner.Contents.{contents_of, AreShort};
 
 use command_line::limits::{
@@ -30,6 +31,7 @@ pub fn load_inputs<'a, F: Files>(
     ensures read { IfOk result (λ x. AreRead F.tells (F.held files.old) (inputs_of (command_as command.entry)) (contents_of (command_as command.entry) x.first.items x.second.items)) }
     ensures short { IfOk result (λ x. AreShort (inputs_of (command_as command.entry)) (contents_of (command_as command.entry) x.first.items x.second.items)) }
     ensures unread { IfErr result (λ e. IsUncaused e ⊎ StopsAt F.tells (F.held files.old) (inputs_of (command_as command.entry)) (IsUnread F.tells (F.held files.old) (λ q. Rose (F.load_faults files.old q) (F.load_faults files.new q)) e)) }
+    ensures asked { AsksAtMost F.history files.old files.new (loads_of (inputs_of (command_as command.entry))) }
     ensures held { F.held files.new ≡ F.held files.old }
     ensures save_faults { (q : List ℕ) → F.save_faults files.old q ≤ F.save_faults files.new q }
 {
@@ -58,6 +60,7 @@ fn load_one<'a, F: Files>(
     ensures read { IfOk result (λ x. AreRead F.tells (F.held files.old) (input name.now limit ∷ []) (x.first.items ∷ [])) }
     ensures short { IfOk result (λ x. AreShort (input name.now limit ∷ []) (x.first.items ∷ [])) }
     ensures unread { IfErr result (λ e. IsUncaused e ⊎ StopsAt F.tells (F.held files.old) (input name.now limit ∷ []) (IsUnread F.tells (F.held files.old) (λ q. Rose (F.load_faults files.old q) (F.load_faults files.new q)) e)) }
+    ensures asked { AsksAtMost F.history files.old files.new (Load name.now ∷ []) }
     ensures held { F.held files.new ≡ F.held files.old }
     ensures save_faults { (q : List ℕ) → F.save_faults files.old q ≤ F.save_faults files.new q }
 {
@@ -81,6 +84,7 @@ fn load_two<'a, F: Files>(
     ensures read { IfOk result (λ x. AreRead F.tells (F.held files.old) (input name.now limit ∷ input memory.now memory_limit ∷ []) (x.first.items ∷ x.second.items ∷ [])) }
     ensures short { IfOk result (λ x. AreShort (input name.now limit ∷ input memory.now memory_limit ∷ []) (x.first.items ∷ x.second.items ∷ [])) }
     ensures unread { IfErr result (λ e. IsUncaused e ⊎ StopsAt F.tells (F.held files.old) (input name.now limit ∷ input memory.now memory_limit ∷ []) (IsUnread F.tells (F.held files.old) (λ q. Rose (F.load_faults files.old q) (F.load_faults files.new q)) e)) }
+    ensures asked { AsksAtMost F.history files.old files.new (Load name.now ∷ Load memory.now ∷ []) }
     ensures held { F.held files.new ≡ F.held files.old }
     ensures save_faults { (q : List ℕ) → F.save_faults files.old q ≤ F.save_faults files.new q }
 {
@@ -103,6 +107,7 @@ fn load<'a, F: Files>(
 ) -> Result<Vec<u8>, Refusal<'a>>
     ensures read { IfOk result (λ bytes. IsRead F.tells (F.held files.old) (input name.now limit) bytes.items) }
     ensures unread { IfErr result (λ e. IsUncaused e ⊎ IsUnread F.tells (F.held files.old) (λ q. Rose (F.load_faults files.old q) (F.load_faults files.new q)) e (input name.now limit)) }
+    ensures asked { Asked F.history files.old files.new (Load name.now ∷ []) }
     ensures held { F.held files.new ≡ F.held files.old }
     ensures load_faults { (q : List ℕ) → F.load_faults files.old q ≤ F.load_faults files.new q }
     ensures save_faults { (q : List ℕ) → F.save_faults files.old q ≤ F.save_faults files.new q }

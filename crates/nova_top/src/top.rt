@@ -1,6 +1,8 @@
 //! The top call.
 ghost use Rattle.std.specs.Prelude.{◌≡◌, ◌≢◌, ◌⊎◌, ◌++◌, ℕ, List, None, IfOk, IfErr, OnErr, ⊤};
+ghost use Rattle.nv_outside.specs.Calls.{AsksAtMost};
 ghost use Rattle.nv_outside.specs.Causes.{Rose};
+ghost use Rattle.nova_commands.specs.Calling.{calls_of};
 ghost use Rattle.nv_outside.specs.Holding.{AppendsFront};
 ghost use Rattle.nova_commands.specs.Answers.{Shows, Ends, IsCaused, IsDone, IsStopped, CanMake, CanEnd, IsRefusable, IsPrinted, IsBegun, IsFree, IsOnly};
 ghost use Rattle.command_line.specs.Command.{command_of, texts_of, outputs_of, SomeFile, IfCommand, IfCompile, IfGen, ForCommand};
@@ -83,6 +85,13 @@ pub fn run<F: Files, K: Sink>(
     ensures read_fault { result ≡ Status.ReadFault → ForCommand (command_of (texts_of words.now)) (λ c. StopsAt F.tells (F.held files.old) (inputs_of c) (λ i. Rose (F.load_faults files.old i.name) (F.load_faults files.new i.name) × (K.tells → K.written out.new ≡ K.written out.old ++ cannot_read i.name))) }
     ensures write_fault { result ≡ Status.WriteFault → Rose (K.faults out.old) (K.faults out.new) ⊎ ForCommand (command_of (texts_of words.now)) (λ c. SomeFile (outputs_of c) (λ file. Rose (F.save_faults files.old file) (F.save_faults files.new file) × (K.tells → K.written out.new ≡ K.written out.old ++ cannot_write file))) }
 
+    // Each input is loaded at most once, in the order of the words, and then each output is saved at most once, and nothing else
+    // is loaded or saved: over every store. A failed load isn't tried again.
+    ensures asked { IfCommand (command_of (texts_of words.now)) (λ c. AsksAtMost F.history files.old files.new (calls_of c)) }
+
+    // No failed print is passed over: with another status than a write fault none failed.
+    ensures unfailed { result ≢ Status.WriteFault → K.faults out.new ≡ K.faults out.old }
+
     // What stays as it was.
     ensures unchanged { F.tells → (MaySave result → ⊥) → F.held files.new ≡ F.held files.old }
     ensures elsewhere { F.tells → IfCommand (command_of (texts_of words.now)) (λ c. IsSameBut (outputs_of c) (F.held files.old) (F.held files.new)) }
@@ -102,6 +111,7 @@ fn reply<F: Files>(alloc: Global, words: &Vec<String>, files: &mut F) -> Result<
     ensures only_usage { command_of (texts_of words.now) ≡ None → IfOk result (λ r. r.status ≡ Status.Usage) }
     ensures memory { IfOk result (λ r. r.status ≢ Status.NoMemory) }
     ensures held { OnErr result (F.held files.new ≡ F.held files.old) }
+    ensures asked { IfCommand (command_of (texts_of words.now)) (λ c. AsksAtMost F.history files.old files.new (calls_of c)) }
     ensures untouched { command_of (texts_of words.now) ≡ None → files.new ≡ files.old }
 {
     let Some(command) = Command::of(words) else {
@@ -149,6 +159,7 @@ fn perform<'a, F: Files>(
     ensures end { IfOk result (λ r. IsEnd r.status) }
     ensures refused { IfErr result (λ e. IsUncaused e ⊎ IsCaused F.tells (F.held files.old) (λ q. Rose (F.load_faults files.old q) (F.load_faults files.new q)) (command_as command.entry) e) }
     ensures held { OnErr result (F.held files.new ≡ F.held files.old) }
+    ensures asked { AsksAtMost F.history files.old files.new (calls_of (command_as command.entry)) }
 {
     let inputs = load_inputs(alloc, command, files)?;
     let made = work(alloc, command, &inputs)?;

@@ -324,7 +324,7 @@ fn forty_words_at_once_are_infeasible_without_slots(rt: HostRuntime) -> Result<(
 }
 
 #[test]
-fn an_object_that_is_not_told_is_whole(rt: HostRuntime) -> Result<(), Fail> {
+fn files_that_are_not_told_are_whole(rt: HostRuntime) -> Result<(), Fail> {
     let mut files = store(&rt, rt.alloc(), &[], &[("s", SUM)])?;
     let words = ["compile", "s", "o", "r"].as_slice();
     expect(
@@ -337,6 +337,26 @@ fn an_object_that_is_not_told_is_whole(rt: HostRuntime) -> Result<(), Fail> {
         b"",
     )?;
     assert!(rt; files.held("o").is_some());
+    assert!(rt; files.held("r").is_some());
+    Ok(())
+}
+
+#[test]
+fn a_failing_load_changes_no_file(rt: HostRuntime) -> Result<(), Fail> {
+    let mut files = store(&rt, rt.alloc(), &[0], &[("s", SUM), ("o", NONE)])?;
+    let words = ["compile", "s", "o", "r"].as_slice();
+    expect(
+        &rt,
+        rt.alloc(),
+        &mut files,
+        &[],
+        words,
+        Status::ReadFault,
+        b"cannot read s\n",
+    )?;
+    assert_eq!(rt; files.held("s"), Some(SUM));
+    assert_eq!(rt; files.held("o"), Some(NONE));
+    assert_eq!(rt; files.held("r"), None);
     Ok(())
 }
 

@@ -1,5 +1,6 @@
 -- What a command saves: its files, one after the other.
-use Rattle.std.specs.Prelude.{◌≡◌, ◌⊎◌, ℕ, List, [], ◌∷◌, Contains}
+use Rattle.std.specs.Prelude.{◌≡◌, ◌⊎◌, ℕ, List, [], ◌∷◌, Contains, map}
+use Rattle.nv_outside.specs.Calls.{Call, Save}
 use Rattle.nv_outside.specs.Holding.{Holding, Replaced, SameElsewhere}
 
 -- a file that is saved, with all its bytes
@@ -9,6 +10,10 @@ pub record File : Type 0 where
 
 abbrev pub file : List ℕ → List ℕ → File
 file name bytes = record { name = name; bytes = bytes }
+
+-- the saves of these files
+abbrev pub saves_of : List File → List Call
+saves_of files = map (λ f. Save f.name) files
 
 -- all of these files were saved, in this order, and nothing else changed
 abbrev pub AreSaved : List File → Holding → Holding → Type 0

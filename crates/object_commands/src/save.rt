@@ -2,7 +2,8 @@
 ghost use Rattle.std.specs.Prelude.{◌≡◌, ◌⊎◌, ◌≤◌, ◌∷◌, [], IfOk};
 ghost use Rattle.nv_outside.specs.Causes.{Rose};
 ghost use Rattle.command_line.specs.Lines.{counted, cannot_write};
-ghost use Rattle.object_commands.specs.Saving.{file, AreSaved, IsCut};
+ghost use Rattle.nv_outside.specs.Calls.{Save, Asked, AsksAtMost};
+ghost use Rattle.object_commands.specs.Saving.{file, saves_of, AreSaved, IsCut};
 ghost use Rattle.object_commands.specs.inner.Files.{file_of, files_of, AreTold, IsTold};
 ghost use Rattle.command_line.specs.declared.status.Status.{Status};
 
@@ -55,6 +56,7 @@ impl<'a> Output<'a> {
     /// Saves the file, and gives the reply, or where that failed a write fault.
     fn save<F: Files>(self, reply: Reply, files: &mut F) -> Reply
         requires { IsTold self }
+        ensures asked { Asked F.history files.old files.new (Save self.entry.name.now ∷ []) }
         ensures saved { ((result.status ≡ reply.status) × (result.text.items ≡ reply.text.items) × (F.tells → AreSaved (file_of self.entry ∷ []) (F.held files.old) (F.held files.new))) ⊎ ((result.status ≡ Status.WriteFault) × IsCut F.tells (file_of self.entry ∷ []) (F.held files.old) (F.held files.new) (λ name. Rose (F.save_faults files.old name) (F.save_faults files.new name) × (result.text.items ≡ cannot_write name))) }
     {
         match files.save(self.name, &self.bytes) {
@@ -92,6 +94,7 @@ impl<'a> Made<'a> {
     /// Saves the files, and stops where one can't be. All memory was taken before.
     pub fn save<F: Files>(self, files: &mut F) -> Reply
         requires { AreTold self.outputs }
+        ensures asked { AsksAtMost F.history files.old files.new (saves_of (files_of self.entry.outputs)) }
         ensures saved { ((result.status ≡ self.entry.status) × (result.text.items ≡ self.entry.text.items) × (F.tells → AreSaved (files_of self.entry.outputs) (F.held files.old) (F.held files.new))) ⊎ ((result.status ≡ Status.WriteFault) × IsCut F.tells (files_of self.entry.outputs) (F.held files.old) (F.held files.new) (λ name. Rose (F.save_faults files.old name) (F.save_faults files.new name) × (result.text.items ≡ cannot_write name))) }
     {
         let Made {

@@ -27,6 +27,8 @@ mod single_use;
 #[cfg(test)]
 mod sources;
 #[cfg(test)]
+mod spilled;
+#[cfg(test)]
 mod texts;
 #[cfg(test)]
 mod types;
