@@ -28,6 +28,7 @@ use Rattle.ucode_emit.specs.SpillBase.{IsOtherSource, IsOtherTarget, KeepsToSlot
 use Rattle.ucode_emit.specs.inner.Pieces.{Item, Moved, Plain, Branch, move_instr, instr_of, moved, source, target, address_of, un_op, shift_of}
 use Rattle.ucode_emit.specs.inner.Machine.{IsReadable, IsWritable, IsDirect, read_slot, write_slot, copied, AreDirect}
 use Rattle.ucode_emit.specs.inner.Layers.{IsAddress}
+use Rattle.ucode_emit.proofs.OperatingItems.{IsPlain}
 use Rattle.std.specs.Prelude.{slice_index_or, length}
 
 -- ---- instructions by themselves
@@ -262,7 +263,7 @@ move_own slots from at n (copied a b) = copy_own slots from at a b
 
 abbrev pub IsGood : ℕ → Item → Type 0
 IsGood slots (Moved from at) = IsDirect slots from at
-IsGood slots (Plain i) = KeepsOwn slots i
+IsGood slots (Plain i) = KeepsOwn slots i × IsPlain i
 IsGood slots (Branch c point) = ⊤
 
 abbrev pub AreGood : ℕ → List Item → Type 0
@@ -296,7 +297,7 @@ own_lawful slots code place i h l = record {
 pub item_lawful : (slots : ℕ) (code : List Instr) (places : List ℕ) (place : ℕ) (it : Item) → slots ≤ 128 → IsGood slots it → ((j : ℕ) → slice_index_or places j 0 < length code) → (place + 1 ≡ length code → IsEnd it)
     → IsLawfulAt code place (instr_of places it)
 item_lawful slots code places place (Moved from at) n g b l = own_lawful slots code place (move_instr from at) (move_own slots from at n g) (λ e. absurd (l e))
-item_lawful slots code places place (Plain i) n g b l = own_lawful slots code place i g l
+item_lawful slots code places place (Plain i) n g b l = own_lawful slots code place i g.0 l
 item_lawful slots code places place (Branch c point) n g b l = record {
   operands = tt;
   run_inside = tt;
@@ -311,7 +312,7 @@ item_lawful slots code places place (Branch c point) n g b l = record {
 
 item_base : (slots : ℕ) (places : List ℕ) (it : Item) → slots ≤ 128 → IsGood slots it → KeepsBase slots (instr_of places it)
 item_base slots places (Moved from at) n g = (move_own slots from at n g).base
-item_base slots places (Plain i) n g = g.base
+item_base slots places (Plain i) n g = g.0.base
 item_base slots places (Branch c point) n g = tt
 
 items_base : (slots : ℕ) (places : List ℕ) (is : List Item) → slots ≤ 128 → AreGood slots is → AllByRecursion (KeepsBase slots) (map (instr_of places) is)

@@ -19,6 +19,7 @@ use Rattle.slot_placement.specs.declared.place.Place.TheVariants.{A}
 use Rattle.slot_placement.specs.Plan.{Plan, first, pass}
 use Rattle.place_checks.proofs.Walked.{get-index}
 use Rattle.par_move.specs.Moves.{Move, Words, StandFor, none}
+use Rattle.ucode_emit.specs.Operations.{Reading, Writing}
 use Rattle.ucode_emit.specs.inner.Pieces.{Plain, Branch, operands, operand_at, words, result_place, to_slot, copies, all_copies, single_moves, un_op, source, target, address_of, shift_of, defines, moved, step_items, fork_items, last_items, entry_point, Sequences, sequence_at, label_moves, tree_moves, parallel_moves, last_moves, entry_moves}
 use Rattle.ucode_emit.specs.inner.Ready.{Ready, IsSequence, AreSequences}
 use Rattle.ucode_emit.specs.inner.Machine.{AreDirect}
@@ -29,6 +30,7 @@ use Rattle.ucode_emit.proofs.PointsUsed.{root_at}
 use Rattle.ucode_emit.proofs.DefinitionsDirect.{access_at}
 use Rattle.ucode_emit.proofs.Placing.{there_by_length, Part, part_head, entry_later}
 use Rattle.ucode_emit.proofs.LawfulItems.{KeepsOwn, un_own, alu_own, immed_own, halt_own, read_own, write_own, run_is, paired_is, count_is, apart_sources, other_source, other_target, other_address, IsGood, AreGood, moves_good}
+use Rattle.ucode_emit.proofs.OperatingItems.{IsPlain, address_plain}
 
 -- ---- all words are 0: then all stands ready anywhere
 
@@ -51,20 +53,20 @@ node_here labels p k of above t h a = formed_at labels k (root_point of above t)
 
 -- ---- steps
 
-defines_good : (p : Plan) (k x : ℕ) (op : Dst → Instr) → KeepsOwn p.slots (op (target (result_place p k x))) → AreDirect p.slots (to_slot p k x ++ copies p k x) → AreGood p.slots (defines p k x op)
-defines_good p k x op h d = (h, moves_good p.slots (to_slot p k x ++ copies p k x) d)
+defines_good : (p : Plan) (k x : ℕ) (op : Dst → Instr) → KeepsOwn p.slots (op (target (result_place p k x))) → IsPlain (op (target (result_place p k x))) → AreDirect p.slots (to_slot p k x ++ copies p k x) → AreGood p.slots (defines p k x op)
+defines_good p k x op h a d = ((h, a), moves_good p.slots (to_slot p k x ++ copies p k x) d)
 
 pub step_good : (labels : List Label) (p : Plan) (k : ℕ) (of : Names) (above : List ℕ) (s : Step) (t : Tree) → Placed labels p → ReadyLayer labels p → PointsAt labels k of above (Do s t) → AreGood p.slots (step_items p k s)
 step_good labels p k of above (Lit x v) t h r a =
     let d = r.literal k of above x v 0 t no_words no_places a (idle labels p k (root_point of above (Do (Lit x v) t))) in
-    defines_good p k x (λ d. instr.Immed d (v / 2 ^ shift_of v) (shift_of v)) (immed_own p.slots (target (result_place p k x)) (v / 2 ^ shift_of v) v (other_target (result_place p k x) d.0)) d.1.0
+    defines_good p k x (λ d. instr.Immed d (v / 2 ^ shift_of v) (shift_of v)) (immed_own p.slots (target (result_place p k x)) (v / 2 ^ shift_of v) v (other_target (result_place p k x) d.0)) refl d.1.0
 step_good labels p k of above (Una x op y) t h r a =
     let q = root_point of above (Do (Una x op y) t) in
     let o = r.one_operand k of above x y op t no_words no_places a (idle labels p k q) in
     let d = r.unary k of above x y 0 op t no_words no_places a (idle labels p k q) in
     let f = node_here labels p k of above (Do (Una x op y) t) h a in
     all_both (IsGood p.slots) (moved (operands p k 1)) (defines p k x (λ d. instr.Un d (un_op op) (source (operand_at p k 0)))) (moves_good p.slots (operands p k 1) o.0.0)
-    (defines_good p k x (λ d. instr.Un d (un_op op) (source (operand_at p k 0))) (un_own p.slots (target (result_place p k x)) (un_op op) (source (operand_at p k 0)) (count_is op f.fits) (other_target (result_place p k x) d.0) (other_source (operand_at p k 0) o.1)) d.1.0)
+    (defines_good p k x (λ d. instr.Un d (un_op op) (source (operand_at p k 0))) (un_own p.slots (target (result_place p k x)) (un_op op) (source (operand_at p k 0)) (count_is op f.fits) (other_target (result_place p k x) d.0) (other_source (operand_at p k 0) o.1)) refl d.1.0)
 step_good labels p k of above (Bin x op y z) t h r a =
     let q = root_point of above (Do (Bin x op y z) t) in
     let o = r.two_operands k of above x y z op t no_words no_places a (idle labels p k q) in
@@ -73,7 +75,7 @@ step_good labels p k of above (Bin x op y z) t h r a =
     all_both (IsGood p.slots) (moved (operands p k 2)) (defines p k x (λ d. instr.Alu d op (source (operand_at p k 0)) (source (operand_at p k 1)))) (moves_good p.slots (operands p k 2) o.0.0)
     (defines_good p k x (λ d. instr.Alu d op (source (operand_at p k 0)) (source (operand_at p k 1)))
     (alu_own p.slots (target (result_place p k x)) op (source (operand_at p k 0)) (source (operand_at p k 1)) (apart_sources (operand_at p k 0) (operand_at p k 1) o.1 o.2 f.operands)
-    (other_target (result_place p k x) d.0) (other_source (operand_at p k 0) o.1) (other_source (operand_at p k 1) o.2)) d.1.0)
+    (other_target (result_place p k x) d.0) (other_source (operand_at p k 0) o.1) (other_source (operand_at p k 1) o.2)) refl d.1.0)
 step_good labels p k of above (Clone xs y) t h r a = tt
 step_good labels p k of above (Read m xs y) t h r a =
     let q = root_point of above (Do (Read m xs y) t) in
@@ -82,7 +84,7 @@ step_good labels p k of above (Read m xs y) t h r a =
     let f = node_here labels p k of above (Do (Read m xs y) t) h a in
     let g = access_at labels p k q h (root_at labels k of above (Do (Read m xs y) t) a) in
     all_both (IsGood p.slots) (moved (operands p k 1)) (Plain (instr.Read m (first p k) (length xs) (address_of (operand_at p k 0)) 0) ∷ moved (all_copies p k xs)) (moves_good p.slots (operands p k 1) o.0.0) (
-      read_own p.slots m (first p k) (length xs) (address_of (operand_at p k 0)) 0 (run_is m (length xs) (first p k) g.0 f.fits) (paired_is m (length xs) (first p k) g.0 f.fits) (omega arith) (other_address p.slots m (length xs) (operand_at p k 0) 0 o.1),
+      (read_own p.slots m (first p k) (length xs) (address_of (operand_at p k 0)) 0 (run_is m (length xs) (first p k) g.0 f.fits) (paired_is m (length xs) (first p k) g.0 f.fits) (omega arith) (other_address p.slots m (length xs) (operand_at p k 0) 0 o.1), address_plain (Reading m (length xs)) (operand_at p k 0) o.1),
       moves_good p.slots (all_copies p k xs) d.0,
     )
 step_good labels p k of above (Write m y xs) t h r a =
@@ -91,7 +93,7 @@ step_good labels p k of above (Write m y xs) t h r a =
     let f = node_here labels p k of above (Do (Write m y xs) t) h a in
     let g = access_at labels p k q h (root_at labels k of above (Do (Write m y xs) t) a) in
     all_both (IsGood p.slots) (moved (operands p k 1 ++ words p k 1 (length xs))) (Plain (instr.Write m (first p k) (length xs) (address_of (operand_at p k 0)) 0) ∷ []) (moves_good p.slots (operands p k 1 ++ words p k 1 (length xs)) o.0.0) (
-      write_own p.slots m (first p k) (length xs) (address_of (operand_at p k 0)) 0 (run_is m (length xs) (first p k) g.0 f.fits) (paired_is m (length xs) (first p k) g.0 f.fits) (omega arith) (other_address p.slots m (length xs) (operand_at p k 0) 0 o.1),
+      (write_own p.slots m (first p k) (length xs) (address_of (operand_at p k 0)) 0 (run_is m (length xs) (first p k) g.0 f.fits) (paired_is m (length xs) (first p k) g.0 f.fits) (omega arith) (other_address p.slots m (length xs) (operand_at p k 0) 0 o.1), address_plain (Writing m (length xs)) (operand_at p k 0) o.1),
       tt,
     )
 
@@ -104,8 +106,11 @@ fork_good labels p k of above c x y second t u h r a =
     let o = r.compared k of above c x y t u no_words no_places a (idle labels p k q) in
     let f = h.fits.points k q (root_at labels k of above (If c x y t u) a) in
     all_both (IsGood p.slots) (moved (operands p k 2)) (Plain (instr.Alu dst.Nowhere Sub (source (operand_at p k 0)) (source (operand_at p k 1))) ∷ Branch (failing c) second ∷ []) (moves_good p.slots (operands p k 2) o.0.0) (
-      alu_own p.slots dst.Nowhere Sub (source (operand_at p k 0)) (source (operand_at p k 1)) (apart_sources (operand_at p k 0) (operand_at p k 1) o.1 o.2 f.operands) tt
-          (other_source (operand_at p k 0) o.1) (other_source (operand_at p k 1) o.2),
+      (
+        alu_own p.slots dst.Nowhere Sub (source (operand_at p k 0)) (source (operand_at p k 1)) (apart_sources (operand_at p k 0) (operand_at p k 1) o.1 o.2 f.operands) tt
+            (other_source (operand_at p k 0) o.1) (other_source (operand_at p k 1) o.2),
+        refl,
+      ),
       (tt, tt),
     )
 
@@ -127,7 +132,7 @@ last_good labels p k of above (Halt c xs) ms h r a s =
     let q = root_point of above (End (Halt c xs)) in
     let f = node_here labels p k of above (End (Halt c xs)) h a in
     let d = r.halt k of above c xs ms no_words no_places a s (idle labels p k q) in
-    all_both (IsGood p.slots) (moved (single_moves (pass p k).l ms)) (Plain (instr.Halt c (length xs)) ∷ []) (moves_good p.slots (single_moves (pass p k).l ms) d.0) (halt_own p.slots c (length xs) (leb-true (length xs) 8 f.fits), tt)
+    all_both (IsGood p.slots) (moved (single_moves (pass p k).l ms)) (Plain (instr.Halt c (length xs)) ∷ []) (moves_good p.slots (single_moves (pass p k).l ms) d.0) ((halt_own p.slots c (length xs) (leb-true (length xs) 8 f.fits), refl), tt)
 
 -- ---- where labels begin
 

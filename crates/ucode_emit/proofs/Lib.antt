@@ -32,9 +32,11 @@ pub mod RunsSteps
 pub mod RunsTrees
 pub mod RunsWhole
 pub mod Agreeing
+pub mod OperatingItems
 pub mod LawfulItems
 pub mod LawfulPieces
 pub mod LawfulCode
+pub mod OperatingCode
 pub mod LawfulCopies
 pub mod LawfulLength
 pub mod Marked

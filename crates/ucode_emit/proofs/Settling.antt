@@ -18,7 +18,7 @@ own_settled slots places (instr.Halt k n) h = refl
 
 item_settled : (slots : ℕ) (places : List ℕ) (it : Item) → slots ≤ 128 → IsGood slots it → settled places (draft it) ≡ instr_of places it
 item_settled slots places (Moved from at) n h = own_settled slots places (move_instr from at) (move_own slots from at n h)
-item_settled slots places (Plain i) n h = own_settled slots places i h
+item_settled slots places (Plain i) n h = own_settled slots places i h.0
 item_settled slots places (Branch c point) n h = refl
 
 pub settles : (slots : ℕ) (places : List ℕ) (is : List Item) → slots ≤ 128 → AreGood slots is → map (settled places) (map draft is) ≡ map (instr_of places) is

@@ -13,6 +13,7 @@ use Rattle.slot_placement.specs.Costs.{cost}
 use Rattle.slot_placement.specs.Fits.{Fits}
 use Rattle.slot_placement.specs.Plan.{Plan}
 use Rattle.ucode_emit.specs.SpillBase.{SpillsByBase}
+use Rattle.ucode_emit.specs.Operations.{code_operations, form_operations}
 use Rattle.ucode_emit.specs.inner.Pieces.{instr_of, items, starts}
 use Rattle.ucode_emit.specs.inner.Emitted.{settled}
 use Rattle.ucode_emit.specs.inner.Layers.{Placed}
@@ -22,6 +23,7 @@ use Rattle.ucode_emit.proofs.Agreeing.{code_agrees}
 use Rattle.ucode_emit.proofs.Layer.{ready_layer}
 use Rattle.ucode_emit.proofs.LawfulItems.{spills_by_base}
 use Rattle.ucode_emit.proofs.LawfulCode.{items_good, code_some, code_lawful}
+use Rattle.ucode_emit.proofs.OperatingCode.{code_does}
 use Rattle.ucode_emit.proofs.LawfulLength.{code_few}
 use Rattle.ucode_emit.proofs.LengthWhole.{code_bounded}
 use Rattle.ucode_emit.proofs.Settling.{settles}
@@ -55,6 +57,10 @@ lawful_code labels p list h e = subst IsLawful (sym e.code_) (code_lawful labels
 pub based_code : (labels : List Label) (p : Plan) (list : List Instr) → Placed labels p → AreEmitted labels p list → SpillsByBase p.slots list
 based_code labels p list h e =
     subst (SpillsByBase p.slots) (sym e.code_) (spills_by_base p.slots (starts labels p e.mss) (items labels p e.mss) h.fits.slots (items_good labels p e.mss h (ready_layer labels p h) e.sequences))
+
+pub doing_code : (labels : List Label) (p : Plan) (list : List Instr) → Placed labels p → AreEmitted labels p list → code_operations list ≡ form_operations labels
+doing_code labels p list h e =
+    subst (λ l. code_operations l ≡ form_operations labels) (sym e.code_) (code_does labels p e.mss (starts labels p e.mss) (items_good labels p e.mss h (ready_layer labels p h) e.sequences))
 
 -- code as its parameters and its instructions
 pub agreeing_code : (labels : List Label) (p : Plan) (c : CodeView) → Placed labels p → AreEmitted labels p c.list → c.params ≡ ssu_params labels → Agrees (ssu_params labels) (ssu_meaning labels) c

@@ -1,2 +1,3 @@
 pub mod SpillBase
+pub mod Operations
 pub mod inner

@@ -10,6 +10,7 @@ ghost use Rattle.ssu_ir.specs.View.{labels_view};
 ghost use Rattle.slot_placement.specs.Costs.{cost};
 ghost use Rattle.slot_placement.specs.Fits.{Fits};
 ghost use Rattle.slot_placement.specs.Plan.{plan_view};
+ghost use Rattle.ucode_emit.specs.Operations.{code_operations, form_operations};
 ghost use Rattle.ucode_emit.specs.SpillBase.{SpillsByBase};
 ghost use Rattle.ucode_emit.specs.inner.Drafted.{AreEmitted};
 
@@ -51,6 +52,8 @@ pub fn emit(alloc: Global, s: &Ssu, p: &Placement) -> Result<Code, NoMemory>
     ensures lawful { IfOk result (λ c. IsLawful c.list) }
     // By way of B15 the slots are accessed, and no others; nothing else is done with it.
     ensures spills { IfOk result (λ c. SpillsByBase (plan_view p.now).slots c.list) }
+    // Without its moves, the code is what the nodes of the form do, in order.
+    ensures operations { IfOk result (λ c. code_operations c.list ≡ form_operations (labels_view s.now)) }
     ensures agrees { IfOk result (λ c. Agrees (ssu_params (labels_view s.now)) (ssu_meaning (labels_view s.now)) c) }
     ensures light { IfOk result (λ c. moves c.list [] [] ≤ cost (labels_view s.now) (plan_view p.now)) }
     ensures short { IfOk result (λ c. length c.list ≤ measures.code_bound (labels_view s.now)) }

@@ -1,13 +1,14 @@
-use Rattle.std.proofs.Common.{◌≤◌, [], length, sym, ◌∙◌, subst}
+use Rattle.std.proofs.Common.{◌≡◌, ◌≤◌, [], length, sym, ◌∙◌, subst}
 use Rattle.uc_isa.specs.Lawful.{IsLawful}
 use Rattle.uc_isa.specs.Moves.{moves}
 use Rattle.ssu_ir.specs.Measures.{code_bound}
 use Rattle.ssu_ir.specs.View.{labels_view}
 use Rattle.slot_placement.specs.Costs.{cost}
 use Rattle.slot_placement.specs.Plan.{plan_view}
+use Rattle.ucode_emit.specs.Operations.{code_operations, form_operations}
 use Rattle.ucode_emit.specs.SpillBase.{SpillsByBase}
 use Rattle.ucode_emit.specs.inner.Drafted.{AreEmitted}
-use Rattle.ucode_emit.proofs.Whole.{some_code, few_code, short_code, light_code, lawful_code, based_code, agreeing_code, placed}
+use Rattle.ucode_emit.proofs.Whole.{some_code, few_code, short_code, light_code, lawful_code, based_code, doing_code, agreeing_code, placed}
 use Rattle.ucode_emit.proofs.code.emit.Goals as goal
 
 pub new-requires-clause-some : goal.new-requires-clause-some
@@ -24,6 +25,11 @@ pub returns-clause-spills : goal.returns-clause-spills
 returns-clause-spills c =
     let p = plan_view c.args.p.now in
     subst (SpillsByBase p.slots) (sym c.new.ensures.list) (based_code (labels_view c.args.s.now) p c.in_ok-list.list.items (placed c.requires.single c.requires.fits) c.in_ok-list.ensures)
+
+pub returns-clause-operations : goal.returns-clause-operations
+returns-clause-operations c =
+    let labels = labels_view c.args.s.now in
+    subst (λ l. code_operations l ≡ form_operations labels) (sym c.new.ensures.list) (doing_code labels (plan_view c.args.p.now) c.in_ok-list.list.items (placed c.requires.single c.requires.fits) c.in_ok-list.ensures)
 
 pub returns-clause-agrees : goal.returns-clause-agrees
 returns-clause-agrees c =
