@@ -1,0 +1,11 @@
+pub mod Starting
+pub mod Turning
+pub mod Scheduling
+pub mod Depends
+pub mod Apart
+pub mod Writing
+pub mod OneMore
+pub mod Others
+pub mod Isolation
+pub mod OneTurn
+pub mod Entries
