@@ -1,0 +1,4 @@
+pub mod Bits
+pub mod Sweeps
+pub mod Lists
+pub mod WindowRuns

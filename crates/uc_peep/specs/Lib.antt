@@ -1,0 +1,6 @@
+pub mod Sets
+pub mod Liveness
+pub mod Window
+pub mod Kept
+pub mod Rules
+pub mod Three

@@ -1,0 +1,59 @@
+-- Three rules, as functions.
+use Rattle.std.specs.Prelude.{ℕ, Bool, false, not, ◌&&◌, ◌||◌, nat_eq, List, [], ◌∷◌, Option, Some, None, if◌then◌else◌}
+use Rattle.uc_isa.specs.declared.instruction.Dst.{Dst}
+use Rattle.uc_isa.specs.declared.instruction.Dst.TheVariants as dst
+use Rattle.uc_isa.specs.declared.instruction.Src.{Src}
+use Rattle.uc_isa.specs.declared.instruction.Src.TheVariants as src
+use Rattle.uc_isa.specs.declared.instruction.Instr.{Instr}
+use Rattle.uc_isa.specs.declared.instruction.Instr.TheVariants.{Alu, Un, Immed}
+use Rattle.uc_isa.specs.declared.instruction.UnOp.TheVariants.{Copy}
+use Rattle.uc_isa.specs.Registers.{Register, target_register}
+use Rattle.uc_runs.specs.Spots.Spot.{In, Zero, Carry}
+use Rattle.uc_peep.specs.Sets.{has}
+
+abbrev pub has_register : ℕ → Option Register → Bool
+has_register set (Some r) = has set (In r)
+has_register set None = false
+
+-- the target is in the set
+abbrev pub is_wanted : Dst → ℕ → Bool
+is_wanted d set = has_register set (target_register d)
+
+-- a flag is in the set
+abbrev pub has_flag : ℕ → Bool
+has_flag set = has set Zero || has set Carry
+
+-- the result isn't live, nor is a flag that is written
+abbrev pub is_dead : Instr → ℕ → Bool
+is_dead (Alu d op x y) set = not (is_wanted d set) && not (has_flag set)
+is_dead (Un d op x) set = not (is_wanted d set) && not (has_flag set)
+is_dead (Immed d v k) set = not (is_wanted d set)
+is_dead _ set = false
+
+-- the target and the operand are one register, of A or B
+abbrev pub is_same : Dst → Src → Bool
+is_same (dst.A k) (src.A j) = nat_eq k j
+is_same (dst.B k) (src.B j) = nat_eq k j
+is_same _ _ = false
+
+-- a copy of a register onto itself, whose flags aren't live
+abbrev pub is_idle : Instr → ℕ → Bool
+is_idle (Un d Copy x) set = is_same d x && not (has_flag set)
+is_idle _ set = false
+
+-- the second copies back what the first copied
+abbrev pub copies_back : Instr → Instr → Bool
+copies_back (Un d Copy x) (Un d' Copy x') = is_same d x' && is_same d' x
+copies_back _ _ = false
+
+abbrev pub dead_rule : List Instr → ℕ → Option (List Instr)
+dead_rule (i ∷ []) set = if is_dead i set then Some [] else None
+dead_rule _ set = None
+
+abbrev pub idle_rule : List Instr → ℕ → Option (List Instr)
+idle_rule (i ∷ []) set = if is_idle i set then Some [] else None
+idle_rule _ set = None
+
+abbrev pub back_rule : List Instr → ℕ → Option (List Instr)
+back_rule (i ∷ j ∷ []) set = if copies_back i j then Some (i ∷ []) else None
+back_rule _ set = None
