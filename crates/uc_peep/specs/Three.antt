@@ -1,5 +1,5 @@
 -- Three rules, as functions.
-use Rattle.std.specs.Prelude.{ℕ, Bool, false, not, ◌&&◌, ◌||◌, nat_eq, List, [], ◌∷◌, Option, Some, None, if◌then◌else◌}
+use Rattle.std.specs.Prelude.{ℕ, Bool, false, not, ◌&&◌, ◌||◌, nat_eq, nat_lt, List, [], ◌∷◌, Option, Some, None, if◌then◌else◌}
 use Rattle.uc_isa.specs.declared.instruction.Dst.{Dst}
 use Rattle.uc_isa.specs.declared.instruction.Dst.TheVariants as dst
 use Rattle.uc_isa.specs.declared.instruction.Src.{Src}
@@ -30,10 +30,10 @@ is_dead (Un d op x) set = not (is_wanted d set) && not (has_flag set)
 is_dead (Immed d v k) set = not (is_wanted d set)
 is_dead _ set = false
 
--- the target and the operand are one register, of A or B
+-- the target and the operand are one of the 16 registers of A or of B
 abbrev pub is_same : Dst → Src → Bool
-is_same (dst.A k) (src.A j) = nat_eq k j
-is_same (dst.B k) (src.B j) = nat_eq k j
+is_same (dst.A k) (src.A j) = nat_eq k j && nat_lt k 16
+is_same (dst.B k) (src.B j) = nat_eq k j && nat_lt k 16
 is_same _ _ = false
 
 -- a copy of a register onto itself, whose flags aren't live

@@ -85,11 +85,11 @@ true-same (InSD k) = eq-eqb k k refl
 pub same-not : (q r : Register) → same_register q r ≡ false → ¬ (q ≡ r)
 same-not q r h e = false≢true (sym h ∙ ap (λ x. same_register x r) e ∙ true-same r)
 
-named-some : (o : Option Register) (r : Register) → is_some_register o (In r) ≡ true → o ≡ Some r
+pub named-some : (o : Option Register) (r : Register) → is_some_register o (In r) ≡ true → o ≡ Some r
 named-some (Some q) r h = ap (λ x. Some x) (sym (same-true r q h))
 named-some None r h = absurd (false≢true h)
 
-named-none : (o : Option Register) (r : Register) → is_some_register o (In r) ≡ false → ¬ (o ≡ Some r)
+pub named-none : (o : Option Register) (r : Register) → is_some_register o (In r) ≡ false → ¬ (o ≡ Some r)
 named-none (Some q) r h e = let same : q ≡ r = cc in same-not r q h (sym same)
 named-none None r h e = cc
 
