@@ -25,7 +25,8 @@ use Rattle.bank_rows.proofs.Families.{role-beginnings}
 use Rattle.bank_places.specs.inner.Facts.{count}
 use Rattle.bank_places.specs.inner.Chosen.{waits, goes_there, chosen, IsChosen}
 use Rattle.bank_places.proofs.Counts.{In, contained-in, map-in, some-counted, each-from}
-use Rattle.bank_places.proofs.CostSums.{sum_of, sum-append, cost-append, by_value, one-more, none-more}
+use Rattle.bank_sizes.proofs.UseSums.{sum_of, sum-append, by_value, one-more, none-more}
+use Rattle.bank_places.proofs.CostSums.{cost-append}
 use Rattle.bank_places.proofs.ChosenHolds.{flat-each, if-each, points-each, in-test, only-most, counted-one}
 use Rattle.bank_places.proofs.ChosenForm.{early-written, use-there}
 use Rattle.bank_places.proofs.ChosenCostValues.{early_price, values-priced}

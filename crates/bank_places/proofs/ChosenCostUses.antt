@@ -28,7 +28,8 @@ use Rattle.bank_prog.specs.Meaning.{named_cost}
 use Rattle.bank_places.specs.inner.Chosen.{use_at, bank_of, is_in_bank, wanted_bank, chosen}
 use Rattle.bank_places.proofs.Counts.{In, each-from}
 use Rattle.bank_places.proofs.FactsPoints.{role-among}
-use Rattle.bank_places.proofs.CostSums.{sum_of, cost-append}
+use Rattle.bank_sizes.proofs.UseSums.{sum_of}
+use Rattle.bank_places.proofs.CostSums.{cost-append}
 use Rattle.bank_places.proofs.ChosenForm.{use-there, use-served, word-is}
 use Rattle.bank_places.proofs.ChosenThere.{use-point}
 use Rattle.bank_places.proofs.ChosenSource.{use-value, sort-is, source, source-fetched, roles-below}

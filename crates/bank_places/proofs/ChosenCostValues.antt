@@ -23,7 +23,8 @@ use Rattle.bank_places.specs.inner.Chosen.{is_in_bank, waits, goes_there, chosen
 use Rattle.bank_places.proofs.Counts.{In, in-kept, each-from}
 use Rattle.bank_places.proofs.FactsValues.{same-value, used-of}
 use Rattle.bank_places.proofs.FitHomes.{uses-none}
-use Rattle.bank_places.proofs.CostSums.{sum_of, cost-append}
+use Rattle.bank_sizes.proofs.UseSums.{sum_of}
+use Rattle.bank_places.proofs.CostSums.{cost-append}
 use Rattle.bank_places.proofs.CostValues.{copied-append, missing, vars-in}
 use Rattle.bank_places.proofs.ChosenForm.{Housing, put_general, put_read, put_early, housing, put-writes, word-writes, words-write}
 use Rattle.bank_places.proofs.ChosenServes.{general-not-write, read-not-write, parameter-general}

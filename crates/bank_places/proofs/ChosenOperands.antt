@@ -27,7 +27,7 @@ use Rattle.bank_places.specs.inner.Facts.{count}
 use Rattle.bank_places.specs.inner.Chosen.{use_at, bank_of, is_in_bank, operand_bank, wanted_bank, IsChosen}
 use Rattle.bank_places.proofs.Counts.{In, count-append}
 use Rattle.bank_places.proofs.FactsThere.{uses-among}
-use Rattle.bank_places.proofs.CostSums.{sum_of}
+use Rattle.bank_sizes.proofs.UseSums.{sum_of}
 use Rattle.bank_places.proofs.ChosenHolds.{most-holds, if-each, points-each}
 use Rattle.bank_places.proofs.ChosenForm.{Placed, chosen-on, use-there, use-served}
 

@@ -34,7 +34,8 @@ use Rattle.bank_places.proofs.FactsValues.{Known, role-eight, same-value, used-o
 use Rattle.bank_places.proofs.FactsUses.{early-there}
 use Rattle.bank_places.proofs.FactsAll.{known, facts}
 use Rattle.bank_places.proofs.ReadParts.{IsFound, serves-found}
-use Rattle.bank_places.proofs.CostSums.{sum_of, cost-append, cost-one, cost-points, each-once}
+use Rattle.bank_sizes.proofs.UseSums.{sum_of, each-once}
+use Rattle.bank_places.proofs.CostSums.{cost-append, cost-one, cost-points}
 use Rattle.bank_places.proofs.CostKept.{filter-all, sum-kept, sum-less, and_passes, cost-kept, cost-of-kept}
 use Rattle.bank_places.proofs.CostUses.{uses-bounded}
 use Rattle.bank_places.proofs.CostValues.{early_price, in-any, Eighths, values-bounded}

@@ -6,7 +6,8 @@ use Rattle.bank_form.specs.declared.column.Column.{Column}
 use Rattle.bank_form.specs.Columns.{Priced}
 use Rattle.bank_prog.specs.Meaning.{Chosen, named_cost}
 use Rattle.bank_places.proofs.Counts.{In}
-use Rattle.bank_places.proofs.CostSums.{sum_of, cost-append}
+use Rattle.bank_sizes.proofs.UseSums.{sum_of}
+use Rattle.bank_places.proofs.CostSums.{cost-append}
 
 -- ---- lists
 

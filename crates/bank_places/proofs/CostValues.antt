@@ -31,7 +31,8 @@ use Rattle.bank_places.proofs.Counts.{In, contained-in, in-either, in-map, in-ke
 use Rattle.bank_places.proofs.FactsValues.{same-value, used-of}
 use Rattle.bank_places.proofs.FactsPoints.{flat-in}
 use Rattle.bank_places.proofs.FitHomes.{def-bank-some, def-bank-none, is_home_bank}
-use Rattle.bank_places.proofs.CostSums.{sum_of, cost-append, cost-one}
+use Rattle.bank_sizes.proofs.UseSums.{sum_of}
+use Rattle.bank_places.proofs.CostSums.{cost-append, cost-one}
 use Rattle.bank_places.proofs.CostUses.{word-written, written-role, early-written}
 use Rattle.bank_places.proofs.FitWords.{early-written as goes-written}
 

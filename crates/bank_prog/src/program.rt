@@ -1,6 +1,7 @@
 //! The program of a form.
 
-ghost use Rattle.std.specs.Prelude.{◌≡◌, ◌≤◌, ◌^◌, ℕ, true, length, Err, IfOk};
+ghost use Rattle.std.specs.Prelude.{◌≡◌, ◌≤◌, ◌*◌, ◌^◌, ℕ, true, length, Err, IfOk};
+ghost use Rattle.ssu_ir.specs.Measures.{size};
 ghost use Rattle.ssu_ir.specs.Single.{single};
 ghost use Rattle.ssu_ir.specs.View.{labels_view};
 ghost use Rattle.zo_model.specs.Contents.{contents};
@@ -25,6 +26,7 @@ use zo_model::ZeroOne;
 /// # Errors
 ///
 /// `TooLarge` tells the number of columns, else that of rows, where it is above 2^26.
+#[tactic(auto, using(bank_sizes::proofs::FewColumns::columns_few, bank_sizes::proofs::FewRows::rows_few))]
 pub fn build(alloc: Global, s: &Ssu, slots: u32) -> Result<ZeroOne, BankError>
     requires single { single (labels_view s.now) ≡ true }
     requires slots { slots ≤ 128 }
@@ -33,6 +35,10 @@ pub fn build(alloc: Global, s: &Ssu, slots: u32) -> Result<ZeroOne, BankError>
     ensures few { IfOk result (λ z. length (columns (labels_view s.now)) ≤ 2 ^ 26) }
     ensures rows { IfOk result (λ z. length (program.rows (labels_view s.now) slots) ≤ 2 ^ 26) }
     ensures many { (n : ℕ) → result ≡ Err (Exceeds n) → IsTooLarge (labels_view s.now) slots n }
+    // At most 64 columns, and 64 rows, for each point, value and use of the form.
+    ensures columns_by_size { length (columns (labels_view s.now)) ≤ 64 * size (labels_view s.now) }
+    ensures rows_by_size { length (program.rows (labels_view s.now) slots) ≤ 64 * size (labels_view s.now) }
+    ensures bounded { (n : ℕ) → result ≡ Err (Exceeds n) → n ≤ 64 * size (labels_view s.now) }
 {
     let f = form_of(alloc, s)?;
     let priced = columns_of(alloc, &f)?;

@@ -10,6 +10,7 @@ use Rattle.bank_form.specs.Program.{same_column, row_of, number_in, number_of}
 use Rattle.bank_form.specs.Rows.{lines}
 use Rattle.bank_form.proofs.FormLemmas.{rows-alike, same-program}
 use Rattle.bank_rows.proofs.PlainLines.{program-valid}
+use Rattle.bank_sizes.proofs.FewRows.{large_few}
 use Rattle.bank_prog.proofs.program.build.Goals as goal
 
 pub returns-then-len-gt-COUNT_LIMIT-clause-many : goal.returns-then-len-gt-COUNT_LIMIT-clause-many
@@ -80,3 +81,11 @@ returns-clause-rows c =
     ∙ length-map (lines (labels_view c.in_ok-f.f.ssu.now) c.args.slots) (row_of (get same_column c.in_ok-numbers.numbers))
     ∙ ap (λ ls. length (lines ls c.args.slots)) here ∙ sym (length-map (lines labels c.args.slots) (row_of (number_of labels))) in
     omega (arith, rows)
+
+pub returns-then-len-gt-COUNT_LIMIT-clause-bounded : goal.returns-then-len-gt-COUNT_LIMIT-clause-bounded
+returns-then-len-gt-COUNT_LIMIT-clause-bounded c = λ n h.
+    large_few (labels_view c.args.s.now) c.args.slots n c.requires.single (returns-then-len-gt-COUNT_LIMIT-clause-many c n h)
+
+pub returns-then-len-gt-COUNT_LIMIT-2-clause-bounded : goal.returns-then-len-gt-COUNT_LIMIT-2-clause-bounded
+returns-then-len-gt-COUNT_LIMIT-2-clause-bounded c = λ n h.
+    large_few (labels_view c.args.s.now) c.args.slots n c.requires.single (returns-then-len-gt-COUNT_LIMIT-2-clause-many c n h)

@@ -1,0 +1,4 @@
+pub mod Lengths
+pub mod UseSums
+pub mod FewColumns
+pub mod FewRows

@@ -1,0 +1,4 @@
+//! How large the program of the banks gets.
+#![tactic(auto)]
+
+pub mod laws;
