@@ -3,3 +3,12 @@ pub mod Sweeps
 pub mod Lists
 pub mod WindowRuns
 pub mod Sound
+pub mod Settled
+pub mod Replaced
+pub mod Puts
+pub mod Asked
+pub mod Passes
+pub mod Counts
+pub mod Marking
+pub mod Compaction
+pub mod Peeps

@@ -1,19 +1,17 @@
 -- The three rules are sound.
-use Rattle.std.proofs.Common.{◌≡◌, ◌≢◌, ℕ, zero, suc, ◌+◌, ◌<◌, ◌≤◌, ◌⊎◌, inl, inr, ⊎_elim, Bool, true, false, not, ◌&&◌, ◌||◌, List, [], ◌∷◌, length, get_or, set, take, drop, Option, Some, None, All, nat_eq, if◌then◌else◌, refl, sym, ap, ◌∙◌, subst, arith, eqb-true, eq-eqb, ltb-true, get_or-set_same, get_or-set_other, Result, Ok, Err}
-use Rattle.std.specs.Prelude.{IfOk}
+use Rattle.std.proofs.Common.{◌≡◌, ℕ, zero, suc, ◌<◌, ◌⊎◌, inl, inr, ⊎_elim, Bool, true, false, not, ◌&&◌, ◌||◌, List, [], ◌∷◌, length, get_or, set, Option, Some, None, nat_eq, if◌then◌else◌, refl, sym, ap, ◌∙◌, subst, arith, eqb-true, ltb-true}
+use Rattle.std.specs.Prelude.{nat_lt}
 use Rattle.std.proofs.lemmas.Bool.{false≢true}
-use Rattle.std.proofs.lemmas.Bool.Decides.{eqb_tells}
 use Rattle.nv_base.specs.Memories.{Memories, HasSizes}
 use Rattle.uc_isa.specs.Engine.{IsEngine}
 use Rattle.uc_isa.specs.Registers.{Register, IsRegister, register, target_register, source_register}
 use Rattle.uc_isa.specs.Registers.Register.{InA, InB, InL, InS, InLD, InSD}
-use Rattle.uc_isa.specs.Step.{effect, operand, with_result, with_flags, onward}
+use Rattle.uc_isa.specs.Step.{effect, operand}
 use Rattle.uc_isa.specs.declared.engine.Engine.{Engine}
 use Rattle.uc_isa.specs.declared.instruction.Src.{Src}
 use Rattle.uc_isa.specs.declared.instruction.Src.TheVariants as src
 use Rattle.uc_isa.specs.declared.instruction.Dst.{Dst}
 use Rattle.uc_isa.specs.declared.instruction.Dst.TheVariants as dst
-use Rattle.uc_isa.specs.declared.instruction.UnOp.{UnOp}
 use Rattle.uc_isa.specs.declared.instruction.UnOp.TheVariants.{Copy, Not, Shl, Shr, Rol}
 use Rattle.uc_isa.specs.declared.instruction.Instr.{Instr}
 use Rattle.uc_isa.specs.declared.instruction.Instr.TheVariants.{Alu, Un, Immed, Br, Read, Write, Halt}
@@ -22,11 +20,10 @@ use Rattle.uc_runs.proofs.Effects.{keeps-value, keeps-engine, same-true, value-n
 use Rattle.uc_runs.specs.Program.{IsFormed}
 use Rattle.uc_runs.specs.Spots.{Spot, IsSpot, value, flag_word, reads, writes, is_target, is_register, is_some_register, same_register}
 use Rattle.uc_runs.specs.Spots.Spot.{In, Zero, Carry}
-use Rattle.uc_runs.specs.StraightCode.{IsStraight, along}
+use Rattle.uc_runs.specs.StraightCode.{IsStraight}
 use Rattle.uc_peep.specs.Sets.{has, AgreeOn}
 use Rattle.uc_peep.specs.Window.{IsText, IsShorter}
-use Rattle.uc_peep.specs.Rules.{IsSomeOf}
-use Rattle.uc_peep.specs.Three.{has_register, is_wanted, has_flag, is_dead, is_same, is_idle, copies_back, dead_rule, idle_rule, back_rule}
+use Rattle.uc_peep.specs.Needless.{has_register, is_wanted, has_flag, is_dead, is_same, is_idle, copies_back, dead_rule, idle_rule, back_rule}
 
 both : (a b : Bool) → (a && b) ≡ true → (a ≡ true) × (b ≡ true)
 both true b h = (refl, h)
@@ -116,12 +113,12 @@ same-names (dst.SD k) x h = absurd (false≢true h)
 same-names dst.Nowhere x h = absurd (false≢true h)
 
 same-there : (d : Dst) (x : Src) → is_same d x ≡ true → IsRegister (source_register x)
-same-there (dst.A k) (src.A j) h = let e = eqb-true k j (both _ _ h).0 in let lt : k < 16 = ltb-true k 16 (both _ _ h).1 in omega arith
+same-there (dst.A k) (src.A j) h = let e : k ≡ j = eqb-true k j (both (nat_eq k j) (nat_lt k 16) h).0 in let lt : k < 16 = ltb-true k 16 (both (nat_eq k j) (nat_lt k 16) h).1 in omega arith
 same-there (dst.A k) (src.B j) h = absurd (false≢true h)
 same-there (dst.A k) (src.L j) h = absurd (false≢true h)
 same-there (dst.A k) (src.LD j) h = absurd (false≢true h)
 same-there (dst.B k) (src.A j) h = absurd (false≢true h)
-same-there (dst.B k) (src.B j) h = let e = eqb-true k j (both _ _ h).0 in let lt : k < 16 = ltb-true k 16 (both _ _ h).1 in omega arith
+same-there (dst.B k) (src.B j) h = let e : k ≡ j = eqb-true k j (both (nat_eq k j) (nat_lt k 16) h).0 in let lt : k < 16 = ltb-true k 16 (both (nat_eq k j) (nat_lt k 16) h).1 in omega arith
 same-there (dst.B k) (src.L j) h = absurd (false≢true h)
 same-there (dst.B k) (src.LD j) h = absurd (false≢true h)
 same-there (dst.S k) x h = absurd (false≢true h)

@@ -3,4 +3,6 @@ pub mod Liveness
 pub mod Window
 pub mod Kept
 pub mod Rules
-pub mod Three
+pub mod Draft
+pub mod Peeped
+pub mod Needless

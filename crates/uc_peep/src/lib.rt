@@ -1,14 +1,20 @@
 //! Needless instructions of straight code, removed by stored rules.
 #![tactic(auto)]
 
+mod compacting;
+mod draft;
 mod hurrying;
 mod live_set;
 mod liveness;
+mod needless;
+mod peeping;
 mod shorter_code;
-mod three;
 mod window;
+mod windows;
 
 pub use live_set::LiveSet;
 pub use liveness::live;
+pub use needless::without_needless;
+pub use peeping::{Peeped, peep};
 pub use shorter_code::Shorter;
 pub use window::{Pair, Window, WindowRule};

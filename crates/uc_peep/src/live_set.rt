@@ -5,7 +5,7 @@ ghost use Rattle.uc_isa.specs.Registers.{IsRegister, source_register, target_reg
 ghost use Rattle.uc_runs.specs.Spots.{Spot, IsSpot, number, is_address, is_carry, is_flag, is_source, is_target, is_within, is_zero};
 ghost use Rattle.uc_runs.specs.Spots.Spot.{In, Zero, Carry};
 ghost use Rattle.uc_peep.specs.Sets.{has, IsWithin};
-ghost use Rattle.uc_peep.specs.Three.{is_wanted};
+ghost use Rattle.uc_peep.specs.Needless.{is_wanted};
 
 use std::marker::Model;
 use uc_isa::{Dst, Gpr, Src};

@@ -1,5 +1,5 @@
--- Three rules, as functions.
-use Rattle.std.specs.Prelude.{ℕ, Bool, false, not, ◌&&◌, ◌||◌, nat_eq, nat_lt, List, [], ◌∷◌, Option, Some, None, if◌then◌else◌}
+-- Needless instructions: three rules, as functions, and code in which none of them has an answer.
+use Rattle.std.specs.Prelude.{◌≡◌, ◌+◌, ℕ, take, drop, Bool, false, not, ◌&&◌, ◌||◌, nat_eq, nat_lt, List, [], ◌∷◌, Option, Some, None, if◌then◌else◌}
 use Rattle.uc_isa.specs.declared.instruction.Dst.{Dst}
 use Rattle.uc_isa.specs.declared.instruction.Dst.TheVariants as dst
 use Rattle.uc_isa.specs.declared.instruction.Src.{Src}
@@ -10,6 +10,8 @@ use Rattle.uc_isa.specs.declared.instruction.UnOp.TheVariants.{Copy}
 use Rattle.uc_isa.specs.Registers.{Register, target_register}
 use Rattle.uc_runs.specs.Spots.Spot.{In, Zero, Carry}
 use Rattle.uc_peep.specs.Sets.{has}
+use Rattle.uc_peep.specs.Liveness.{IsLiveAt}
+use Rattle.uc_peep.specs.Window.{IsWindow}
 
 abbrev pub has_register : ℕ → Option Register → Bool
 has_register set (Some r) = has set (In r)
@@ -57,3 +59,8 @@ idle_rule _ set = None
 abbrev pub back_rule : List Instr → ℕ → Option (List Instr)
 back_rule (i ∷ j ∷ []) set = if copies_back i j then Some (i ∷ []) else None
 back_rule _ set = None
+
+-- at no window any of the three rules has an answer, asked with exactly what is live behind the window
+abbrev pub HasNoNeedless : List Instr → List ℕ → Type 0
+HasNoNeedless code starts = (p k : ℕ) → IsWindow code starts p k
+    → (set : ℕ) × IsLiveAt code (p + k) set × (dead_rule (take k (drop p code)) set ≡ None) × (idle_rule (take k (drop p code)) set ≡ None) × (back_rule (take k (drop p code)) set ≡ None)

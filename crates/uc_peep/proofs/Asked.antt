@@ -1,0 +1,38 @@
+-- What a rule is asked, and what it answers.
+use Rattle.std.proofs.Common.{◌≡◌, ℕ, ◌+◌, ◌-◌, ◌<◌, ◌≤◌, List, length, get_or, take, drop, Option, Some, None, sym, ◌∙◌, subst, arith}
+use Rattle.std.specs.Prelude.{slice_get, IfSome, IfNone}
+use Rattle.std.proofs.lemmas.Option.{slice_get-get_or}
+use Rattle.std.specs.Prelude.{Bool}
+use Rattle.uc_isa.specs.declared.instruction.Instr.{Instr}
+use Rattle.uc_peep.proofs.Replaced.{length-text, text-at}
+use Rattle.uc_peep.specs.Draft.{MayReplace}
+use Rattle.uc_peep.specs.Window.{IsText}
+use Rattle.uc_runs.specs.Program.{IsProgram}
+use Rattle.uc_runs.specs.StraightCode.{IsStraight}
+
+pub same-some : (i j : Instr) (o : Option Instr) → o ≡ Some i → o ≡ Some j → i ≡ j
+same-some i j o a b = let e : Some i ≡ Some j = sym a ∙ b in cc
+
+pub is-text : (code : List Instr) (gone entered started : List Bool) (p k : ℕ) → IsProgram code → 1 ≤ k → k ≤ 4 → MayReplace code gone entered started p k → IsText (take k (drop p code))
+is-text code gone entered started p k lawful some few may =
+    let size : length (take k (drop p code)) ≡ k = length-text code p k (let h = may.inside in omega arith) in
+    let at : (d : ℕ) (i : Instr) → d < length (take k (drop p code)) → slice_get code (p + d) ≡ Some (get_or (take k (drop p code)) d i) = λ d i lt.
+    sym (text-at code p k d (omega arith)) ∙ slice_get-get_or (take k (drop p code)) d i lt in
+    record {
+      some = omega arith;
+      few = omega arith;
+      straight = λ d i lt. let o = (may.open_ (p + d) (omega arith) (omega arith)).0 in subst IsStraight (same-some o.instruction _ _ o.there (at d i lt)) o.straight;
+      lawful = λ d i lt. (lawful.each (p + d) _ (at d i lt)).formed;
+    }
+
+pub span : (p k : ℕ) → p + k - p ≡ k
+span p k = omega arith
+
+-- what an answer says of a window that may be replaced
+pub asked-some : (o : Option (List Instr)) (A : Option (List Instr) → Type 0) (May : Type 0) (S : List Instr → Type 0) → ((l : List Instr) → A (Some l) → S l) → May → A o → IfSome o (λ a. May × S a)
+asked-some (Some l) A May S sound may h = (may, sound l h)
+asked-some None A May S sound may h = tt
+
+pub asked-none : (o : Option (List Instr)) (A : Option (List Instr) → Type 0) (May : Type 0) → A o → IfNone o (May → A None)
+asked-none (Some l) A May h = tt
+asked-none None A May h = λ may. h
