@@ -1,7 +1,7 @@
 -- What the back end makes of a form in single use: lawful code and a true report, and why it makes none.
-use Rattle.std.specs.Prelude.{◌≡◌, ◌≤◌, ◌<◌, ◌+◌, ◌-◌, ◌^◌, ℕ, List, length, ⊤}
+use Rattle.std.specs.Prelude.{◌≡◌, ◌≤◌, ◌<◌, ◌+◌, ◌-◌, ◌*◌, ◌^◌, ℕ, List, length, ⊤}
 use Rattle.ssu_ir.specs.Meaning.{ssu_meaning, ssu_params}
-use Rattle.ssu_ir.specs.Measures.{peak, code_bound}
+use Rattle.ssu_ir.specs.Measures.{peak, size, code_bound}
 use Rattle.ssu_ir.specs.Tree.{Label}
 use Rattle.uc_isa.specs.Agrees.{Agrees}
 use Rattle.uc_isa.specs.Code.{CodeView}
@@ -68,6 +68,10 @@ pub record IsReportOn (labels : List Label) (slots budget : ℕ) (r : Report) : 
 
 -- ---- causes
 
+-- the form's program of the banks has so many columns, or else rows, and more than fit: at most 64 for each point, value and use of the form
+abbrev pub HasLargeProgram : List Label → ℕ → ℕ → Type 0
+HasLargeProgram labels slots n = IsTooLarge labels slots n × (n ≤ 64 * size labels)
+
 -- a report without a vector: at some point more values are held than fit a bank, and more than there are slots
 pub record IsWithout (labels : List Label) (slots budget : ℕ) (verdict : Verdict) (r : Report) : Type 0 where
   pub report : IsReportOn labels slots budget r
@@ -86,7 +90,7 @@ pub record IsLong (labels : List Label) (store n : ℕ) : Type 0 where
 -- why a form has no code of at most so many instructions
 abbrev pub IsCause : List Label → ℕ → ℕ → ℕ → BackError → Type 0
 IsCause labels slots budget store back.NoMemory = ⊥
-IsCause labels slots budget store (back.TooLarge n) = IsTooLarge labels slots n
+IsCause labels slots budget store (back.TooLarge n) = HasLargeProgram labels slots n
 IsCause labels slots budget store (back.Infeasible r) = IsWithout labels slots budget Infeasible r
 IsCause labels slots budget store (back.Spent r) = IsWithout labels slots budget Spent r
 IsCause labels slots budget store (back.StoreFull n) = IsLong labels store n

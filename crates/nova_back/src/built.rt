@@ -61,6 +61,7 @@ pub fn back(alloc: Global, s: Ssu, slots: u32, budget: u32, store: u32) -> Resul
     ensures form { IfOk result (λ b. labels_view b.ssu ≡ labels_view s) }
     ensures code { IfOk result (λ b. IsCodeOf (labels_view s) b.code) }
     ensures short { IfOk result (λ b. length b.code.list ≤ store) }
+    ensures brief { IfOk result (λ b. length b.code.list ≤ code_bound (labels_view s)) }
     ensures report { IfOk result (λ b. IsReportOn (labels_view s) slots budget b.report) }
     ensures found { IfOk result (λ b. HasVector b.report.verdict) }
     // The code's moves cost at most what the report's vector does.

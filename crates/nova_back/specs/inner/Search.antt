@@ -17,8 +17,7 @@ use Rattle.zo_solve.specs.Solved.{CostsAtMost}
 use Rattle.zo_state.specs.Vector.{start_cost}
 use Rattle.bank_form.specs.Columns.{columns, costs}
 use Rattle.bank_prog.specs.Meaning.{IsFeasible}
-use Rattle.bank_form.specs.Program.{IsTooLarge}
-use Rattle.nova_back.specs.Causes.{IsReportOn, IsWithout, HasVector, IsEnded, claim_of, report_cost}
+use Rattle.nova_back.specs.Causes.{IsReportOn, IsWithout, HasLargeProgram, HasVector, IsEnded, claim_of, report_cost}
 use Rattle.nova_back.specs.declared.error.BackError.{BackError}
 use Rattle.nova_back.specs.declared.error.BackError.TheVariants as back
 
@@ -108,7 +107,7 @@ IsTold report (back.StoreFull n) = ⊥
 -- why a form has no program of the banks
 abbrev pub IsUnbuilt : List Label → ℕ → BackError → Type 0
 IsUnbuilt labels slots back.NoMemory = ⊤
-IsUnbuilt labels slots (back.TooLarge n) = IsTooLarge labels slots n
+IsUnbuilt labels slots (back.TooLarge n) = HasLargeProgram labels slots n
 IsUnbuilt labels slots (back.Infeasible r) = ⊥
 IsUnbuilt labels slots (back.Spent r) = ⊥
 IsUnbuilt labels slots (back.StoreFull n) = ⊥
@@ -116,7 +115,7 @@ IsUnbuilt labels slots (back.StoreFull n) = ⊥
 -- why no choice is found for it
 abbrev pub IsUnfound : List Label → ℕ → ℕ → BackError → Type 0
 IsUnfound labels slots budget back.NoMemory = ⊤
-IsUnfound labels slots budget (back.TooLarge n) = IsTooLarge labels slots n
+IsUnfound labels slots budget (back.TooLarge n) = HasLargeProgram labels slots n
 IsUnfound labels slots budget (back.Infeasible r) = IsWithout labels slots budget Infeasible r
 IsUnfound labels slots budget (back.Spent r) = IsWithout labels slots budget Spent r
 IsUnfound labels slots budget (back.StoreFull n) = ⊥
