@@ -9,3 +9,6 @@ pub mod Others
 pub mod Isolation
 pub mod OneTurn
 pub mod Entries
+pub mod Marking
+pub mod Footing
+pub mod Sharing

@@ -11,12 +11,7 @@ use Rattle.uc_isa.specs.declared.instruction.Instr.TheVariants.{Read}
 use Rattle.uc_isa.specs.declared.engine.Engine.{Engine}
 use Rattle.uc_isa.specs.declared.engine.Stepped.{Stepped}
 use Rattle.uc_isa.specs.declared.engine.Stepped.TheVariants.{Went, Wrote}
-
--- an access to so many words of a memory, from an address on
-pub record Stretch : Type 0 where
-  pub mem : Mem
-  pub at : ℕ
-  pub words : ℕ
+use Rattle.uc_contexts.specs.declared.addresses.Stretch.{Stretch}
 
 -- an access of n words from an address on touches this address
 abbrev pub Touches : Mem → ℕ → ℕ → ℕ → Type 0

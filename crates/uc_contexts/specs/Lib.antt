@@ -1,3 +1,5 @@
 pub mod Turns
 pub mod Feet
 pub mod Alone
+pub mod Sets
+pub mod Marked

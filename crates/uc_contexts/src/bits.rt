@@ -1,0 +1,73 @@
+//! Sets of numbers, a bit for each.
+ghost use Rattle.std.specs.Prelude.{◌≡◌, ◌+◌, ◌<◌, ◌≤◌, ℕ, false, IfOk};
+ghost use Rattle.uc_contexts.specs.Sets.{Numbers, Adds, has};
+
+use nv_base::NoMemory;
+use std::alloc::Global;
+use std::marker::Model;
+
+/// A set of numbers below a size, with a bit for each. Contracts see the size, and which numbers it has.
+#[derive(Drop)]
+pub struct Bits {
+    size: u32,
+    words: Vec<u32>,
+}
+
+impl Model for Bits {
+    ghost use Rattle.uc_contexts.specs.Sets.{Numbers, AreNumbers};
+
+    ghost Value = { Numbers };
+
+    ghost view = { λ b. record { size = b.size; words = b.words.items } };
+
+    ghost invariant = { λ b. AreNumbers (record { size = b.size; words = b.words.items }) };
+}
+
+impl Bits {
+    /// None of the numbers below a size.
+    pub fn new(alloc: Global, size: u32) -> Result<Bits, NoMemory>
+        ensures size { IfOk result (λ b. b.size ≡ size) }
+        ensures empty { IfOk result (λ b. (x : ℕ) → has b x ≡ false) }
+    {
+        let words = vec![in alloc; 0; size as usize / 32 + 1]?;
+        Ok(Bits { size, words })
+    }
+
+    /// The numbers are below this size.
+    pub fn size(&self) -> u32
+        ensures size { result ≡ self.now.size }
+        ensures within { (x : ℕ) → self.now.size ≤ x → has self.now x ≡ false }
+    {
+        self.size
+    }
+
+    /// Whether a number is in the set.
+    pub fn contains(&self, x: u32) -> bool
+        requires { x < self.now.size }
+        ensures { result ≡ has self.now x }
+    {
+        (self.words[x as usize / 32] >> (x % 32)) & 1 == 1
+    }
+
+    // Puts a number into the set.
+    fn insert(&mut self, x: u64)
+        requires { x < self.old.size }
+        ensures size { self.new.size ≡ self.old.size }
+        ensures has { Adds self.old (λ y. y ≡ x) self.new }
+    {
+        self.words[(x / 32) as usize] |= 1 << (x % 32);
+    }
+
+    /// Puts so many numbers into the set, from a first one on.
+    pub fn insert_from(&mut self, first: u64, count: u64)
+        requires { first + count ≤ self.old.size }
+        ensures size { self.new.size ≡ self.old.size }
+        ensures has { Adds self.old (λ y. (first ≤ y) × (y < first + count)) self.new }
+    {
+        // The check has to be told that the size fits its type.
+        let _size = self.size;
+        for x in first..first + count {
+            self.insert(x);
+        }
+    }
+}
