@@ -1,8 +1,10 @@
 -- What the report of a search says of the form whose program was searched.
-use Rattle.std.proofs.Common.{◌≡◌, ℕ, ◌+◌, ◌-◌, ◌^◌, ◌≤◌, List, Option, Some, None, length, sym, ap, subst, ◌∙◌, Result, Ok, Err, IfOk, IfErr, IfSome, arith}
+use Rattle.std.proofs.Common.{◌≡◌, ℕ, ◌+◌, ◌-◌, ◌^◌, ◌≤◌, List, [], Option, Some, None, length, sym, ap, subst, ◌∙◌, Result, Ok, Err, IfOk, IfErr, IfSome, arith}
 use Rattle.std.proofs.lemmas.List.{length-map}
 use Rattle.ssu_ir.specs.Measures.{peak}
 use Rattle.ssu_ir.specs.Tree.{Label}
+use Rattle.uc_isa.specs.Code.{CodeView}
+use Rattle.uc_isa.specs.Moves.{moves}
 use Rattle.zo_model.specs.Contents.{contents}
 use Rattle.zo_model.specs.Program.{Feasible as Meeting, cost_of, costs_of, vector}
 use Rattle.zo_model.specs.Program as zero_one
@@ -21,10 +23,10 @@ use Rattle.zo_solve.specs.Solved.{CostsAtMost, HadNoStart, IsDecided, OfVector, 
 use Rattle.zo_state.specs.Vector.{IsVector, cost_at, start_cost}
 use Rattle.zo_solve.specs.declared.search.Solved.{Solved}
 use Rattle.zo_solve.specs.declared.search.Solved.TheVariants as answers
-use Rattle.bank_form.specs.Columns.{columns, priced}
+use Rattle.bank_form.specs.Columns.{columns, costs, priced}
 use Rattle.bank_form.specs.Program.{bank_program}
 use Rattle.bank_prog.proofs.LawsRows.{feasible-by-name}
-use Rattle.nova_back.specs.Causes.{HasVector, IsEnded, IsReportOn, IsWithout, claim_of, report_cost}
+use Rattle.nova_back.specs.Causes.{IsCodeOf, IsCodeBy, HasVector, IsEnded, IsReportOn, IsWithout, claim_of, report_cost}
 use Rattle.nova_back.specs.declared.error.BackError.{BackError}
 use Rattle.nova_back.specs.declared.error.BackError.TheVariants as back
 use Rattle.nova_back.specs.inner.Search.{IsChoice, IsCrowded, IsStart, IsCheap, HadNone, IsNoDearer, IsFound, IsCrowdedWithout, IsSearchOn, IsChosen, IsTold, IsUnfound, copies_cost}
@@ -188,3 +190,16 @@ told-unfound labels slots budget report (back.StoreFull n) f h = absurd h
 pub unfound-report : (labels : List Label) (slots budget : ℕ) (report : Report) (result : Result Report BackError) → IsSearchOn labels slots budget report → IfErr result (IsTold report) → IfErr result (IsUnfound labels slots budget)
 unfound-report labels slots budget report (Ok r) f h = tt
 unfound-report labels slots budget report (Err e) f h = told-unfound labels slots budget report e f h
+
+-- ---- code by the vector
+
+pub code-by : (labels : List Label) (slots budget : ℕ) (r : Report) (c : CodeView) → IsChosen labels slots budget r → IsCodeOf labels slots c → moves c.list [] [] ≤ costs_of (costs labels) (vector r.x.on.items) → IsCodeBy labels slots budget r c
+code-by labels slots budget r c h code light =
+    let worth : report_cost r ≡ costs_of (costs labels) (vector r.x.on.items) = ap (λ k. costs_of k.costs (vector r.x.on.items)) h.on_form.report.program in
+    record {
+      report = h.on_form.report;
+      found = h.found;
+      code = code;
+      light = omega (arith, worth, light);
+      cheap = λ p. h.on_form.cheap p h.found;
+    }

@@ -1,11 +1,15 @@
 -- What the back end makes of a form in single use: lawful code and a true report, and why it makes none.
-use Rattle.std.specs.Prelude.{◌≡◌, ◌≤◌, ◌<◌, ◌+◌, ◌-◌, ◌*◌, ◌^◌, ℕ, List, length, ⊤}
+use Rattle.std.specs.Prelude.{◌≡◌, ◌≤◌, ◌<◌, ◌+◌, ◌-◌, ◌*◌, ◌^◌, ℕ, List, [], length, ⊤}
 use Rattle.ssu_ir.specs.Meaning.{ssu_meaning, ssu_params}
 use Rattle.ssu_ir.specs.Measures.{peak, size, code_bound}
 use Rattle.ssu_ir.specs.Tree.{Label}
+use Rattle.slot_placement.specs.Uses.{values, uses}
 use Rattle.uc_isa.specs.Agrees.{Agrees}
 use Rattle.uc_isa.specs.Code.{CodeView}
 use Rattle.uc_isa.specs.Lawful.{IsLawful}
+use Rattle.uc_isa.specs.Moves.{moves}
+use Rattle.ucode_emit.specs.SpillBase.{SpillsByBase}
+use Rattle.ucode_emit.specs.Operations.{code_operations, form_operations}
 use Rattle.zo_model.specs.Contents.{contents}
 use Rattle.zo_model.specs.Program.{columns, cost_of, vector}
 use Rattle.zo_cert.specs.Certificate.{IsTreeWith, branches}
@@ -22,10 +26,13 @@ use Rattle.nova_back.specs.declared.error.BackError.TheVariants as back
 
 -- ---- code
 
--- lawful code that does what the form says
-pub record IsCodeOf (labels : List Label) (c : CodeView) : Type 0 where
+-- lawful code that does what the form says. It has B15 for the addresses of so many slots alone, and without its moves it is the operations
+-- of the form's nodes in order
+pub record IsCodeOf (labels : List Label) (slots : ℕ) (c : CodeView) : Type 0 where
   pub lawful : IsLawful c.list
   pub agrees : Agrees (ssu_params labels) (ssu_meaning labels) c
+  pub spills : SpillsByBase slots c.list
+  pub does : code_operations c.list ≡ form_operations labels
 
 -- ---- reports
 
@@ -66,6 +73,15 @@ pub record IsReportOn (labels : List Label) (slots budget : ℕ) (r : Report) : 
   pub within_budget : branches r.tree.nodes.items ≤ budget
   pub ended : 2 ^ (columns r.z + 1) - 1 ≤ budget → IsEnded r.verdict
 
+-- code by the vector of such a report: the moves cost at most what the vector does. Where all values that are held at once fit a bank, that
+-- is at most two copies a value, and one a use
+pub record IsCodeBy (labels : List Label) (slots budget : ℕ) (r : Report) (c : CodeView) : Type 0 where
+  pub report : IsReportOn labels slots budget r
+  pub found : HasVector r.verdict
+  pub code : IsCodeOf labels slots c
+  pub light : moves c.list [] [] ≤ report_cost r
+  pub cheap : peak labels ≤ 15 → report_cost r ≤ 2 * length (values labels) + length (uses labels)
+
 -- ---- causes
 
 -- the form's program of the banks has so many columns, or else rows, and more than fit: at most 64 for each point, value and use of the form
@@ -79,10 +95,11 @@ pub record IsWithout (labels : List Label) (slots budget : ℕ) (verdict : Verdi
   pub over_bank : 15 < peak labels
   pub over_slots : slots < peak labels
 
--- the form's code has so many instructions, more than were allowed
-pub record IsLong (labels : List Label) (store n : ℕ) : Type 0 where
+-- the code by a report's vector has so many instructions, more than were allowed
+pub record IsLong (labels : List Label) (slots budget store n : ℕ) : Type 0 where
+  pub r : Report
   pub c : CodeView
-  pub code : IsCodeOf labels c
+  pub code : IsCodeBy labels slots budget r c
   pub counted : n ≡ length c.list
   pub bounded : n ≤ code_bound labels
   pub long : store < n
@@ -93,4 +110,4 @@ IsCause labels slots budget store back.NoMemory = ⊥
 IsCause labels slots budget store (back.TooLarge n) = HasLargeProgram labels slots n
 IsCause labels slots budget store (back.Infeasible r) = IsWithout labels slots budget Infeasible r
 IsCause labels slots budget store (back.Spent r) = IsWithout labels slots budget Spent r
-IsCause labels slots budget store (back.StoreFull n) = IsLong labels store n
+IsCause labels slots budget store (back.StoreFull n) = IsLong labels slots budget store n

@@ -39,7 +39,7 @@ fn code_of(alloc: Global, s: &Ssu, slots: u32, x: &Assignment) -> Result<Code, N
     requires choice { IsChoice (labels_view s.now) slots x.now }
     requires few { length (columns (labels_view s.now)) ≤ 2 ^ 26 }
     requires few_rows { length (rows (labels_view s.now) slots) ≤ 2 ^ 26 }
-    ensures code { IfOk result (IsCodeOf (labels_view s.now)) }
+    ensures code { IfOk result (IsCodeOf (labels_view s.now) slots) }
     ensures light { IfOk result (λ c. moves c.list [] [] ≤ costs_of (costs (labels_view s.now)) (vector x.now.on.items)) }
     ensures short { IfOk result (λ c. length c.list ≤ code_bound (labels_view s.now)) }
 {
@@ -59,7 +59,7 @@ pub fn back(alloc: Global, s: Ssu, slots: u32, budget: u32, store: u32) -> Resul
     requires some { 1 ≤ budget }
     requires budget { budget ≤ 1000000 }
     ensures form { IfOk result (λ b. labels_view b.ssu ≡ labels_view s) }
-    ensures code { IfOk result (λ b. IsCodeOf (labels_view s) b.code) }
+    ensures code { IfOk result (λ b. IsCodeOf (labels_view s) slots b.code) }
     ensures short { IfOk result (λ b. length b.code.list ≤ store) }
     ensures brief { IfOk result (λ b. length b.code.list ≤ code_bound (labels_view s)) }
     ensures report { IfOk result (λ b. IsReportOn (labels_view s) slots budget b.report) }
