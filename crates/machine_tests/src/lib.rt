@@ -22,6 +22,8 @@ mod objects;
 #[cfg(test)]
 mod outside;
 #[cfg(test)]
+mod peep;
+#[cfg(test)]
 mod programs;
 #[cfg(test)]
 mod programs_text;
