@@ -4,6 +4,7 @@ pub mod Arranged
 pub mod Walks
 pub mod Turns
 pub mod Growth
+pub mod Exits
 pub mod PointLemmas
 pub mod Narrow
 pub mod Lists

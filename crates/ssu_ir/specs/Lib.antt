@@ -3,6 +3,7 @@ pub mod Slots
 pub mod View
 pub mod Meaning
 pub mod Points
+pub mod Entered
 pub mod Measures
 pub mod Single
 pub mod Build
