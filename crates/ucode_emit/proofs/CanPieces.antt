@@ -17,7 +17,7 @@ use Rattle.ucode_emit.specs.inner.Pieces.{operands, words, result_place, to_slot
 use Rattle.ucode_emit.specs.inner.Ready.{IsSequence, AreSequences}
 use Rattle.ucode_emit.specs.inner.Machine.{IsWritable, AreDirect}
 use Rattle.ucode_emit.specs.inner.Layers.{Placed, PointsAt, root_point}
-use Rattle.ucode_emit.specs.inner.Emitted.{CanMove}
+use Rattle.ucode_emit.specs.inner.DraftItems.{CanMove}
 use Rattle.ucode_emit.specs.inner.Here.{ends, CanAll, CanDefine, CanNode}
 use Rattle.ucode_emit.proofs.Layer.{ready_layer}
 use Rattle.ucode_emit.proofs.LawfulPieces.{no_words, no_places, idle, node_here, takes_some, sequence_here, none_stand, given}

@@ -4,7 +4,7 @@ use Rattle.slot_placement.specs.declared.place.Serve.{Serve}
 use Rattle.slot_placement.specs.Plan.{Plan, serve, pass}
 use Rattle.par_move.specs.Moves.{Move}
 use Rattle.ucode_emit.specs.inner.Pieces.{to_read_register, each_operand, operands, words}
-use Rattle.ucode_emit.specs.inner.Emitted.{own_fetch, slot_fetch, word_fetch, each_fetch, fetches}
+use Rattle.ucode_emit.specs.inner.DraftItems.{own_fetch, slot_fetch, word_fetch, each_fetch, fetches}
 
 each_served : (f : Serve → List Move) (p : Plan) (k i : ℕ) (ss : List Serve) → ((j : ℕ) (s : Serve) → slice_get ss j ≡ Some s → serve p k (i + j) ≡ s) → each_operand (λ j. f (serve p k j)) i (length ss) ≡ each_fetch f ss
 each_served f p k i [] h = refl

@@ -105,7 +105,7 @@ tree_ends labels p mss k (If c x y t u) =
     (ends_append (tree_items labels p mss (suc k) t) (tree_items labels p mss (suc k + nodes t) u) (tree_ends labels p mss (suc k + nodes t) u))
 tree_ends labels p mss k (End l) = last_ends labels p k l (sequence_at mss k)
 
-label_ends : (labels : List Label) (p : Plan) (mss : Sequences) (k : ℕ) (l : Label) → Ends (label_items labels p mss k l)
+pub label_ends : (labels : List Label) (p : Plan) (mss : Sequences) (k : ℕ) (l : Label) → Ends (label_items labels p mss k l)
 label_ends labels p mss k l = ends_append (moved (front_moves mss k ++ all_copies p k l.params)) (tree_items labels p mss (suc k) l.body) (tree_ends labels p mss (suc k) l.body)
 
 labels_end : (labels : List Label) (p : Plan) (mss : Sequences) (k : ℕ) (x : Label) (ls : List Label) → Ends (items_from labels p mss k (x ∷ ls))
@@ -120,11 +120,11 @@ some_label all p mss (x ∷ ls) e = labels_end all p mss 0 x ls
 items_end : (labels : List Label) (p : Plan) (mss : Sequences) → Placed labels p → Ends (items labels p mss)
 items_end labels p mss h = some_label labels p mss labels (and_parts (is_entry (slice_get labels 0)) (all_different (all_defined labels) && list_all (is_single labels) labels) h.single).0
 
-ends_long : (is : List Item) → Ends is → 1 ≤ length is
+pub ends_long : (is : List Item) → Ends is → 1 ≤ length is
 ends_long [] h = absurd (h (Moved temporary temporary))
 ends_long (x ∷ is) h = omega arith
 
-ends_there : (is : List Item) (place : ℕ) (it d : Item) → IsEnd (last_or d is) → slice_get is place ≡ Some it → place + 1 ≡ length is → IsEnd it
+pub ends_there : (is : List Item) (place : ℕ) (it d : Item) → IsEnd (last_or d is) → slice_get is place ≡ Some it → place + 1 ≡ length is → IsEnd it
 ends_there [] place it d h e n = absurd (none-some it e)
 ends_there (x ∷ []) zero it d h e n = subst IsEnd (same_Some x it e) h
 ends_there (x ∷ y ∷ is) zero it d h e n = absurd (omega (arith, n))
@@ -132,7 +132,7 @@ ends_there (x ∷ is) (suc place) it d h e n = let m : place + 1 ≡ length is =
 
 -- ---- each point begins within the code
 
-tree_long : (labels : List Label) (p : Plan) (mss : Sequences) (k : ℕ) (t : Tree) → 1 ≤ length (tree_items labels p mss k t)
+pub tree_long : (labels : List Label) (p : Plan) (mss : Sequences) (k : ℕ) (t : Tree) → 1 ≤ length (tree_items labels p mss k t)
 tree_long labels p mss k t = ends_long (tree_items labels p mss k t) (tree_ends labels p mss k t)
 
 tree_within : (labels : List Label) (p : Plan) (mss : Sequences) (at k m : ℕ) (t : Tree) → at + length (tree_items labels p mss k t) ≤ m → AllByRecursion (λ s. s < m) (tree_starts labels p mss at k t)

@@ -26,11 +26,13 @@ pub mod MachineAccesses
 pub mod MachineMoves
 pub mod MachineLayers
 pub mod Placing
+pub mod Visiting
 pub mod RunsWords
 pub mod RunsResults
 pub mod RunsSteps
 pub mod RunsTrees
 pub mod RunsWhole
+pub mod RunsVisits
 pub mod Agreeing
 pub mod OperatingItems
 pub mod LawfulItems
@@ -39,6 +41,7 @@ pub mod LawfulCode
 pub mod OperatingCode
 pub mod LawfulCopies
 pub mod LawfulLength
+pub mod LabelPlaces
 pub mod Marked
 pub mod Turns
 pub mod Fetching

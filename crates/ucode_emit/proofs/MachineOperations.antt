@@ -51,7 +51,7 @@ got_some [] i lt = absurd (omega arith)
 got_some (x ∷ ws) zero lt = refl
 got_some (x ∷ ws) (suc i) lt = got_some ws i (omega arith)
 
-got_index : (ws : List ℕ) (i v : ℕ) → slice_get ws i ≡ Some v → (i < length ws) × (slice_index ws i ≡ v)
+pub got_index : (ws : List ℕ) (i v : ℕ) → slice_get ws i ≡ Some v → (i < length ws) × (slice_index ws i ≡ v)
 got_index [] i v g = absurd (none-some v g)
 got_index (x ∷ ws) zero v g = (omega arith, same_Some x v g)
 got_index (x ∷ ws) (suc i) v g = let r = got_index ws i v g in (omega (arith, r.0), r.1)
@@ -116,7 +116,7 @@ jump code base at to e w m c h = record {
 }
 
 -- behind the difference
-abbrev subtracted : Place → Place → Moment → Moment
+abbrev pub subtracted : Place → Place → Moment → Moment
 subtracted x y m =
     let a = operand (source x) m.engine in
     let b = operand (source y) m.engine in
@@ -130,7 +130,7 @@ compared base at c x y e w m b r t h k =
     failing-holds c u v m.engine (operand-fits (source x) m.engine h.engine) (operand-fits (source y) m.engine h.engine)
     ∙ (ap (λ j. not (compares c j v)) (operand_word base x e m r h.words) ∙ (ap (λ j. not (compares c (e x) j)) (operand_word base y e m t h.words) ∙ ap not k))
 
-first_leads : (code : List Instr) (base at to : ℕ) (c : Cmp) (x y : Place) (e : Words) (w : World) (m : Moment)
+pub first_leads : (code : List Instr) (base at to : ℕ) (c : Cmp) (x y : Place) (e : Words) (w : World) (m : Moment)
     → InCode code at (instr.Alu dst.Nowhere Sub (source x) (source y) ∷ instr.Br (failing c) to ∷ []) → Stands base at e w m → Leads code base 1 m (subtracted x y m)
 first_leads code base at to c x y e w m k h =
     leads-alu code base dst.Nowhere Sub (source x) (source y) m (instr_here code at m.engine.place (instr.Alu dst.Nowhere Sub (source x) (source y)) (instr.Br (failing c) to ∷ []) h.place k)

@@ -3,7 +3,7 @@ use Rattle.std.proofs.Common.{ℕ, ◌≤◌, arith}
 use Rattle.slot_placement.specs.declared.place.Place.{Place}
 use Rattle.slot_placement.specs.declared.place.Place.TheVariants.{A, B, L, LD, S, SD, Slot}
 use Rattle.ucode_emit.specs.inner.Machine.{IsReadable, IsWritable, IsDirect, read_slot, write_slot, copied}
-use Rattle.ucode_emit.specs.inner.Emitted.{CanMove}
+use Rattle.ucode_emit.specs.inner.DraftItems.{CanMove}
 
 copy_can : (from at : Place) → IsReadable from → IsWritable at → CanMove from at
 copy_can (A k) at h g = (h, g)

@@ -1,8 +1,9 @@
 -- The run of the whole code: labels, jumps, the start, and that the code agrees with its form.
-use Rattle.std.proofs.Common.{◌≡◌, ℕ, zero, suc, ◌+◌, ◌<◌, ◌≤◌, ◌⊎◌, List, [], ◌∷◌, ◌++◌, map, length, Option, Some, None, All, true, ◌&&◌, refl, sym, ap, ◌∙◌, subst, inl, inr, arith, slice_get, slice_index_or}
+use Rattle.std.proofs.Common.{◌≡◌, ℕ, zero, suc, ◌+◌, ◌<◌, ◌≤◌, ◌⊎◌, ⊎_elim, List, [], ◌∷◌, ◌++◌, map, length, Option, Some, None, All, true, ◌&&◌, refl, sym, ap, ◌∙◌, subst, inl, inr, arith, slice_get, slice_index_or}
 use Rattle.std.specs.List.{list_all}
 use Rattle.std.proofs.lemmas.Bool.{and_parts, false≢true}
 use Rattle.std.proofs.lemmas.Option.{none-some, same_Some}
+use Rattle.std.proofs.lemmas.List.{length-append}
 use Rattle.std.proofs.lemmas.List.Elements.{All-append}
 use Rattle.nv_base.specs.declared.outcome.Outcome.TheVariants as outcome
 use Rattle.nv_base.specs.declared.outcome.Write.{Write as WriteEvent}
@@ -19,32 +20,36 @@ use Rattle.uc_isa.specs.declared.instruction.Instr.{Instr}
 use Rattle.uc_isa.specs.Agrees.{Agrees, IsStart}
 use Rattle.uc_isa.specs.Code.{CodeView}
 use Rattle.uc_isa.specs.Engine.{engine}
-use Rattle.uc_isa.specs.Pieces.{Moment, EndsIn, IsCovered}
+use Rattle.uc_isa.specs.Pieces.{Moment, Leads, EndsIn, IsCovered}
 use Rattle.uc_isa.specs.Straight.{going}
 use Rattle.uc_isa.proofs.Agreement.{agrees-where_same}
-use Rattle.uc_isa.proofs.Leading.{leads-reached, covered-keeps}
+use Rattle.uc_isa.proofs.Leading.{leads-then, leads-end, leads-reached, covered-keeps}
 use Rattle.uc_isa.proofs.Steps.{engine-grows}
 use Rattle.ssu_ir.specs.Tree.{Label}
 use Rattle.ssu_ir.specs.Points.{own}
-use Rattle.ssu_ir.specs.Meaning.{Next, does, enter, run, blank, ssu_meaning, params_of, ssu_params}
+use Rattle.ssu_ir.specs.Meaning.{run, blank, ssu_meaning, params_of, ssu_params}
+use Rattle.ssu_ir.specs.Entered.{Exit, JumpsTo, EndsWith, outcome_of, tree_exit, label_exit}
 use Rattle.ssu_ir.specs.Single.{unknown, defined, all_defined, is_entry, is_single}
+use Rattle.ssu_ir.proofs.Exits.{enter_by_exit, meaning_by_exit}
 use Rattle.ssu_ir.proofs.Growth.{meaning-follows}
 use Rattle.ssu_ir.proofs.Rules.{single_label_parts}
 use Rattle.slot_placement.specs.Plan.{Plan}
 use Rattle.place_checks.proofs.Walked.{get-index}
 use Rattle.par_move.specs.Moves.{Move, Words, one_by_one, StandFor, none, once, around, at_rest}
-use Rattle.ucode_emit.specs.inner.Pieces.{Sequences, moved, instr_of, items, starts, starts_from, single_moves, all_copies, entry_point, entry_moves, sequence_at, tree_moves, label_moves, moves_from, parallel_moves}
+use Rattle.ucode_emit.specs.inner.Pieces.{Sequences, moved, instr_of, items, starts, starts_from, single_moves, all_copies, entry_point, entry_moves, sequence_at, tree_items, label_items, tree_moves, label_moves, moves_from, parallel_moves}
 use Rattle.ucode_emit.specs.inner.Ready.{Ready, Entered, IsSequence, AreSequences}
-use Rattle.ucode_emit.specs.inner.Machine.{IsDirect, AreDirect, Stands, word_at}
+use Rattle.ucode_emit.specs.inner.Machine.{IsDirect, AreDirect, Stands, Over, word_at}
 use Rattle.ucode_emit.specs.inner.Layers.{MachineLayer, ReadyLayer, Placed, root_point, at_start}
 use Rattle.ucode_emit.proofs.Copies.{one_append}
 use Rattle.ucode_emit.proofs.PointsTree.{different_left, different_right, different_apart}
 use Rattle.ucode_emit.proofs.Entries.{params_differ, few_params}
-use Rattle.ucode_emit.proofs.Placing.{there_by_length, Part, part_head, LabelAt, label_at, entry_later}
+use Rattle.ucode_emit.proofs.LabelPlaces.{starts_apart, start_at}
+use Rattle.ucode_emit.proofs.LawfulCode.{tree_long}
+use Rattle.ucode_emit.proofs.Placing.{items_long, there_by_length, Part, part_head, LabelAt, label_at, entry_later}
 use Rattle.ucode_emit.proofs.RunsWords.{each_its_word}
-use Rattle.ucode_emit.proofs.RunsResults.{Setting, code_in, places_in, Result, after_one, run_back}
+use Rattle.ucode_emit.proofs.RunsResults.{Setting, code_in, places_in, starts_in, Clear, clear_part, tree_end, Jumps, Leaves, run_back}
 use Rattle.ucode_emit.proofs.RunsSteps.{Rules}
-use Rattle.ucode_emit.proofs.RunsTrees.{Jumps, tree_runs}
+use Rattle.ucode_emit.proofs.RunsTrees.{tree_runs}
 
 abbrev AtLabel : Setting → ℕ → Label → Type 0
 AtLabel g k l = LabelAt g.labels g.plan g.mss (code_in g) (places_in g) k l
@@ -80,23 +85,42 @@ rules_there g l to e =
     let b = and_parts (all_different (all_defined g.labels)) (list_all (is_single g.labels) g.labels) a.1 in
     label_rules g.labels g.labels l to b.0 b.1 e
 
--- ---- the run of a label
+-- ---- how a run leaves a label
 
 abbrev front_of : Setting → ℕ → Label → List Move → List Move
 front_of g k to ms = single_moves None ms ++ all_copies g.plan k to.params
 
-body_runs : (g : Setting) (base n : ℕ) (next : Next) → Jumps g base n next → (l : ℕ) (to : Label) (ws : List ℕ) (e : Words) (w : World) (m : Moment) → slice_get g.labels l ≡ Some to → All IsWord ws → HasSizes w.packet
+-- no other label begins inside the code of a label
+label_clear : (g : Setting) (l : ℕ) (to : Label) → slice_get g.labels l ≡ Some to → (here : AtLabel g (entry_point g.labels l) to)
+    → Clear g here.at (here.at + length (label_items g.labels g.plan g.mss (entry_point g.labels l) to))
+label_clear g l to found here x lt le k within same =
+    let begins : slice_get (starts_in g) l ≡ Some here.at = start_at g.labels g.plan g.mss l to found ∙ ap (λ n. Some n) (get-index (places_in g) (entry_point g.labels l) here.at 0 here.begins) in
+    ⊎_elim
+    (λ low. absurd (omega (arith, low, lt, same)))
+    (λ high. absurd (omega (arith, high, le, same)))
+    (starts_apart g.labels g.plan g.mss l to here.at k found begins within)
+
+body_runs : (g : Setting) (base l : ℕ) (to : Label) (ws : List ℕ) (e : Words) (w : World) (m : Moment) → slice_get g.labels l ≡ Some to → All IsWord ws → HasSizes w.packet
     → (here : AtLabel g (entry_point g.labels l) to)
     → AreDirect g.plan.slots (front_of g (entry_point g.labels l) to (sequence_at g.mss (entry_point g.labels l)))
     → Ready g.labels g.plan (suc (entry_point g.labels l)) (root_point own to.params to.body) (assigned_all blank to.params ws) (one_by_one (front_of g (entry_point g.labels l) to (sequence_at g.mss (entry_point g.labels l))) e)
-    → Stands base here.at e w m → Result (code_in g) base n m (does next to.body (assigned_all blank to.params ws) w)
-body_runs g base n next jumps l to ws e w m found fit sizes here direct ready s =
+    → Stands base here.at e w m → Leaves g base m (tree_exit to.body (assigned_all blank to.params ws) w)
+body_runs g base l to ws e w m found fit sizes here direct ready s =
     let k = entry_point g.labels l in
     let env = assigned_all blank to.params ws in
     let front = front_of g k to (sequence_at g.mss k) in
-    run_back g base here.at n front e w m (does next to.body env w) here.in_code direct s
+    let body = tree_items g.labels g.plan g.mss (suc k) to.body in
+    let end = here.at + length (label_items g.labels g.plan g.mss k to) in
+    let clear = label_clear g l to found here in
+    let whole = length-append (moved front) body in
+    let many = items_long front in
+    let some = tree_long g.labels g.plan g.mss (suc k) to.body in
+    let to_body = here.at + length (moved front) in
+    run_back g base here.at end front e w m (tree_exit to.body env w) here.in_code direct s clear (omega (arith, whole, many, some))
     (λ b there.
-    tree_runs g base n next jumps to.body (suc k) (here.at + length (moved front)) own to.params to.params unknown env env (one_by_one front e) w b here.body (rules_there g l to found)
+    tree_runs g base to.body (suc k) to_body own to.params to.params unknown env env (one_by_one front e) w b
+    (record { tree = here.body; clear = clear_part g here.at end to_body (tree_end g (suc k) to_body to.body) clear (omega arith) (omega (arith, whole)) })
+    (rules_there g l to found)
     (record {
       fits = assigned-all-env blank to.params ws blank-env fit;
       copied = record { each = λ y i. refl };
@@ -123,39 +147,28 @@ no_moves g l to found here =
     let there = label_silent g.plan k to (parallel_moves g.plan g.labels) (entry_later g.labels l to found) here.moves in
     silent (g.sequences.each k [] (sequence_at g.mss k) there (there_by_length (parallel_moves g.plan g.labels) g.mss k [] [] g.sequences.as_many there)).kinds refl
 
-label_runs : (g : Setting) (base n : ℕ) (next : Next) → Jumps g base n next → (l : ℕ) (to : Label) (ws : List ℕ) (e : Words) (w : World) (m : Moment) → slice_get g.labels (suc l) ≡ Some to → All IsWord ws → HasSizes w.packet
+label_runs : (g : Setting) (base l : ℕ) (to : Label) (ws : List ℕ) (e : Words) (w : World) (m : Moment) → slice_get g.labels (suc l) ≡ Some to → All IsWord ws → HasSizes w.packet
     → Entered g.plan to.params (assigned_all blank to.params ws) e → Stands base (slice_index_or (places_in g) (entry_point g.labels (suc l)) 0) e w m
-    → Result (code_in g) base n m (does next to.body (assigned_all blank to.params ws) w)
-label_runs g base n next jumps l to ws e w m found fit sizes entered s =
+    → Leaves g base m (tree_exit to.body (assigned_all blank to.params ws) w)
+label_runs g base l to ws e w m found fit sizes entered s =
     let k = entry_point g.labels (suc l) in
     let env = assigned_all blank to.params ws in
     let here = label_at g.labels g.plan g.mss (suc l) to found in
     let still : [] ≡ sequence_at g.mss k = sym (no_moves g l to found here) in
     let r = g.layer.entry (suc l) to env e found here.body.points_ entered in
-    body_runs g base n next jumps (suc l) to ws e w m found fit sizes here
+    body_runs g base (suc l) to ws e w m found fit sizes here
     (subst (λ z. AreDirect g.plan.slots (front_of g k to z)) still r.0)
     (subst (λ z. Ready g.labels g.plan (suc k) (root_point own to.params to.body) env (one_by_one (front_of g k to z) e)) still r.1)
     (subst (λ j. Stands base j e w m) (get-index (places_in g) k here.at 0 here.begins) s)
 
--- ---- jumps
-
-abbrev going_with : Memories → List WriteEvent → FullOutcome
-going_with p ws = record { outcome = outcome.Going; packet = p; writes = ws }
-
-seen_going : (base at : ℕ) (e : Words) (w : World) (b : Moment) → Stands base at e w b → seen (going b.packet b.writes) ≡ seen (over outcome.Going w)
-seen_going base at e w b s = ap (λ p. going_with p (source_writes b.writes)) s.packet ∙ ap (λ ws. going_with (source_memories w.packet) ws) s.writes
-
-jump_runs : (g : Setting) (base n : ℕ) → Jumps g base n (run g.labels n)
-jump_runs g base zero l to ws e w a b found fit sizes entered s leads =
-    inr (record { steps = 1; later = b; leads = leads; far = omega arith; alike = seen_going base (slice_index_or (places_in g) (entry_point g.labels (suc l)) 0) e w b s })
-jump_runs g base (suc n) l to ws e w a b found fit sizes entered s leads =
-    let f = does (run g.labels n) to.body (assigned_all blank to.params ws) w in
-    subst (λ o. Result (code_in g) base (suc n) a (enter (run g.labels n) o ws w)) (sym found)
-    (after_one (code_in g) base n a b f leads (label_runs g base n (run g.labels n) (jump_runs g base n) l to ws e w b found fit sizes entered s))
+-- behind a jump
+pub jumped_runs : (g : Setting) (base : ℕ) (a : Moment) (l : ℕ) (ws : List ℕ) (w : World) → (r : Jumps g base a l ws w) → Leaves g base r.later (label_exit (slice_get g.labels (suc l)) ws w)
+jumped_runs g base a l ws w r =
+    subst (λ o. Leaves g base r.later (label_exit o ws w)) (sym r.there) (label_runs g base l r.to ws r.words w r.later r.there r.fits r.sizes r.entered r.stands)
 
 -- ---- the start
 
-starts_first : (labels : List Label) (p : Plan) (mss : Sequences) (ls : List Label) (it : Label) → slice_get ls 0 ≡ Some it → slice_get (starts_from labels p mss 0 0 ls) (entry_point ls 0) ≡ Some 0
+pub starts_first : (labels : List Label) (p : Plan) (mss : Sequences) (ls : List Label) (it : Label) → slice_get ls 0 ≡ Some it → slice_get (starts_from labels p mss 0 0 ls) (entry_point ls 0) ≡ Some 0
 starts_first labels p mss [] it e = absurd (none-some it e)
 starts_first labels p mss (x ∷ ls) it e = refl
 
@@ -163,9 +176,9 @@ moves_first : (p : Plan) (ls : List Label) (it : Label) → slice_get ls 0 ≡ S
 moves_first p [] it e = absurd (none-some it e)
 moves_first p (x ∷ ls) it e = ap (λ (y : Label). Some (entry_moves p 0 y.params)) (same_Some x it e)
 
-start_runs : (g : Setting) (base : ℕ) (args : List ℕ) (p : Memories) (it : Label) → slice_get g.labels 0 ≡ Some it → IsStart (ssu_params g.labels) args p base
-    → (n : ℕ) → Result (code_in g) base n (at_start args base p) (ssu_meaning g.labels args p n)
-start_runs g base args p it found start n =
+pub start_runs : (g : Setting) (base : ℕ) (args : List ℕ) (p : Memories) (it : Label) → slice_get g.labels 0 ≡ Some it → IsStart (ssu_params g.labels) args p base
+    → Leaves g base (at_start args base p) (label_exit (slice_get g.labels 0) args (begun p))
+start_runs g base args p it found start =
     let k = entry_point g.labels 0 in
     let m = at_start args base p in
     let e = word_at base m in
@@ -182,11 +195,73 @@ start_runs g base args p it found start n =
     let b = g.layer.begins it ms args env e found many (λ i x w a c. each_its_word blank it.params args i x w (params_differ g.labels g.plan 0 it g.placed found) a c) sequence s.1 in
     let r = g.layer.entry 0 it env (one_by_one first e) found here.body.points_ b.1 in
     let at : here.at ≡ 0 = same_Some here.at 0 (sym here.begins ∙ starts_first g.labels g.plan g.mss g.labels it found) in
-    subst (λ o. Result (code_in g) base n m (enter (run g.labels n) o args (begun p))) (sym found)
-    (body_runs g base n (run g.labels n) (jump_runs g base n) 0 it args e (begun p) m found start.words.1 start.memories here
+    subst (λ o. Leaves g base m (label_exit o args (begun p))) (sym found)
+    (body_runs g base 0 it args e (begun p) m found start.words.1 start.memories here
     (All-append (λ q. IsDirect g.plan.slots q.0 q.1) first behind b.0 r.0)
     (subst (λ x. Ready g.labels g.plan (suc k) (root_point own it.params it.body) env x) (sym (one_append first behind e)) r.1)
     (subst (λ j. Stands base j e (begun p) m) (sym at) s.0))
+
+-- ---- runs with so many jumps
+
+-- the run ends, seen as this outcome
+record Finished (code : List Instr) (base : ℕ) (m : Moment) (f : FullOutcome) : Type 0 where
+  steps : ℕ
+  over : Over code base steps m f
+
+-- n steps or more lead to a moment that is seen as this outcome
+record Reached (code : List Instr) (base n : ℕ) (m : Moment) (f : FullOutcome) : Type 0 where
+  steps : ℕ
+  later : Moment
+  leads : Leads code base steps m later
+  far : n ≤ steps
+  alike : seen (going later.packet later.writes) ≡ seen f
+
+abbrev Result : List Instr → ℕ → ℕ → Moment → FullOutcome → Type 0
+Result code base n m f = Finished code base m f ⊎ Reached code base n m f
+
+-- a jump counts
+after_jump : (code : List Instr) (base i n : ℕ) (a b c : Moment) (f : FullOutcome) → Leads code base i a b → Leads code base 1 b c → Result code base n c f → Result code base (suc n) a f
+after_jump code base i n a b c f l one (inl h) = inl (record {
+  steps = i + 1 + h.steps;
+  over = record { last = h.over.last; ends = leads-end code base (i + 1) h.steps a c h.over.last (leads-then code base i 1 a b c l one) h.over.ends; alike = h.over.alike };
+})
+after_jump code base i n a b c f l one (inr r) = inr (record {
+  steps = i + 1 + r.steps;
+  later = r.later;
+  leads = leads-then code base (i + 1) r.steps a c r.later (leads-then code base i 1 a b c l one) r.leads;
+  far = let d : n ≤ r.steps = r.far in omega (arith, d);
+  alike = r.alike;
+})
+
+abbrev going_with : Memories → List WriteEvent → FullOutcome
+going_with p ws = record { outcome = outcome.Going; packet = p; writes = ws }
+
+seen_going : (base at : ℕ) (e : Words) (w : World) (b : Moment) → Stands base at e w b → seen (going b.packet b.writes) ≡ seen (over outcome.Going w)
+seen_going base at e w b s = ap (λ p. going_with p (source_writes b.writes)) s.packet ∙ ap (λ ws. going_with (source_memories w.packet) ws) s.writes
+
+run_results : (g : Setting) (base n : ℕ) (a : Moment) (o : Exit) → Leaves g base a o → Result (code_in g) base n a (outcome_of (run g.labels n) o)
+run_results g base n a (EndsWith f) h = inl (record {
+  steps = h.steps + 1;
+  over = record { last = h.over.last; ends = leads-end (code_in g) base h.steps 1 a h.last h.over.last h.leads h.over.ends; alike = h.over.alike };
+})
+run_results g base n a (JumpsTo zero ws w) h = absurd h
+run_results g base zero a (JumpsTo (suc l) ws w) h = inr (record {
+  steps = h.steps + 1;
+  later = h.later;
+  leads = leads-then (code_in g) base h.steps 1 a h.last h.later h.leads h.jump;
+  far = omega arith;
+  alike = seen_going base (slice_index_or (places_in g) (entry_point g.labels (suc l)) 0) h.words w h.later h.stands;
+})
+run_results g base (suc n) a (JumpsTo (suc l) ws w) h =
+    let next = label_exit (slice_get g.labels (suc l)) ws w in
+    subst (Result (code_in g) base (suc n) a) (sym (enter_by_exit (run g.labels n) (slice_get g.labels (suc l)) ws w))
+    (after_jump (code_in g) base h.steps n a h.last h.later (outcome_of (run g.labels n) next) h.leads h.jump (run_results g base n h.later next (jumped_runs g base a l ws w h)))
+
+meaning_runs : (g : Setting) (base : ℕ) (args : List ℕ) (p : Memories) (it : Label) → slice_get g.labels 0 ≡ Some it → IsStart (ssu_params g.labels) args p base
+    → (n : ℕ) → Result (code_in g) base n (at_start args base p) (ssu_meaning g.labels args p n)
+meaning_runs g base args p it found start n =
+    subst (Result (code_in g) base n (at_start args base p)) (sym (meaning_by_exit g.labels args p n))
+    (run_results g base n (at_start args base p) (label_exit (slice_get g.labels 0) args (begun p)) (start_runs g base args p it found start))
 
 -- ---- agreement
 
@@ -202,26 +277,30 @@ covered_at : (code : List Instr) (base m : ℕ) (a : Moment) (f : FullOutcome) �
 covered_at code base m a f (inl h) = inr (h.steps, h.over.last, h.over.ends)
 covered_at code base m a f (inr r) = inl (record { steps = r.steps; later = r.later; inside = let d : suc m ≤ r.steps = r.far in omega (arith, d); leads = r.leads })
 
-record First (o : Option Label) : Type 0 where
-  it : Label
-  there : o ≡ Some it
+pub record First (o : Option Label) : Type 0 where
+  pub it : Label
+  pub there : o ≡ Some it
 
 first_label : (o : Option Label) → is_entry o ≡ true → First o
 first_label (Some l) h = record { it = l; there = refl }
 first_label None h = absurd (false≢true h)
 
+-- the first label is there
+pub label_first : (g : Setting) → First (slice_get g.labels 0)
+label_first g = first_label (slice_get g.labels 0) (and_parts (is_entry (slice_get g.labels 0)) (all_different (all_defined g.labels) && list_all (is_single g.labels) g.labels) g.placed.single).0
+
 setting_agrees : (g : Setting) → Agrees (ssu_params g.labels) (ssu_meaning g.labels) (view_in g)
 setting_agrees g =
-    let label = first_label (slice_get g.labels 0) (and_parts (is_entry (slice_get g.labels 0)) (all_different (all_defined g.labels) && list_all (is_single g.labels) g.labels) g.placed.single).0 in
+    let label = label_first g in
     agrees-where_same (ssu_params g.labels) (ssu_meaning g.labels) (view_in g) refl
     (λ args p base start.
     same_lands (ssu_meaning g.labels args p) (engine (view_in g) args base p)
-    (λ i. lands_at g base i args p (ssu_meaning g.labels args p i) (start_runs g base args p label.it label.there start i))
+    (λ i. lands_at g base i args p (ssu_meaning g.labels args p i) (meaning_runs g base args p label.it label.there start i))
     (engine-grows (view_in g) args base p))
     (λ args p base start. seen_follows p (ssu_meaning g.labels args p) (meaning-follows g.labels args p))
     (λ args p base start m.
     covered-keeps (code_in g) base (at_start args base p) m
-    (covered_at (code_in g) base m (at_start args base p) (ssu_meaning g.labels args p (suc m)) (start_runs g base args p label.it label.there start (suc m))))
+    (covered_at (code_in g) base m (at_start args base p) (ssu_meaning g.labels args p (suc m)) (meaning_runs g base args p label.it label.there start (suc m))))
 
 -- the code of a form under a placement that fits it does what the form says
 pub emitted_agrees : (labels : List Label) (p : Plan) (mss : Sequences) → MachineLayer → ReadyLayer labels p → Placed labels p → AreSequences (parallel_moves p labels) mss

@@ -18,7 +18,7 @@ use Rattle.ucode_emit.specs.declared.here.Here.{Here}
 use Rattle.ucode_emit.specs.inner.Pieces.{Item, Plain, Branch, moved, operands, operand_at, words, all_copied, all_copies, single_moves, un_op, source, address_of, shift_of}
 use Rattle.ucode_emit.specs.inner.Machine.{IsReadable}
 use Rattle.ucode_emit.specs.inner.Layers.{IsAddress}
-use Rattle.ucode_emit.specs.inner.Emitted.{fetches}
+use Rattle.ucode_emit.specs.inner.DraftItems.{fetches}
 use Rattle.ucode_emit.specs.inner.Here.{IsHere, CanAll, CanNode, node_items}
 use Rattle.ucode_emit.specs.inner.Given.{at_of, write_moves, each_copied, result_items, CanResult, given_node, CanGiven}
 use Rattle.ucode_emit.proofs.Fetching.{operands_served, words_served}

@@ -5,7 +5,7 @@ use Rattle.slot_placement.specs.declared.place.Place.{Place}
 use Rattle.slot_placement.specs.declared.place.Serve.{Serve}
 use Rattle.par_move.specs.Moves.{Move}
 use Rattle.ucode_emit.specs.inner.Pieces.{move_instr, moved, copied, all_copied, single_move, single_moves}
-use Rattle.ucode_emit.specs.inner.Emitted.{draft, each_fetch}
+use Rattle.ucode_emit.specs.inner.DraftItems.{draft, each_fetch}
 
 -- what is appended for each of some elements is appended for one more
 pub turn : {X Y : Type 0} (f : List X → List Y) (g : X → List Y) (last : (a : List X) (x : X) → f (a ++ x ∷ []) ≡ f a ++ g x) (xs : List X) (i : ℕ) (d : X) (old before now : List Y)

@@ -22,7 +22,7 @@ use Rattle.ucode_emit.specs.declared.spots.Spot.TheVariants.{Entry as EntrySpot,
 use Rattle.ucode_emit.specs.inner.Pieces.{single_moves, all_copies, entry_point, Sequences, sequence_at, parallel_moves}
 use Rattle.ucode_emit.specs.inner.Ready.{IsSequence, AreSequences}
 use Rattle.ucode_emit.specs.inner.Layers.{Placed, PointsAt}
-use Rattle.ucode_emit.specs.inner.Emitted.{draft}
+use Rattle.ucode_emit.specs.inner.DraftItems.{draft}
 use Rattle.ucode_emit.specs.declared.walk.Points.{Points}
 use Rattle.ucode_emit.specs.inner.Cursors.{place_operands, IsCut, AreServed}
 use Rattle.ucode_emit.specs.inner.Here.{IsHere, CanAll, CanNode, end_items}

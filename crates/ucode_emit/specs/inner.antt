@@ -3,7 +3,7 @@ pub mod Ready
 pub mod Machine
 pub mod Layers
 pub mod Marks
-pub mod Emitted
+pub mod DraftItems
 pub mod Here
 pub mod Spots
 pub mod Cursors

@@ -4,8 +4,8 @@ ghost use Rattle.std.specs.Prelude.{◌≡◌, ◌++◌, ◌∷◌, [], ◌≤�
 ghost use Rattle.uc_isa.specs.declared.instruction.Instr.TheVariants as instr;
 ghost use Rattle.slot_placement.specs.Fits.{Rises};
 ghost use Rattle.slot_placement.specs.Plan.{plan_view};
-ghost use Rattle.ucode_emit.specs.inner.Emitted as emitted;
-ghost use Rattle.ucode_emit.specs.inner.Emitted.{draft};
+ghost use Rattle.ucode_emit.specs.inner.DraftItems as drafts;
+ghost use Rattle.ucode_emit.specs.inner.DraftItems.{draft};
 ghost use Rattle.ucode_emit.specs.inner.Layers.{IsAddress};
 ghost use Rattle.ucode_emit.specs.inner.Given as given;
 ghost use Rattle.ucode_emit.specs.inner.Here.{CanAll};
@@ -66,11 +66,11 @@ pub fn push_read(
     xs: &[u32],
 ) -> Result<(), NoMemory>
     requires homes { Rises (map (λ h. h.var) (plan_view p.now).homes) }
-    requires operands { CanAll (emitted.fetches here.now.pass.l here.now.serves.now) }
+    requires operands { CanAll (drafts.fetches here.now.pass.l here.now.serves.now) }
     requires address { IsAddress (given.at_of here.now.serves.now 0) }
     requires few { length xs.now ≤ 8 }
     requires can { CanAll (given.each_copied (plan_view p.now) here.now.pass.s xs.now) }
-    ensures { OnOk result (code.new ≡ code.old ++ map draft (moved (emitted.fetches here.now.pass.l here.now.serves.now) ++ Plain (instr.Read m here.now.first (length xs.now) (pieces.address_of (given.at_of here.now.serves.now 0)) 0) ∷ moved (given.each_copied (plan_view p.now) here.now.pass.s xs.now))) }
+    ensures { OnOk result (code.new ≡ code.old ++ map draft (moved (drafts.fetches here.now.pass.l here.now.serves.now) ++ Plain (instr.Read m here.now.first (length xs.now) (pieces.address_of (given.at_of here.now.serves.now 0)) 0) ∷ moved (given.each_copied (plan_view p.now) here.now.pass.s xs.now))) }
 {
     push_fetches(alloc, code, here.pass.l, here.serves)?;
     code.push(Instr::Read {

@@ -5,7 +5,7 @@ ghost use Rattle.uc_isa.specs.declared.instruction.Instr.TheVariants as instr;
 ghost use Rattle.uc_isa.specs.declared.instruction.UnOp.TheVariants as operation;
 ghost use Rattle.ucode_emit.specs.inner.Pieces as pieces;
 ghost use Rattle.ucode_emit.specs.inner.Machine.{IsReadable, IsWritable};
-ghost use Rattle.ucode_emit.specs.inner.Emitted.{draft, CanMove};
+ghost use Rattle.ucode_emit.specs.inner.DraftItems.{draft, CanMove};
 
 use crate::moves::Move;
 use crate::registers::{source, target};

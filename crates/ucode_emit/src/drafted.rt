@@ -7,19 +7,35 @@ ghost use Rattle.ucode_emit.specs.inner.Drafted.{AreDrafted};
 ghost use Rattle.ucode_emit.specs.inner.Layers.{Placed};
 
 use crate::draft::Draft;
+use crate::settle::places_of;
 use crate::walk::{points_of, push_points};
 use nv_base::NoMemory;
 use slot_placement::Placement;
 use ssu_ir::Ssu;
 use std::alloc::Global;
 
-/// The code of all points, whose branches name points, and the place at which each point begins.
-pub fn draft_of(alloc: Global, s: &Ssu, p: &Placement) -> Result<(Draft, Vec<u32>), NoMemory>
+/// The code of all points, whose branches name points.
+#[derive(Drop)]
+pub struct WholeDraft {
+    pub code: Draft,
+    /// The place at which each point begins.
+    pub places: Vec<u32>,
+    /// The place at which each label begins.
+    pub starts: Vec<u32>,
+}
+
+/// The code of all points, and where points and labels begin.
+pub fn draft_of(alloc: Global, s: &Ssu, p: &Placement) -> Result<WholeDraft, NoMemory>
     requires { Placed (labels_view s.now) (plan_view p.now) }
-    ensures { IfOk result (λ r. AreDrafted (labels_view s.now) (plan_view p.now) r.0 r.1.items) }
+    ensures { IfOk result (λ d. AreDrafted (labels_view s.now) (plan_view p.now) d.code d.places.items d.starts.items) }
 {
     let points = points_of(alloc, s, p)?;
     let mut code = Draft::new(alloc);
     let places = push_points(alloc, &mut code, s, p, &points)?;
-    Ok((code, places))
+    let starts = places_of(alloc, &points.entries, &places)?;
+    Ok(WholeDraft {
+        code,
+        places,
+        starts,
+    })
 }

@@ -2,7 +2,7 @@
 
 ghost use Rattle.std.specs.Prelude.{◌≡◌, ◌++◌, map, OnOk};
 ghost use Rattle.slot_placement.specs.Fits as fits;
-ghost use Rattle.ucode_emit.specs.inner.Emitted as emitted;
+ghost use Rattle.ucode_emit.specs.inner.DraftItems as drafts;
 ghost use Rattle.ucode_emit.specs.inner.Given as given;
 ghost use Rattle.ucode_emit.specs.inner.Here.{CanAll};
 ghost use Rattle.ucode_emit.specs.inner.Pieces.{moved};
@@ -30,7 +30,7 @@ fn is_read_register(p: Place) -> bool
 
 // Fetches an operand that is wanted in the compiler's own register.
 fn own_fetch(moves: &mut Vec<Move>, l: Option<u8>, serve: Serve) -> Result<(), NoMemory>
-    ensures { OnOk result (moves.new.items ≡ moves.old.items ++ emitted.own_fetch l serve) }
+    ensures { OnOk result (moves.new.items ≡ moves.old.items ++ drafts.own_fetch l serve) }
 {
     if same_place(serve.at, Place::A(15)) {
         brought(moves, l, serve.from, serve.at)?;
@@ -40,7 +40,7 @@ fn own_fetch(moves: &mut Vec<Move>, l: Option<u8>, serve: Serve) -> Result<(), N
 
 // Fetches an operand from a slot into a read register.
 fn slot_fetch(moves: &mut Vec<Move>, serve: Serve) -> Result<(), NoMemory>
-    ensures { OnOk result (moves.new.items ≡ moves.old.items ++ emitted.slot_fetch serve) }
+    ensures { OnOk result (moves.new.items ≡ moves.old.items ++ drafts.slot_fetch serve) }
 {
     if is_slot(serve.from) && is_read_register(serve.at) {
         moves.push((serve.from, serve.at))?;
@@ -50,7 +50,7 @@ fn slot_fetch(moves: &mut Vec<Move>, serve: Serve) -> Result<(), NoMemory>
 
 // Those that are wanted in the compiler's own register.
 fn own_fetches(moves: &mut Vec<Move>, l: Option<u8>, serves: &[Serve]) -> Result<(), NoMemory>
-    ensures { OnOk result (moves.new.items ≡ moves.old.items ++ emitted.each_fetch (emitted.own_fetch l) serves.now) }
+    ensures { OnOk result (moves.new.items ≡ moves.old.items ++ drafts.each_fetch (drafts.own_fetch l) serves.now) }
 {
     for serve in serves {
         own_fetch(moves, l, *serve)?;
@@ -60,7 +60,7 @@ fn own_fetches(moves: &mut Vec<Move>, l: Option<u8>, serves: &[Serve]) -> Result
 
 // Those that come from slots into read registers.
 fn slot_fetches(moves: &mut Vec<Move>, serves: &[Serve]) -> Result<(), NoMemory>
-    ensures { OnOk result (moves.new.items ≡ moves.old.items ++ emitted.each_fetch emitted.slot_fetch serves.now) }
+    ensures { OnOk result (moves.new.items ≡ moves.old.items ++ drafts.each_fetch drafts.slot_fetch serves.now) }
 {
     for serve in serves {
         slot_fetch(moves, *serve)?;
@@ -70,7 +70,7 @@ fn slot_fetches(moves: &mut Vec<Move>, serves: &[Serve]) -> Result<(), NoMemory>
 
 /// Fetches the operands of an instruction.
 pub fn fetches(moves: &mut Vec<Move>, l: Option<u8>, serves: &[Serve]) -> Result<(), NoMemory>
-    ensures { OnOk result (moves.new.items ≡ moves.old.items ++ emitted.fetches l serves.now) }
+    ensures { OnOk result (moves.new.items ≡ moves.old.items ++ drafts.fetches l serves.now) }
 {
     own_fetches(moves, l, serves)?;
     slot_fetches(moves, serves)
@@ -83,8 +83,8 @@ pub fn push_fetches(
     l: Option<u8>,
     serves: &[Serve],
 ) -> Result<(), NoMemory>
-    requires { CanAll (emitted.fetches l serves.now) }
-    ensures { OnOk result (code.new ≡ code.old ++ map emitted.draft (moved (emitted.fetches l serves.now))) }
+    requires { CanAll (drafts.fetches l serves.now) }
+    ensures { OnOk result (code.new ≡ code.old ++ map drafts.draft (moved (drafts.fetches l serves.now))) }
 {
     let mut moves = Vec::new(alloc);
     fetches(&mut moves, l, serves)?;
@@ -103,7 +103,7 @@ pub fn served_at(serves: &[Serve], i: usize) -> Place
 
 /// Brings words to their places; those that are there stay.
 pub fn words(moves: &mut Vec<Move>, l: Option<u8>, serves: &[Serve]) -> Result<(), NoMemory>
-    ensures { OnOk result (moves.new.items ≡ moves.old.items ++ emitted.each_fetch (emitted.word_fetch l) serves.now) }
+    ensures { OnOk result (moves.new.items ≡ moves.old.items ++ drafts.each_fetch (drafts.word_fetch l) serves.now) }
 {
     for serve in serves {
         brought(moves, l, serve.from, serve.at)?;

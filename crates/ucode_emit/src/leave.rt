@@ -6,8 +6,8 @@ ghost use Rattle.uc_isa.specs.declared.instruction.Instr.TheVariants as instr;
 ghost use Rattle.uc_isa.specs.declared.instruction.Dst.TheVariants as dst;
 ghost use Rattle.uc_isa.specs.declared.instruction.Cond.TheVariants.{Always};
 ghost use Rattle.uc_isa.specs.Registers as registers;
-ghost use Rattle.ucode_emit.specs.inner.Emitted as emitted;
-ghost use Rattle.ucode_emit.specs.inner.Emitted.{draft};
+ghost use Rattle.ucode_emit.specs.inner.DraftItems as drafts;
+ghost use Rattle.ucode_emit.specs.inner.DraftItems.{draft};
 ghost use Rattle.ucode_emit.specs.inner.Machine.{IsReadable};
 ghost use Rattle.ucode_emit.specs.inner.Given as given;
 ghost use Rattle.ucode_emit.specs.inner.Here.{CanAll};
@@ -37,10 +37,10 @@ fn failing(c: Cmp) -> Cond
 
 /// Adds the code of a comparison, which branches where it fails.
 pub fn push_fork(alloc: Global, code: &mut Draft, here: &Here<'_>, c: Cmp) -> Result<(), NoMemory>
-    requires operands { CanAll (emitted.fetches here.now.pass.l here.now.serves.now) }
+    requires operands { CanAll (drafts.fetches here.now.pass.l here.now.serves.now) }
     requires first { IsReadable (given.at_of here.now.serves.now 0) }
     requires second { IsReadable (given.at_of here.now.serves.now 1) }
-    ensures { OnOk result (code.new ≡ code.old ++ map draft (moved (emitted.fetches here.now.pass.l here.now.serves.now) ++ Plain (instr.Alu dst.Nowhere Sub (pieces.source (given.at_of here.now.serves.now 0)) (pieces.source (given.at_of here.now.serves.now 1))) ∷ Branch (registers.failing c) here.now.to ∷ [])) }
+    ensures { OnOk result (code.new ≡ code.old ++ map draft (moved (drafts.fetches here.now.pass.l here.now.serves.now) ++ Plain (instr.Alu dst.Nowhere Sub (pieces.source (given.at_of here.now.serves.now 0)) (pieces.source (given.at_of here.now.serves.now 1))) ∷ Branch (registers.failing c) here.now.to ∷ [])) }
 {
     push_fetches(alloc, code, here.pass.l, here.serves)?;
     code.push(Instr::Alu {

@@ -21,4 +21,4 @@ mod spots;
 mod together;
 mod walk;
 
-pub use code::emit;
+pub use code::{Emitted, emit};

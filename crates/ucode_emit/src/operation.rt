@@ -4,8 +4,8 @@ ghost use Rattle.std.specs.Prelude.{◌≡◌, ◌++◌, ◌<◌, ◌/◌, ◌^�
 ghost use Rattle.uc_isa.specs.declared.instruction.Instr.TheVariants as instr;
 ghost use Rattle.slot_placement.specs.Fits.{Rises};
 ghost use Rattle.slot_placement.specs.Plan.{home, plan_view};
-ghost use Rattle.ucode_emit.specs.inner.Emitted as emitted;
-ghost use Rattle.ucode_emit.specs.inner.Emitted.{draft};
+ghost use Rattle.ucode_emit.specs.inner.DraftItems as drafts;
+ghost use Rattle.ucode_emit.specs.inner.DraftItems.{draft};
 ghost use Rattle.ucode_emit.specs.inner.Machine.{IsReadable, IsWritable};
 ghost use Rattle.ucode_emit.specs.inner.Given as given;
 ghost use Rattle.ucode_emit.specs.inner.Given.{CanResult};
@@ -140,10 +140,10 @@ pub fn push_una(
     op: Una,
 ) -> Result<(), NoMemory>
     requires homes { Rises (map (λ h. h.var) (plan_view p.now).homes) }
-    requires operands { CanAll (emitted.fetches here.now.pass.l here.now.serves.now) }
+    requires operands { CanAll (drafts.fetches here.now.pass.l here.now.serves.now) }
     requires readable { IsReadable (given.at_of here.now.serves.now 0) }
     requires can { CanResult (plan_view p.now) here.now.pass.s x }
-    ensures { OnOk result (code.new ≡ code.old ++ map draft (moved (emitted.fetches here.now.pass.l here.now.serves.now) ++ given.result_items (plan_view p.now) here.now.pass.s x (λ d. instr.Un d (pieces.un_op op) (pieces.source (given.at_of here.now.serves.now 0))))) }
+    ensures { OnOk result (code.new ≡ code.old ++ map draft (moved (drafts.fetches here.now.pass.l here.now.serves.now) ++ given.result_items (plan_view p.now) here.now.pass.s x (λ d. instr.Un d (pieces.un_op op) (pieces.source (given.at_of here.now.serves.now 0))))) }
 {
     push_fetches(alloc, code, here.pass.l, here.serves)?;
     code.push(Instr::Un {
@@ -164,11 +164,11 @@ pub fn push_bin(
     op: Bin,
 ) -> Result<(), NoMemory>
     requires homes { Rises (map (λ h. h.var) (plan_view p.now).homes) }
-    requires operands { CanAll (emitted.fetches here.now.pass.l here.now.serves.now) }
+    requires operands { CanAll (drafts.fetches here.now.pass.l here.now.serves.now) }
     requires first { IsReadable (given.at_of here.now.serves.now 0) }
     requires second { IsReadable (given.at_of here.now.serves.now 1) }
     requires can { CanResult (plan_view p.now) here.now.pass.s x }
-    ensures { OnOk result (code.new ≡ code.old ++ map draft (moved (emitted.fetches here.now.pass.l here.now.serves.now) ++ given.result_items (plan_view p.now) here.now.pass.s x (λ d. instr.Alu d op (pieces.source (given.at_of here.now.serves.now 0)) (pieces.source (given.at_of here.now.serves.now 1))))) }
+    ensures { OnOk result (code.new ≡ code.old ++ map draft (moved (drafts.fetches here.now.pass.l here.now.serves.now) ++ given.result_items (plan_view p.now) here.now.pass.s x (λ d. instr.Alu d op (pieces.source (given.at_of here.now.serves.now 0)) (pieces.source (given.at_of here.now.serves.now 1))))) }
 {
     push_fetches(alloc, code, here.pass.l, here.serves)?;
     code.push(Instr::Alu {

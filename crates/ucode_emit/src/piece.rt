@@ -5,7 +5,7 @@ ghost use Rattle.ssu_ir.specs.Slots.{node_of};
 ghost use Rattle.ssu_ir.specs.Tree.{node_uses};
 ghost use Rattle.slot_placement.specs.Fits.{Rises};
 ghost use Rattle.slot_placement.specs.Plan.{plan_view};
-ghost use Rattle.ucode_emit.specs.inner.Emitted.{draft};
+ghost use Rattle.ucode_emit.specs.inner.DraftItems.{draft};
 ghost use Rattle.ucode_emit.specs.inner.Given as given;
 ghost use Rattle.ucode_emit.specs.inner.Here.{IsHere, CanAll, CanNode, node_items};
 ghost use Rattle.ucode_emit.specs.inner.Pieces as pieces;

@@ -1,7 +1,7 @@
 //! Instructions whose branches name points are given the places of those points.
 
 ghost use Rattle.std.specs.Prelude.{◌≡◌, slice_index_or, map, IfOk};
-ghost use Rattle.ucode_emit.specs.inner.Emitted as emitted;
+ghost use Rattle.ucode_emit.specs.inner.DraftItems as drafts;
 
 use nv_base::NoMemory;
 use std::alloc::Global;
@@ -19,7 +19,7 @@ fn place_of(places: &[u32], point: u32) -> u32
 
 /// One instruction.
 fn settled(i: Instr, places: &[u32]) -> Instr
-    ensures { result ≡ emitted.settled places.now i }
+    ensures { result ≡ drafts.settled places.now i }
 {
     match i {
         Instr::Br { cond, target } => Instr::Br {
@@ -58,11 +58,22 @@ fn settled(i: Instr, places: &[u32]) -> Instr
 
 /// All of them.
 pub fn settle(alloc: Global, draft: &[Instr], places: &[u32]) -> Result<Vec<Instr>, NoMemory>
-    ensures { IfOk result (λ r. r.items ≡ map (emitted.settled places.now) draft.now) }
+    ensures { IfOk result (λ r. r.items ≡ map (drafts.settled places.now) draft.now) }
 {
     let mut code = Vec::new(alloc);
     for i in draft {
         code.push(settled(*i, places))?;
     }
     Ok(code)
+}
+
+/// The places of some points.
+pub fn places_of(alloc: Global, points: &[u32], places: &[u32]) -> Result<Vec<u32>, NoMemory>
+    ensures { IfOk result (λ r. r.items ≡ map (λ k. slice_index_or places.now k 0) points.now) }
+{
+    let mut list = Vec::new(alloc);
+    for k in points {
+        list.push(place_of(places, *k))?;
+    }
+    Ok(list)
 }

@@ -6,7 +6,7 @@ ghost use Rattle.ssu_ir.specs.View.{labels_view};
 ghost use Rattle.slot_placement.specs.Fits.{Rises};
 ghost use Rattle.slot_placement.specs.Plan.{plan_view};
 ghost use Rattle.ucode_emit.specs.inner.Cursors.{place_operands};
-ghost use Rattle.ucode_emit.specs.inner.Emitted.{draft};
+ghost use Rattle.ucode_emit.specs.inner.DraftItems.{draft};
 ghost use Rattle.ucode_emit.specs.inner.Here.{IsHere};
 ghost use Rattle.ucode_emit.specs.inner.Layers.{Placed};
 ghost use Rattle.ucode_emit.specs.inner.Marks.{marks, point_piece};

@@ -17,7 +17,7 @@ use Rattle.par_move.specs.Moves.{Move}
 use Rattle.ucode_emit.specs.declared.here.Here.{Here}
 use Rattle.ucode_emit.specs.inner.Machine.{IsReadable, IsWritable}
 use Rattle.ucode_emit.specs.inner.Layers.{IsAddress}
-use Rattle.ucode_emit.specs.inner.Emitted.{fetches, each_fetch, word_fetch}
+use Rattle.ucode_emit.specs.inner.DraftItems.{fetches, each_fetch, word_fetch}
 use Rattle.ucode_emit.specs.inner.Here.{CanAll}
 use Rattle.ucode_emit.specs.inner.Pieces.{Item, Plain, Branch, moved, named, all_copied, single_moves, un_op, source, target, address_of, shift_of}
 

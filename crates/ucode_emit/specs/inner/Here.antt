@@ -11,7 +11,7 @@ use Rattle.par_move.specs.Moves.{Move}
 use Rattle.ucode_emit.specs.declared.here.Here.{Here}
 use Rattle.ucode_emit.specs.inner.Machine.{IsReadable, IsWritable}
 use Rattle.ucode_emit.specs.inner.Layers.{IsAddress}
-use Rattle.ucode_emit.specs.inner.Emitted.{CanMove}
+use Rattle.ucode_emit.specs.inner.DraftItems.{CanMove}
 use Rattle.ucode_emit.specs.inner.Pieces.{Item, Plain, Branch, moved, operands, operand_at, words, result_place, to_slot, copies, all_copies, single_moves, shift_of, step_items, fork_items}
 
 -- what a placement says of a point with so many operands

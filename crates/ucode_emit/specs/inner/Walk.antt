@@ -14,7 +14,7 @@ use Rattle.ucode_emit.specs.declared.cursor.Cursor.{Cursor}
 use Rattle.ucode_emit.specs.declared.walk.Points.{Points}
 use Rattle.ucode_emit.specs.inner.Pieces.{Item, moved, single_moves, all_copies, entry_moves, Sequences, parallel_moves}
 use Rattle.ucode_emit.specs.inner.Ready.{AreSequences}
-use Rattle.ucode_emit.specs.inner.Emitted.{draft}
+use Rattle.ucode_emit.specs.inner.DraftItems.{draft}
 use Rattle.ucode_emit.specs.inner.Here.{ends, CanAll, CanNode, node_items}
 use Rattle.ucode_emit.specs.inner.Marks.{Mark, mark, marks, entries_from, pieces, joined, begins}
 use Rattle.ucode_emit.specs.inner.Spots.{spot_mark, IsSpot}

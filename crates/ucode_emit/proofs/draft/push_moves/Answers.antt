@@ -1,6 +1,6 @@
 use Rattle.std.proofs.Common.{map, [], ◌∷◌, arith}
 use Rattle.ucode_emit.specs.inner.Pieces.{moved, move_instr}
-use Rattle.ucode_emit.specs.inner.Emitted.{draft}
+use Rattle.ucode_emit.specs.inner.DraftItems.{draft}
 use Rattle.ucode_emit.proofs.Turns.{turn, instrs_last}
 use Rattle.ucode_emit.proofs.draft.push_moves.Goals as goal
 

@@ -1,6 +1,6 @@
 use Rattle.std.proofs.Common.{◌≡◌, ◌++◌, map, take}
 use Rattle.ucode_emit.specs.inner.Pieces.{moved}
-use Rattle.ucode_emit.specs.inner.Emitted.{draft}
+use Rattle.ucode_emit.specs.inner.DraftItems.{draft}
 use Rattle.ucode_emit.proofs.draft.push_moves.Given as goal
 
 abbrev pub invariant-loop-m : goal.invariant-loop-m

@@ -1,6 +1,6 @@
 use Rattle.std.proofs.Common.{◌≡◌, ◌++◌, take}
-use Rattle.ucode_emit.specs.inner.Emitted as emitted
+use Rattle.ucode_emit.specs.inner.DraftItems as drafts
 use Rattle.ucode_emit.proofs.fetch.slot_fetches.Given as goal
 
 abbrev pub invariant-loop-serve : goal.invariant-loop-serve
-invariant-loop-serve l = l.moves.items ≡ l.initial.moves.items ++ emitted.each_fetch emitted.slot_fetch (take l.serve-index l.serves)
+invariant-loop-serve l = l.moves.items ≡ l.initial.moves.items ++ drafts.each_fetch drafts.slot_fetch (take l.serve-index l.serves)

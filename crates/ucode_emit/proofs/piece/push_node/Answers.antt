@@ -1,7 +1,7 @@
 use Rattle.std.proofs.Common.{◌≡◌, ◌++◌, map, OnOk, subst}
 use Rattle.ssu_ir.specs.Slots.{node_of}
 use Rattle.slot_placement.specs.Plan.{plan_view}
-use Rattle.ucode_emit.specs.inner.Emitted.{draft}
+use Rattle.ucode_emit.specs.inner.DraftItems.{draft}
 use Rattle.ucode_emit.proofs.Serving.{given_is, given_can}
 use Rattle.ucode_emit.proofs.piece.push_node.Goals as goal
 

@@ -4,7 +4,7 @@ use Rattle.slot_placement.specs.declared.place.First.{First}
 use Rattle.slot_placement.specs.declared.place.Pass.{Pass}
 use Rattle.slot_placement.specs.Plan.{plan_view}
 use Rattle.held_values.proofs.RowSteps.{on-ok}
-use Rattle.ucode_emit.specs.inner.Emitted.{draft}
+use Rattle.ucode_emit.specs.inner.DraftItems.{draft}
 use Rattle.ucode_emit.specs.inner.Marks.{point_piece}
 use Rattle.ucode_emit.specs.inner.Pieces.{sequence_at}
 use Rattle.ucode_emit.specs.inner.Spots.{spot_mark}

@@ -1,0 +1,102 @@
+-- The engine stands where a label begins as often as the form's run has entered the label.
+use Rattle.std.proofs.Common.{◌≡◌, ◌≢◌, ℕ, zero, suc, ◌+◌, ◌-◌, ◌<◌, ◌≤◌, List, length, sym, ap, ◌∙◌, ⊎_elim, arith, slice_get, slice_index_or}
+use Rattle.std.proofs.lemmas.Bool.{cases_lt}
+use Rattle.std.specs.Prelude.{slice_index}
+use Rattle.nv_base.specs.World.{World, begun}
+use Rattle.uc_isa.specs.Pieces.{Moment}
+use Rattle.uc_runs.specs.Entries.{IsVisited}
+use Rattle.uc_runs.specs.Visits.{here, stood}
+use Rattle.uc_runs.proofs.Counting.{here-at, here-not}
+use Rattle.ssu_ir.specs.Tree.{Label}
+use Rattle.ssu_ir.specs.Meaning.{ssu_params}
+use Rattle.ssu_ir.specs.Entered.{Exit, JumpsTo, EndsWith, label_exit, is_entered, entered_behind, entered}
+use Rattle.slot_placement.specs.Plan.{Plan}
+use Rattle.ucode_emit.specs.inner.Pieces.{entry_point, Sequences, parallel_moves}
+use Rattle.ucode_emit.specs.inner.Ready.{AreSequences}
+use Rattle.ucode_emit.specs.inner.Layers.{Placed, at_start}
+use Rattle.ucode_emit.specs.inner.Drafted.{label_starts}
+use Rattle.ucode_emit.proofs.LabelPlaces.{start_at, code_starts}
+use Rattle.ucode_emit.proofs.Layer.{ready_layer}
+use Rattle.ucode_emit.proofs.MachineLayers.{machine}
+use Rattle.ucode_emit.proofs.MachineOperations.{got_index}
+use Rattle.place_checks.proofs.Walked.{get-index}
+use Rattle.ucode_emit.proofs.Placing.{code_of}
+use Rattle.ucode_emit.proofs.RunsResults.{Setting, code_in, places_in, starts_in, Jumps, Leaves}
+use Rattle.ucode_emit.proofs.RunsWhole.{jumped_runs, start_runs, starts_first, label_first}
+use Rattle.ucode_emit.proofs.Visiting.{stood_within, stood_behind, stood_over}
+
+-- ---- at a start
+
+rising : (g : Setting) (j k : ℕ) → j < k → k < length (starts_in g) → slice_index (starts_in g) j < slice_index (starts_in g) k
+rising g j k lt le = (code_starts g.labels g.plan g.mss g.placed g.layer g.sequences).shape.rises j k lt le
+
+-- two labels don't begin at one place
+start_is : (g : Setting) (j k t : ℕ) → j < length (starts_in g) → k < length (starts_in g) → t ≡ slice_index (starts_in g) j → here (slice_index (starts_in g) k) t ≡ is_entered j k
+start_is g j k t n m e =
+    let starts = starts_in g in
+    let other : j ≢ k → t ≢ slice_index starts k → here (slice_index starts k) t ≡ is_entered j k = λ a b. here-not (slice_index starts k) t b ∙ sym (here-not k j a) in
+    ⊎_elim
+    (λ (less : j < k). let r = rising g j k less m in other (λ same. absurd (omega (arith, same, less))) (λ same. absurd (omega (arith, same, e, r))))
+    (λ (more : k ≤ j).
+    ⊎_elim
+    (λ (less : k < j). let r = rising g k j less n in other (λ same. absurd (omega (arith, same, less))) (λ same. absurd (omega (arith, same, e, r))))
+    (λ (not : j ≤ k).
+    let same : j ≡ k = omega (arith, more, not) in
+    here-at (slice_index starts k) t (e ∙ ap (slice_index starts) same) ∙ sym (here-at k j same))
+    (cases_lt k j))
+    (cases_lt j k)
+
+-- ---- visits and entries
+
+abbrev VisitedAs : Setting → ℕ → Moment → Exit → Type 0
+VisitedAs g m a o =
+    (n : ℕ) × ((k : ℕ) → k < length (starts_in g) → stood (code_in g) (slice_index (starts_in g) k) m a.engine a.packet ≡ here (slice_index (starts_in g) k) a.engine.place + entered_behind g.labels n o k)
+
+none_more : (g : Setting) (m : ℕ) (a : Moment) (o : Exit) → ((k : ℕ) → k < length (starts_in g) → stood (code_in g) (slice_index (starts_in g) k) m a.engine a.packet ≡ here (slice_index (starts_in g) k) a.engine.place) → VisitedAs g m a o
+none_more g m a o h = (0, λ k lt. let e = h k lt in omega (arith, e))
+
+jump_visited : (g : Setting) (base m : ℕ) (a : Moment) (l : ℕ) (ws : List ℕ) (w : World) → Jumps g base a l ws w → ((j : ℕ) (b : Moment) (o : Exit) → j < m → Leaves g base b o → VisitedAs g j b o) → VisitedAs g m a (JumpsTo (suc l) ws w)
+jump_visited g base m a l ws w r rest =
+    ⊎_elim
+    (λ (high : r.steps < m).
+    let j : ℕ = m - suc r.steps in
+    let all : r.steps + suc j ≡ m = omega (arith, high) in
+    let next = label_exit (slice_get g.labels (suc l)) ws w in
+    let v : VisitedAs g j r.later next = rest j r.later next (omega (arith, high)) (jumped_runs g base a l ws w r) in
+    let there = got_index (starts_in g) (suc l) (slice_index_or (places_in g) (entry_point g.labels (suc l)) 0) (start_at g.labels g.plan g.mss (suc l) r.to r.there) in (
+      suc v.0,
+      λ k lt.
+          let s = slice_index (starts_in g) k in
+          let behind = stood_behind (starts_in g) (code_in g) base r.steps j k a r.last r.later r.leads r.off r.jump lt in
+          let more = v.1 k lt in
+          let entry : here s r.later.engine.place ≡ is_entered (suc l) k = start_is g (suc l) k r.later.engine.place there.0 lt (r.stands.place ∙ sym there.1) in
+          let same : stood (code_in g) s (r.steps + suc j) a.engine a.packet ≡ stood (code_in g) s m a.engine a.packet = ap (λ i. stood (code_in g) s i a.engine a.packet) all in
+          omega (arith, behind, more, entry, same),
+    ))
+    (λ (low : m ≤ r.steps). none_more g m a (JumpsTo (suc l) ws w) (λ k lt. stood_within (starts_in g) (code_in g) base r.steps m k a r.last r.leads r.off lt low))
+    (cases_lt r.steps m)
+
+visited_by : (g : Setting) (base m : ℕ) (a : Moment) (o : Exit) → ((j : ℕ) (b : Moment) (o : Exit) → j < m → Leaves g base b o → VisitedAs g j b o) → Leaves g base a o → VisitedAs g m a o
+visited_by g base m a (JumpsTo zero ws w) rest h = absurd h
+visited_by g base m a (JumpsTo (suc l) ws w) rest h = jump_visited g base m a l ws w h rest
+visited_by g base m a (EndsWith f) rest h = none_more g m a (EndsWith f) (λ k lt. stood_over (starts_in g) (code_in g) base h.steps m k a h.last f h.leads h.off h.over h.is_over lt)
+
+visited : (g : Setting) (base most m : ℕ) (a : Moment) (o : Exit) → m ≤ most → Leaves g base a o → VisitedAs g m a o
+visited g base zero m a o le h = visited_by g base m a o (λ j b o' lt _. absurd (omega (arith, le, lt))) h
+visited g base (suc most) m a o le h = visited_by g base m a o (λ j b o' lt h'. visited g base most j b o' (omega (arith, le, lt)) h') h
+
+-- ---- the whole
+
+setting_visited : (g : Setting) → IsVisited (ssu_params g.labels) (entered g.labels) (code_in g) (starts_in g)
+setting_visited g args p base start m =
+    let label = label_first g in
+    let o = label_exit (slice_get g.labels 0) args (begun p) in
+    let v : VisitedAs g m (at_start args base p) o = visited g base m m (at_start args base p) o (omega arith) (start_runs g base args p label.it label.there start) in
+    let place = slice_index_or (places_in g) (entry_point g.labels 0) 0 in
+    let none : place ≡ 0 = get-index (places_in g) (entry_point g.labels 0) 0 0 (starts_first g.labels g.plan g.mss g.labels label.it label.there) in
+    let there = got_index (starts_in g) 0 place (start_at g.labels g.plan g.mss 0 label.it label.there) in
+    (v.0, λ k lt. v.1 k lt ∙ ap (λ c. c + entered_behind g.labels v.0 o k) (start_is g 0 k 0 there.0 lt (sym (there.1 ∙ none))))
+
+pub code_visited : (labels : List Label) (p : Plan) (mss : Sequences) → Placed labels p → AreSequences (parallel_moves p labels) mss → IsVisited (ssu_params labels) (entered labels) (code_of labels p mss) (label_starts labels p mss)
+code_visited labels p mss placed sequences =
+    setting_visited (record { labels = labels; plan = p; mss = mss; machine = machine; layer = ready_layer labels p placed; placed = placed; sequences = sequences })
