@@ -44,7 +44,7 @@ fn code_of(alloc: Global, s: &Ssu, slots: u32, x: &Assignment) -> Result<Code, N
     ensures short { IfOk result (λ c. length c.list ≤ code_bound (labels_view s.now)) }
 {
     let placement = assign(alloc, s, slots, x)?;
-    emit(alloc, s, &placement)
+    Ok(emit(alloc, s, &placement)?.code)
 }
 
 /// The code of a form in single use, of at most `store` instructions, with each value in the banks that the 0-1 program

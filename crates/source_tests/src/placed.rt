@@ -93,7 +93,7 @@ fn outcome(alloc: Global, s: &Ssu, p: &Placement) -> Result<Option<Outcome>, NoM
     if !single(s) || size(alloc, s)? > 67_108_864 || !fits(s, p) {
         return Ok(None);
     }
-    let code = emit(alloc, s, p)?;
+    let code = emit(alloc, s, p)?.code;
     let _list = code.list();
     let Ok(mut packet) = Packet::new(alloc, 0, 0) else {
         return Err(NoMemory);

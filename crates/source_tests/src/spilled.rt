@@ -32,7 +32,7 @@ fn in_slots(alloc: Global, s: &Ssu) -> Result<Option<Code>, PlaceError> {
     if !fits(s, &placement) {
         return Ok(None);
     }
-    Ok(Some(emit(alloc, s, &placement)?))
+    Ok(Some(emit(alloc, s, &placement)?.code))
 }
 
 // How code ends on 16 words of SRAM of which the first eight are 1 to 8, and the last eight behind it.

@@ -26,7 +26,7 @@ fn code_of(alloc: Global, s: &Ssu) -> Result<Option<Code>, PlaceError> {
         return Ok(None);
     }
     let placement = spill_all(alloc, s, 8)?;
-    Ok(Some(emit(alloc, s, &placement)?))
+    Ok(Some(emit(alloc, s, &placement)?.code))
 }
 
 // Parameters go by S0 to their slots, operands come by a read register, one of them on to A15, and the sum
