@@ -1,5 +1,5 @@
 -- The placement that has every value in a slot has it nowhere else.
-use Rattle.std.proofs.Common.{ℕ, suc, Bool, true, false, nat_eq, if◌then◌else◌, List, [], ◌∷◌, map, refl, subst}
+use Rattle.std.proofs.Common.{ℕ, suc, Bool, true, false, nat_eq, if◌then◌else◌, List, [], ◌∷◌, map, refl, sym, subst}
 use Rattle.std.specs.Prelude.{All}
 use Rattle.std.specs.List.Sorted.{IsPermutation}
 use Rattle.std.proofs.lemmas.List.Elements.{All-head, All-tail}
@@ -7,16 +7,17 @@ use Rattle.std.proofs.lemmas.List.Sorted.{IsPermutation-map, All-permutation}
 use Rattle.nv_base.specs.declared.term.Mem.{Mem}
 use Rattle.nv_base.specs.declared.term.Mem.TheVariants.{Sram, Sdram, Scratch}
 use Rattle.ssu_ir.specs.Tree.{Label, Lit, Una, Bin, Clone, Read, Write, Does, Forks, Ends}
-use Rattle.ssu_ir.specs.Points.{Place, Entry, At}
+use Rattle.ssu_ir.specs.Points.{Names, Place, Entry, At}
 use Rattle.slot_placement.specs.declared.place.Home.{Home as KeptHome}
+use Rattle.slot_placement.specs.declared.place.Serve.{Serve}
 use Rattle.slot_placement.specs.declared.parts.Given.{Given}
 use Rattle.slot_placement.specs.declared.parts.Parts.{Parts}
 use Rattle.slot_placement.specs.Plan.{Home, home_in, home_view}
-use Rattle.slot_placement.specs.InSlots.{IsInSlot}
-use Rattle.slot_placement.specs.Uses.{Fetched}
+use Rattle.slot_placement.specs.InSlots.{IsInSlot, IsFromSlot}
+use Rattle.slot_placement.specs.Uses.{Fetched, Use, uses_at, place_roles}
 use Rattle.held_values.specs.inner.Numbers.{Numbers}
-use Rattle.slot_placement.specs.inner.Spilled.{slot_number, sort_home}
-use Rattle.slot_placement.specs.inner.Parts.{gather, number_of, used_of, slot_home, fetched_home, fetched_homes, homes_at, AreGathered}
+use Rattle.slot_placement.specs.inner.Spilled.{slot_number, sort_home, use_serve}
+use Rattle.slot_placement.specs.inner.Parts.{gather, number_of, names_of, used_of, place_names, slot_home, fetched_home, fetched_homes, homes_at, serves_at, AreGathered}
 use Rattle.slot_placement.proofs.Sound.{Each, each-append}
 use Rattle.slot_placement.proofs.Spilled.{each-all}
 
@@ -55,6 +56,24 @@ placed-in-slots labels given places parts sorted g perm =
     let homes = map home_view sorted in
     let moved : IsPermutation made homes = subst (λ (l : List Home). IsPermutation l homes) g.homes (IsPermutation-map home_view parts.homes.items sorted perm) in
     All-permutation IsInSlot made homes moved (each-all IsInSlot made (gathered-in-slots (number_of given) (used_of given) 0 places))
+
+-- ---- uses
+
+mapped-from-slots : (labels : List Label) (number : Numbers) (us : List Use) → Each IsFromSlot (map (use_serve labels number) us)
+mapped-from-slots labels number [] = tt
+mapped-from-slots labels number (u ∷ us) = (refl, mapped-from-slots labels number us)
+
+gathered-from-slots : (labels : List Label) (number : Numbers) (of : Names) (k : ℕ) (qs : List Place) → Each IsFromSlot (gather (serves_at labels number of) k qs)
+gathered-from-slots labels number of k [] = tt
+gathered-from-slots labels number of k (q ∷ qs) =
+    each-append IsFromSlot (serves_at labels number of k q) (gather (serves_at labels number of) (suc k) qs) (mapped-from-slots labels number (uses_at k 0 (map of (place_names q)) (place_roles q))) (gathered-from-slots labels number of (suc k) qs)
+
+pub served-from-slots : (labels : List Label) (given : Given) (places : List Place) (parts : Parts) → AreGathered labels given places parts → All IsFromSlot parts.serves.items
+served-from-slots labels given places parts g =
+    let made = gather (serves_at labels (number_of given) (names_of given)) 0 places in
+    subst (λ (l : List Serve). All IsFromSlot l) (sym g.serves) (each-all IsFromSlot made (gathered-from-slots labels (number_of given) (names_of given) 0 places))
+
+-- ---- homes by variables
 
 -- of every variable, also of one that has no home
 home-or : (h rest : Home) (b : Bool) → IsInSlot h → IsInSlot rest → IsInSlot (if b then h else rest)
