@@ -27,7 +27,7 @@ use Rattle.ucode_emit.proofs.Walked.{sequence_there}
 
 -- ---- the weight of the code is that of its items
 
-instr_weight : (places : List ℕ) (i : Item) → weight (instr_of places i) ≡ item_weight i
+pub instr_weight : (places : List ℕ) (i : Item) → weight (instr_of places i) ≡ item_weight i
 instr_weight places (Moved from at) = refl
 instr_weight places (Plain i) = refl
 instr_weight places (Branch c point) = refl
@@ -46,7 +46,7 @@ abbrev marks_cost : Plan → ℕ → List Mark → ℕ
 marks_cost p k [] = 0
 marks_cost p k (q ∷ qs) = place_cost p k q.place + marks_cost p (suc k) qs
 
-abbrev IsLight : List Label → Plan → Sequences → ℕ → Mark → Type 0
+abbrev pub IsLight : List Label → Plan → Sequences → ℕ → Mark → Type 0
 IsLight labels p mss k q = items_weight (point_piece labels p k q (sequence_at mss k)) ≤ place_cost p k q.place
 
 pieces_light : (labels : List Label) (p : Plan) (mss : Sequences) (k : ℕ) (qs : List Mark) → EachFrom (IsLight labels p mss) k qs → items_weight (joined (pieces labels p mss k qs)) ≤ marks_cost p k qs
@@ -57,7 +57,7 @@ pieces_light labels p mss k (q ∷ qs) h =
     let c = h.0 in
     omega (arith, a, b, c)
 
-each_light : (labels : List Label) (p : Plan) (mss : Sequences) → Placed labels p → AreSequences (parallel_moves p labels) mss → EachFrom (IsLight labels p mss) 0 (marks labels)
+pub each_light : (labels : List Label) (p : Plan) (mss : Sequences) → Placed labels p → AreSequences (parallel_moves p labels) mss → EachFrom (IsLight labels p mss) 0 (marks labels)
 each_light labels p mss h r =
     each_of (IsLight labels p mss) (marks labels) (λ k q e.
     let l = slice_get_within (marks labels) k q e in
@@ -92,10 +92,10 @@ by_places : (p : Plan) (k : ℕ) (qs : List Point) → values_cost p (values_fro
 by_places p k [] = refl
 by_places p k (q ∷ qs) = values_both p (place_values k q.place) (values_from (suc k) qs) ∙ ap (λ n. values_cost p (place_values k q.place) + n) (by_places p (suc k) qs)
 
-abbrev point_places : List Point → List Place
+abbrev pub point_places : List Point → List Place
 point_places qs = map (λ q. q.place) qs
 
-abbrev mark_places : List Mark → List Place
+abbrev pub mark_places : List Mark → List Place
 mark_places qs = map (λ q. q.place) qs
 
 -- marks stand for points
@@ -108,7 +108,7 @@ tree_places of above (If c x y t u) =
     ∙ (ap (λ l. mark_places (tree_marks t) ++ l) (tree_places of above u) ∙ sym (map-append (λ (q : Mark). q.place) (tree_marks t) (tree_marks u)))))
 tree_places of above (End l) = refl
 
-all_places : (l : ℕ) (ls : List Label) → point_places (points_from l ls) ≡ mark_places (marks_from l ls)
+pub all_places : (l : ℕ) (ls : List Label) → point_places (points_from l ls) ≡ mark_places (marks_from l ls)
 all_places l [] = refl
 all_places l (x ∷ ls) =
     ap (λ r. Entry l x.params ∷ r)

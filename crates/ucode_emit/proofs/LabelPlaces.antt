@@ -51,7 +51,7 @@ begins_many : (labels : List Label) (p : Plan) (mss : Sequences) (at k : ℕ) (l
 begins_many labels p mss at k [] = refl
 begins_many labels p mss at k (x ∷ ls) = ap suc (begins_many labels p mss (at + length (label_items labels p mss k x)) (suc k + nodes x.body) ls)
 
-label_long : (labels : List Label) (p : Plan) (mss : Sequences) (k : ℕ) (x : Label) → 1 ≤ length (label_items labels p mss k x)
+pub label_long : (labels : List Label) (p : Plan) (mss : Sequences) (k : ℕ) (x : Label) → 1 ≤ length (label_items labels p mss k x)
 label_long labels p mss k x = ends_long (label_items labels p mss k x) (label_ends labels p mss k x)
 
 -- ---- their order

@@ -60,6 +60,8 @@ pub mod Walked
 pub mod CostMoves
 pub mod CostPieces
 pub mod CostWhole
+pub mod CostLabels
+pub mod CostWeighted
 pub mod LengthMoves
 pub mod LengthPieces
 pub mod LengthWhole

@@ -12,6 +12,7 @@ use Rattle.ssu_ir.specs.Entered.{entered}
 use Rattle.ssu_ir.specs.Measures.{size, code_bound}
 use Rattle.ssu_ir.specs.Meaning.{ssu_meaning, ssu_params}
 use Rattle.ssu_ir.specs.Single.{single}
+use Rattle.label_weights.specs.Weighted.{weighted_cost}
 use Rattle.slot_placement.specs.Costs.{cost}
 use Rattle.slot_placement.specs.Fits.{Fits}
 use Rattle.slot_placement.specs.Plan.{Plan}
@@ -21,6 +22,7 @@ use Rattle.ucode_emit.specs.inner.Pieces.{instr_of, items, starts}
 use Rattle.ucode_emit.specs.inner.DraftItems.{settled}
 use Rattle.ucode_emit.specs.inner.Layers.{Placed}
 use Rattle.ucode_emit.specs.inner.Drafted.{AreDrafted, AreEmitted}
+use Rattle.ucode_emit.proofs.CostWeighted.{code_weighted}
 use Rattle.ucode_emit.proofs.CostWhole.{code_light}
 use Rattle.ucode_emit.proofs.Agreeing.{code_agrees}
 use Rattle.ucode_emit.proofs.Layer.{ready_layer}
@@ -84,3 +86,8 @@ pub visited_code : (labels : List Label) (p : Plan) (list : List Instr) (begins 
 visited_code labels p list begins h e =
     subst (λ l. IsVisited (ssu_params labels) (entered labels) l begins) (sym e.code_)
     (subst (λ s. IsVisited (ssu_params labels) (entered labels) (code_of labels p e.mss) s) (sym e.begins_) (code_visited labels p e.mss h e.sequences))
+
+pub weighted_code : (labels : List Label) (p : Plan) (list : List Instr) (begins : List ℕ) → Placed labels p → AreEmitted labels p list begins → (ws : List ℕ) → moves list begins ws ≤ weighted_cost labels ws p
+weighted_code labels p list begins h e ws =
+    subst (λ l. moves l begins ws ≤ weighted_cost labels ws p) (sym e.code_)
+    (subst (λ s. moves (code_of labels p e.mss) s ws ≤ weighted_cost labels ws p) (sym e.begins_) (code_weighted labels p e.mss ws h e.sequences))

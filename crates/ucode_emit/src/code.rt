@@ -1,5 +1,5 @@
 //! The code of a form.
-ghost use Rattle.std.specs.Prelude.{◌≡◌, ◌≤◌, ◌^◌, [], true, length, IfOk};
+ghost use Rattle.std.specs.Prelude.{◌≡◌, ◌≤◌, ◌^◌, ℕ, List, [], true, length, IfOk};
 ghost use Rattle.uc_isa.specs.Agrees.{Agrees};
 ghost use Rattle.uc_isa.specs.Lawful.{IsLawful};
 ghost use Rattle.uc_isa.specs.Moves.{moves};
@@ -10,6 +10,7 @@ ghost use Rattle.ssu_ir.specs.Measures as measures;
 ghost use Rattle.ssu_ir.specs.Meaning.{ssu_meaning, ssu_params};
 ghost use Rattle.ssu_ir.specs.Single.{single};
 ghost use Rattle.ssu_ir.specs.View.{labels_view};
+ghost use Rattle.label_weights.specs.Weighted.{weighted_cost};
 ghost use Rattle.slot_placement.specs.Costs.{cost};
 ghost use Rattle.slot_placement.specs.Fits.{Fits};
 ghost use Rattle.slot_placement.specs.Plan.{plan_view};
@@ -71,6 +72,8 @@ pub fn emit(alloc: Global, s: &Ssu, p: &Placement) -> Result<Emitted, NoMemory>
     ensures operations { IfOk result (λ e. code_operations e.code.list ≡ form_operations (labels_view s.now)) }
     ensures agrees { IfOk result (λ e. Agrees (ssu_params (labels_view s.now)) (ssu_meaning (labels_view s.now)) e.code) }
     ensures light { IfOk result (λ e. moves e.code.list [] [] ≤ cost (labels_view s.now) (plan_view p.now)) }
+    // The same where labels have weights.
+    ensures weighted { IfOk result (λ e. (ws : List ℕ) → moves e.code.list e.starts.items ws ≤ weighted_cost (labels_view s.now) ws (plan_view p.now)) }
     ensures short { IfOk result (λ e. length e.code.list ≤ measures.code_bound (labels_view s.now)) }
     ensures starts { IfOk result (λ e. AreStarts (length (labels_view s.now)) e.code.list e.starts.items) }
     // The engine comes to the start of a label as often as the form's run enters the label.

@@ -7,12 +7,13 @@ use Rattle.ssu_ir.specs.Entered.{entered}
 use Rattle.ssu_ir.specs.Meaning.{ssu_params}
 use Rattle.ssu_ir.specs.Measures.{code_bound}
 use Rattle.ssu_ir.specs.View.{labels_view}
+use Rattle.label_weights.specs.Weighted.{weighted_cost}
 use Rattle.slot_placement.specs.Costs.{cost}
 use Rattle.slot_placement.specs.Plan.{plan_view}
 use Rattle.ucode_emit.specs.Operations.{code_operations, form_operations}
 use Rattle.ucode_emit.specs.SpillBase.{SpillsByBase}
 use Rattle.ucode_emit.specs.inner.Drafted.{AreEmitted}
-use Rattle.ucode_emit.proofs.Whole.{some_code, few_code, short_code, light_code, lawful_code, based_code, doing_code, agreeing_code, starts_code, visited_code, placed}
+use Rattle.ucode_emit.proofs.Whole.{some_code, few_code, short_code, light_code, lawful_code, based_code, doing_code, agreeing_code, starts_code, visited_code, weighted_code, placed}
 use Rattle.ucode_emit.proofs.code.emit.Goals as goal
 
 pub new-requires-clause-some : goal.new-requires-clause-some
@@ -60,3 +61,10 @@ returns-clause-visited c =
     let labels = labels_view c.args.s.now in
     subst (λ l. IsVisited (ssu_params labels) (entered labels) l c.in_ok-list.starts.items) (sym c.new.ensures.list)
     (visited_code labels (plan_view c.args.p.now) c.in_ok-list.list.items c.in_ok-list.starts.items (placed c.requires.single c.requires.fits) c.in_ok-list.ensures)
+
+pub returns-clause-weighted : goal.returns-clause-weighted
+returns-clause-weighted c ws =
+    let labels = labels_view c.args.s.now in
+    let p = plan_view c.args.p.now in
+    subst (λ l. moves l c.in_ok-list.starts.items ws ≤ weighted_cost labels ws p) (sym c.new.ensures.list)
+    (weighted_code labels p c.in_ok-list.list.items c.in_ok-list.starts.items (placed c.requires.single c.requires.fits) c.in_ok-list.ensures ws)
