@@ -1,6 +1,7 @@
 -- A pass, place by place.
-use Rattle.std.proofs.Common.{◌≡◌, ◌≢◌, ℕ, suc, ◌+◌, ◌-◌, ◌<◌, ◌≤◌, ◌⊎◌, inl, inr, ⊎_elim, Bool, true, false, List, length, get_or, set, Some, None, take, drop, refl, sym, ap, ◌∙◌, subst, arith, length-set, get_or-set_same, get_or-set_other}
+use Rattle.std.proofs.Common.{◌≡◌, ◌≢◌, ℕ, suc, ◌+◌, ◌-◌, ◌<◌, ◌≤◌, ◌⊎◌, inl, inr, ⊎_elim, Bool, true, false, List, length, get_or, set, Some, None, take, drop, refl, sym, ap, ◌∙◌, subst, arith, length-set, get_or-set_same, get_or-set_other, nat_eq}
 use Rattle.std.specs.Prelude.{slice_get}
+use Rattle.std.proofs.lemmas.Bool.Decides.{eqb_tells}
 use Rattle.std.proofs.lemmas.Bool.{false≢true, cases_lt}
 use Rattle.std.proofs.lemmas.Option.{slice_get-get_or, get_or_from_slice_get}
 use Rattle.uc_isa.specs.declared.instruction.Instr.{Instr}
@@ -38,6 +39,26 @@ closed-after draft draft' sets sets' p k some closed out entry fresh within x i 
         }
     by (inr (d, lt, e)) = fresh.inside x i (omega arith) (omega arith) at
 
+-- sets of which one is given anew, and has no more than before
+pub closed-renewed : (code : List Instr) (sets : List ℕ) (p b : ℕ) (d : Instr) → p < length sets → IsBefore (get_or code p d) p sets b → IsWithin b (get_or sets p 0) → IsClosed code sets → IsClosed code (set sets p b)
+closed-renewed code sets p b d inside before within closed x i at = by (eqb_tells x p)
+  where
+    old-set : (y : ℕ) (s : Spot) → IsSpot s → has (get_or (set sets p b) y 0) s ≡ true → has (get_or sets y 0) s ≡ true
+    old-set y s h t = ⊎_elim
+        (λ (e : (nat_eq y p ≡ true) × (y ≡ p)). ap (λ n. has (get_or sets n 0) s) e.1 ∙ within s h (ap (λ n. has n s) (sym (ap (λ n. get_or (set sets p b) n 0) e.1 ∙ get_or-set_same sets p b 0 inside)) ∙ t))
+        (λ (e : (nat_eq y p ≡ false) × (y ≢ p)). ap (λ n. has n s) (sym (get_or-set_other sets p y b 0 e.1)) ∙ t)
+        (eqb_tells y p)
+
+    more : (new : ℕ) → Covers i x sets new → Covers i x (set sets p b) new
+    more new old = record { needs = old.needs; passes = λ s y h w n t. old.passes s y h w n (old-set y s h t) }
+
+    by : ((nat_eq x p ≡ true) × (x ≡ p)) ⊎ ((nat_eq x p ≡ false) × (x ≢ p)) → Covers i x (set sets p b) (get_or (set sets p b) x 0)
+    by (inl e) =
+        let new : get_or (set sets p b) x 0 ≡ b = ap (λ n. get_or (set sets p b) n 0) e.1 ∙ get_or-set_same sets p b 0 inside in
+        let is : get_or code p d ≡ i = get_or_from_slice_get code p i d (ap (slice_get code) (sym e.1) ∙ at) in
+        subst (Covers i x (set sets p b)) (sym new) (more b (subst (λ n. Covers i n sets b) (sym e.1) (subst (λ j. Covers j p sets b) is before.covers)))
+    by (inr e) = subst (Covers i x (set sets p b)) (sym (get_or-set_other sets p x b 0 e.1)) (more (get_or sets x 0) (closed x i at))
+
 -- ---- a turn
 
 module _ (answers : Answers) (code : List Instr) (starts : List ℕ) (entered started gone0 : List Bool) (sets0 : List ℕ) where
@@ -67,6 +88,24 @@ module _ (answers : Answers) (code : List Instr) (starts : List ℕ) (entered st
           (subst (λ l. answers (take k (drop p code)) (get_or l (p + k) 0) None) d
           (subst (λ l. answers (take k (drop p l)) (get_or sets (p + k) 0) None) a
           (none k some few (subst (λ l. MayReplace l gone entered started p k) (sym a) (subst (λ l. MayReplace code l entered started p k) (sym b) (subst (λ n. MayReplace code gone0 entered started n k) e may))))))
+
+  -- the same where the sets are given anew
+  pub turn-renews : (draft : List Instr) (gone : List Bool) (sets sets' : List ℕ) (changed : Bool) (p : ℕ) → IsPassing answers code starts entered started gone0 sets0 draft gone sets changed (suc p)
+      → ((k : ℕ) → 1 ≤ k → k < 5 → MayReplace draft gone entered started p k → answers (take k (drop p draft)) (get_or sets (p + k) 0) None)
+      → length sets' ≡ length sets → (IsClosed draft sets → IsClosed draft sets') → (changed ≡ false → sets' ≡ sets)
+      → IsPassing answers code starts entered started gone0 sets0 draft gone sets' changed p
+  turn-renews draft gone sets sets' changed p h none size closed keep =
+      let a = turn-stays draft gone sets changed p h none in
+      record {
+        marks = a.marks;
+        drafted = a.drafted;
+        size_sets = size ∙ a.size_sets;
+        untouched = a.untouched;
+        closed = closed a.closed;
+        fewer = a.fewer;
+        same = λ e. let s = a.same e in (s.0, s.1, keep e ∙ s.2);
+        settled = a.settled;
+      }
 
   replacement : (draft draft' : List Instr) (gone gone' : List Bool) (sets : List ℕ) (changed : Bool) (p k : ℕ) (as' : List Instr) → IsPassing answers code starts entered started gone0 sets0 draft gone sets changed (suc p) → 1 ≤ k
       → MayReplace draft gone entered started p k → IsShorter (take k (drop p draft)) (get_or sets (p + k) 0) as' → IsPut p k as' draft draft' gone gone' → IsReplacement code starts entered started draft draft' gone gone' (get_or sets (p + k) 0) p k as'

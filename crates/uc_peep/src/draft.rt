@@ -43,6 +43,25 @@ fn refresh(code: &[Instr], sets: &mut [LiveSet], p: usize, k: usize) -> bool
     new.is_within(&old)
 }
 
+// Where something was replaced: gives p the set of what its instruction needs, if all that is in it was there before.
+fn renew(code: &[Instr], sets: &mut [LiveSet], p: usize, changed: bool)
+    requires lawful { IsProgram code.now }
+    requires sets { length sets.old ≡ length code.now }
+    requires inside { p < length code.now }
+    ensures size { length sets.new ≡ length sets.old }
+    ensures closed { IsClosed code.now sets.old → IsClosed code.now sets.new }
+    ensures same { changed ≡ false → sets.new ≡ sets.old }
+{
+    if !changed {
+        return;
+    }
+    let old = sets[p];
+    let new = before(&code[p], p, sets);
+    if new.is_within(&old) {
+        sets[p] = new;
+    }
+}
+
 // Replaces a window at p by the rule's answer, where there is one.
 fn replace_at<R: Window>(
     r: &R,
@@ -72,7 +91,10 @@ fn replace_at<R: Window>(
             }
             Turn::Stops
         }
-        None => Turn::Stays,
+        None => {
+            renew(code, sets, p, changed);
+            Turn::Stays
+        }
     }
 }
 
