@@ -37,11 +37,11 @@ use Rattle.zo_cert.specs.declared.report.Report.{Report}
 use Rattle.zo_cert.specs.declared.report.Verdict.{Verdict}
 use Rattle.zo_cert.specs.declared.report.Verdict.TheVariants as verdict
 use Rattle.zo_leaf.proofs.Duality.{proves_holds}
-use Rattle.nova_back.specs.Causes.{IsCodeOf, IsReportOn, IsWithout, IsCause, IsLong, HasVector, report_cost}
+use Rattle.nova_back.specs.Causes.{IsCodeOf, IsReportOn, IsWithout, HasLargeProgram, IsCause, IsLong, HasVector, report_cost}
 use Rattle.nova_back.specs.declared.error.BackError.{BackError}
 use Rattle.nova_back.specs.declared.error.BackError.TheVariants as back
 use Rattle.nova_commands.specs.Building.{IsFormCause}
-use Rattle.nova_commands.specs.Forms.{IsCodeFor, IsFormOf, HasBanks, HasLargeBanks, HasNoBanks, HasLongCode}
+use Rattle.nova_commands.specs.Forms.{form_bound, IsCodeFor, IsFormOf, HasBanks, HasLargeBanks, HasNoBanks, HasLongCode}
 use Rattle.nova_commands.specs.inner.Telling.{IsHandedAs}
 use Rattle.nova_commands.specs.declared.build.CompileError.{CompileError}
 use Rattle.nova_commands.specs.declared.build.CompileError.TheVariants as compile
@@ -114,8 +114,11 @@ banks-of p labels slots budget c r form report found light cheap = record {
 
 -- ---- why there is none
 
-large : (p : ProgramTree) (labels : List Label) (slots n : ℕ) → IsFormOf p labels → IsTooLarge labels slots n → HasLargeBanks p slots n
-large p labels slots n form h = (labels, form, h)
+bounded-by : (n s b : ℕ) → n ≤ 64 * s → s ≤ b → n ≤ 64 * b
+bounded-by n s b h le = omega (arith, h, le)
+
+large : (p : ProgramTree) (labels : List Label) (slots n : ℕ) → IsFormOf p labels → HasLargeProgram labels slots n → HasLargeBanks p slots n
+large p labels slots n form h = record { form = labels; is_form = form; large = h.0; bounded = bounded-by n (size labels) (form_bound p) h.1 form.small }
 
 pub fewer : (s k r : ℕ) → s < k → k ≤ r → s < r
 fewer s k r lt le = omega arith

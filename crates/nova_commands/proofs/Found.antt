@@ -37,6 +37,7 @@ built-made text object_name report_name object report slots budget store t files
     agrees = h.code.agrees;
     number = refl;
     short = h.short;
+    brief = h.brief;
     reports = reports;
     banks = h.banks;
   };

@@ -78,6 +78,7 @@ generated-by seed size bytes line t long instructions word is h counted number m
   c = t.built.code;
   code = h.code;
   short = h.short;
+  brief = h.brief;
   r = t.built.report;
   banks = h.banks;
   word = word;

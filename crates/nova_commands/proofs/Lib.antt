@@ -7,3 +7,4 @@ pub mod Generated
 pub mod Loads
 pub mod Saves
 pub mod Found
+pub mod Complete

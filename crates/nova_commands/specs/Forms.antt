@@ -1,5 +1,5 @@
 -- The forms in single use of a program, their banks and its code, and why it has none.
-use Rattle.std.specs.Prelude.{◌≡◌, ◌≤◌, ◌<◌, ◌+◌, ◌*◌, ◌^◌, ℕ, Bool, true, List, [], length}
+use Rattle.std.specs.Prelude.{◌≡◌, ◌≤◌, ◌<◌, ◌+◌, ◌*◌, ◌^◌, ◌⊎◌, ℕ, Bool, true, List, [], length}
 use Rattle.nv_ast.specs.Sizes.{expanded_size, main_words, room}
 use Rattle.nv_ast.specs.Tree.{ProgramTree}
 use Rattle.nv_base.specs.Meanings.{KeepsOutcomes}
@@ -24,6 +24,10 @@ use Rattle.nova_back.specs.Causes.{IsReportOn, IsWithout, HasVector, report_cost
 -- what bounds the size of a program's form, and the length of its code
 abbrev pub form_bound : ProgramTree → ℕ
 form_bound program = 48 * (expanded_size program * (room program + 8))
+
+-- what bounds the columns and the rows of the program of its banks, each: 64 for each unit of the form's size
+abbrev pub banks_bound : ProgramTree → ℕ
+banks_bound program = 64 * form_bound program
 
 -- a form in single use that has the program's outcomes, and keeps to its bounds
 pub record IsFormOf (program : ProgramTree) (labels : List Label) : Type 0 where
@@ -52,8 +56,17 @@ pub record HasBanks (program : ProgramTree) (slots budget : ℕ) (code : CodeVie
   pub cheap : peak form ≤ 15 → report_cost r ≤ 2 * length (values form) + length (uses form)
 
 -- the program of the banks of a form of the program has so many columns, or else rows, and more than fit
-abbrev pub HasLargeBanks : ProgramTree → ℕ → ℕ → Type 0
-HasLargeBanks program slots n = (labels : List Label) × IsFormOf program labels × IsTooLarge labels slots n
+pub record HasLargeBanks (program : ProgramTree) (slots n : ℕ) : Type 0 where
+  pub form : List Label
+  pub is_form : IsFormOf program form
+  pub large : IsTooLarge form slots n
+  pub bounded : n ≤ banks_bound program
+
+-- no program of the banks of a form of the program is too large: the bound fits, or else all columns and all rows do
+abbrev pub HasSmallBanks : ProgramTree → ℕ → Type 0
+HasSmallBanks program slots =
+    (banks_bound program ≤ 2 ^ 26)
+    ⊎ ((form : List Label) → IsFormOf program form → (length (columns form) ≤ 2 ^ 26) × (length (rows form slots) ≤ 2 ^ 26))
 
 -- The report is on the banks of a form of the program, has no vector, and says why. The form holds more values at once than there are
 -- slots, so the program has more room.

@@ -1,5 +1,5 @@
 -- What the command `gen` prints, and why it is refused.
-use Rattle.std.specs.Prelude.{◌≡◌, ◌≤◌, ◌⊎◌, ℕ, List, [], ◌∷◌, ◌++◌, codes, decimal, length}
+use Rattle.std.specs.Prelude.{◌≡◌, ◌≤◌, ◌^◌, ◌⊎◌, ℕ, List, [], ◌∷◌, ◌++◌, codes, decimal, length}
 use Rattle.line_text.specs.Number.{hex_word}
 use Rattle.made_source.specs.Made.{made}
 use Rattle.nv_ast.specs.Tree.{ProgramTree}
@@ -11,7 +11,7 @@ use Rattle.nova_front.specs.Sources.{IsTypedSource}
 use Rattle.zo_cert.specs.declared.report.Report.{Report}
 use Rattle.zo_cert.specs.declared.report.Verdict.{Verdict}
 use Rattle.nova_back.specs.Causes.{report_cost}
-use Rattle.nova_commands.specs.Forms.{IsCodeFor, HasBanks}
+use Rattle.nova_commands.specs.Forms.{form_bound, banks_bound, IsCodeFor, HasBanks}
 use Rattle.nova_commands.specs.Headline.{IsUnfit}
 use Rattle.command_line.specs.Limits.{slots_limit, budget_default, store_limit}
 use Rattle.command_line.specs.Lines.{verdict_name, refusal_status, refusal_text}
@@ -37,6 +37,7 @@ pub record IsGenerated (seed size : ℕ) (line : List ℕ) : Type 0 where
   pub c : CodeView
   pub code : IsCodeFor program c
   pub short : length c.list ≤ store_limit
+  pub brief : length c.list ≤ form_bound program
   pub r : Report
   pub banks : HasBanks program slots_limit budget_default c r
   pub word : ℕ
@@ -46,6 +47,10 @@ pub record IsGenerated (seed size : ℕ) (line : List ℕ) : Type 0 where
 -- the program of the text isn't compiled
 abbrev pub GenRefuses : ℕ → ℕ → Refusal → Type 0
 GenRefuses seed size e = HasTyped (made seed size) (λ program. IsUnfit program slots_limit store_limit e)
+
+-- the program of the text is so small that the program of its banks fits, and so its code does
+abbrev pub IsSmallMade : ℕ → ℕ → Type 0
+IsSmallMade seed size = HasTyped (made seed size) (λ program. banks_bound program ≤ 2 ^ 26)
 
 -- the line was printed, or why it is refused, or the sink or memory failed
 abbrev pub EndsGenerated : ℕ → ℕ → Status → Type 0 → List ℕ → List ℕ → Type 0

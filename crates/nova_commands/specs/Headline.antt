@@ -14,7 +14,7 @@ use Rattle.zo_cert.specs.declared.report.Verdict.TheVariants as verdict
 use Rattle.nova_back.specs.Causes.{report_cost}
 use Rattle.nova_front.specs.Sources.{IsTypedSource}
 use Rattle.nova_commands.specs.Checking.{IsReportOf}
-use Rattle.nova_commands.specs.Forms.{form_bound, HasBanks, HasLargeBanks, HasNoBanks, HasLongCode}
+use Rattle.nova_commands.specs.Forms.{form_bound, HasBanks, HasSmallBanks, HasLargeBanks, HasNoBanks, HasLongCode}
 use Rattle.command_line.specs.Lines.{compiled_text, infeasible_text, spent_text}
 use Rattle.command_line.specs.Limits.{source_limit}
 use Rattle.nova_commands.specs.Reading.{HasTyped, SourceRefuses}
@@ -38,6 +38,7 @@ pub record IsCompiledTo (text object report : List ℕ) (slots budget store inst
   pub agrees : Agrees (main_words program) (source program) code
   pub number : instructions ≡ length code.list
   pub short : instructions ≤ store
+  pub brief : instructions ≤ form_bound program
   pub reports : IsReportOf report r
   pub banks : HasBanks program slots budget code r
 
@@ -126,3 +127,24 @@ IsEndOf program slots store ends.Infeasible = slots < room program
 IsEndOf program slots store ends.BudgetSpent = slots < room program
 IsEndOf program slots store ends.StoreFull = store < form_bound program
 IsEndOf program slots store _ = ⊥
+
+-- ---- what must be compiled
+
+-- A text of a typed program is held under this name, which isn't too long. The program of its banks isn't too large, and the slots and the
+-- store hold all that the program's sizes may want.
+pub record IsCompilable (held : Holding) (source_name : List ℕ) (slots store : ℕ) : Type 0 where
+  pub text : List ℕ
+  pub here : held source_name ≡ Some text
+  pub short : length text ≤ source_limit
+  pub program : ProgramTree
+  pub is_source : IsTypedSource text program
+  pub banks : HasSmallBanks program slots
+  pub room_in_slots : room program ≤ slots
+  pub code_in_store : form_bound program ≤ store
+
+-- no count of faults rose that `compile` can raise: of loads of the source, of saves of the object and of the report, of the sink
+pub record IsUndisturbed (LoadRises SaveRises : List ℕ → Type 0) (PutFailed : Type 0) (source_name object_name report_name : List ℕ) : Type 0 where
+  pub source : ¬ LoadRises source_name
+  pub object : ¬ SaveRises object_name
+  pub report : ¬ SaveRises report_name
+  pub sink : ¬ PutFailed

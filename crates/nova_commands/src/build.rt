@@ -10,7 +10,7 @@ ghost use Rattle.uc_isa.specs.Moves.{moves};
 ghost use Rattle.nova_back.specs.Causes.{IsReportOn, HasVector, report_cost};
 ghost use Rattle.nova_front.specs.Sources.{IsTypedSource};
 ghost use Rattle.nova_commands.specs.Building.{IsCompileCause, IsFormCause, IsTextCause};
-ghost use Rattle.nova_commands.specs.Forms.{IsCodeFor, IsFormOf, HasBanks};
+ghost use Rattle.nova_commands.specs.Forms.{form_bound, IsCodeFor, IsFormOf, HasBanks};
 
 use nova_back::{BackError, Built, back};
 use nova_front::{FrontError, front};
@@ -110,6 +110,7 @@ pub fn compile_text(
     ensures form { IfOk result (λ t. IsFormOf (typed_program t.typed) (labels_view t.built.ssu)) }
     ensures code { IfOk result (λ t. IsCodeFor (typed_program t.typed) t.built.code) }
     ensures short { IfOk result (λ t. length t.built.code.list ≤ store) }
+    ensures brief { IfOk result (λ t. length t.built.code.list ≤ form_bound (typed_program t.typed)) }
     ensures report { IfOk result (λ t. IsReportOn (labels_view t.built.ssu) slots budget t.built.report) }
     ensures found { IfOk result (λ t. HasVector t.built.report.verdict) }
     ensures light { IfOk result (λ t. moves t.built.code.list [] [] ≤ report_cost t.built.report) }

@@ -7,7 +7,7 @@ use Rattle.zo_cert.specs.declared.report.Report.{Report}
 use Rattle.zo_cert.specs.declared.report.Verdict.{Verdict}
 use Rattle.zo_cert.specs.declared.report.Verdict.TheVariants as verdict
 use Rattle.nova_front.specs.Sources.{IsTypedSource}
-use Rattle.nova_commands.specs.Forms.{IsCodeFor, HasBanks, HasNoBanks}
+use Rattle.nova_commands.specs.Forms.{form_bound, IsCodeFor, HasBanks, HasNoBanks}
 use Rattle.nova_commands.specs.declared.build.Compiled.{Compiled}
 use Rattle.nova_commands.specs.declared.build.CompileError.{CompileError}
 use Rattle.nova_commands.specs.declared.build.CompileError.TheVariants as compile
@@ -22,6 +22,7 @@ pub record IsBuilt (text : List ℕ) (slots budget store : ℕ) (t : Compiled) :
   pub is_source : IsTypedSource text (typed_program t.typed)
   pub code : IsCodeFor (typed_program t.typed) t.built.code
   pub short : length t.built.code.list ≤ store
+  pub brief : length t.built.code.list ≤ form_bound (typed_program t.typed)
   pub banks : HasBanks (typed_program t.typed) slots budget t.built.code t.built.report
 
 -- the text has a typed program, and the report says with this verdict why no banks were found for it

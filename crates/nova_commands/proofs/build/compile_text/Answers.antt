@@ -1,4 +1,5 @@
 use Rattle.std.proofs.Common.{sym, subst}
+use Rattle.std.proofs.Math.Nat.{le_trans}
 use Rattle.std.proofs.lemmas.Result.{err_from_is_err_and}
 use Rattle.nv_ast.specs.TypedView.{typed_program}
 use Rattle.ssu_ir.specs.View.{labels_view}
@@ -36,6 +37,11 @@ pub returns-clause-code : goal.returns-clause-code
 returns-clause-code c =
     let form : IsFormOf (typed_program c.in_ok-typed.typed) (labels_view c.in_ok-form.form) = form-of _ c.in_ok-typed.flat.funs.items c.in_ok-typed.flat.main _ c.in_ok-typed.flat.formed c.in_ok-typed.ensures.kept c.in_ok-typed.ensures.wide c.in_ok-typed.ensures.bulk c.in_ok-form.ensures.single c.in_ok-form.ensures.kept c.in_ok-form.ensures.peak c.in_ok-form.ensures.size c.in_ok-form.ensures.code in
     code-for _ _ _ form c.in_ok-built.ensures.code
+
+pub returns-clause-brief : goal.returns-clause-brief
+returns-clause-brief c =
+    let form : IsFormOf (typed_program c.in_ok-typed.typed) (labels_view c.in_ok-form.form) = form-of _ c.in_ok-typed.flat.funs.items c.in_ok-typed.flat.main _ c.in_ok-typed.flat.formed c.in_ok-typed.ensures.kept c.in_ok-typed.ensures.wide c.in_ok-typed.ensures.bulk c.in_ok-form.ensures.single c.in_ok-form.ensures.kept c.in_ok-form.ensures.peak c.in_ok-form.ensures.size c.in_ok-form.ensures.code in
+    le_trans c.in_ok-built.ensures.brief form.brief
 
 pub returns-clause-report : goal.returns-clause-report
 returns-clause-report c = rw c.in_ok-built.ensures.form c.in_ok-built.ensures.report

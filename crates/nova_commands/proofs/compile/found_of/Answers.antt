@@ -12,5 +12,6 @@ returns-in-Ok-clause-found c = record {
   is_source = c.in-Ok.ensures.program;
   code = c.in-Ok.ensures.code;
   short = c.in-Ok.ensures.short;
+  brief = c.in-Ok.ensures.brief;
   banks = c.in-Ok.ensures.banks;
 }
