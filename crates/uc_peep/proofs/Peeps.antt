@@ -17,7 +17,7 @@ use Rattle.uc_peep.proofs.Replaced.{all-at, gone-cases, length-text, next-cases,
 use Rattle.uc_peep.specs.Draft.{Answers, AreMarked, AreSettledFrom, IsDraft, IsQuiet, MayReplace}
 use Rattle.uc_peep.specs.Kept.{compacted, is_gone, kept_before}
 use Rattle.uc_peep.specs.Liveness.{IsLiveAt}
-use Rattle.uc_peep.specs.Peeped.{IsKept, IsSettled}
+use Rattle.uc_peep.specs.Becomes.{IsKept, IsSettled}
 use Rattle.uc_peep.specs.Window.{IsPinned, IsWindow, filler}
 use Rattle.uc_runs.proofs.Costs.{label-moved}
 use Rattle.uc_runs.proofs.Following.{agrees-back, agrees-there, follows-refl, follows-trans}

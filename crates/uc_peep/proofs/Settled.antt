@@ -4,7 +4,7 @@ use Rattle.std.specs.Prelude.{IfOk}
 use Rattle.uc_isa.specs.declared.instruction.Instr.{Instr}
 use Rattle.uc_peep.specs.Draft.{Answers}
 use Rattle.uc_peep.specs.Needless.{HasNoNeedless, dead_rule, idle_rule, back_rule}
-use Rattle.uc_peep.specs.Peeped.{IsPeeped}
+use Rattle.uc_peep.specs.Becomes.{IsPeeped}
 use Rattle.uc_peep.specs.Rules.{IsSomeOf}
 
 pub if-ok-map : {X E : Type 0} (o : Result X E) (P Q : X → Type 0) → ((x : X) → P x → Q x) → IfOk o P → IfOk o Q

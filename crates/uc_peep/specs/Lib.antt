@@ -4,5 +4,5 @@ pub mod Window
 pub mod Kept
 pub mod Rules
 pub mod Draft
-pub mod Peeped
+pub mod Becomes
 pub mod Needless

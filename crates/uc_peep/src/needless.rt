@@ -4,7 +4,7 @@ ghost use Rattle.std.specs.Prelude.{◌≡◌, ◌&&◌, ◌||◌, ◌↔◌, no
 ghost use Rattle.uc_isa.specs.Agrees.{Agrees, SourceMeaning};
 ghost use Rattle.uc_isa.specs.Lawful.{IsLawful};
 ghost use Rattle.uc_runs.specs.Starts.{AreInside};
-ghost use Rattle.uc_peep.specs.Peeped.{IsKept};
+ghost use Rattle.uc_peep.specs.Becomes.{IsKept};
 ghost use Rattle.uc_peep.specs.Needless as spec;
 ghost use Rattle.uc_peep.specs.Needless.{HasNoNeedless, back_rule, dead_rule, has_flag, idle_rule, is_same};
 

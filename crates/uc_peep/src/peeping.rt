@@ -7,7 +7,7 @@ ghost use Rattle.uc_runs.specs.Program.{IsProgram};
 ghost use Rattle.uc_runs.specs.Starts.{AreInside};
 ghost use Rattle.uc_peep.specs.Kept.{is_gone};
 ghost use Rattle.uc_peep.specs.Liveness.{IsClosed, IsLiveAt};
-ghost use Rattle.uc_peep.specs.Peeped.{IsPeeped, IsRound};
+ghost use Rattle.uc_peep.specs.Becomes.{IsPeeped, IsRound};
 
 use crate::LiveSet;
 use crate::compacting::{compact, counts, mark_entered, mark_starts, move_starts};

@@ -1,5 +1,5 @@
 use Rattle.std.proofs.Common.{Some, subst}
-use Rattle.uc_peep.specs.Peeped.{IsKept, IsRound}
+use Rattle.uc_peep.specs.Becomes.{IsKept, IsRound}
 use Rattle.uc_peep.proofs.Peeps.{kept-refl, kept-trans}
 use Rattle.uc_peep.proofs.peeping.peep_list.Goals as goal
 

@@ -1,5 +1,5 @@
 use Rattle.std.proofs.Common.{length}
-use Rattle.uc_peep.specs.Peeped.{IsKept}
+use Rattle.uc_peep.specs.Becomes.{IsKept}
 use Rattle.uc_peep.proofs.peeping.peep_list.Given as goal
 
 abbrev pub invariant-rounds : goal.invariant-rounds
