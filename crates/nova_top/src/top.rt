@@ -6,9 +6,9 @@ ghost use Rattle.nova_commands.specs.Calling.{calls_of};
 ghost use Rattle.nv_outside.specs.Holding.{AppendsFront};
 ghost use Rattle.nova_commands.specs.Answers.{Shows, Ends, IsCaused, IsDone, IsStopped, CanMake, CanEnd, IsRefusable, IsPrinted, IsBegun, IsFree, IsOnly};
 ghost use Rattle.command_line.specs.Command.{command_of, texts_of, outputs_of, SomeFile, IfCommand, IfCompile, IfGen, ForCommand};
-ghost use Rattle.nova_commands.specs.Generating.{EndsGenerated};
+ghost use Rattle.nova_commands.specs.Generating.{EndsGenerated, IsSmallMade};
 ghost use Rattle.command_line.specs.inner.Words.{command_as, HasLimits};
-ghost use Rattle.nova_commands.specs.Headline.{IsCompiled, IfWithout, IsReported};
+ghost use Rattle.nova_commands.specs.Headline.{IsCompiled, IfWithout, IsReported, IsCompilable, IsUndisturbed};
 ghost use Rattle.command_line.specs.Lines.{IsUncaused, usage_text, cannot_read, cannot_write, refusal_status, refusal_text};
 ghost use Rattle.nova_commands.specs.Loading.{AreRead, inputs_of, StopsAt};
 ghost use Rattle.object_commands.specs.Saving.{IsSameBut};
@@ -60,6 +60,12 @@ pub fn run<F: Files, K: Sink>(
     // verdict of a true report on its banks with the cost, and the word that the program means; or why the program isn't
     // compiled. Only the sink and memory keep it from that.
     ensures generated { IfGen (command_of (texts_of words.now)) (λ seed size. EndsGenerated seed size result K.tells (K.written out.old) (K.written out.new)) }
+
+    // Completeness: a source that is held and keeps to the limits is compiled, where there are as many slots as its program has
+    // room, and store for what its sizes may want. Only the three files, the sink and memory keep `compile` from that, and only
+    // the sink and memory `gen` on a small program.
+    ensures complete { F.tells → IfCompile (command_of (texts_of words.now)) (λ source object report slots budget store. IsCompilable (F.held files.old) source slots store → IsUndisturbed (λ q. Rose (F.load_faults files.old q) (F.load_faults files.new q)) (λ q. Rose (F.save_faults files.old q) (F.save_faults files.new q)) (Rose (K.faults out.old) (K.faults out.new)) source object report → (result ≡ Status.Done) ⊎ (result ≡ Status.NoMemory)) }
+    ensures made { IfGen (command_of (texts_of words.now)) (λ seed size. IsSmallMade seed size → ¬ Rose (K.faults out.old) (K.faults out.new) → (result ≡ Status.Done) ⊎ (result ≡ Status.NoMemory)) }
 
     // What the command made of the contents of its inputs and saved, or why it is refused, and the text that was printed. A
     // store that tells holds these contents; over every other the answer is that for some contents.

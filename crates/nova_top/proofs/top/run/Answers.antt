@@ -1,8 +1,9 @@
-use Rattle.std.proofs.Common.{◌≡◌, ℕ, List, ap, subst}
+use Rattle.std.proofs.Common.{◌≡◌, ℕ, List, ◌++◌, refl, ap, subst}
 use Rattle.nv_outside.specs.Causes.{Rose}
 use Rattle.nv_outside.specs.Holding.{AppendsFront}
 use Rattle.command_line.specs.Command.{command_of, texts_of}
-use Rattle.command_line.specs.Lines.{usage_text}
+use Rattle.command_line.specs.Lines.{usage_text, cannot_read, cannot_write}
+use Rattle.nova_top.proofs.Completeness.{complete, made-complete, memory-complete, memory-made}
 use Rattle.nova_top.proofs.Printing.{compiled, reported, generated, memory-generated, printed, begun, only-refused, only-shown, only-made, read-fault, write-fault, unchanged, elsewhere, all-same, memory-printed}
 use Rattle.command_line.proofs.Names.{words-apart}
 use Rattle.nova_top.proofs.top.run.Goals as goal
@@ -81,3 +82,24 @@ returns-in-Err-clause-answered g c = λ _.
 pub returns-in-Err-clause-elsewhere : goal.returns-in-Err-clause-elsewhere
 returns-in-Err-clause-elsewhere g c = λ t.
     all-same (g.F.Files.held c.args.files.now) (g.F.Files.held c.reply.new.files) (command_of (texts_of c.args.words.now)) c.in-Err.ensures.held
+
+pub returns-in-Ok-clause-complete : goal.returns-in-Ok-clause-complete
+returns-in-Ok-clause-complete g c = λ t.
+    complete g.F.Files.tells (g.F.Files.held c.args.files.now) (λ (q : List ℕ). Rose (g.F.Files.load_faults c.args.files.now q) (g.F.Files.load_faults c.reply.new.files q)) (λ (q : List ℕ). Rose (g.F.Files.save_faults c.args.files.now q) (g.F.Files.save_faults c.reply.new.files q))
+    (Rose (g.K.Sink.faults c.args.out.now) (g.K.Sink.faults c.print.new.out)) (λ (q : List ℕ). g.K.Sink.tells → g.K.Sink.written c.print.new.out ≡ g.K.Sink.written c.args.out.now ++ cannot_read q) (λ (q : List ℕ). g.K.Sink.tells → g.K.Sink.written c.print.new.out ≡ g.K.Sink.written c.args.out.now ++ cannot_write q)
+    c.print.result (command_of (texts_of c.args.words.now)) (record {
+      made = returns-in-Ok-clause-only_made g c t;
+      unread = returns-in-Ok-clause-read_fault g c;
+      unwritten = returns-in-Ok-clause-write_fault g c;
+    })
+
+pub returns-in-Err-clause-complete : goal.returns-in-Err-clause-complete
+returns-in-Err-clause-complete g c = λ t. memory-complete _ _ _ _ _ (command_of (texts_of c.args.words.now)) refl
+
+pub returns-in-Ok-clause-made : goal.returns-in-Ok-clause-made
+returns-in-Ok-clause-made g c =
+    made-complete (λ (q : List ℕ). Rose (g.F.Files.save_faults c.args.files.now q) (g.F.Files.save_faults c.reply.new.files q)) (Rose (g.K.Sink.faults c.args.out.now) (g.K.Sink.faults c.print.new.out)) g.K.Sink.tells (λ (q : List ℕ). g.K.Sink.tells → g.K.Sink.written c.print.new.out ≡ g.K.Sink.written c.args.out.now ++ cannot_write q)
+    c.print.result (g.K.Sink.written c.args.out.now) (g.K.Sink.written c.print.new.out) (command_of (texts_of c.args.words.now)) (returns-in-Ok-clause-generated g c) (returns-in-Ok-clause-write_fault g c)
+
+pub returns-in-Err-clause-made : goal.returns-in-Err-clause-made
+returns-in-Err-clause-made g c = memory-made _ _ (command_of (texts_of c.args.words.now)) refl
