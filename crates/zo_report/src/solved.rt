@@ -12,7 +12,7 @@ use nv_outside::{Files, Loaded, Saved};
 use std::alloc::Global;
 use zo_cert::print_report;
 use zo_model::{NoMemory, ZeroOne, ZoError, read_program};
-use zo_solve::{Fixed, Order, Pick, report_of, solve};
+use zo_solve::{Fixed, Order, Pick, report_of, solve_by};
 
 /// The greatest size of a program's text.
 const LIMIT: u64 = 1 << 26;
@@ -62,7 +62,7 @@ fn report_on(alloc: Global, z: ZeroOne) -> Result<Vec<u8>, NoMemory>
             requires places { length fixed.now.at.items ≡ columns z.now }
         { order.choice(z, fixed) },
     );
-    let solved = solve(alloc, &z, None, BUDGET, &pick)?;
+    let solved = solve_by(alloc, &z, None, BUDGET, &pick, &order)?;
     let report = report_of(alloc, z, solved, 0, BUDGET)?;
     print_report(alloc, &report)
 }

@@ -1,13 +1,13 @@
-//! Rounds of a first-order method for the linear relaxation, and what a search does with them: the vector that it begins with, an
-//! order of the columns to branch on, and one node of the tree.
+//! Rounds of a first-order method for the linear relaxation of a 0-1 program, with the sums of its rows while columns are fixed.
 #![tactic(auto)]
 
-mod dive;
-mod first;
-mod local;
-pub mod node;
-pub mod order;
+pub mod column;
+pub mod dual;
+pub mod long;
+pub mod matrix;
+pub mod places;
 pub mod rounds;
+pub mod undo;
+pub mod window;
 
-pub use first::begin;
-pub use order::Order;
+pub use rounds::{ONE, Rounds, quotient};

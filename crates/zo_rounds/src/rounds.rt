@@ -1,72 +1,86 @@
-//! A search for multipliers that close a leaf.
+//! Rounds that look for the best fractions of the columns, and for the multipliers of the rows that prove them best.
 //!
-//! Columns and multipliers move in turn, as whole numbers in units of 1 / 65536: each column against what the multipliers
-//! say of its worth, each multiplier against what its row lacks, with steps in proportion to the row's and the column's size
-//! (a primal-dual hybrid gradient method with diagonal steps). They go on from node to node. Nothing rests on them: a leaf
-//! counts only by the bound that is computed as the checker does.
+//! Columns and multipliers move in turn, as whole numbers in units of 1 / 4194304: each column against what the multipliers say
+//! of its worth, each multiplier against what its row lacks, with steps in proportion to the row's and the column's size (a
+//! primal-dual hybrid gradient method with diagonal steps). A round looks only at the columns and rows for which something
+//! changed: a column is due when the multiplier of one of its rows moved, a row when one of its columns did. All sums are kept
+//! as differences, the bound that the multipliers give too, so it is known at each moment.
+//!
+//! Nothing rests on the rounds: a leaf counts only by the bound that is computed as the checker does.
 
-ghost use Rattle.std.specs.Prelude.{◌≡◌, ◌≢◌, [], IfOk, IfSome};
-ghost use Rattle.zo_model.specs.Program.{IsValid, columns};
-ghost use Rattle.zo_leaf.specs.Certificate.{Closes};
-ghost use Rattle.zo_leaf.specs.inner.Leaf.{IsClear};
-ghost use Rattle.zo_leaf.specs.inner.Path.{current};
-ghost use Rattle.zo_leaf.specs.Node.{IsNode};
-
+use crate::column::{Column, Weight};
+use crate::dual::Dual;
+use crate::matrix::Matrix;
+use crate::undo::{Past, Was};
 use std::alloc::{AllocError, Global};
-use zo_leaf::path::Path;
-use zo_leaf::{CertNode, Claim, is_node};
+use std::mem;
 use zo_model::{Row, ZeroOne};
-use zo_tree::closes;
 
 /// A whole column, and a multiplier of 1.
-const ONE: i64 = 1 << 16;
-/// No multiplier grows past this.
-const DUAL_LIMIT: i64 = 1 << 40;
-/// So many rounds are tried at the root, and at each other node.
-const ROOT_ROUNDS: u32 = 200;
+pub const ONE: i64 = 1 << 22;
 
-const NODE_ROUNDS: u32 = 20;
-/// A leaf is tried after so many rounds each.
-const TRY_EVERY: u32 = 10;
-
-/// A column, as a fraction.
+/// A row's sums with the columns that are fixed.
 #[derive(Clone, Copy, Drop)]
-struct Column {
-    value: i64,
-    // in units of the costs' divisor
-    cost: i64,
-    // the sum of its coefficients' sizes, over the rows that can fail
-    size: i64,
+pub struct Place {
+    // the most that it can still be
+    pub reach: i64,
+    // with 0 for all unfixed columns
+    pub ones: i64,
+    pub least: i64,
+    pub is_queued: bool,
 }
 
-/// A row's multiplier.
-#[derive(Clone, Copy, Drop)]
-struct Dual {
-    now: i64,
-    // the sum over the rounds since this node began
-    total: i64,
-    // the sum of its coefficients' sizes, or 0 where it always holds
-    size: i64,
-}
-
-/// The state of the rounds.
+/// The state of the rounds, with the columns that are fixed.
 #[derive(Drop)]
 pub struct Rounds {
-    columns: Vec<Column>,
-    // of each column where it would be after as large a step again
-    aheads: Vec<i64>,
-    // of each column what the multipliers say of it
-    pulls: Vec<i64>,
-    duals: Vec<Dual>,
+    pub matrix: Matrix,
+    pub columns: Vec<Column>,
+    pub duals: Vec<Dual>,
+    // what each column, and each row, was
+    pub column_pasts: Vec<Past>,
+    pub dual_pasts: Vec<Past>,
+    pub places: Vec<Place>,
+    // the columns and the rows that the next round looks at, and those that are set aside
+    pub due_columns: Vec<u32>,
+    pub due_rows: Vec<u32>,
+    pub next_columns: Vec<u32>,
+    pub next_rows: Vec<u32>,
+    pub aside_columns: Vec<u32>,
+    pub aside_rows: Vec<u32>,
     // the greatest common divisor of the costs
-    divisor: i64,
-    // how much columns move, against multipliers, in sixteenths
-    weight: i64,
-    rounds: i64,
-    // how many terms, columns and rows there are: what a pass over the program costs
-    terms: u64,
-    work: u64,
-    is_root: bool,
+    pub divisor: i64,
+    pub first_weight: Weight,
+    pub weight: Weight,
+    // smaller moves of columns are left out
+    pub tolerance: i64,
+    // what the multipliers prove that every vector costs, in units of the divisor / `ONE`
+    pub bound: i128,
+    pub has_prices: bool,
+    // whether the means over a window are kept, the rounds since they are, and when this window began
+    pub has_means: bool,
+    pub clock: i64,
+    pub window: i64,
+    // what to undo
+    pub log: Vec<Was>,
+    pub has_log: bool,
+    pub stamp: u64,
+    // the columns that are fixed, in the order in which they were, and the rows that may force others
+    pub trail: Vec<u32>,
+    pub queue: Vec<u32>,
+    // all rows before this one are met; how many aren't, and how many can't be
+    pub first: usize,
+    pub unmet: i64,
+    pub unreachable: i64,
+    // what the columns fixed at 1 cost, in units of the divisor
+    pub spent: i64,
+    // how many columns, rows and terms were visited, and at how many the rounds end
+    pub work: u64,
+    pub limit: u64,
+}
+
+/// `a / b`, or 0 where there is no such number.
+pub fn quotient(a: i64, b: i64) -> i64 {
+    a.checked_div(b).unwrap_or(0)
 }
 
 /// The greatest common divisor.
@@ -84,500 +98,8 @@ fn divisor_of(a: u32, b: u32) -> u32 {
     1
 }
 
-/// The sizes of the coefficients, or 0 where the row always holds.
-fn size_of(row: &Row) -> i64 {
-    let mut size: i64 = 0;
-    let mut least: i64 = 0;
-    for (_, a) in &row.terms {
-        let a = i64::from(*a);
-        size = size.wrapping_add(a.wrapping_abs());
-        least = least.wrapping_add(a.min(0));
-    }
-    if least < i64::from(row.least) {
-        size
-    } else {
-        0
-    }
-}
-
-/// A column each, at 0, with its cost in units of their divisor.
-fn columns_of(alloc: Global, costs: &[u32], divisor: i64) -> Result<Vec<Column>, AllocError> {
-    let mut columns = Vec::new(alloc);
-    for cost in costs {
-        columns.push(Column {
-            value: 0,
-            cost: quotient(i64::from(*cost), divisor),
-            size: 0,
-        })?;
-    }
-    Ok(columns)
-}
-
-/// Adds the sizes of the row's coefficients to the sizes of its columns.
-fn add_sizes(columns: &mut [Column], terms: &[(u32, i32)]) {
-    for (j, a) in terms {
-        if let Some(column) = columns.get_mut(*j as usize) {
-            column.size = column.size.wrapping_add(i64::from(*a).wrapping_abs());
-        }
-    }
-}
-
-/// A multiplier each, at 0; the sizes of the rows' coefficients are added to those of the columns.
-fn duals_of(alloc: Global, z: &ZeroOne, columns: &mut [Column]) -> Result<Vec<Dual>, AllocError> {
-    let mut duals = Vec::new(alloc);
-    for row in &z.rows {
-        let size = size_of(row);
-        if size != 0 {
-            add_sizes(columns, &row.terms);
-        }
-        duals.push(Dual {
-            now: 0,
-            total: 0,
-            size,
-        })?;
-    }
-    Ok(duals)
-}
-
-/// How many columns, rows and terms of rows there are.
-fn terms_of(z: &ZeroOne) -> u64 {
-    let mut terms = z.costs.len() as u64;
-    for row in &z.rows {
-        terms = terms
-            .saturating_add(row.terms.len() as u64)
-            .saturating_add(1);
-    }
-    terms
-}
-
-/// Adds the multiplied row to what the multipliers say.
-fn pull(pulls: &mut [i64], terms: &[(u32, i32)], dual: i64) {
-    for (j, a) in terms {
-        if let Some(pull) = pulls.get_mut(*j as usize) {
-            *pull = pull.wrapping_add(dual.wrapping_mul(i64::from(*a)));
-        }
-    }
-}
-
-/// The row's sum at where the columns are going.
-fn sum_ahead(aheads: &[i64], terms: &[(u32, i32)]) -> i64 {
-    let mut sum: i64 = 0;
-    for (j, a) in terms {
-        if let Some(ahead) = aheads.get(*j as usize) {
-            sum = sum.wrapping_add(ahead.wrapping_mul(i64::from(*a)));
-        }
-    }
-    sum
-}
-
-/// `a / b`, or 0 where there is no such number.
-fn quotient(a: i64, b: i64) -> i64 {
-    a.checked_div(b).unwrap_or(0)
-}
-
-impl Column {
-    /// Where a step leads by what the column is worth beyond its cost, towards 0 or 1.
-    fn next(&self, place: Option<bool>, against: i64, weight: i64) -> i64 {
-        match place {
-            Some(true) => ONE,
-            Some(false) => 0,
-            None if against >= 0 && self.value == 0 => 0,
-            None if against <= 0 && self.value == ONE => ONE,
-            None => {
-                let step = quotient(against.wrapping_mul(16), weight.wrapping_mul(self.size));
-                self.value.wrapping_sub(step).max(0).min(ONE)
-            }
-        }
-    }
-}
-
-impl Dual {
-    /// One step, by what the row lacks. Whether it moved.
-    fn step(&mut self, lack: i64, weight: i64) -> bool {
-        if self.size == 0 || (self.now == 0 && lack <= 0) {
-            return false;
-        }
-        let was = self.now;
-        let step = quotient(lack.wrapping_mul(weight), self.size.wrapping_mul(16));
-        self.now = self.now.wrapping_add(step).max(0).min(DUAL_LIMIT);
-        self.total = self.total.wrapping_add(self.now);
-        self.now != was
-    }
-
-    /// The multiplier now, or its mean over so many rounds, times `d`, rounded.
-    fn rounded(&self, d: i64, rounds: i64, mean: bool) -> i64 {
-        let dual = if mean {
-            quotient(self.total, rounds)
-        } else {
-            self.now
-        };
-        quotient(dual.wrapping_mul(d).wrapping_add(ONE / 2), ONE)
-    }
-}
-
-impl Rounds {
-    /// No multiplier yet. The rounds may visit so many terms of rows.
-    pub fn new(alloc: Global, z: &ZeroOne, work: u64) -> Result<Rounds, AllocError> {
-        let divisor = z.costs.iter().fold(0, |d, cost| divisor_of(d, *cost));
-        let divisor = i64::from(divisor.max(1));
-        let mut columns = columns_of(alloc, &z.costs, divisor)?;
-        let duals = duals_of(alloc, z, &mut columns)?;
-        let aheads = vec![in alloc; 0; z.costs.len()]?;
-        let pulls = vec![in alloc; 0; z.costs.len()]?;
-        Ok(Rounds {
-            columns,
-            aheads,
-            pulls,
-            duals,
-            divisor,
-            weight: weight_of(&z.costs, divisor),
-            rounds: 0,
-            terms: terms_of(z),
-            work,
-            is_root: true,
-        })
-    }
-
-    /// Begins again at 0. The rounds may visit so many terms of rows.
-    pub fn restart(&mut self, work: u64) {
-        self.work = work;
-        self.reset();
-    }
-
-    /// Begins again at 0.
-    pub fn reset(&mut self) {
-        for column in self.columns.iter_mut() {
-            column.value = 0;
-        }
-        for dual in self.duals.iter_mut() {
-            dual.now = 0;
-            dual.total = 0;
-        }
-        let terms = self.terms;
-        self.spend(terms);
-    }
-
-    /// So many terms of rows were visited elsewhere.
-    pub fn spend(&mut self, terms: u64) {
-        self.work = self.work.saturating_sub(terms);
-    }
-
-    /// How many terms may still be visited.
-    pub fn left(&self) -> u64 {
-        self.work
-    }
-
-    /// Whether no more terms may be visited.
-    pub fn is_spent(&self) -> bool {
-        self.work == 0
-    }
-
-    /// Whether the row is there and can fail.
-    pub fn is_live(&self, row: u32) -> bool {
-        match self.duals.get(row as usize) {
-            Some(dual) => dual.size != 0,
-            None => false,
-        }
-    }
-
-    /// By how much a column is neither 0 nor 1, in units of 1 / 65536.
-    pub fn doubt(&self, column: u32) -> i64 {
-        let value = self.value(column);
-        value.min(ONE.wrapping_sub(value))
-    }
-
-    /// What the rounds say of a column, in units of 1 / 65536.
-    pub fn value(&self, column: u32) -> i64 {
-        match self.columns.get(column as usize) {
-            Some(column) => column.value,
-            None => 0,
-        }
-    }
-
-    /// So many rounds more, by the costs, with these columns fixed; fewer where nothing moves any more.
-    pub fn run(&mut self, z: &ZeroOne, fixed: &[Option<bool>], rounds: u32) {
-        for _ in 0..rounds {
-            if self.work == 0 || !self.round(z, &Claim::Least(0), fixed) {
-                return;
-            }
-        }
-    }
-
-    /// Adds the multiplied rows to what the multipliers say, over `FINE`. The sum of the multiplied leasts.
-    fn pull_rounded(&mut self, z: &ZeroOne) -> i128 {
-        let mut sum: i128 = 0;
-        for (row, dual) in z.rows.iter().zip(&self.duals) {
-            let m = dual.rounded(i64::from(FINE), 1, false);
-            pull(&mut self.pulls, &row.terms, m);
-            sum = sum.wrapping_add(i128::from(m).wrapping_mul(i128::from(row.least)));
-        }
-        sum
-    }
-
-    /// What the columns cost less than what the multipliers say of them, over `FINE`.
-    fn shortfall(&mut self) -> i128 {
-        let mut sum: i128 = 0;
-        for (column, pull) in self.columns.iter().zip(&mut self.pulls) {
-            let over = column
-                .cost
-                .wrapping_mul(i64::from(FINE))
-                .wrapping_sub(*pull);
-            sum = sum.wrapping_add(i128::from(over.min(0)));
-            *pull = 0;
-        }
-        sum
-    }
-
-    /// What every vector costs at least, as far as the multipliers tell with no column fixed.
-    pub fn bound(&mut self, z: &ZeroOne) -> u64 {
-        let fine = i128::from(FINE);
-        let bound = self.pull_rounded(z).wrapping_add(self.shortfall());
-        let units = bound.wrapping_add(fine - 1).checked_div(fine).unwrap_or(0);
-        let divisor = u64::try_from(self.divisor).unwrap_or(1);
-        u64::try_from(units).unwrap_or(0).saturating_mul(divisor)
-    }
-
-    /// Adds the multiplied rows to what the multipliers say.
-    fn pull_rows(&mut self, z: &ZeroOne) {
-        for (row, dual) in z.rows.iter().zip(&self.duals) {
-            if dual.now != 0 {
-                pull(&mut self.pulls, &row.terms, dual.now);
-            }
-        }
-    }
-
-    /// One move of all columns. Whether any moved.
-    fn move_columns(&mut self, claim: &Claim, fixed: &[Option<bool>]) -> bool {
-        let has_costs = matches!(claim, Claim::Least(_));
-        let mut is_moved = false;
-        let places = self.aheads.iter_mut().zip(&mut self.pulls).zip(fixed);
-        for (column, ((ahead, pull), place)) in self.columns.iter_mut().zip(places) {
-            let cost = if has_costs {
-                column.cost.wrapping_mul(ONE)
-            } else {
-                0
-            };
-            let value = column.next(*place, cost.wrapping_sub(*pull), self.weight);
-            is_moved |= value != column.value;
-            *ahead = match place {
-                Some(_) => value,
-                None => value.wrapping_mul(2).wrapping_sub(column.value),
-            };
-            column.value = value;
-            *pull = 0;
-        }
-        is_moved
-    }
-
-    /// One move of all multipliers. Whether any moved.
-    fn move_duals(&mut self, z: &ZeroOne) -> bool {
-        let mut is_moved = false;
-        for (row, dual) in z.rows.iter().zip(&mut self.duals) {
-            if dual.size != 0 {
-                let sum = sum_ahead(&self.aheads, &row.terms);
-                let lack = i64::from(row.least).wrapping_mul(ONE).wrapping_sub(sum);
-                is_moved |= dual.step(lack, self.weight);
-            }
-        }
-        is_moved
-    }
-
-    /// One move of all columns, then of all multipliers. Whether any moved.
-    fn round(&mut self, z: &ZeroOne, claim: &Claim, fixed: &[Option<bool>]) -> bool {
-        self.pull_rows(z);
-        let columns_moved = self.move_columns(claim, fixed);
-        let duals_moved = self.move_duals(z);
-        self.rounds = self.rounds.wrapping_add(1);
-        let terms = self.terms.saturating_mul(2);
-        self.spend(terms);
-        columns_moved || duals_moved
-    }
-
-    /// The multipliers over `d`, each at least 1.
-    fn multipliers(
-        &self,
-        alloc: Global,
-        d: i64,
-        divisor: i64,
-        mean: bool,
-    ) -> Result<Vec<(u32, u32)>, AllocError> {
-        let mut list = Vec::new(alloc);
-        for (i, dual) in self.duals.iter().enumerate() {
-            let m = dual.rounded(d, self.rounds, mean).wrapping_mul(divisor);
-            if let (Ok(row), Ok(m)) = (u32::try_from(i), u32::try_from(m)) {
-                if m >= 1 {
-                    list.push((row, m))?;
-                }
-            }
-        }
-        Ok(list)
-    }
-
-    /// A leaf of the multipliers over `d`.
-    fn candidate(
-        &self,
-        alloc: Global,
-        claim: &Claim,
-        d: u32,
-        mean: bool,
-    ) -> Result<CertNode, AllocError> {
-        match claim {
-            Claim::Least(_) => {
-                let list = self.multipliers(alloc, i64::from(d), self.divisor, mean)?;
-                Ok(CertNode::Bound(d, list))
-            }
-            Claim::Nothing => {
-                let list = self.multipliers(alloc, i64::from(FINE), 1, mean)?;
-                Ok(CertNode::Clash(list))
-            }
-        }
-    }
-
-    /// The leaf of the multipliers over `d`, where it closes the claim.
-    fn tried(
-        &mut self,
-        alloc: Global,
-        z: &ZeroOne,
-        claim: &Claim,
-        path: &Path,
-        weights: &mut [i128],
-        d: u32,
-        mean: bool,
-    ) -> Result<Option<CertNode>, AllocError>
-        requires valid { IsValid z.now }
-        requires path { path.now.costs ≡ z.now.costs.items }
-        requires more { path.now.fixings ≢ [] }
-        requires clear { IsClear (columns z.now) weights.old }
-        ensures clear { IsClear (columns z.now) weights.new }
-        ensures closes { IfOk result (λ leaf. IfSome leaf (λ n. Closes z.now claim.now (current path.now.fixings) n)) }
-        ensures within { IfOk result (λ leaf. IfSome leaf IsNode) }
-    {
-        let node = self.candidate(alloc, claim, d, mean)?;
-        let terms = self.terms.saturating_mul(4);
-        self.spend(terms);
-        if is_node(&node) {
-            if closes(z, claim, path, weights, &node) {
-                return Ok(Some(node));
-            }
-        }
-        drop(node);
-        Ok(None)
-    }
-
-    /// A leaf that closes the claim over the least of some denominators for which there is one.
-    fn coarser(
-        &mut self,
-        alloc: Global,
-        z: &ZeroOne,
-        claim: &Claim,
-        path: &Path,
-        weights: &mut [i128],
-    ) -> Result<Option<CertNode>, AllocError>
-        requires valid { IsValid z.now }
-        requires path { path.now.costs ≡ z.now.costs.items }
-        requires more { path.now.fixings ≢ [] }
-        requires clear { IsClear (columns z.now) weights.old }
-        ensures clear { IsClear (columns z.now) weights.new }
-        ensures closes { IfOk result (λ leaf. IfSome leaf (λ n. Closes z.now claim.now (current path.now.fixings) n)) }
-        ensures within { IfOk result (λ leaf. IfSome leaf IsNode) }
-    {
-        for (d, mean) in COARSE {
-            if let Some(node) = self.tried(alloc, z, claim, path, weights, d, mean)? {
-                return Ok(Some(node));
-            }
-        }
-        Ok(None)
-    }
-
-    /// A leaf that closes the claim, by the multipliers now or their mean. Where a fine denominator gives one, the coarse ones
-    /// are tried too, since their leaves are shorter.
-    fn closing(
-        &mut self,
-        alloc: Global,
-        z: &ZeroOne,
-        claim: &Claim,
-        path: &Path,
-        weights: &mut [i128],
-    ) -> Result<Option<CertNode>, AllocError>
-        requires valid { IsValid z.now }
-        requires path { path.now.costs ≡ z.now.costs.items }
-        requires more { path.now.fixings ≢ [] }
-        requires clear { IsClear (columns z.now) weights.old }
-        ensures clear { IsClear (columns z.now) weights.new }
-        ensures closes { IfOk result (λ leaf. IfSome leaf (λ n. Closes z.now claim.now (current path.now.fixings) n)) }
-        ensures within { IfOk result (λ leaf. IfSome leaf IsNode) }
-    {
-        for mean in [false, true] {
-            if let Some(node) = self.tried(alloc, z, claim, path, weights, FINE, mean)? {
-                if let Claim::Nothing = claim {
-                    return Ok(Some(node));
-                }
-                return match self.coarser(alloc, z, claim, path, weights)? {
-                    Some(shorter) => Ok(Some(shorter)),
-                    None => Ok(Some(node)),
-                };
-            }
-        }
-        Ok(None)
-    }
-
-    /// A leaf that closes the claim where the walk stands, if some rounds find one.
-    pub fn leaf(
-        &mut self,
-        alloc: Global,
-        z: &ZeroOne,
-        claim: &Claim,
-        path: &Path,
-        weights: &mut [i128],
-    ) -> Result<Option<CertNode>, AllocError>
-        requires valid { IsValid z.now }
-        requires path { path.now.costs ≡ z.now.costs.items }
-        requires more { path.now.fixings ≢ [] }
-        requires clear { IsClear (columns z.now) weights.old }
-        ensures clear { IsClear (columns z.now) weights.new }
-        ensures closes { IfOk result (λ leaf. IfSome leaf (λ n. Closes z.now claim.now (current path.now.fixings) n)) }
-        ensures within { IfOk result (λ leaf. IfSome leaf IsNode) }
-    {
-        let rounds = if self.is_root {
-            ROOT_ROUNDS
-        } else {
-            NODE_ROUNDS
-        };
-        self.is_root = false;
-        self.rounds = 0;
-        for dual in self.duals.iter_mut() {
-            dual.total = 0;
-        }
-        for k in 0..rounds {
-            if self.work == 0 {
-                return Ok(None);
-            }
-            self.round(z, claim, &path.fixed().at);
-            if k % TRY_EVERY == TRY_EVERY - 1 {
-                if let Some(node) = self.closing(alloc, z, claim, path, weights)? {
-                    return Ok(Some(node));
-                }
-            }
-        }
-        Ok(None)
-    }
-}
-
-/// The denominator that is tried first.
-const FINE: u32 = 1_024;
-
-/// The denominators that are tried where it closes a leaf, with the multipliers now and with their mean.
-const COARSE: [(u32, bool); 6] = [
-    (1, false),
-    (1, true),
-    (2, false),
-    (2, true),
-    (4, false),
-    (4, true),
-];
-
-/// The mean of the positive costs, in units of their divisor, as whole sixteens and at least one.
-fn weight_of(costs: &[u32], divisor: i64) -> i64 {
+/// The least e of 0 or more with a mean positive cost of at most 16 times 2^e.
+fn exponent_of(costs: &[u32], divisor: i64) -> i64 {
     let mut sum: i64 = 0;
     let mut count: i64 = 0;
     for cost in costs {
@@ -586,5 +108,548 @@ fn weight_of(costs: &[u32], divisor: i64) -> i64 {
             count = count.wrapping_add(1);
         }
     }
-    quotient(quotient(sum, count), 16).max(1).wrapping_mul(16)
+    let mean = quotient(sum, count).max(1);
+    let mut exponent: i64 = 0;
+    let mut most: i64 = 16;
+    for _ in 0..32 {
+        if most < mean {
+            most = most.wrapping_mul(2);
+            exponent = exponent.wrapping_add(1);
+        }
+    }
+    exponent
+}
+
+/// A column each, at 0, unfixed.
+fn columns_of(
+    alloc: Global,
+    z: &ZeroOne,
+    matrix: &Matrix,
+    divisor: i64,
+) -> Result<Vec<Column>, AllocError> {
+    let mut columns = Vec::new(alloc);
+    for (j, cost) in z.costs.iter().enumerate() {
+        let mut size: i64 = 0;
+        for (_, a) in matrix.terms(u32::try_from(j).unwrap_or(u32::MAX)) {
+            size = size.wrapping_add(i64::from(*a).wrapping_abs());
+        }
+        columns.push(Column {
+            value: 0,
+            ahead: 0,
+            pull: 0,
+            price: 0,
+            size,
+            cost: quotient(i64::from(*cost), divisor),
+            place: None,
+            is_due: false,
+        })?;
+    }
+    Ok(columns)
+}
+
+/// The multiplier of a row, at 0.
+fn dual_of(row: &Row, is_counted: bool) -> Dual {
+    let mut size: i64 = 0;
+    if is_counted {
+        for (_, a) in &row.terms {
+            size = size.wrapping_add(i64::from(*a).wrapping_abs());
+        }
+    }
+    Dual {
+        value: 0,
+        act: 0,
+        least: i64::from(row.least),
+        size,
+        free: i64::try_from(row.terms.len()).unwrap_or(0),
+        is_due: false,
+    }
+}
+
+/// A multiplier each, at 0.
+fn duals_of(alloc: Global, z: &ZeroOne, matrix: &Matrix) -> Result<Vec<Dual>, AllocError> {
+    let mut duals = Vec::new(alloc);
+    for (row, is_counted) in z.rows.iter().zip(&matrix.counts) {
+        duals.push(dual_of(row, *is_counted))?;
+    }
+    Ok(duals)
+}
+
+/// The sums of a row with no column fixed.
+fn place_of(row: &Row) -> Place {
+    let mut reach: i64 = 0;
+    for (_, a) in &row.terms {
+        reach = reach.wrapping_add(i64::from(*a).max(0));
+    }
+    Place {
+        reach,
+        ones: 0,
+        least: i64::from(row.least),
+        is_queued: false,
+    }
+}
+
+/// The sums of each row with no column fixed.
+fn places_of(alloc: Global, z: &ZeroOne) -> Result<Vec<Place>, AllocError> {
+    let mut places = Vec::new(alloc);
+    for row in &z.rows {
+        places.push(place_of(row))?;
+    }
+    Ok(places)
+}
+
+/// Moves the sums of a column's rows, and has the rows looked at.
+fn push_acts(
+    duals: &mut [Dual],
+    due: &mut Vec<u32>,
+    terms: &[(u32, i32)],
+    step: i64,
+) -> Result<(), AllocError> {
+    for (i, a) in terms {
+        if let Some(dual) = duals.get_mut(*i as usize) {
+            dual.act = dual.act.wrapping_add(step.wrapping_mul(i64::from(*a)));
+            if !dual.is_due {
+                dual.is_due = true;
+                due.push(*i)?;
+            }
+        }
+    }
+    Ok(())
+}
+
+/// Moves what the multipliers say of a row's columns, and has these looked at. By how much the bound changes.
+fn pull_columns(
+    columns: &mut [Column],
+    due: &mut Vec<u32>,
+    terms: &[(u32, i32)],
+    step: i64,
+) -> Result<i64, AllocError> {
+    let mut change: i64 = 0;
+    for (j, a) in terms {
+        if let Some(column) = columns.get_mut(*j as usize) {
+            let was = column.worth();
+            column.pull = column.pull.wrapping_add(step.wrapping_mul(i64::from(*a)));
+            change = change.wrapping_add(column.worth().wrapping_sub(was));
+            if !column.is_due {
+                column.is_due = true;
+                due.push(*j)?;
+            }
+        }
+    }
+    Ok(change)
+}
+
+/// What rounds go by, before they begin.
+#[derive(Drop)]
+struct Tables {
+    columns: Vec<Column>,
+    duals: Vec<Dual>,
+    places: Vec<Place>,
+}
+
+/// What each column, and each row, was.
+#[derive(Drop)]
+struct Pasts {
+    columns: Vec<Past>,
+    duals: Vec<Past>,
+}
+
+/// Columns and multipliers at 0, unfixed.
+fn tables_of(
+    alloc: Global,
+    z: &ZeroOne,
+    matrix: &Matrix,
+    divisor: i64,
+) -> Result<Tables, AllocError> {
+    let columns = columns_of(alloc, z, matrix, divisor)?;
+    let duals = duals_of(alloc, z, matrix)?;
+    let places = places_of(alloc, z)?;
+    Ok(Tables {
+        columns,
+        duals,
+        places,
+    })
+}
+
+/// No column and no row was anything.
+fn pasts_of(alloc: Global, z: &ZeroOne) -> Result<Pasts, AllocError> {
+    let columns = vec![in alloc; Past::none(); z.costs.len()]?;
+    let duals = vec![in alloc; Past::none(); z.rows.len()]?;
+    Ok(Pasts { columns, duals })
+}
+
+/// Rounds that haven't begun.
+fn assembled(
+    alloc: Global,
+    matrix: Matrix,
+    tables: Tables,
+    pasts: Pasts,
+    divisor: i64,
+    weight: Weight,
+) -> Rounds {
+    Rounds {
+        matrix,
+        columns: tables.columns,
+        duals: tables.duals,
+        column_pasts: pasts.columns,
+        dual_pasts: pasts.duals,
+        places: tables.places,
+        due_columns: Vec::new(alloc),
+        due_rows: Vec::new(alloc),
+        next_columns: Vec::new(alloc),
+        next_rows: Vec::new(alloc),
+        aside_columns: Vec::new(alloc),
+        aside_rows: Vec::new(alloc),
+        divisor,
+        first_weight: weight,
+        weight,
+        tolerance: 1,
+        bound: 0,
+        has_prices: true,
+        has_means: false,
+        clock: 0,
+        window: 0,
+        log: Vec::new(alloc),
+        has_log: false,
+        stamp: 1,
+        trail: Vec::new(alloc),
+        queue: Vec::new(alloc),
+        first: 0,
+        unmet: 0,
+        unreachable: 0,
+        spent: 0,
+        work: 0,
+        limit: u64::MAX,
+    }
+}
+
+/// Rounds that haven't begun, no column fixed.
+fn made(alloc: Global, z: &ZeroOne) -> Result<Rounds, AllocError> {
+    let divisor = z.costs.iter().fold(0, |d, cost| divisor_of(d, *cost));
+    let divisor = i64::from(divisor.max(1));
+    let weight = Weight::new(exponent_of(&z.costs, divisor));
+    let matrix = Matrix::new(alloc, z)?;
+    let tables = tables_of(alloc, z, &matrix, divisor)?;
+    let pasts = pasts_of(alloc, z)?;
+    Ok(assembled(alloc, matrix, tables, pasts, divisor, weight))
+}
+
+impl Rounds {
+    /// No multiplier yet, no column fixed.
+    pub fn new(alloc: Global, z: &ZeroOne) -> Result<Rounds, AllocError> {
+        let mut rounds = made(alloc, z)?;
+        match rounds.begin(z) {
+            Ok(()) => Ok(rounds),
+            Err(error) => {
+                drop(rounds);
+                Err(error)
+            }
+        }
+    }
+
+    /// Counts the rows that aren't met, and begins at 0.
+    fn begin(&mut self, z: &ZeroOne) -> Result<(), AllocError> {
+        self.count_places()?;
+        self.restart(z, true)
+    }
+
+    /// So many columns, rows and terms were visited.
+    pub fn spend(&mut self, count: usize) {
+        self.work = self.work.saturating_add(count as u64);
+    }
+
+    /// The rounds end when so many more were visited.
+    pub fn limit_to(&mut self, work: u64) {
+        self.limit = self.work.saturating_add(work);
+    }
+
+    /// Whether the rounds stand still: nothing is to be looked at, or the limit is reached.
+    pub fn is_still(&self) -> bool {
+        self.is_quiet() || self.work >= self.limit
+    }
+
+    /// How many columns, rows and terms of rows that count there are.
+    pub fn size(&self) -> usize {
+        let both = self.columns.len().saturating_add(self.duals.len());
+        both.saturating_add(self.matrix.len())
+    }
+
+    /// What the rounds say of a column.
+    pub fn value(&self, column: u32) -> i64 {
+        match self.columns.get(column as usize) {
+            Some(column) => column.value,
+            None => 0,
+        }
+    }
+
+    /// By how much a column is neither 0 nor 1.
+    pub fn doubt(&self, column: u32) -> i64 {
+        match self.columns.get(column as usize) {
+            Some(column) => column.doubt(),
+            None => 0,
+        }
+    }
+
+    /// Begins again at 0, with the costs or without.
+    pub fn restart(&mut self, z: &ZeroOne, has_prices: bool) -> Result<(), AllocError> {
+        self.has_prices = has_prices;
+        for column in self.columns.iter_mut() {
+            column.value = 0;
+            column.price = if has_prices {
+                column.cost.wrapping_mul(ONE)
+            } else {
+                0
+            };
+        }
+        for dual in self.duals.iter_mut() {
+            dual.value = 0;
+        }
+        self.weight = self.first_weight;
+        self.remake(z)
+    }
+
+    /// Sets the sums of all columns to 0, and their values to where they are fixed.
+    fn settle_columns(&mut self) {
+        for column in self.columns.iter_mut() {
+            match column.place {
+                Some(true) => column.value = ONE,
+                Some(false) => column.value = 0,
+                None => {}
+            }
+            column.ahead = column.value;
+            column.pull = 0;
+        }
+    }
+
+    /// Adds up the sums of a row and of its columns anew.
+    fn remake_row(&mut self, i: usize, row: &Row) {
+        let Some(dual) = self.duals.get_mut(i) else {
+            return;
+        };
+        let mut act: i64 = 0;
+        for (j, a) in &row.terms {
+            if let Some(column) = self.columns.get_mut(*j as usize) {
+                let a = i64::from(*a);
+                act = act.wrapping_add(column.ahead.wrapping_mul(a));
+                column.pull = column.pull.wrapping_add(dual.value.wrapping_mul(a));
+            }
+        }
+        dual.act = act;
+        let least = i128::from(dual.value).wrapping_mul(i128::from(dual.least));
+        self.bound = self.bound.wrapping_add(least);
+    }
+
+    /// Adds up all sums anew, and has everything looked at.
+    pub fn remake(&mut self, z: &ZeroOne) -> Result<(), AllocError> {
+        self.log.clear();
+        self.stamp = self.stamp.wrapping_add(1);
+        self.bound = 0;
+        self.settle_columns();
+        for (i, row) in z.rows.iter().enumerate() {
+            if self.matrix.is_counted(i) {
+                self.remake_row(i, row);
+            }
+        }
+        for column in &self.columns {
+            self.bound = self.bound.wrapping_add(i128::from(column.worth()));
+        }
+        self.wake_all()?;
+        let size = self.size();
+        self.spend(size);
+        Ok(())
+    }
+
+    /// Has all columns and rows looked at.
+    fn wake_all(&mut self) -> Result<(), AllocError> {
+        for j in 0..self.columns.len() {
+            self.mark(u32::try_from(j).unwrap_or(u32::MAX))?;
+        }
+        for i in 0..self.duals.len() {
+            if self.matrix.is_counted(i) {
+                self.wake(u32::try_from(i).unwrap_or(u32::MAX))?;
+            }
+        }
+        Ok(())
+    }
+
+    /// Has a column looked at.
+    pub fn mark(&mut self, column: u32) -> Result<(), AllocError> {
+        if let Some(it) = self.columns.get_mut(column as usize) {
+            if !it.is_due {
+                it.is_due = true;
+                self.due_columns.push(column)?;
+            }
+        }
+        Ok(())
+    }
+
+    /// Has a row looked at.
+    pub fn wake(&mut self, row: u32) -> Result<(), AllocError> {
+        if let Some(it) = self.duals.get_mut(row as usize) {
+            if !it.is_due {
+                it.is_due = true;
+                self.due_rows.push(row)?;
+            }
+        }
+        Ok(())
+    }
+
+    /// Whether nothing is to be looked at.
+    pub fn is_quiet(&self) -> bool {
+        self.due_columns.is_empty() && self.due_rows.is_empty()
+    }
+
+    /// Moves where a column is going.
+    pub fn set_ahead(&mut self, column: u32, ahead: i64) -> Result<(), AllocError> {
+        let Some(it) = self.columns.get_mut(column as usize) else {
+            return Ok(());
+        };
+        let step = ahead.wrapping_sub(it.ahead);
+        if step == 0 {
+            return Ok(());
+        }
+        it.ahead = ahead;
+        let terms = self.matrix.terms(column);
+        push_acts(&mut self.duals, &mut self.due_rows, terms, step)?;
+        self.work = self.work.saturating_add(terms.len() as u64);
+        Ok(())
+    }
+
+    /// Moves a column.
+    pub fn set_value(&mut self, column: u32, value: i64) -> Result<(), AllocError> {
+        let Some(it) = self.columns.get_mut(column as usize) else {
+            return Ok(());
+        };
+        let was = it.value;
+        if was == value {
+            return Ok(());
+        }
+        it.value = value;
+        let Some(past) = self.column_pasts.get_mut(column as usize) else {
+            return Ok(());
+        };
+        if self.has_log && past.stamp != self.stamp {
+            past.stamp = self.stamp;
+            self.log.push(Was::Column(column, was))?;
+        }
+        if self.has_means {
+            past.add(was, self.clock);
+        }
+        Ok(())
+    }
+
+    /// Moves a multiplier that was this, in the list of columns to look at.
+    fn move_dual(&mut self, row: u32, was: i64, value: i64) -> Result<(), AllocError> {
+        let Some(past) = self.dual_pasts.get_mut(row as usize) else {
+            return Ok(());
+        };
+        if self.has_log && past.stamp != self.stamp {
+            past.stamp = self.stamp;
+            self.log.push(Was::Dual(row, was))?;
+        }
+        if self.has_means {
+            past.add(was, self.clock);
+        }
+        if let Some(dual) = self.duals.get_mut(row as usize) {
+            dual.value = value;
+        }
+        Ok(())
+    }
+
+    /// Moves a multiplier; its columns are looked at in the next round, or in this one where it is still to come.
+    pub fn set_dual(
+        &mut self,
+        z: &ZeroOne,
+        row: u32,
+        value: i64,
+        is_next: bool,
+    ) -> Result<(), AllocError> {
+        let dual = self.duals.get(row as usize).copied();
+        let (Some(dual), Some(it)) = (dual, z.rows.get(row as usize)) else {
+            return Ok(());
+        };
+        let step = value.wrapping_sub(dual.value);
+        if step == 0 {
+            return Ok(());
+        }
+        let least = i128::from(step).wrapping_mul(i128::from(dual.least));
+        self.move_dual(row, dual.value, value)?;
+        let change = if is_next {
+            pull_columns(&mut self.columns, &mut self.next_columns, &it.terms, step)?
+        } else {
+            pull_columns(&mut self.columns, &mut self.due_columns, &it.terms, step)?
+        };
+        self.bound = self
+            .bound
+            .wrapping_add(least)
+            .wrapping_add(i128::from(change));
+        self.spend(it.terms.len());
+        Ok(())
+    }
+
+    /// Moves a column that is due, by what the multipliers say of it.
+    fn step_column(&mut self, column: u32) -> Result<(), AllocError> {
+        let Some(it) = self.columns.get_mut(column as usize) else {
+            return Ok(());
+        };
+        it.is_due = false;
+        let value = it.next(self.weight, self.tolerance);
+        let ahead = match it.place {
+            Some(_) => value,
+            None => value.wrapping_mul(2).wrapping_sub(it.value),
+        };
+        if value != it.value || ahead != it.ahead {
+            it.is_due = true;
+            self.next_columns.push(column)?;
+        }
+        self.set_ahead(column, ahead)?;
+        self.set_value(column, value)
+    }
+
+    /// Moves the multiplier of a row that is due, by what the row lacks.
+    fn step_dual(&mut self, z: &ZeroOne, row: u32, tolerance: i64) -> Result<(), AllocError> {
+        let Some(it) = self.duals.get_mut(row as usize) else {
+            return Ok(());
+        };
+        it.is_due = false;
+        let value = it.next(self.weight, tolerance);
+        if value != it.value {
+            it.is_due = true;
+            self.next_rows.push(row)?;
+            self.set_dual(z, row, value, true)?;
+        }
+        Ok(())
+    }
+
+    /// One move of all columns that are due, then of all multipliers.
+    pub fn round(&mut self, z: &ZeroOne) -> Result<(), AllocError> {
+        self.clock = self.clock.wrapping_add(1);
+        let count = self.due_columns.len();
+        for k in 0..count {
+            let column = self.due_columns.get(k).copied().unwrap_or(u32::MAX);
+            self.step_column(column)?;
+        }
+        let tolerance = self.tolerance.wrapping_mul(self.first_weight.up);
+        let rows = self.due_rows.len();
+        for k in 0..rows {
+            let row = self.due_rows.get(k).copied().unwrap_or(u32::MAX);
+            self.step_dual(z, row, tolerance)?;
+        }
+        self.spend(count.saturating_add(rows));
+        mem::swap(&mut self.due_columns, &mut self.next_columns);
+        self.next_columns.clear();
+        mem::swap(&mut self.due_rows, &mut self.next_rows);
+        self.next_rows.clear();
+        Ok(())
+    }
+
+    /// So many rounds more; fewer where nothing moves any more.
+    pub fn run(&mut self, z: &ZeroOne, rounds: u32) -> Result<(), AllocError> {
+        for _ in 0..rounds {
+            if self.is_still() {
+                return Ok(());
+            }
+            self.round(z)?;
+        }
+        Ok(())
+    }
 }

@@ -13,9 +13,9 @@ use Rattle.zo_leaf.specs.declared.cert.CertNode.TheVariants.{Branch, Bound, Clas
 use Rattle.zo_leaf.specs.declared.cert.Claim.{Claim}
 use Rattle.zo_leaf.specs.declared.cert.Claim.TheVariants as claims
 use Rattle.zo_leaf.proofs.Walk.{each_weaker}
-use Rattle.zo_rounds.specs.Nodes.{IsBelow, IsPicked}
+use Rattle.zo_branch.specs.Nodes.{IsBelow, IsPicked}
 use Rattle.zo_state.specs.inner.Better.{IsAtMostStart, IsClaimOf}
-use Rattle.zo_rounds.specs.inner.Node.{IsGood}
+use Rattle.zo_branch.specs.inner.Node.{IsGood}
 use Rattle.zo_solve.specs.inner.Search.{IsAnswerOf, IsFound, LeftsLast}
 use Rattle.zo_solve.specs.Solved.{CostsAtMost, EachIn, HadNoStart, IsCutOff, IsDecided, IsProved, OfVector, claim_of, tree_of}
 use Rattle.zo_state.specs.Vector.{IsVector, cost_at, start_cost}

@@ -8,7 +8,7 @@ use Rattle.zo_leaf.specs.declared.cert.CertNode.{CertNode}
 use Rattle.zo_leaf.specs.declared.cert.CertNode.TheVariants.{Branch, Bound, Clash, Left}
 use Rattle.zo_leaf.proofs.Walk.{walks_tree}
 use Rattle.zo_leaf.proofs.Nodes.{branches_cons}
-use Rattle.zo_rounds.specs.inner.Node.{Leaves}
+use Rattle.zo_branch.specs.inner.Node.{Leaves}
 use Rattle.zo_solve.specs.inner.Search.{LeftsLast}
 
 -- ---- what walks the rest ends a walk of the whole

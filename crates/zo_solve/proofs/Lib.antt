@@ -2,4 +2,5 @@ pub mod Endings
 pub mod FewBranches
 pub mod Grow
 pub mod Reports
+mod RootLeaf
 pub mod Weaker

@@ -12,7 +12,7 @@ use Rattle.zo_leaf.specs.declared.cert.Claim.{Claim}
 use Rattle.zo_leaf.specs.declared.cert.Claim.TheVariants.{Least, Nothing}
 use Rattle.zo_state.specs.declared.best.Best.{Best}
 use Rattle.zo_state.specs.inner.Better.{IsBest, IsWeaker}
-use Rattle.zo_rounds.specs.inner.Node.{IsGood, Steps}
+use Rattle.zo_branch.specs.inner.Node.{IsGood, Steps}
 use Rattle.zo_solve.specs.inner.Search.{IsFound, LeftsLast}
 use Rattle.zo_solve.proofs.Grow.{Begun, begun_done, begun_more, may_weaker}
 

@@ -1,11 +1,13 @@
 //! Depth-first branch and bound for 0-1 programs: each answer comes with the tree that was searched.
 #![tactic(auto)]
 
+pub mod bound;
 pub mod reported;
 pub mod search;
 
+pub use bound::{Bounded, lower_bound};
 pub use reported::report_of;
-pub use search::{Solved, solve};
+pub use search::{Solved, solve, solve_by};
+pub use zo_branch::Order;
 pub use zo_leaf::Fixed;
-pub use zo_rounds::Order;
 pub use zo_state::{Pick, Sums, first_choice};

@@ -8,23 +8,19 @@ ghost use Rattle.zo_leaf.specs.inner.Leaf.{IsClear};
 ghost use Rattle.zo_leaf.specs.inner.Path.{begun};
 ghost use Rattle.zo_leaf.specs.Searched.{IsSearched};
 ghost use Rattle.zo_state.specs.Pick.{Answers, CanPick};
-ghost use Rattle.zo_rounds.specs.Nodes.{IsBelow, IsPicked};
+ghost use Rattle.zo_branch.specs.Nodes.{IsBelow, IsPicked};
 ghost use Rattle.zo_state.specs.inner.Better.{IsBest};
 ghost use Rattle.zo_solve.specs.inner.Search.{IsAnswerOf, IsFound};
 ghost use Rattle.zo_solve.specs.Solved.{CostsAtMost, EachIn, HadNoStart, IsCutOff, IsDecided, IsProved, OfVector, claim_of, tree_of};
 ghost use Rattle.zo_state.specs.Vector.{IsVector, cost_at, start_cost};
 
 use std::alloc::{AllocError, Global};
+use zo_branch::Order;
+use zo_branch::node::step;
 use zo_leaf::path::Path;
 use zo_leaf::{Cert, CertNode, Fixed, has_left};
 use zo_model::{Assignment, NoMemory, ZeroOne};
-use zo_rounds::begin;
-use zo_rounds::node::step;
-use zo_rounds::rounds::Rounds;
 use zo_state::{Best, Pick, Sums};
-
-/// So many terms of rows are visited in the rounds of one search; after that nodes are closed without multipliers.
-const WORK_LIMIT: u64 = 300_000_000;
 
 /// What a search found, with its tree.
 #[derive(Drop)]
@@ -47,7 +43,7 @@ fn walk<F: Fn(&ZeroOne, &Fixed) -> u32>(
     budget: u32,
     best: &mut Best,
     sums: &mut Sums,
-    rounds: &mut Rounds,
+    order: &Order,
     weights: &mut [i128],
     path: &mut Path,
     nodes: &mut Vec<CertNode>,
@@ -65,7 +61,7 @@ fn walk<F: Fn(&ZeroOne, &Fixed) -> u32>(
     let mut left = budget;
     'nodes: while !path.is_done() {
         left = step(
-            alloc, z, pick, left, best, sums, rounds, weights, path, nodes,
+            alloc, z, pick, left, best, sums, order, weights, path, nodes,
         )?;
     }
     Ok(())
@@ -78,6 +74,7 @@ fn search<F: Fn(&ZeroOne, &Fixed) -> u32>(
     pick: &Pick<F>,
     budget: u32,
     best: &mut Best,
+    order: &Order,
 ) -> Result<Vec<CertNode>, NoMemory>
     requires valid { IsValid z.now }
     requires can_pick { CanPick (F.pre pick.now.choose) (F.post pick.now.choose) }
@@ -86,7 +83,6 @@ fn search<F: Fn(&ZeroOne, &Fixed) -> u32>(
 {
     let mut weights = vec![in alloc; 0i128; z.costs.len()]?;
     let mut path = Path::new(alloc, z)?;
-    let mut rounds = Rounds::new(alloc, z, WORK_LIMIT)?;
     let mut sums = Sums::new(alloc, z)?;
     let mut nodes = Vec::new(alloc);
     walk(
@@ -96,7 +92,7 @@ fn search<F: Fn(&ZeroOne, &Fixed) -> u32>(
         budget,
         best,
         &mut sums,
-        &mut rounds,
+        order,
         &mut weights,
         &mut path,
         &mut nodes,
@@ -116,6 +112,42 @@ fn answer(x: Option<Assignment>, nodes: Vec<CertNode>) -> Solved
         None if is_open => Solved::Spent(tree),
         None => Solved::Infeasible(tree),
     }
+}
+
+/// Searches as `solve` does, by the rounds of this order. A pick that names what the order chooses shares them.
+pub fn solve_by<F: Fn(&ZeroOne, &Fixed) -> u32>(
+    alloc: Global,
+    z: &ZeroOne,
+    start: Option<Assignment>,
+    budget: u32,
+    pick: &Pick<F>,
+    order: &Order,
+) -> Result<Solved, NoMemory>
+    requires valid { IsValid z.now }
+    requires start { IfSome start (IsVector z.now) }
+    requires budget { 1 ≤ budget }
+    requires can_pick { CanPick (F.pre pick.now.choose) (F.post pick.now.choose) }
+
+    // what the answer says
+    ensures vector { IfOk result (OfVector (IsVector z.now)) }
+    ensures proved { IfOk result (IsProved z.now) }
+    ensures cut_off { IfOk result (IsCutOff budget) }
+    ensures no_start { IfOk result (HadNoStart start) }
+    ensures no_dearer { IfOk result (OfVector (λ x. CostsAtMost (cost_at z.now x) (start_cost z.now start))) }
+    ensures decided { 2 ^ (columns z.now + 1) - 1 ≤ budget → IfOk result IsDecided }
+
+    // the tree
+    ensures shaped { IfOk result (λ s. IsTreeWith (IsShaped z.now) (tree_of s)) }
+    ensures searched { IfOk result (λ s. IsTreeWith (IsSearched z.now (claim_of z.now s)) (tree_of s)) }
+    ensures within_budget { IfOk result (λ s. branches (tree_of s).nodes.items ≤ budget) }
+    ensures few_nodes { IfOk result (λ s. length (tree_of s).nodes.items ≤ 2 * budget + 1) }
+    ensures within_limits { IfOk result (λ s. All IsNode (tree_of s).nodes.items) }
+    ensures picked { IfOk result (EachIn z.now (IsPicked (Answers (F.post pick.now.choose) z.now))) }
+    ensures below_start { IfOk result (EachIn z.now (IsBelow z.now (start_cost z.now start))) }
+{
+    let mut best = order.begin(alloc, z, start, budget)?;
+    let nodes = search(alloc, z, pick, budget, &mut best, order)?;
+    Ok(answer(best.x, nodes))
 }
 
 /// Searches for the cheapest vector that meets the rows, depth first with at most `budget` branches.
@@ -152,7 +184,6 @@ pub fn solve<F: Fn(&ZeroOne, &Fixed) -> u32>(
     ensures picked { IfOk result (EachIn z.now (IsPicked (Answers (F.post pick.now.choose) z.now))) }
     ensures below_start { IfOk result (EachIn z.now (IsBelow z.now (start_cost z.now start))) }
 {
-    let mut best = begin(alloc, z, start)?;
-    let nodes = search(alloc, z, pick, budget, &mut best)?;
-    Ok(answer(best.x, nodes))
+    let order = Order::new(alloc, z)?;
+    solve_by(alloc, z, start, budget, pick, &order)
 }

@@ -1,11 +1,11 @@
 //! The best vector of a search so far.
 
-ghost use Rattle.std.specs.Prelude.{◌≡◌, IfSome, IfOk, IsTrue, ◌↔◌, length};
+ghost use Rattle.std.specs.Prelude.{◌≡◌, IfSome, IfOk, IsTrue, ◌↔◌, Some, false, length};
 ghost use Rattle.zo_model.specs.Program.{IsValid, columns, cost_of};
 ghost use Rattle.zo_leaf.specs.Fixing.{ones};
 ghost use Rattle.zo_leaf.specs.Searched.{IsMet};
-ghost use Rattle.zo_sums.specs.Vector.{IsVector, start_cost};
-ghost use Rattle.zo_state.specs.inner.Better.{CostsAsMuch, IsBest, IsWeaker};
+ghost use Rattle.zo_sums.specs.Vector.{IsVector, cost_at, start_cost};
+ghost use Rattle.zo_state.specs.inner.Better.{CostsAsMuch, IsBest, IsCheaper, IsWeaker};
 
 use std::alloc::{AllocError, Global};
 use zo_leaf::Claim;
@@ -52,6 +52,10 @@ impl Best {
         requires best { IsBest z.now self.old }
         ensures best { IsBest z.now self.new }
         ensures start { self.new.start ≡ self.old.start }
+        ensures weaker { IsWeaker self.old.claim self.new.claim }
+        ensures cheaper { IsTrue result ↔ IsCheaper self.old.claim (cost_at z.now x) }
+        ensures taken { IsTrue result → self.new.x ≡ Some x }
+        ensures kept { result ≡ false → self.new ≡ self.old }
     {
         let cost = cost(z, &x);
         if costs_as_much(&self.claim, cost) {

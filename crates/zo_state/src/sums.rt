@@ -151,43 +151,6 @@ impl<'a> Sums<'a> {
         self.reaches[row as usize] as i64
     }
 
-    /// By how much the most that the row's sum can still be exceeds its least; 0 where there is no such row.
-    pub fn slack(&self, row: u32) -> i64 {
-        let i = row as usize;
-        if i < self.z.rows.len() {
-            return self
-                .reach(row)
-                .wrapping_sub(i64::from(self.z.rows[i].least));
-        }
-        0
-    }
-
-    /// Whether the row holds with 0 for all unfixed columns, or isn't there.
-    pub fn is_row_met(&self, row: usize) -> bool {
-        if row < self.z.rows.len() {
-            return self.ones[row] >= i128::from(self.z.rows[row].least);
-        }
-        true
-    }
-
-    /// The rows of a column, each with the coefficient there.
-    pub fn rows_of(&self, column: u32) -> Option<&[(u32, i32)]> {
-        Some(self.columns.get(column as usize)?.as_slice())
-    }
-
-    /// The row and the coefficient at a place of a column.
-    pub fn term(&self, column: u32, place: usize) -> Option<(u32, i32)> {
-        self.columns.get(column as usize)?.get(place).copied()
-    }
-
-    /// How many rows a column has.
-    pub fn count(&self, column: u32) -> usize {
-        match self.columns.get(column as usize) {
-            Some(terms) => terms.len(),
-            None => 0,
-        }
-    }
-
     /// Whether every row holds with 0 for all unfixed columns.
     pub fn is_met(&self) -> bool
         ensures { IsTrue result ↔ IsMet self.now.program self.now.fixed }

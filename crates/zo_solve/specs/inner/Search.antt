@@ -7,7 +7,7 @@ use Rattle.zo_leaf.specs.declared.cert.CertNode.{CertNode}
 use Rattle.zo_leaf.specs.declared.cert.CertNode.TheVariants.{Branch, Bound, Clash, Left}
 use Rattle.zo_state.specs.declared.best.Best.{Best}
 use Rattle.zo_state.specs.inner.Better.{IsBest}
-use Rattle.zo_rounds.specs.inner.Node.{IsGood}
+use Rattle.zo_branch.specs.inner.Node.{IsGood}
 use Rattle.zo_solve.specs.declared.search.Solved.{Solved}
 use Rattle.zo_solve.specs.declared.search.Solved.TheVariants as answers
 

@@ -18,6 +18,10 @@ abbrev pub CostsAsMuch : Claim → ℕ → Type 0
 CostsAsMuch (Least t) n = t ≤ n
 CostsAsMuch Nothing n = ⊥
 
+-- a vector of cost n is better than what the claim says
+abbrev pub IsCheaper : Claim → ℕ → Type 0
+IsCheaper claim n = ¬ (CostsAsMuch claim n)
+
 -- the claim is about a vector, that costs at most as much as the start
 abbrev pub IsAtMostStart : Option ℕ → Claim → Type 0
 IsAtMostStart None claim = Unit {0}
