@@ -12,3 +12,4 @@ pub mod Entries
 pub mod Marking
 pub mod Footing
 pub mod Sharing
+pub mod Disjoint

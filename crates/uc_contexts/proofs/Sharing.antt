@@ -6,7 +6,7 @@ use Rattle.std.proofs.lemmas.Option.{slice_get_read, slice_get_within}
 use Rattle.nv_base.specs.declared.term.Mem.{Mem}
 use Rattle.nv_base.specs.declared.term.Mem.TheVariants.{Sram, Sdram, Scratch}
 use Rattle.uc_contexts.specs.declared.alone.Marks.{Marks}
-use Rattle.uc_contexts.specs.Marked.{AllHave, HaveOneSize, IsMarked, IsMarkedByOther, IsMarkedWritten, IsShared, IsFirstShared, IsSizeOf, rank}
+use Rattle.uc_contexts.specs.Marked.{IsMarked, IsMarkedByOther, IsMarkedWritten, IsShared, IsFirstShared, rank}
 use Rattle.uc_contexts.specs.Sets.{has, within}
 
 -- of the marks before a number none has this
@@ -52,30 +52,26 @@ no-writer feet m a n all h = λ s.
     let less : s.0 < n = omega arith in
     h s.0 s.1 less s.2 (s.3, s.4)
 
--- ---- the size of all
+-- ---- where writes end
 
-abbrev pub Sized : List Marks → Mem → ℕ → ℕ → Type 0
-Sized feet m n size = (j : ℕ) (f : Marks) → j < n → slice_get feet j ≡ Some f → IsSizeOf f m size
+-- none of the first n writes an address from this number on
+abbrev pub EndsBefore : List Marks → Mem → ℕ → ℕ → Type 0
+EndsBefore feet m n end = (j : ℕ) (f : Marks) → j < n → slice_get feet j ≡ Some f → (a : ℕ) → end ≤ a → ¬ IsMarkedWritten f m a
 
-pub sized-next : (feet : List Marks) (m : Mem) (n size size' : ℕ) (g : Marks) → HaveOneSize feet → slice_get feet n ≡ Some g → Sized feet m n size → size' ≡ (within m g.written).size → ((a : ℕ) → size' ≤ a → has (within m g.written) a ≡ false)
-    → Sized feet m (n + 1) size'
-sized-next feet m n size size' g one at h is past = λ j f lt there. elim (cases_eq j n) [
+pub ends-next : (feet : List Marks) (m : Mem) (n end end' size : ℕ) (g : Marks) → slice_get feet n ≡ Some g → EndsBefore feet m n end → end ≤ end' → size ≤ end' → ((a : ℕ) → size ≤ a → has (within m g.written) a ≡ false) → EndsBefore feet m (n + 1) end'
+ends-next feet m n end end' size g at h more less past = λ j f lt there a le marked. elim (cases_eq j n) [
   | inl same ↦ (
       let here : slice_get feet j ≡ Some g = ap (slice_get feet) same ∙ at in
-      let this : g ≡ f = cc in
-      let all : IsSizeOf g m size' = record { read = is ∙ (one n n g g at at m).1; written = is; past = λ a le marked. false≢true (sym (past a le) ∙ marked) } in
-      subst (λ x. IsSizeOf x m size') this all
+      let this : f ≡ g = cc in
+      let beyond : size ≤ a = omega arith in
+      false≢true (sym (past a beyond) ∙ subst (λ x. IsMarkedWritten x m a) this marked)
       )
   | inr other ↦ (
-      let less : j < n = omega arith in
-      let before : IsSizeOf f m size = h j f less there in
-      let sizes : size ≡ size' = before.written ∙ (one j n f g there at m).1 ∙ sym (one n n g g at at m).1 ∙ sym is in
-      subst (IsSizeOf f m) sizes before
+      let before : j < n = omega arith in
+      let beyond : end ≤ a = omega arith in
+      h j f before there a beyond marked
       )
 ]
-
-pub have-below : (feet : List Marks) (m : Mem) (size a : ℕ) → ((i : ℕ) (f : Marks) → slice_get feet i ≡ Some f → IsSizeOf f m size) → a < size → AllHave feet m a
-have-below feet m size a h less = λ i f is. let s = h i f is in (subst (λ n. a < n) s.read less, subst (λ n. a < n) s.written less)
 
 pub not-next : (P : ℕ → Type 0) (n : ℕ) → ((b : ℕ) → b < n → ¬ (P b)) → ¬ (P n) → (b : ℕ) → b < n + 1 → ¬ (P b)
 not-next P n h not = λ b lt p. elim (cases_eq b n) [
@@ -83,10 +79,10 @@ not-next P n h not = λ b lt p. elim (cases_eq b n) [
   | inr other ↦ (let less : b < n = omega arith in h b less p)
 ]
 
-pub none-shared : (feet : List Marks) (m : Mem) (size n : ℕ) → ((i : ℕ) (f : Marks) → slice_get feet i ≡ Some f → IsSizeOf f m size) → size ≤ n → ((b : ℕ) → b < n → ¬ IsShared feet m b) → (a : ℕ) → ¬ IsShared feet m a
-none-shared feet m size n h all below = λ a s. elim (cases_lt a n) [
+pub none-shared : (feet : List Marks) (m : Mem) (end n : ℕ) → ((i : ℕ) (f : Marks) → slice_get feet i ≡ Some f → (a : ℕ) → end ≤ a → ¬ IsMarkedWritten f m a) → end ≤ n → ((b : ℕ) → b < n → ¬ IsShared feet m b) → (a : ℕ) → ¬ IsShared feet m a
+none-shared feet m end n h all below = λ a s. elim (cases_lt a n) [
   | inl less ↦ below a less s
-  | inr past ↦ (let beyond : size ≤ a = omega arith in (h s.0 s.1 s.2).past a beyond s.3)
+  | inr past ↦ (let beyond : end ≤ a = omega arith in h s.0 s.1 s.2 a beyond s.3)
 ]
 
 -- ---- the first of all memories

@@ -1,9 +1,8 @@
 -- Marks of the addresses that a run alone reads and writes, and the addresses that several runs share.
-use Rattle.std.specs.Prelude.{◌≡◌, ℕ, ◌<◌, ◌≤◌, ◌⊎◌, ◌↔◌, true, List, Some, slice_get}
+use Rattle.std.specs.Prelude.{◌≡◌, ℕ, ◌<◌, ◌⊎◌, ◌↔◌, true, List, [], ◌∷◌, Some, length, slice_get, ⊤}
 use Rattle.nv_base.specs.declared.term.Mem.{Mem}
 use Rattle.nv_base.specs.declared.term.Mem.TheVariants.{Sram, Sdram, Scratch}
 use Rattle.nv_base.specs.Memories.{Memories, first_word, words_at}
-use Rattle.std.specs.Prelude.{length}
 use Rattle.uc_isa.specs.Code.{CodeView}
 use Rattle.uc_contexts.specs.declared.alone.Marks.{Marks}
 use Rattle.uc_contexts.specs.Feet.{Lone, Reads, Writes}
@@ -25,10 +24,6 @@ pub record IsFoot (c : CodeView) (p : Memories) (run : Lone) (f : Marks) : Type 
   pub read : (m : Mem) (a : ℕ) → IsMarkedRead f m a ↔ Reads c p run m a
   pub written : (m : Mem) (a : ℕ) → IsMarkedWritten f m a ↔ Writes c p run m a
   pub fit : Fit f p
-
--- each of the marks has this address
-abbrev pub AllHave : List Marks → Mem → ℕ → Type 0
-AllHave feet m a = (i : ℕ) (f : Marks) → slice_get feet i ≡ Some f → (a < (within m f.read).size) × (a < (within m f.written).size)
 
 -- one run's marks say that it reads or writes the address
 abbrev pub IsMarked : Marks → Mem → ℕ → Type 0
@@ -57,12 +52,9 @@ pub record IsFirstShared (feet : List Marks) (m : Mem) (a : ℕ) : Type 0 where
   pub shared : IsShared feet m a
   pub first : (k : Mem) (b : ℕ) → Precedes k b m a → ¬ IsShared feet k b
 
--- all marks are of memories of one size
-abbrev pub HaveOneSize : List Marks → Type 0
-HaveOneSize feet = (i j : ℕ) (f g : Marks) → slice_get feet i ≡ Some f → slice_get feet j ≡ Some g → (m : Mem) → ((within m f.read).size ≡ (within m g.read).size) × ((within m f.written).size ≡ (within m g.read).size)
-
--- the marks have the addresses of this memory below this size, and none beyond is marked as written
-pub record IsSizeOf (f : Marks) (m : Mem) (size : ℕ) : Type 0 where
-  pub read : size ≡ (within m f.read).size
-  pub written : size ≡ (within m f.written).size
-  pub past : (a : ℕ) → size ≤ a → ¬ IsMarkedWritten f m a
+-- the marks of each run, in order
+abbrev pub AreFeet : CodeView → Memories → List Lone → List Marks → Type 0
+AreFeet c p [] [] = ⊤
+AreFeet c p [] (f ∷ feet) = ⊥
+AreFeet c p (run ∷ runs) [] = ⊥
+AreFeet c p (run ∷ runs) (f ∷ feet) = IsFoot c p run f × AreFeet c p runs feet

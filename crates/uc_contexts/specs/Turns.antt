@@ -1,11 +1,12 @@
 -- Contexts that take turns: one code, one packet, and a schedule that says whose turn it is.
-use Rattle.std.specs.Prelude.{ℕ, zero, suc, ◌+◌, ◌*◌, List, [], ◌∷◌, ◌++◌, Option, Some, None, replicate, slice_get, slice_set}
+use Rattle.std.specs.Prelude.{◌≡◌, ℕ, zero, suc, ◌+◌, ◌*◌, List, [], ◌∷◌, ◌++◌, All, Option, Some, None, length, replicate, slice_get, slice_set}
 use Rattle.nv_base.specs.declared.outcome.Write.{Write as WriteEvent}
 use Rattle.nv_base.specs.declared.outcome.Outcome.{Outcome}
 use Rattle.nv_base.specs.declared.outcome.Outcome.TheVariants as outcome
 use Rattle.nv_base.specs.Log.{empty_log, noted_all}
 use Rattle.nv_base.specs.Memories.{Memories, source_scratch}
 use Rattle.nv_base.specs.Meanings.{source_writes}
+use Rattle.uc_isa.specs.Code.{CodeView}
 use Rattle.uc_isa.specs.Engine.{start, halted}
 use Rattle.uc_isa.specs.Step.{Next, step}
 use Rattle.uc_isa.specs.declared.instruction.Instr.{Instr}
@@ -32,6 +33,12 @@ started_from i (args ∷ more) = starting i args ∷ started_from (suc i) more
 
 abbrev pub started : List (List ℕ) → List Context
 started args = started_from 0 args
+
+-- contexts of this code before their first steps, each with as many words as the code has parameters
+pub record AreFresh (c : CodeView) (contexts : List Context) : Type 0 where
+  pub args : List (List ℕ)
+  pub words : All (λ a. length a ≡ c.params) args
+  pub made : contexts ≡ started args
 
 -- the outcome after a step
 abbrev pub outcome_of : Stepped → Outcome

@@ -69,7 +69,6 @@ impl AddressSet {
 
     /// Whether an address of a memory is in the set.
     pub fn contains(&self, m: Mem, a: u32) -> bool
-        requires { a < (within m self.now).size }
         ensures { result ≡ has (within m self.now) a }
     {
         self.of(m).contains(a)

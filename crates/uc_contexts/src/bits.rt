@@ -41,12 +41,14 @@ impl Bits {
         self.size
     }
 
-    /// Whether a number is in the set.
+    /// Whether a number is in the set; one from the size on never is.
     pub fn contains(&self, x: u32) -> bool
-        requires { x < self.now.size }
         ensures { result ≡ has self.now x }
     {
-        (self.words[x as usize / 32] >> (x % 32)) & 1 == 1
+        match self.words.get(x as usize / 32) {
+            Some(word) => (*word >> (x % 32)) & 1 == 1,
+            None => false,
+        }
     }
 
     // Puts a number into the set.

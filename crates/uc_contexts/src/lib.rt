@@ -5,6 +5,7 @@ mod addresses;
 mod alone;
 mod bits;
 mod compare;
+pub mod laws;
 mod schedule;
 mod state;
 

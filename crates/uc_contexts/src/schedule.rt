@@ -2,7 +2,7 @@
 ghost use Rattle.std.specs.Prelude.{◌≡◌, ◌+◌, ◌<◌, ◌≤◌, ◌^◌, ℕ, List, All, Some, length, slice_get, slice_set, replicate, sum_by};
 ghost use Rattle.uc_isa.specs.Lawful.{IsLawful};
 ghost use Rattle.uc_contexts.specs.Alone.{AreDisjoint, all_alone, lone_runs};
-ghost use Rattle.uc_contexts.specs.Turns.{System, started, scheduled, entries, turns};
+ghost use Rattle.uc_contexts.specs.Turns.{AreFresh, System, started, scheduled, entries, turns};
 ghost use Rattle.uc_contexts.specs.declared.state.Context.{Context};
 
 use crate::state::{Context, Contexts};
@@ -50,10 +50,11 @@ impl Contexts {
 /// after all their writes.
 pub fn run_schedule(c: &Code, e: &mut Contexts, p: &mut Packet, list: &[(u8, u64)])
     requires lawful { IsLawful c.now.list }
-    requires made { (args : List (List ℕ)) × (e.old ≡ started args) × All (λ words. length words ≡ c.now.params) args }
+    requires fresh { AreFresh c.now e.old }
     requires named { All (λ entry. entry.0 < length e.old) list.now }
     requires few { sum_by (λ entry. entry.1) list.now ≤ 100000000 }
     ensures scheduled { record { contexts = e.new; packet = p.new } ≡ scheduled c.now.list (entries list.now) (record { contexts = e.old; packet = p.old }) }
+    ensures number { length e.new ≡ length e.old }
     ensures alone { (args : List (List ℕ)) → e.old ≡ started args → let runs = lone_runs (entries list.now) args in
         AreDisjoint c.now p.old runs → record { contexts = e.new; packet = p.new } ≡ all_alone c.now p.old runs }
 {

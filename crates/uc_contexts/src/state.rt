@@ -2,7 +2,7 @@
 ghost use Rattle.std.specs.Prelude.{◌≡◌, ◌+◌, ◌*◌, ◌<◌, ◌≤◌, ◌^◌, All, IfOk, Some, length, slice_get, slice_index_or};
 ghost use Rattle.nv_base.specs.Log.{Log, empty_log};
 ghost use Rattle.uc_isa.specs.Engine.{start};
-ghost use Rattle.uc_contexts.specs.Turns.{base_of, kept_writes, starting, started};
+ghost use Rattle.uc_contexts.specs.Turns.{AreFresh, base_of, kept_writes, starting, started};
 ghost use Rattle.uc_contexts.specs.declared.state.Context.{Context};
 
 use nv_base::{NoMemory, Outcome, SOURCE_SCRATCH, Words, WriteLog};
@@ -59,7 +59,9 @@ impl Contexts {
         requires some { 1 ≤ length args.now }
         requires few { length args.now ≤ 4 }
         requires arguments { All (λ words. length words ≡ c.now.params) args.now }
-        ensures { IfOk result (λ e. e ≡ started args.now) }
+        ensures made { IfOk result (λ e. e ≡ started args.now) }
+        ensures fresh { IfOk result (AreFresh c.now) }
+        ensures number { IfOk result (λ e. length e ≡ length args.now) }
     {
         let mut list = Vec::new(alloc);
         for (number, words) in args.iter().enumerate() {

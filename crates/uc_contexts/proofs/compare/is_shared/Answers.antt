@@ -4,11 +4,6 @@ use Rattle.uc_contexts.proofs.Sharing.{Writer, mark-at, none-next, no-writer}
 use Rattle.uc_contexts.proofs.compare.is_shared.Goals as goal
 use Rattle.uc_contexts.proofs.compare.is_shared.Goals.{else-contains-via-then-contains+else-is_marked_by_other, else-contains-via-else-contains}
 
-pub contains-requires : goal.contains-requires
-contains-requires c =
-    let f = c.index-feet-number.result in
-    (c.requires c.loop-number.number f (mark-at c.args.feet.now c.loop-number.number f c.loop-number-test.true c.index-feet-number.is)).1
-
 pub returns-then-is_marked_by_other : goal.returns-then-is_marked_by_other
 returns-then-is_marked_by_other c =
     let f = c.index-feet-number.result in

@@ -6,8 +6,8 @@ use Rattle.uc_contexts.proofs.schedule.run_schedule.Goals as goal
 
 pub loop-entry-init : goal.loop-entry-init
 loop-entry-init c =
-    let made = c.requires.made in
-    remains-first c.args.c.now.list 100000000 c.args.list.now made.0 c.args.e.now c.args.p.now made.1 c.list-code.ensures.code.some c.requires.few
+    let fresh = c.requires.fresh in
+    remains-first c.args.c.now.list 100000000 c.args.list.now fresh.args c.args.e.now c.args.p.now fresh.made c.list-code.ensures.code.some c.requires.few
 
 pub loop-entry-preserved : goal.loop-entry-preserved
 loop-entry-preserved c =
