@@ -4,14 +4,11 @@ use Rattle.std.specs.Prelude.{slice_get, IfSome, IfNone}
 use Rattle.std.proofs.lemmas.Option.{slice_get-get_or}
 use Rattle.std.specs.Prelude.{Bool}
 use Rattle.uc_isa.specs.declared.instruction.Instr.{Instr}
-use Rattle.uc_peep.proofs.Replaced.{length-text, text-at}
+use Rattle.uc_peep.proofs.Replaced.{length-text, same-some, text-at}
 use Rattle.uc_peep.specs.Draft.{MayReplace}
 use Rattle.uc_peep.specs.Window.{IsText}
 use Rattle.uc_runs.specs.Program.{IsProgram}
 use Rattle.uc_runs.specs.StraightCode.{IsStraight}
-
-pub same-some : (i j : Instr) (o : Option Instr) → o ≡ Some i → o ≡ Some j → i ≡ j
-same-some i j o a b = let e : Some i ≡ Some j = sym a ∙ b in cc
 
 pub is-text : (code : List Instr) (gone entered started : List Bool) (p k : ℕ) → IsProgram code → 1 ≤ k → k ≤ 4 → MayReplace code gone entered started p k → IsText (take k (drop p code))
 is-text code gone entered started p k lawful some few may =

@@ -14,6 +14,7 @@ use Rattle.uc_isa.specs.declared.engine.Stepped.TheVariants.{Fault, Halted, Went
 use Rattle.uc_isa.specs.declared.instruction.Instr.{Instr}
 use Rattle.uc_isa.specs.declared.instruction.Instr.TheVariants.{Halt}
 use Rattle.uc_peep.proofs.Counts.{gone-next, kept-at, kept-between, kept-next, kept-zero}
+use Rattle.uc_peep.proofs.Replaced.{gone-cases}
 use Rattle.uc_peep.specs.Kept.{compacted, is_gone, kept_before}
 use Rattle.uc_peep.specs.Window.{filler}
 use Rattle.uc_runs.proofs.Counting.{here-at, here-not, stood-more}
@@ -258,13 +259,6 @@ module _ (code code' : List Instr) (gone : List Bool) (starts : ℕ → Type 0) 
   at-place : (e : Engine) → e.place < length code → (i : Instr) × (slice_get code e.place ≡ Some i)
   at-place e inside = (get_or code e.place (Halt 0 0), slice_get-get_or code e.place (Halt 0 0) inside)
 
-  gone-cases : (x : ℕ) → (is_gone gone x ≡ true) ⊎ (is_gone gone x ≡ false)
-  gone-cases x = by (is_gone gone x) refl
-    where
-      by : (b : Bool) → is_gone gone x ≡ b → (is_gone gone x ≡ true) ⊎ (is_gone gone x ≡ false)
-      by true h = inl h
-      by false h = inr h
-
   pub there : (m : ℕ) (e : Engine) (ms : Memories) → e.place < length code → (n : ℕ) × Meets e ms m n
   there zero e ms inside = (0, meets-none e ms)
   there (suc m) e ms inside =
@@ -278,7 +272,7 @@ module _ (code code' : List Instr) (gone : List Bool) (starts : ℕ → Type 0) 
       let h = there m (effect i.0 e ms).engine (effect i.0 e ms).packet (onto-inside e.place _ i.0 i.1 goes.1) in
       (suc h.0, meets-on m h.0 i.0 e ms i.1 k goes.0 goes.1 h.1))
       (goes-on i.0 e ms))
-      (gone-cases e.place)
+      (gone-cases gone e.place)
 
   -- after n steps of the second run the first one stands at a kept place
   pub record Lands (e : Engine) (ms : Memories) (n : ℕ) : Type 0 where
@@ -302,7 +296,7 @@ module _ (code code' : List Instr) (gone : List Bool) (starts : ℕ → Type 0) 
         kept = ap (is_gone gone) same ∙ h.kept;
       })
       (λ (k : is_gone gone e.place ≡ false). land e ms inside k)
-      (gone-cases e.place)
+      (gone-cases gone e.place)
 
   land-more : (n : ℕ) → ((e : Engine) (ms : Memories) → e.place < length code → Lands e ms n) → (e : Engine) (ms : Memories) → e.place < length code → is_gone gone e.place ≡ false → Lands e ms (suc n)
   land-more n next e ms inside k =
@@ -399,7 +393,7 @@ module _ (code code' : List Instr) (gone : List Bool) (starts : ℕ → Type 0) 
       (λ (k : is_gone gone (after code m e ms).engine.place ≡ false).
       let h = there m e ms inside in
       inr (h.0, access-kept m h.0 e ms h.1 (after-inside m e ms inside) k ∙ ap (λ x. access_at code' h.0 x ms) (begin-moved e at)))
-      (gone-cases (after code m e ms).engine.place)
+      (gone-cases gone (after code m e ms).engine.place)
     where
       step-inside : (e : Engine) (ms : Memories) → e.place < length code → (step code e ms).engine.place < length code
       step-inside e ms inside =

@@ -1,5 +1,5 @@
 -- Elements of lists.
-use Rattle.std.proofs.Common.{◌≡◌, ◌≢◌, ℕ, zero, suc, ◌+◌, ◌<◌, ◌≤◌, List, [], ◌∷◌, ◌++◌, length, set, take, drop, Some, None, refl, sym, ap, ◌∙◌, arith}
+use Rattle.std.proofs.Common.{◌≡◌, ◌≢◌, ℕ, zero, suc, ◌+◌, ◌<◌, ◌≤◌, List, [], ◌∷◌, ◌++◌, length, set, take, drop, Some, None, refl, ap, ◌∙◌, arith}
 use Rattle.std.specs.Prelude.{slice_get}
 use Rattle.uc_peep.specs.Window.{filler, fillers}
 
@@ -60,6 +60,3 @@ get-fillers x (suc n) (suc d) h = let e : suc x + d ≡ x + suc d = omega arith 
 pub length-fillers : (x n : ℕ) → length (fillers x n) ≡ n
 length-fillers x zero = refl
 length-fillers x (suc n) = ap suc (length-fillers (suc x) n)
-
-pub get-same : {A : Type 0} (a b : List A) (x y : ℕ) (i : A) → x ≡ y → slice_get a x ≡ Some i → slice_get a y ≡ Some i
-get-same a b x y i e h = ap (slice_get a) (sym e) ∙ h

@@ -5,7 +5,7 @@ use Rattle.std.proofs.lemmas.Bool.Decides.{eqb_tells}
 use Rattle.std.proofs.lemmas.Bool.{false≢true, cases_lt}
 use Rattle.std.proofs.lemmas.Option.{slice_get-get_or, get_or_from_slice_get}
 use Rattle.uc_isa.specs.declared.instruction.Instr.{Instr}
-use Rattle.uc_peep.proofs.Replaced.{IsReplacement, Zone, all-at, drafted', entry, filler-lawful, next-cases, straight-lawful, zone}
+use Rattle.uc_peep.proofs.Replaced.{IsReplacement, Zone, all-at, drafted', entry, filler-lawful, next-cases, same-some, straight-lawful, zone}
 use Rattle.uc_peep.specs.Draft.{Answers, IsDraft, IsMarks, IsPassed, IsPassing, IsPut, IsRefreshed, MayReplace}
 use Rattle.uc_peep.specs.Kept.{is_gone}
 use Rattle.uc_peep.specs.Liveness.{Covers, IsBefore, IsClosed}
@@ -246,7 +246,7 @@ put-ahead p k as' draft draft' gone gone' put straight x y i le lt at next =
     let s : IsStraight i = straight (x - p) i (sym (put.first (x - p) (omega arith) f).0 ∙ ap (slice_get draft') (sym e) ∙ at) in
     ⊎_elim (λ (one : y ≡ x + 1). one) (λ (t : GoesTo i y × ¬ IsStraight i). absurd (t.1 s)) (next-cases i x y next))
     (λ (m : length as' ≤ x - p).
-    let same : filler x ≡ i = Rattle.uc_peep.proofs.Asked.same-some (filler x) i _ (ap (slice_get draft') e ∙ (put.rest (x - p) (omega arith) m).0 ∙ ap (λ n. Some (filler n)) (sym e)) at in
+    let same : filler x ≡ i = same-some (filler x) i _ (ap (slice_get draft') e ∙ (put.rest (x - p) (omega arith) m).0 ∙ ap (λ n. Some (filler n)) (sym e)) at in
     let to : y ≡ suc x = subst (λ j. IsNext j x y) (sym same) next in
     let one : suc x ≡ x + 1 = omega arith in
     to ∙ one)
@@ -261,7 +261,7 @@ put-law draft draft' gone gone' entered started set p k as' lawful may sh put x 
     let is : slice_get as' d ≡ Some i = sym (put.first d lt f).0 ∙ ap (slice_get draft') (sym e) ∙ at in
     straight-lawful (length draft') x i (all-at IsStraight as' d i sh.straight is) (all-at IsFormed as' d i sh.lawful is) (let size = put.size in let h = may.inside in omega arith))
     (λ (m : length as' ≤ d).
-    let is : filler x ≡ i = Rattle.uc_peep.proofs.Asked.same-some (filler x) i _ (ap (slice_get draft') e ∙ (put.rest d lt m).0 ∙ ap (λ n. Some (filler n)) (sym e)) at in
+    let is : filler x ≡ i = same-some (filler x) i _ (ap (slice_get draft') e ∙ (put.rest d lt m).0 ∙ ap (λ n. Some (filler n)) (sym e)) at in
     subst (λ j. IsLawfulWithin (length draft') x j) is (filler-lawful (length draft') x (let size = put.size in let h = may.inside in omega arith)))
     (cases_lt d (length as'))
 

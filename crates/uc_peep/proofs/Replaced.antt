@@ -119,9 +119,6 @@ straight-lawful len x (Halt k n) s h lt = absurd s
 pub filler-lawful : (len x : ℕ) → suc x < len → IsLawfulWithin len x (filler x)
 filler-lawful len x lt = record { formed = record { operands = tt; run_inside = tt; pairs = tt; numbers = tt; halt = tt }; target = lt; last = λ e. tt }
 
-filler-crooked : (x : ℕ) → ¬ IsStraight (filler x)
-filler-crooked x h = h
-
 -- a next place is the one behind, or the target of a branch
 pub next-cases : (i : Instr) (x y : ℕ) → IsNext i x y → (y ≡ x + 1) ⊎ (GoesTo i y × ¬ IsStraight i)
 next-cases (Alu d op a b) x y h = inl h
@@ -150,7 +147,7 @@ gone-cases gone x = by (is_gone gone x) refl
     by true h = inl h
     by false h = inr h
 
-same-some : (i j : Instr) (o : Option Instr) → o ≡ Some i → o ≡ Some j → i ≡ j
+pub same-some : (i j : Instr) (o : Option Instr) → o ≡ Some i → o ≡ Some j → i ≡ j
 same-some i j o a b = let e : Some i ≡ Some j = sym a ∙ b in cc
 
 -- what a replacement in a draft starts from

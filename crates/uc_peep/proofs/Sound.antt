@@ -4,8 +4,8 @@ use Rattle.std.specs.Prelude.{nat_lt}
 use Rattle.std.proofs.lemmas.Bool.{false≢true}
 use Rattle.nv_base.specs.Memories.{Memories, HasSizes}
 use Rattle.uc_isa.specs.Engine.{IsEngine}
-use Rattle.uc_isa.specs.Registers.{Register, IsRegister, register, target_register, source_register}
-use Rattle.uc_isa.specs.Registers.Register.{InA, InB, InL, InS, InLD, InSD}
+use Rattle.uc_isa.specs.Registers.{Puts, Register, IsRegister, register, target_register, source_register}
+use Rattle.uc_isa.specs.Registers.Register.{InA, InB}
 use Rattle.uc_isa.specs.Step.{effect, operand}
 use Rattle.uc_isa.specs.declared.engine.Engine.{Engine}
 use Rattle.uc_isa.specs.declared.instruction.Src.{Src}
@@ -16,9 +16,9 @@ use Rattle.uc_isa.specs.declared.instruction.UnOp.TheVariants.{Copy, Not, Shl, S
 use Rattle.uc_isa.specs.declared.instruction.Instr.{Instr}
 use Rattle.uc_isa.specs.declared.instruction.Instr.TheVariants.{Alu, Un, Immed, Br, Read, Write, Halt}
 use Rattle.uc_isa.proofs.RegisterLemmas.{operand-register, puts-flags}
-use Rattle.uc_runs.proofs.Effects.{keeps-value, keeps-engine, same-true, value-none, decide-spot}
+use Rattle.uc_runs.proofs.Effects.{keeps-value, keeps-engine, named-none, named-some, same-true}
 use Rattle.uc_runs.specs.Program.{IsFormed}
-use Rattle.uc_runs.specs.Spots.{Spot, IsSpot, value, flag_word, reads, writes, is_target, is_register, is_some_register, same_register}
+use Rattle.uc_runs.specs.Spots.{is_flag, Spot, IsSpot, value, flag_word, reads, writes, is_target, is_some_register, same_register}
 use Rattle.uc_runs.specs.Spots.Spot.{In, Zero, Carry}
 use Rattle.uc_runs.specs.StraightCode.{IsStraight}
 use Rattle.uc_peep.specs.Sets.{has, AgreeOn}
@@ -56,7 +56,7 @@ free d set Zero w h = (flagless (target_register d)).0
 free d set Carry w h = (flagless (target_register d)).1
 
 -- a result that isn't live, with flags that aren't
-unwritten-result : (d : Dst) (set : ℕ) (s : Spot) → (not (is_wanted d set) && not (has_flag set)) ≡ true → has set s ≡ true → (Rattle.uc_runs.specs.Spots.is_flag s || is_target d s) ≡ false
+unwritten-result : (d : Dst) (set : ℕ) (s : Spot) → (not (is_wanted d set) && not (has_flag set)) ≡ true → has set s ≡ true → (is_flag s || is_target d s) ≡ false
 unwritten-result d set (In r) dead h = free d set (In r) (down _ (both _ _ dead).0) h
 unwritten-result d set Zero dead h = absurd (false≢true (sym (neither (has set Zero) (has set Carry) (down _ (both _ _ dead).1)).0 ∙ h))
 unwritten-result d set Carry dead h = absurd (false≢true (sym (neither (has set Zero) (has set Carry) (down _ (both _ _ dead).1)).1 ∙ h))
@@ -125,7 +125,7 @@ same-there (dst.S k) x h = absurd (false≢true h)
 same-there (dst.SD k) x h = absurd (false≢true h)
 same-there dst.Nowhere x h = absurd (false≢true h)
 
-copy-puts : (d : Dst) (x : Src) (e : Engine) (p : Memories) → IsEngine e → Rattle.uc_isa.specs.Registers.Puts d (operand x e) e (effect (Un d Copy x) e p).engine
+copy-puts : (d : Dst) (x : Src) (e : Engine) (p : Memories) → IsEngine e → Puts d (operand x e) e (effect (Un d Copy x) e p).engine
 copy-puts d x e p h = puts-flags d (operand x e) (operand x e) false e h
 
 -- a register holds after a copy what its operand held where it is the target, and else what it held
@@ -134,8 +134,8 @@ copied : (d : Dst) (x : Src) (e : Engine) (p : Memories) (r : Register) → IsEn
 copied d x e p r h there = by (is_target d (In r)) refl
   where
     by : (b : Bool) → is_target d (In r) ≡ b → ((target_register d ≡ Some r) × (register r (effect (Un d Copy x) e p).engine ≡ register (source_register x) e)) ⊎ (register r (effect (Un d Copy x) e p).engine ≡ register r e)
-    by true is = let t = Rattle.uc_runs.proofs.Effects.named-some (target_register d) r is in inl (t, (copy-puts d x e p h).target r t there ∙ operand-register x e)
-    by false is = inr ((copy-puts d x e p h).others r (Rattle.uc_runs.proofs.Effects.named-none (target_register d) r is))
+    by true is = let t = named-some (target_register d) r is in inl (t, (copy-puts d x e p h).target r t there ∙ operand-register x e)
+    by false is = inr ((copy-puts d x e p h).others r (named-none (target_register d) r is))
 
 some-same : (o : Option Register) (a b : Register) → o ≡ Some a → o ≡ Some b → a ≡ b
 some-same o a b x y = let e : Some a ≡ Some b = sym x ∙ y in cc
