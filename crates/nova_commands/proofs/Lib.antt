@@ -8,3 +8,4 @@ pub mod Loads
 pub mod Saves
 pub mod Found
 pub mod Complete
+pub mod Asked

@@ -1,18 +1,16 @@
 -- What the program ends with.
-use Rattle.std.specs.Prelude.{◌≡◌, ℕ, List, [], String, Result, Ok, Err, drop}
+use Rattle.std.specs.Prelude.{◌≡◌, ℕ, List, [], String, Vec, Result, Ok, Err, drop}
 use Rattle.std.specs.Global.{Global}
 use Rattle.std.specs.Process.{exit_status}
-use Rattle.std.specs.Vec.Iter.{into_iter_items}
 use Rattle.std.specs.declared.io.Error.{Error}
 use Rattle.std.specs.declared.process.ExitCode.{ExitCode}
-use Rattle.std.specs.declared.vec.IntoIter.{IntoIter}
-use Rattle.command_line.specs.Command.{texts}
+use Rattle.command_line.specs.Command.{texts_of}
 use Rattle.command_line.specs.Status.{status_number}
 use Rattle.command_line.specs.declared.status.Status.{Status}
 
 -- the words behind the program's name, or none where they aren't all texts
-abbrev pub words_given : Result (IntoIter (String Global) Global) Error → List (List ℕ)
-words_given (Ok all) = texts (drop 1 (into_iter_items all))
+abbrev pub words_given : Result (Vec (String Global) Global) Error → List (List ℕ)
+words_given (Ok all) = drop 1 (texts_of all)
 words_given (Err e) = []
 
 -- the number is that of a status of which this holds

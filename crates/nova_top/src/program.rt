@@ -1,11 +1,10 @@
 //! The program round `run`: from the words of its command line to the number that it ends with.
-ghost use Rattle.std.specs.Prelude.{◌≡◌, ◌≢◌, ◌⊎◌, ◌↔◌, ◌++◌, [], List, ℕ, None, IsErr, IfOk, IfErr, drop};
+ghost use Rattle.std.specs.Prelude.{◌≡◌, ◌≢◌, ◌⊎◌, ◌↔◌, None, IsErr, IfOk, IfErr};
 ghost use Rattle.std.specs.IoError.{error_kind};
 ghost use Rattle.std.specs.Process.{exit_status};
-ghost use Rattle.std.specs.Vec.Iter.{into_iter_items};
 ghost use Rattle.nv_outside.specs.Calls.{AsksAtMost};
 ghost use Rattle.nv_outside.specs.Causes.{Rose};
-ghost use Rattle.command_line.specs.Command.{command_of, IfCommand};
+ghost use Rattle.command_line.specs.Command.{command_of, texts_of, IfCommand};
 ghost use Rattle.command_line.specs.declared.status.Status.{Status};
 ghost use Rattle.nova_commands.specs.Answers.{IsPrinted, IsBegun};
 ghost use Rattle.nova_commands.specs.Calling.{calls_of};
@@ -16,7 +15,6 @@ use command_line::Status;
 use nv_base::NoMemory;
 use nv_outside::{Files, Sink};
 use std::alloc::Global;
-use std::env::Args;
 use std::io;
 use std::io::ErrorKind;
 use std::process::ExitCode;
@@ -25,7 +23,7 @@ use std::process::ExitCode;
 /// Where they aren't all texts, with no words; where there was no memory for them, the number is that of want of memory.
 pub fn exit_code<F: Files, K: Sink>(
     alloc: Global,
-    given: io::Result<Args>,
+    given: io::Result<Vec<String>>,
     files: &mut F,
     out: &mut K,
 ) -> ExitCode
@@ -47,15 +45,16 @@ pub fn exit_code<F: Files, K: Sink>(
 }
 
 // The words behind the program's name, or no words where they aren't all texts.
-fn words_of(alloc: Global, given: io::Result<Args>) -> Result<Vec<String>, NoMemory>
-    ensures words { IfOk given (λ all. IfOk result (λ words. words.items ≡ drop 1 (into_iter_items all))) }
-    ensures no_words { IfErr given (λ e. IfOk result (λ words. words.items ≡ [])) }
+fn words_of(alloc: Global, given: io::Result<Vec<String>>) -> Result<Vec<String>, NoMemory>
+    ensures words { IfOk result (λ words. texts_of words ≡ words_given given) }
     ensures memory { IfErr given (λ e. error_kind e ≡ ErrorKind.OutOfMemory ↔ IsErr result) }
 {
     match given {
         Ok(mut words) => {
-            let _ = words.next();
-            Ok(words.collect(alloc)?)
+            if !words.is_empty() {
+                words.remove(0);
+            }
+            Ok(words)
         }
         Err(e) if e.kind() == ErrorKind::OutOfMemory => Err(NoMemory),
         Err(_) => Ok(Vec::new(alloc)),

@@ -8,13 +8,18 @@ mod tests;
 pub use command_line::Status;
 pub use nova_commands::{CompileError, Compiled, compile_text};
 use nova_top::exit_code;
-pub use nova_top::run;
 use nv_outside::{DiskFiles, StdSink};
-use std::env;
 use std::process::ExitCode;
+use std::rt::Env;
+use std::{env, io};
 
 fn main(rt: HostRuntime) -> ExitCode {
     let mut files = DiskFiles::new(&rt);
     let mut out = StdSink::new(&rt);
-    exit_code(rt.alloc(), env::args(&rt), &mut files, &mut out)
+    exit_code(rt.alloc(), command_line(&rt), &mut files, &mut out)
+}
+
+// The words of the command line, the program's name first.
+fn command_line<R: Env + AllocGlobal>(rt: &R) -> io::Result<Vec<String>> {
+    Ok(env::args(rt)?.collect(rt.alloc())?)
 }
