@@ -1,2 +1,3 @@
 pub mod Printing
 pub mod Completeness
+pub mod Ending

@@ -37,11 +37,10 @@ pub fn exit_code<F: Files, K: Sink>(
     ensures untouched { command_of (words_given given) ≡ None → files.new ≡ files.old }
     ensures silent { Exits result (λ s. s ≡ Status.NoMemory → out.new ≡ out.old) }
 {
-    let status = match words_of(alloc, given) {
-        Ok(words) => run(alloc, &words, files, out),
-        Err(NoMemory) => Status::NoMemory,
-    };
-    ExitCode::from(status.code())
+    match words_of(alloc, given) {
+        Ok(words) => ExitCode::from(run(alloc, &words, files, out).code()),
+        Err(NoMemory) => ExitCode::from(Status::NoMemory.code()),
+    }
 }
 
 // The words behind the program's name, or no words where they aren't all texts.
