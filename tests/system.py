@@ -428,7 +428,8 @@ def no_room(it):
             ran = subprocess.run([it.novac, *words], cwd=it.at, stdin=subprocess.DEVNULL, capture_output=True, timeout=SECONDS, preexec_fn=limited)
         except (OSError, subprocess.SubprocessError):
             continue
-        if ran.returncode >= 0:
+        # Below that the system can't start the program.
+        if seen or ran.returncode in (2, 5):
             seen.append((ran.returncode, ran.stdout, ran.stderr))
         if ran.returncode == 2:
             break
