@@ -1,4 +1,5 @@
 use Rattle.std.proofs.Common.{◌≡◌, ◌∙◌, sym, refl, inl, inr, subst, ap, List, ℕ, None}
+use Rattle.std.proofs.lemmas.Bool.{false≢true}
 use Rattle.nv_outside.specs.Causes.{Rose}
 use Rattle.command_line.specs.Command.{command_of, texts_of}
 use Rattle.command_line.specs.declared.status.Status.{Status}
@@ -25,7 +26,7 @@ pub returns-in-Ok-clause-asked : goal.returns-in-Ok-clause-asked
 returns-in-Ok-clause-asked g c = rw (sym c.in-Ok.ensures.words) c.run.ensures.asked
 
 pub returns-in-Ok-clause-memory : goal.returns-in-Ok-clause-memory
-returns-in-Ok-clause-memory g c = if-err-weaker c.args.given _ _ (λ e h. λ kind. absurd (h.0 kind)) c.in-Ok.ensures.memory
+returns-in-Ok-clause-memory g c = if-err-weaker c.args.given _ _ (λ e h. λ kind. absurd (false≢true (h.0 kind))) c.in-Ok.ensures.memory
 
 pub returns-in-Ok-clause-untouched : goal.returns-in-Ok-clause-untouched
 returns-in-Ok-clause-untouched g c = λ none. c.run.ensures.untouched (ap command_of c.in-Ok.ensures.words ∙ none)
