@@ -79,8 +79,8 @@ form-of p funs main labels formed kept narrow most once later held bounded coded
 
 -- ---- its code
 
-pub code-for : (p : ProgramTree) (labels : List Label) (c : CodeView) → IsFormOf p labels → IsCodeOf labels c → IsCodeFor p c
-code-for p labels c form code = record {
+pub code-for : (p : ProgramTree) (labels : List Label) (slots : ℕ) (c : CodeView) → IsFormOf p labels → IsCodeOf labels slots c → IsCodeFor p c
+code-for p labels slots c form code = record {
   lawful = code.lawful;
   agrees = agrees-through (main_words p) (ssu_params labels) (source p) (ssu_meaning labels) c form.kept (λ args m words sizes. seen_follows m (source p args m) (source-follows p args m)) code.agrees;
 }
@@ -100,14 +100,15 @@ optimal-least verdict.Infeasible r e valid h = absurd cc
 optimal-least verdict.Spent r e valid h = absurd cc
 
 pub banks-of : (p : ProgramTree) (labels : List Label) (slots budget : ℕ) (c : CodeView) (r : Report) → IsFormOf p labels → IsReportOn labels slots budget r → HasVector r.verdict
-    → moves c.list [] [] ≤ report_cost r → (peak labels ≤ 15 → report_cost r ≤ 2 * length (values labels) + length (uses labels)) → HasBanks p slots budget c r
-banks-of p labels slots budget c r form report found light cheap = record {
+    → IsCodeOf labels slots c → moves c.list [] [] ≤ report_cost r → (peak labels ≤ 15 → report_cost r ≤ 2 * length (values labels) + length (uses labels)) → HasBanks p slots budget c r
+banks-of p labels slots budget c r form report found code light cheap = record {
   form = labels;
   is_form = form;
   report = report;
   found = found;
   meets = found-meets r.verdict r found report.holds.verdict_holds;
   optimal = λ e. optimal-least r.verdict r e report.valid.program_valid report.holds.verdict_holds;
+  form_code = code;
   light = light;
   cheap = cheap;
 }
@@ -139,14 +140,15 @@ columns-few labels slots none = at-most (length (columns labels)) (2 ^ 26) (λ m
 rows-few : (labels : List Label) (slots : ℕ) → NoneLarge labels slots → length (rows labels slots) ≤ 2 ^ 26
 rows-few labels slots none = at-most (length (rows labels slots)) (2 ^ 26) (λ many. none (length (rows labels slots)) (inr (columns-few labels slots none, (refl, many))))
 
-long : (p : ProgramTree) (labels : List Label) (slots store n : ℕ) → IsFormOf p labels → NoneLarge labels slots → IsLong labels store n → HasLongCode p slots store n
-long p labels slots store n form none h = record {
-  form = labels;
-  is_form = form;
+long : (p : ProgramTree) (labels : List Label) (slots budget store n : ℕ) → IsFormOf p labels → NoneLarge labels slots → IsLong labels slots budget store n → HasLongCode p slots budget store n
+unfolding banks-of
+long p labels slots budget store n form none h = record {
+  r = h.r;
+  c = h.c;
+  code = code-for p labels slots h.c form h.code.code;
+  banks = banks-of p labels slots budget h.c h.r form h.code.report h.code.found h.code.code h.code.light h.code.cheap;
   few = columns-few labels slots none;
   few_rows = rows-few labels slots none;
-  c = h.c;
-  code = code-for p labels h.c form h.code;
   counted = h.counted;
   bounded = le_trans h.bounded form.brief;
   long = h.long;
@@ -171,4 +173,4 @@ back-caused p labels slots budget store (back.TooLarge n) e form says (inr h) is
 back-caused p labels slots budget store (back.Infeasible r) e form says (inr h) is = inr (subst (IsFormCause p slots budget store) (sym is) (without p labels slots budget verdict.Infeasible r form h))
 back-caused p labels slots budget store (back.Spent r) e form says (inr h) is = inr (subst (IsFormCause p slots budget store) (sym is) (without p labels slots budget verdict.Spent r form h))
 back-caused p labels slots budget store (back.StoreFull n) e form says (inr h) is =
-    inr (subst (IsFormCause p slots budget store) (sym is) (long p labels slots store n form (λ k large. not-long n k (says k large)) h))
+    inr (subst (IsFormCause p slots budget store) (sym is) (long p labels slots budget store n form (λ k large. not-long n k (says k large)) h))

@@ -44,12 +44,12 @@ pub made-short : (seed size : ℕ) (bytes : List ℕ) → 1 ≤ size → size �
 made-short seed size bytes some few e = subst (λ (x : List ℕ). length x ≤ source_limit) (sym e) (each_has_program seed size some few).short
 
 -- it is refused only where its program isn't compiled
-pub made-refused : (seed size : ℕ) (bytes : List ℕ) (e : Refusal) → 1 ≤ size → size ≤ 500 → bytes ≡ made seed size → IsUncaused e ⊎ CompileRefuses bytes slots_limit store_limit e → IsUncaused e ⊎ GenRefuses seed size e
+pub made-refused : (seed size : ℕ) (bytes : List ℕ) (e : Refusal) → 1 ≤ size → size ≤ 500 → bytes ≡ made seed size → IsUncaused e ⊎ CompileRefuses bytes slots_limit budget_default store_limit e → IsUncaused e ⊎ GenRefuses seed size e
 made-refused seed size bytes e some few is (inl u) = inl u
 made-refused seed size bytes e some few is (inr (inl h)) =
     let p = each_has_program seed size some few in
     absurd (source-good bytes e p.program (subst (λ (x : List ℕ). IsTypedSource x p.program) (sym is) (made-typed seed size p)) h)
-made-refused seed size bytes e some few is (inr (inr h)) = inr (subst (λ (x : List ℕ). HasTyped x (λ program. IsUnfit program slots_limit store_limit e)) is h)
+made-refused seed size bytes e some few is (inr (inr h)) = inr (subst (λ (x : List ℕ). HasTyped x (λ program. IsUnfit program slots_limit budget_default store_limit e)) is h)
 
 -- its program has little room
 narrow-enough : (r : ℕ) → r ≤ 29 → r ≤ 128

@@ -268,10 +268,10 @@ prints-one (Check report) (b ∷ []) s s' fs t t' h k = checked-one b s s' t t' 
 prints-one _ _ s s' fs t t' h k = absurd k
 
 -- how a command ends that can make something
-unfit-end : (p : ProgramTree) (slots store : ℕ) (e : Refusal) → IsUnfit p slots store e → IsEndOf p slots store (refusal_status e)
-unfit-end p slots store (SourceLarge n) h = (n, h)
-unfit-end p slots store (StoreFull n) h = fewer store n (form_bound p) h.long h.bounded
-unfit-end p slots store _ h = absurd h
+unfit-end : (p : ProgramTree) (slots budget store : ℕ) (e : Refusal) → IsUnfit p slots budget store e → IsEndOf p slots store (refusal_status e)
+unfit-end p slots budget store (SourceLarge n) h = (n, h)
+unfit-end p slots budget store (StoreFull n) h = fewer store n (form_bound p) h.long h.bounded
+unfit-end p slots budget store _ h = absurd h
 
 pub made-end : (c : Command) (bs : List (List ℕ)) (s : Status) (fs : List File) (t : List ℕ) → Makes c bs s fs t → CanMake c bs → CanEnd c bs s
 made-end (Compile source object report slots budget store) (b ∷ []) s fs t h k =
@@ -282,7 +282,7 @@ made-end _ _ s fs t h k = absurd k
 
 pub refused-end : (c : Command) (bs : List (List ℕ)) (e : Refusal) → Refuses c bs e → CanMake c bs → CanEnd c bs (refusal_status e)
 refused-end (Compile source object report slots budget store) (b ∷ []) e (inl h) k = absurd (source-good b e k.0 k.1 h)
-refused-end (Compile source object report slots budget store) (b ∷ []) e (inr h) k = (h.0, h.1, unfit-end h.0 slots store e h.2)
+refused-end (Compile source object report slots budget store) (b ∷ []) e (inr h) k = (h.0, h.1, unfit-end h.0 slots budget store e h.2)
 refused-end (Asm input object) (b ∷ []) e h k = absurd (assembly-good b e k.c k.code h)
 refused-end _ _ e h k = absurd k
 

@@ -123,36 +123,36 @@ sorted-found bytes slots budget store (compile.Fault kind place) (Ok f) h is = a
 sorted-found bytes slots budget store (compile.TooLarge n) (Ok f) h is = absurd (ok-not_err f (SourceLarge n) is)
 sorted-found bytes slots budget store (compile.StoreFull n) (Ok f) h is = absurd (ok-not_err f (StoreFull n) is)
 
-fault-why : (bytes : List ℕ) (slots budget store : ℕ) (t : TextError) (e : Refusal) → IsWhyNot bytes slots budget store (compile.Text t) → IsSpelledAs t e → CompileRefuses bytes slots store e
+fault-why : (bytes : List ℕ) (slots budget store : ℕ) (t : TextError) (e : Refusal) → IsWhyNot bytes slots budget store (compile.Text t) → IsSpelledAs t e → CompileRefuses bytes slots budget store e
 fault-why bytes slots budget store t e (inl none) is = let no-way : ⊥ = cc in absurd no-way
 fault-why bytes slots budget store t e (inr (inl h)) is = inl (fault-told bytes t e h is)
 fault-why bytes slots budget store t e (inr (inr h)) is = absurd h.2
 
-type-why : (bytes : List ℕ) (slots budget store kind : ℕ) (place : Span) → IsWhyNot bytes slots budget store (compile.Fault kind place) → CompileRefuses bytes slots store (SourceType kind place)
+type-why : (bytes : List ℕ) (slots budget store kind : ℕ) (place : Span) → IsWhyNot bytes slots budget store (compile.Fault kind place) → CompileRefuses bytes slots budget store (SourceType kind place)
 type-why bytes slots budget store kind place (inl none) = let no-way : ⊥ = cc in absurd no-way
 type-why bytes slots budget store kind place (inr (inl h)) = inl h
 type-why bytes slots budget store kind place (inr (inr h)) = absurd h.2
 
-large-why : (bytes : List ℕ) (slots budget store n : ℕ) → IsWhyNot bytes slots budget store (compile.TooLarge n) → CompileRefuses bytes slots store (SourceLarge n)
+large-why : (bytes : List ℕ) (slots budget store n : ℕ) → IsWhyNot bytes slots budget store (compile.TooLarge n) → CompileRefuses bytes slots budget store (SourceLarge n)
 large-why bytes slots budget store n (inl none) = let no-way : ⊥ = cc in absurd no-way
 large-why bytes slots budget store n (inr (inl h)) = inl h
 large-why bytes slots budget store n (inr (inr h)) = inr h
 
-long-why : (bytes : List ℕ) (slots budget store n : ℕ) → IsWhyNot bytes slots budget store (compile.StoreFull n) → CompileRefuses bytes slots store (StoreFull n)
+long-why : (bytes : List ℕ) (slots budget store n : ℕ) → IsWhyNot bytes slots budget store (compile.StoreFull n) → CompileRefuses bytes slots budget store (StoreFull n)
 long-why bytes slots budget store n (inl none) = let no-way : ⊥ = cc in absurd no-way
 long-why bytes slots budget store n (inr (inl h)) = absurd h
 long-why bytes slots budget store n (inr (inr h)) = inr h
 
 pub sorted-refused : (bytes : List ℕ) (slots budget store : ℕ) (error : CompileError) (result : Result Found Refusal) → IsWhyNot bytes slots budget store error → IsSortedAs error result
-    → IfErr result (λ e. IsUncaused e ⊎ CompileRefuses bytes slots store e)
+    → IfErr result (λ e. IsUncaused e ⊎ CompileRefuses bytes slots budget store e)
 sorted-refused bytes slots budget store error (Ok f) h is = tt
 sorted-refused bytes slots budget store (compile.Infeasible r) (Err e) h is = absurd (err-not_ok (found.Infeasible r) e is)
 sorted-refused bytes slots budget store (compile.Spent r) (Err e) h is = absurd (err-not_ok (found.Spent r) e is)
 sorted-refused bytes slots budget store compile.NoMemory (Err e) h is = inl (subst IsUncaused (sym (err-same e NoMemory is)) tt)
 sorted-refused bytes slots budget store (compile.Text t) (Err e) h is = inr (fault-why bytes slots budget store t e h is)
-sorted-refused bytes slots budget store (compile.Fault kind place) (Err e) h is = inr (subst (CompileRefuses bytes slots store) (sym (err-same e (SourceType kind place) is)) (type-why bytes slots budget store kind place h))
-sorted-refused bytes slots budget store (compile.TooLarge n) (Err e) h is = inr (subst (CompileRefuses bytes slots store) (sym (err-same e (SourceLarge n) is)) (large-why bytes slots budget store n h))
-sorted-refused bytes slots budget store (compile.StoreFull n) (Err e) h is = inr (subst (CompileRefuses bytes slots store) (sym (err-same e (StoreFull n) is)) (long-why bytes slots budget store n h))
+sorted-refused bytes slots budget store (compile.Fault kind place) (Err e) h is = inr (subst (CompileRefuses bytes slots budget store) (sym (err-same e (SourceType kind place) is)) (type-why bytes slots budget store kind place h))
+sorted-refused bytes slots budget store (compile.TooLarge n) (Err e) h is = inr (subst (CompileRefuses bytes slots budget store) (sym (err-same e (SourceLarge n) is)) (large-why bytes slots budget store n h))
+sorted-refused bytes slots budget store (compile.StoreFull n) (Err e) h is = inr (subst (CompileRefuses bytes slots budget store) (sym (err-same e (StoreFull n) is)) (long-why bytes slots budget store n h))
 
 -- what the front end says is passed on
 pub front-caused : (bytes : List ℕ) (error : FrontError) (e : CompileError) → (error ≡ front.NoMemory) ⊎ IsCause bytes error → IsPassedAs error e → (e ≡ compile.NoMemory) ⊎ IsTextCause bytes e

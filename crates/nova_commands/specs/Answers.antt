@@ -51,7 +51,7 @@ CanEnd _ _ status = ⊥
 
 -- the contents of its inputs are why a command is refused
 abbrev pub Refuses : Command → List (List ℕ) → Refusal → Type 0
-Refuses (Compile source object report slots budget store) (bytes ∷ []) e = CompileRefuses bytes slots store e
+Refuses (Compile source object report slots budget store) (bytes ∷ []) e = CompileRefuses bytes slots budget store e
 Refuses (Run object memory steps) (bytes ∷ given ∷ []) e = RunRefuses bytes given e
 Refuses (Exec source memory calls) (bytes ∷ given ∷ []) e = ExecRefuses bytes given e
 Refuses (Asm input object) (bytes ∷ []) e = AsmRefuses bytes e

@@ -21,7 +21,7 @@ abbrev pub IsFormCause : ProgramTree → ℕ → ℕ → ℕ → CompileError �
 IsFormCause program slots budget store (compile.TooLarge n) = HasLargeBanks program slots n
 IsFormCause program slots budget store (compile.Infeasible r) = HasNoBanks program slots budget verdict.Infeasible r
 IsFormCause program slots budget store (compile.Spent r) = HasNoBanks program slots budget verdict.Spent r
-IsFormCause program slots budget store (compile.StoreFull n) = HasLongCode program slots store n
+IsFormCause program slots budget store (compile.StoreFull n) = HasLongCode program slots budget store n
 IsFormCause program slots budget store _ = ⊥
 
 -- one of them is why the text has no code of at most so many instructions

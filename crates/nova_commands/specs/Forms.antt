@@ -19,7 +19,7 @@ use Rattle.zo_model.specs.Program.{cost_of, vector, Feasible}
 use Rattle.zo_cert.specs.declared.report.Report.{Report}
 use Rattle.zo_cert.specs.declared.report.Verdict.{Verdict}
 use Rattle.zo_cert.specs.declared.report.Verdict.TheVariants.{Optimal}
-use Rattle.nova_back.specs.Causes.{IsReportOn, IsWithout, HasVector, report_cost}
+use Rattle.nova_back.specs.Causes.{IsCodeOf, IsReportOn, IsWithout, HasVector, report_cost}
 
 -- what bounds the size of a program's form, and the length of its code
 abbrev pub form_bound : ProgramTree → ℕ
@@ -44,7 +44,7 @@ pub record IsCodeFor (program : ProgramTree) (c : CodeView) : Type 0 where
 
 -- The report is on the banks of a form of the program, with a vector that meets the rows. No vector that meets them costs less, where the
 -- verdict is optimal. The code's moves cost no more than the report's vector; where all values that are held at once fit a bank, that is
--- at most 2 a value, and 1 a use.
+-- at most 2 a value, and 1 a use. The code is that of the form with these slots.
 pub record HasBanks (program : ProgramTree) (slots budget : ℕ) (code : CodeView) (r : Report) : Type 0 where
   pub form : List Label
   pub is_form : IsFormOf program form
@@ -52,6 +52,7 @@ pub record HasBanks (program : ProgramTree) (slots budget : ℕ) (code : CodeVie
   pub found : HasVector r.verdict
   pub meets : Feasible r.z (vector r.x.on.items)
   pub optimal : r.verdict ≡ Optimal → (x : ℕ → Bool) → Feasible r.z x → report_cost r ≤ cost_of r.z x
+  pub form_code : IsCodeOf form slots code
   pub light : moves code.list [] [] ≤ report_cost r
   pub cheap : peak form ≤ 15 → report_cost r ≤ 2 * length (values form) + length (uses form)
 
@@ -76,14 +77,15 @@ pub record HasNoBanks (program : ProgramTree) (slots budget : ℕ) (verdict : Ve
   pub without : IsWithout form slots budget verdict r
   pub few_slots : slots < room program
 
--- the program of the banks of a form of the program fits, and its code has so many instructions, more than were allowed
-pub record HasLongCode (program : ProgramTree) (slots store n : ℕ) : Type 0 where
-  pub form : List Label
-  pub is_form : IsFormOf program form
-  pub few : length (columns form) ≤ 2 ^ 26
-  pub few_rows : length (rows form slots) ≤ 2 ^ 26
+-- the program of the banks of a form of the program fits, and the code by the report on them has so many instructions, more than were
+-- allowed
+pub record HasLongCode (program : ProgramTree) (slots budget store n : ℕ) : Type 0 where
+  pub r : Report
   pub c : CodeView
   pub code : IsCodeFor program c
+  pub banks : HasBanks program slots budget c r
+  pub few : length (columns banks.form) ≤ 2 ^ 26
+  pub few_rows : length (rows banks.form slots) ≤ 2 ^ 26
   pub counted : n ≡ length c.list
   pub bounded : n ≤ form_bound program
   pub long : store < n

@@ -46,7 +46,7 @@ pub record IsGenerated (seed size : ℕ) (line : List ℕ) : Type 0 where
 
 -- the program of the text isn't compiled
 abbrev pub GenRefuses : ℕ → ℕ → Refusal → Type 0
-GenRefuses seed size e = HasTyped (made seed size) (λ program. IsUnfit program slots_limit store_limit e)
+GenRefuses seed size e = HasTyped (made seed size) (λ program. IsUnfit program slots_limit budget_default store_limit e)
 
 -- the program of the text is so small that the program of its banks fits, and so its code does
 abbrev pub IsSmallMade : ℕ → ℕ → Type 0

@@ -110,14 +110,14 @@ CompileMakes text object_name report_name slots budget store _ files line = ⊥
 -- ---- why it is refused
 
 -- why a typed program isn't compiled: the program of its banks is too large, or its code is too long
-abbrev pub IsUnfit : ProgramTree → ℕ → ℕ → Refusal → Type 0
-IsUnfit program slots store (SourceLarge n) = HasLargeBanks program slots n
-IsUnfit program slots store (StoreFull n) = HasLongCode program slots store n
-IsUnfit program slots store _ = ⊥
+abbrev pub IsUnfit : ProgramTree → ℕ → ℕ → ℕ → Refusal → Type 0
+IsUnfit program slots budget store (SourceLarge n) = HasLargeBanks program slots n
+IsUnfit program slots budget store (StoreFull n) = HasLongCode program slots budget store n
+IsUnfit program slots budget store _ = ⊥
 
 -- the source is refused, or its program isn't compiled
-abbrev pub CompileRefuses : List ℕ → ℕ → ℕ → Refusal → Type 0
-CompileRefuses text slots store e = SourceRefuses text e ⊎ HasTyped text (λ program. IsUnfit program slots store e)
+abbrev pub CompileRefuses : List ℕ → ℕ → ℕ → ℕ → Refusal → Type 0
+CompileRefuses text slots budget store e = SourceRefuses text e ⊎ HasTyped text (λ program. IsUnfit program slots budget store e)
 
 -- how the compilation of a typed program can end: without banks only where there are fewer slots than room
 abbrev pub IsEndOf : ProgramTree → ℕ → ℕ → Status → Type 0

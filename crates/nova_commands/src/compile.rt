@@ -44,7 +44,7 @@ pub fn compile_bytes<'a>(
     requires options { AreInLimits options }
     ensures made { IfOk result (λ m. CompileMakes bytes.now object.now report.now options.slots options.budget options.store m.status (files_of m.outputs) m.text.items) }
     ensures told { IfOk result (λ m. AreTold m.outputs) }
-    ensures refused { IfErr result (λ e. IsUncaused e ⊎ CompileRefuses bytes.now options.slots options.store e) }
+    ensures refused { IfErr result (λ e. IsUncaused e ⊎ CompileRefuses bytes.now options.slots options.budget options.store e) }
 {
     let found = found_of(alloc, bytes, options)?;
     let made = found_made(alloc, &found, object, report, options.budget);
@@ -83,7 +83,7 @@ pub fn found_of<'a>(alloc: Global, text: &[u8], options: Options) -> Result<Foun
     requires text { length text.now ≤ source_limit }
     requires options { AreInLimits options }
     ensures found { IfOk result (IsFound text.now options.slots options.budget options.store) }
-    ensures refused { IfErr result (λ e. IsUncaused e ⊎ CompileRefuses text.now options.slots options.store e) }
+    ensures refused { IfErr result (λ e. IsUncaused e ⊎ CompileRefuses text.now options.slots options.budget options.store e) }
 {
     match compile_text(alloc, text, options.slots, options.budget, options.store) {
         Ok(compiled) => Ok(Found::Code(compiled)),

@@ -82,7 +82,7 @@ fn compiled_of<'a>(alloc: Global, source: &[u8]) -> Result<Compiled, Refusal<'a>
     requires short { length source.now ≤ source_limit }
     requires narrow { HasRoom source.now }
     ensures built { IfOk result (IsBuilt source.now slots_limit budget_default store_limit) }
-    ensures refused { IfErr result (λ e. IsUncaused e ⊎ CompileRefuses source.now slots_limit store_limit e) }
+    ensures refused { IfErr result (λ e. IsUncaused e ⊎ CompileRefuses source.now slots_limit budget_default store_limit e) }
 {
     let options = Options {
         slots: MOST_SLOTS,

@@ -36,7 +36,7 @@ returns-clause-form c =
 pub returns-clause-code : goal.returns-clause-code
 returns-clause-code c =
     let form : IsFormOf (typed_program c.in_ok-typed.typed) (labels_view c.in_ok-form.form) = form-of _ c.in_ok-typed.flat.funs.items c.in_ok-typed.flat.main _ c.in_ok-typed.flat.formed c.in_ok-typed.ensures.kept c.in_ok-typed.ensures.wide c.in_ok-typed.ensures.bulk c.in_ok-form.ensures.single c.in_ok-form.ensures.kept c.in_ok-form.ensures.peak c.in_ok-form.ensures.size c.in_ok-form.ensures.code in
-    code-for _ _ _ form c.in_ok-built.ensures.code
+    code-for _ _ _ _ form c.in_ok-built.ensures.code
 
 pub returns-clause-brief : goal.returns-clause-brief
 returns-clause-brief c =
@@ -52,7 +52,7 @@ returns-clause-cheap c = rw c.in_ok-built.ensures.form c.in_ok-built.ensures.che
 pub returns-clause-banks : goal.returns-clause-banks
 returns-clause-banks c =
     let form : IsFormOf (typed_program c.in_ok-typed.typed) (labels_view c.in_ok-form.form) = form-of _ c.in_ok-typed.flat.funs.items c.in_ok-typed.flat.main _ c.in_ok-typed.flat.formed c.in_ok-typed.ensures.kept c.in_ok-typed.ensures.wide c.in_ok-typed.ensures.bulk c.in_ok-form.ensures.single c.in_ok-form.ensures.kept c.in_ok-form.ensures.peak c.in_ok-form.ensures.size c.in_ok-form.ensures.code in
-    banks-of _ (labels_view c.in_ok-form.form) c.args.slots c.args.budget _ _ form c.in_ok-built.ensures.report c.in_ok-built.ensures.found c.in_ok-built.ensures.light c.in_ok-built.ensures.cheap
+    banks-of _ (labels_view c.in_ok-form.form) c.args.slots c.args.budget _ _ form c.in_ok-built.ensures.report c.in_ok-built.ensures.found c.in_ok-built.ensures.code c.in_ok-built.ensures.light c.in_ok-built.ensures.cheap
 
 pub returns-clause-only_refused : goal.returns-clause-only_refused
 returns-clause-only_refused c = λ f h. text-good c.args.bytes.now (typed_program c.in_ok-typed.typed) f c.in_ok-typed.ensures.program h
