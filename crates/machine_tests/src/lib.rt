@@ -10,6 +10,8 @@ mod certificates;
 #[cfg(test)]
 mod certificates_report;
 #[cfg(test)]
+mod contexts;
+#[cfg(test)]
 mod engine;
 #[cfg(test)]
 mod lines;
@@ -29,6 +31,8 @@ mod programs;
 mod programs_text;
 #[cfg(test)]
 mod saves;
+#[cfg(test)]
+mod schedules;
 #[cfg(test)]
 mod search;
 #[cfg(test)]
