@@ -1,8 +1,8 @@
 //! Which bytes may stand at each place of an object.
 ghost use Rattle.std.specs.Prelude.{◌≡◌, ◌↔◌, IsTrue};
-ghost use Rattle.object_bytes.specs.Columns.{Allows, row_columns as columns_of_row, header_columns as columns_of_header};
+ghost use Rattle.object_bytes.specs.Columns.{Allows, row_columns as columns_of_row, header_columns as columns_of_header, exception_columns as columns_of_exception};
 
-use Column::{Between, Source, Target};
+use Column::{Between, First, Further, Source, Target};
 
 /// The bytes that may stand at one place.
 #[derive(Clone, Copy)]
@@ -10,6 +10,10 @@ pub enum Column {
     Between(u8, u8),
     Source,
     Target,
+    /// The first byte of a name.
+    First,
+    /// Another byte of a name.
+    Further,
 }
 
 impl Column {
@@ -21,6 +25,8 @@ impl Column {
             Between(low, high) => low <= byte && byte <= high,
             Source => matches!(byte, 0..=39 | 48..=55),
             Target => matches!(byte, 0..=31 | 64..=71 | 80..=87 | 96),
+            First => matches!(byte, b'A'..=b'Z' | b'a'..=b'z' | b'_'),
+            Further => matches!(byte, b'0'..=b'9' | b'A'..=b'Z' | b'a'..=b'z' | b'_'),
         }
     }
 }
@@ -90,7 +96,7 @@ pub fn header_columns(a: u8, b: u8, c: u8) -> [Column; 12]
         only(b'N'),
         only(b'V'),
         only(b'O'),
-        only(b'1'),
+        Between(b'1', b'2'),
         Between(0, 8),
         zero,
         zero,
@@ -100,4 +106,18 @@ pub fn header_columns(a: u8, b: u8, c: u8) -> [Column; 12]
         ANY,
         Between(least, 127),
     ]
+}
+
+/// The places of an exception with the longest name. A shorter one has the first of them.
+pub fn exception_columns() -> [Column; 69]
+    ensures { result ≡ columns_of_exception 64 }
+{
+    let mut columns = [Further; 69];
+    columns[0] = ANY;
+    columns[1] = ANY;
+    columns[2] = ANY;
+    columns[3] = ANY;
+    columns[4] = Between(1, 64);
+    columns[5] = First;
+    columns
 }

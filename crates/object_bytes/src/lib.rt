@@ -1,4 +1,5 @@
-//! Bytes of an object: which may stand at each place of a row and of a header, and those of some parts of an instruction.
+//! Bytes of an object: which may stand at each place of a row, of a header and of an exception, and those of some parts of
+//! an instruction.
 //! Whole objects are above, in `uc_object`.
 #![tactic(auto)]
 
@@ -6,4 +7,4 @@ mod bytes;
 mod column;
 
 pub use bytes::{halt_row, target_byte};
-pub use column::{Column, header_columns, row_columns};
+pub use column::{Column, exception_columns, header_columns, row_columns};

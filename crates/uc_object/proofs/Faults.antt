@@ -1,9 +1,9 @@
 -- The first byte that may not stand in its place.
-use Rattle.std.proofs.Common.{◌≡◌, ℕ, zero, suc, ◌+◌, ◌<◌, ◌≤◌, List, [], ◌∷◌, ◌++◌, length, take, drop, get_or, refl, ap, sym, ◌∙◌, subst, arith}
+use Rattle.std.proofs.Common.{◌≡◌, ℕ, zero, suc, ◌+◌, ◌<◌, ◌≤◌, List, [], ◌∷◌, ◌++◌, length, take, drop, get_or, refl, ap, subst, arith}
 use Rattle.std.proofs.lemmas.List.{drop_more, drop_all}
 use Rattle.std.proofs.lemmas.Bool.Decides.{nat_tests}
 use Rattle.object_bytes.specs.declared.column.Column.{Column}
-use Rattle.object_bytes.specs.declared.column.Column.TheVariants.{Between, Source, Target}
+use Rattle.object_bytes.specs.declared.column.Column.TheVariants.{Between, Source, Target, First, Further}
 use Rattle.object_bytes.specs.Columns.{Allows, Fit, IsFault, row_columns}
 
 -- a byte that may not stand in its place is a fault of the rest
@@ -80,6 +80,8 @@ abbrev pub filler : Column → ℕ
 filler (Between low high) = low
 filler Source = 0
 filler Target = 0
+filler First = 65
+filler Further = 65
 
 abbrev pub fillers : List Column → List ℕ
 fillers [] = []

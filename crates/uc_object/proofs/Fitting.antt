@@ -1,6 +1,5 @@
 -- A row is what fits its columns.
-use Rattle.std.proofs.Common.{◌≡◌, ℕ, zero, suc, ◌+◌, ◌-◌, ◌<◌, ◌≤◌, ◌^◌, List, [], ◌∷◌, ◌++◌, length, get_or, refl, ap, sym, ◌∙◌, subst, arith, nat_lt, if◌then◌else◌, ◌==◌}
-use Rattle.std.specs.Int.{from_le_bytes, to_le_bytes, w16, w32}
+use Rattle.std.proofs.Common.{◌≡◌, ℕ, zero, suc, ◌<◌, ◌≤◌, List, [], ◌∷◌, length, get_or, refl, sym, subst, arith, nat_lt, if◌then◌else◌}
 use Rattle.std.proofs.lemmas.Bool.Decides.{nat_tests}
 use Rattle.nv_base.specs.declared.term.Mem.{Mem}
 use Rattle.nv_base.specs.declared.term.Mem.TheVariants.{Sram, Sdram, Scratch}
@@ -22,7 +21,7 @@ use Rattle.object_bytes.specs.Rows.{IsRow, IsSource, IsTarget, IsAddress, IsByte
 use Rattle.object_bytes.specs.Columns.{Fit, row_columns, Allows, only, any}
 use Rattle.object_bytes.specs.declared.column.Column.TheVariants.{Source, Target}
 use Rattle.uc_object.proofs.Reader.{source_of-is, target_of-is, address_of-is, binary_of-is, unary_of, unary_of-is, condition_of-is, memory_of-is}
-use Rattle.uc_object.proofs.Reading.{of_kind, alu-row, un-row, immed-row, br-row, read-row, write-row, halt-row}
+use Rattle.uc_object.proofs.Reading.{alu-row, un-row, immed-row, br-row, read-row, write-row, halt-row}
 use Rattle.uc_object.proofs.Single.{instruction_of}
 
 source-allowed : (s : Src) (b : ℕ) → IsSource s b → Allows Source b

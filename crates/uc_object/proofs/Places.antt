@@ -1,74 +1,83 @@
--- Where bytes stop to begin an object.
-use Rattle.std.proofs.Common.{if◌then◌else◌, ◌==◌, ◌≡◌, ℕ, zero, suc, ◌+◌, ◌*◌, ◌-◌, ◌<◌, ◌≤◌, ◌^◌, ◌⊎◌, inl, inr, List, [], ◌∷◌, ◌++◌, Bool, true, false, refl, ap, sym, ◌∙◌, subst, append_assoc, add-one, take, drop, length, get_or, arith, length-append, length-drop, codes}
-use Rattle.std.specs.Int.{from_le_bytes, to_le_bytes, w32}
-use Rattle.std.proofs.Math.Seq.{take-append-add, drop-append-add, take-add}
-use Rattle.std.proofs.Math.ListN.{get_or-append}
+-- Where bytes stop to begin the header of an object.
+use Rattle.std.proofs.Common.{if◌then◌else◌, ◌==◌, ◌≡◌, ℕ, suc, ◌+◌, ◌<◌, ◌≤◌, ◌^◌, ◌⊎◌, inl, inr, List, [], ◌∷◌, ◌++◌, refl, ap, sym, ◌∙◌, subst, append_assoc, add-one, take, drop, length, get_or, arith, length-append}
+use Rattle.std.specs.Int.{from_le_bytes, w32}
 use Rattle.std.proofs.lemmas.Bool.Decides.{nat_tests}
 use Rattle.std.proofs.lemmas.Bool.{cases_lt}
-use Rattle.std.proofs.lemmas.List.{take_at, drop_at, drop-drop, take-append-drop, length-take-le, append-nil, get_or-take}
-use Rattle.std.proofs.lemmas.Nat.{from_le_bytes-to_le_bytes_4}
-use Rattle.uc_isa.specs.Code.{CodeView, IsCode}
-use Rattle.uc_isa.specs.declared.instruction.Instr.{Instr}
+use Rattle.std.proofs.lemmas.List.Elements.{All-nil}
+use Rattle.std.proofs.lemmas.List.{drop_at, append-nil}
 use Rattle.object_bytes.specs.declared.column.Column.{Column}
 use Rattle.object_bytes.specs.declared.column.Column.TheVariants.{Between}
 use Rattle.object_bytes.specs.Rows.{IsRow}
-use Rattle.uc_object.specs.Object.{AreRows, IsObject, BeginsObject, IsBadPlace, header_of}
+use Rattle.uc_object.specs.Object.{IsObject, BeginsObject, IsBadPlace, header_of}
+use Rattle.uc_object.specs.declared.object.Object.{Object}
+use Rattle.uc_object.specs.declared.object.Object.TheVariants.{One, Two}
 use Rattle.uc_object.specs.inner.Header.{HasHeader}
-use Rattle.object_bytes.specs.Columns.{Allows, Fit, IsFault, IsRowFault, IsHeaderFault, header_columns, only, any}
-use Rattle.uc_object.proofs.Faults.{AllowFillers, fillers, fault-filled, filled-length, fault-within, fault-refuses, fault-misfits, fault-front, fit-front, fit-more, fit-append, fit-length}
-use Rattle.uc_object.proofs.Fitting.{FitsRow, fit-row}
-use Rattle.uc_object.proofs.Single.{instruction_of}
+use Rattle.object_bytes.specs.Columns.{Fit, IsHeaderFault, header_columns, only, any}
+use Rattle.uc_object.proofs.Faults.{AllowFillers, fillers, fault-filled, filled-length, fault-within, fault-refuses, fault-misfits, fault-front, fit-front, fit-append}
 use Rattle.uc_object.proofs.Headers.{FitsHeader, fits-header, has-fits}
-use Rattle.uc_object.proofs.Rows.{rows-append, rows-length, row-at, rows-one, zero_rows, zero_instructions, zero_rows-rows, zero_instructions-length}
-use Rattle.uc_object.proofs.RowFaults.{Completes, fault-completes, fault-refuses-row, row-fault-within}
-
--- a header tells its numbers, and where it ends
-pub header-same : (p q n m : ℕ) (r s : List ℕ) → n < 2 ^ 32 → m < 2 ^ 32 → header_of p n ++ r ≡ header_of q m ++ s → (p ≡ q) × (n ≡ m) × (r ≡ s)
-header-same p q n m r s hn hm e =
-    let bytes : to_le_bytes w32 n ≡ to_le_bytes w32 m = cc in
-    (cc, sym (from_le_bytes-to_le_bytes_4 n hn) ∙ ap (from_le_bytes w32) bytes ∙ from_le_bytes-to_le_bytes_4 m hm, cc)
+use Rattle.uc_object.proofs.Rows.{zero_instruction, zeros, zeros-row}
+use Rattle.uc_object.proofs.Together.{many-some}
 
 -- an object has a header
-pub object-header : (bytes : List ℕ) (c : CodeView) (o : IsObject bytes c) → HasHeader bytes c.params (length c.list) o.rows
-object-header bytes c o = record { layout = o.layout; arguments = o.code.params; some = o.code.some; few = o.code.few }
+pub object-header : (bytes : List ℕ) (o : Object) → IsObject bytes o → (v : ℕ) × (p : ℕ) × (n : ℕ) × (rest : List ℕ) × HasHeader bytes v p n rest
+object-header bytes (One c) o = (49, c.params, length c.list, o.rows, record { layout = o.layout; known = inl refl; arguments = o.code.params; some = o.code.some; few = o.code.few })
+object-header bytes (Two t) o = (50, t.code.params, length t.code.list, _, record { layout = o.layout; known = inr refl; arguments = o.code.params; some = o.code.some; few = o.code.few })
 
-pub code-same : (c d : CodeView) → c.params ≡ d.params → c.list ≡ d.list → c ≡ d
-code-same c d e f =
-    let params = ap (λ (p : ℕ). record { params = p; list = c.list }) e in
-    let list = ap (λ (l : List Instr). record { params = d.params; list = l }) f in
-    params ∙ list
+object-fits : (bytes : List ℕ) (x : Object) → IsObject bytes x → FitsHeader bytes
+object-fits bytes x o = let h = object-header bytes x o in has-fits bytes h.0 h.1 h.2 h.3 h.4
 
--- bytes are the object of one code
-pub object-one : (bytes : List ℕ) (c d : CodeView) → IsObject bytes c → IsObject bytes d → c ≡ d
-object-one bytes c d o q =
-    let few = o.code.few in
-    let few' = q.code.few in
-    let same = header-same c.params d.params (length c.list) (length d.list) o.rows q.rows (omega arith) (omega arith) (sym o.layout ∙ q.layout) in
-    code-same c d same.0 (rows-one c.list d.list q.rows (subst (AreRows c.list) same.2 o.each) q.each)
+-- a header goes on to an object of its version
+header-goes : (v p n : ℕ) → (v ≡ 49) ⊎ (v ≡ 50) → p ≤ 8 → 1 ≤ n → n < 2 ^ 31 → (more : List ℕ) × (o : Object) × IsObject (header_of v p n ++ more) o
+header-goes v p n (inl one) hp some few =
+    let rows = many-some IsRow zero_instruction zeros zeros-row n in
+    let many = rows.1.1.0 in (
+      rows.0,
+      One (record { params = p; list = rows.1.0 }),
+      subst (λ w. IsObject (header_of w p n ++ rows.0) (One (record { params = p; list = rows.1.0 }))) (sym one)
+          record {
+            code = record { params = hp; some = rw many some; few = rw many few };
+            rows = rows.0;
+            layout = ap (λ m. header_of 49 p m ++ rows.0) (sym many);
+            each = rows.1.1.1;
+          },
+    )
+header-goes v p n (inr two) hp some few =
+    let rows = many-some IsRow zero_instruction zeros zeros-row n in
+    let many = rows.1.1.0 in
+    let more = 0 ∷ 0 ∷ 0 ∷ 0 ∷ 0 ∷ 0 ∷ 0 ∷ 0 ∷ rows.0 in
+    let o = Two (record { code = record { params = p; list = rows.1.0 }; exceptions = []; starts = [] }) in (
+      more,
+      o,
+      subst (λ w. IsObject (header_of w p n ++ more) o) (sym two)
+          record {
+            code = record { params = hp; some = rw many some; few = rw many few };
+            tagged = record { exceptions = omega arith; starts = omega arith; inside = All-nil (λ start. start < length rows.1.0) };
+            rows = rows.0;
+            exceptions = [];
+            starts = [];
+            layout = ap (λ m. header_of 50 p m ++ more) (sym many) ∙ ap (λ x. header_of 50 p (length rows.1.0) ++ (0 ∷ 0 ∷ 0 ∷ 0 ∷ 0 ∷ 0 ∷ 0 ∷ 0 ∷ x)) (sym (append-nil rows.0));
+            each_row = rows.1.1.1;
+            each_exception = refl;
+            each_start = refl;
+          },
+    )
 
 -- bytes that are the front of a header begin an object
 header-begins : (front fill : List ℕ) → length (front ++ fill) ≡ 12 → FitsHeader (front ++ fill) → BeginsObject front
 header-begins front fill l f =
     let whole = front ++ fill in
     let n = from_le_bytes w32 (get_or whole 8 0 ∷ get_or whole 9 0 ∷ get_or whole 10 0 ∷ get_or whole 11 0 ∷ []) in
+    let v = get_or whole 3 0 in
     let p = get_or whole 4 0 in
     let h = fits-header whole n f refl in
-    let many = zero_instructions-length n in
     let none : drop 12 whole ≡ [] = subst (λ m. drop m whole ≡ []) l (ap (drop (length whole)) (sym (append-nil whole)) ∙ drop_at whole [] (length whole) refl) in
-    let exact : whole ≡ header_of p n = h.layout ∙ ap (λ x. header_of p n ++ x) none ∙ append-nil (header_of p n) in (
-      fill ++ zero_rows n,
-      record { params = p; list = zero_instructions n },
-      record {
-        code = record { params = h.arguments; some = rw many h.some; few = rw many h.few };
-        rows = zero_rows n;
-        layout = sym (append_assoc front fill (zero_rows n)) ∙ ap (λ x. x ++ zero_rows n) (exact ∙ ap (header_of p) (sym many));
-        each = zero_rows-rows n;
-      },
-    )
+    let exact : whole ≡ header_of v p n = h.layout ∙ ap (λ x. header_of v p n ++ x) none ∙ append-nil (header_of v p n) in
+    let goes = header-goes v p n h.known h.arguments h.some h.few in
+    (fill ++ goes.0, (goes.1, subst (λ x. IsObject x goes.1) (ap (λ x. x ++ goes.0) (sym exact) ∙ append_assoc front fill goes.0) goes.2))
 
 -- the header's columns but the last, which don't depend on its bytes
 abbrev columns_before : List Column
-columns_before = only 78 ∷ only 86 ∷ only 79 ∷ only 49 ∷ Between 0 8 ∷ only 0 ∷ only 0 ∷ only 0 ∷ any ∷ any ∷ any ∷ []
+columns_before = only 78 ∷ only 86 ∷ only 79 ∷ Between 49 50 ∷ Between 0 8 ∷ only 0 ∷ only 0 ∷ only 0 ∷ any ∷ any ∷ any ∷ []
 
 fillers_before : AllowFillers columns_before
 fillers_before = grind arith
@@ -151,8 +160,6 @@ header-bad bytes k f = record {
   inside = (header-fault-within bytes k f).1;
   before = header-fault-begins bytes k f;
   here = λ h b.
-      let o = subst (λ n. IsObject (take n bytes ++ b.0) b.1) (add-one k) b.2 in
-      header-fault-refuses bytes b.0 k f h (has-fits (take (suc k) bytes ++ b.0) b.1.params (length b.1.list) o.rows (object-header (take (suc k) bytes ++ b.0) b.1 o));
-  short = λ h c o. fault-misfits (header_columns (get_or bytes 8 0) (get_or bytes 9 0) (get_or bytes 10 0)) bytes k f
-      (has-fits bytes c.params (length c.list) o.rows (object-header bytes c o));
+      header-fault-refuses bytes b.0 k f h (object-fits (take (suc k) bytes ++ b.0) b.1.0 (subst (λ n. IsObject (take n bytes ++ b.0) b.1.0) (add-one k) b.1.1));
+  short = λ h o. fault-misfits (header_columns (get_or bytes 8 0) (get_or bytes 9 0) (get_or bytes 10 0)) bytes k f (object-fits bytes o.0 o.1);
 }

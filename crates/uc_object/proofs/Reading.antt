@@ -1,5 +1,5 @@
 -- A row that fits its columns is the row of an instruction.
-use Rattle.std.proofs.Common.{◌≡◌, ℕ, zero, suc, ◌+◌, ◌-◌, ◌<◌, ◌≤◌, ◌^◌, List, [], ◌∷◌, ◌++◌, length, get_or, refl, ap, sym, ◌∙◌, subst, arith, nat_lt, if◌then◌else◌, ◌==◌}
+use Rattle.std.proofs.Common.{◌≡◌, ℕ, zero, suc, ◌<◌, ◌≤◌, ◌^◌, List, [], ◌∷◌, length, get_or, refl, sym, subst, arith}
 use Rattle.std.specs.Int.{to_le_bytes, from_le_bytes, w16, w32}
 use Rattle.std.proofs.lemmas.Nat.{le_bytes_2, le_bytes_4}
 use Rattle.nv_base.specs.declared.term.Mem.{Mem}
@@ -11,7 +11,7 @@ use Rattle.uc_isa.specs.declared.instruction.UnOp.{UnOp}
 use Rattle.uc_isa.specs.declared.instruction.Cond.{Cond}
 use Rattle.uc_isa.specs.declared.instruction.Instr.{Instr}
 use Rattle.uc_isa.specs.declared.instruction.Instr.TheVariants.{Alu, Un, Immed, Br, Read, Write, Halt}
-use Rattle.object_bytes.specs.Rows.{IsSource, IsTarget, IsAddress, IsRow, IsByte, number_of_binary, number_of_unary, number_of_condition, number_of_memory, shift_count}
+use Rattle.object_bytes.specs.Rows.{IsSource, IsTarget, IsAddress, IsRow, number_of_binary, number_of_unary, number_of_condition, number_of_memory, shift_count}
 use Rattle.object_bytes.specs.Columns.{Fit, row_columns}
 
 each_of_two : (a b : ℕ) → a < 256 → b < 256 → (i : ℕ) → get_or (a ∷ b ∷ []) i 0 < 256

@@ -1,12 +1,12 @@
 -- A row that has a fault: what comes before it goes on to a row, and what ends with it doesn't.
-use Rattle.std.proofs.Common.{◌≡◌, ℕ, zero, suc, ◌+◌, ◌*◌, ◌-◌, ◌<◌, ◌≤◌, List, [], ◌∷◌, ◌++◌, Bool, true, false, refl, ap, sym, ◌∙◌, subst, append_assoc, take, drop, length, get_or, arith, if◌then◌else◌, ◌==◌, nat_lt, nat_le}
-use Rattle.std.proofs.lemmas.List.{take-append-drop}
+use Rattle.std.proofs.Common.{◌≡◌, ℕ, zero, suc, ◌<◌, ◌≤◌, List, [], ◌∷◌, ◌++◌, Bool, true, false, refl, ap, sym, ◌∙◌, subst, add-one, length-append, take, drop, length, get_or, arith, if◌then◌else◌}
+use Rattle.std.proofs.lemmas.List.{take-append-drop, take_at}
 use Rattle.uc_isa.specs.declared.instruction.Instr.{Instr}
 use Rattle.object_bytes.specs.declared.column.Column.{Column}
-use Rattle.object_bytes.specs.declared.column.Column.TheVariants.{Between, Source, Target}
 use Rattle.object_bytes.specs.Rows.{IsRow}
-use Rattle.object_bytes.specs.Columns.{Allows, Fit, IsFault, IsRowFault, row_columns, only, any}
-use Rattle.uc_object.proofs.Faults.{AllowFillers, fillers, fault-filled, filled-length, fault-within, fault-refuses, fault-front, fit-front, fit-more, row_columns-length}
+use Rattle.object_bytes.specs.Columns.{Fit, IsRowFault, row_columns}
+use Rattle.uc_object.specs.inner.Parts.{Spells, IsFaultOf}
+use Rattle.uc_object.proofs.Faults.{AllowFillers, fillers, fault-filled, filled-length, fault-within, fault-refuses, fit-more, row_columns-length}
 use Rattle.uc_object.proofs.Fitting.{FitsRow, row-fits, fit-row}
 use Rattle.uc_object.proofs.Single.{instruction_of}
 use Rattle.uc_object.proofs.Rows.{zeros, zero_instruction, zeros-row}
@@ -65,3 +65,20 @@ row-fault-within bytes k f =
     let inside = fault-within cs bytes k f in
     let eight = row_columns-length (get_or bytes 0 0) (get_or bytes 1 0) in
     (omega arith, inside.1)
+
+-- a row's fault is where no row goes on so
+pub row-fault : (bytes : List ℕ) (k : ℕ) → IsRowFault bytes k → IsFaultOf (Spells IsRow) bytes k
+row-fault bytes k f =
+    let near = row-fault-within bytes k f in
+    let eight : (i : Instr) (word rest : List ℕ) → IsRow i word → take 8 (word ++ rest) ≡ word = λ i word rest h. take_at word rest 8 (row-fits i word h).0 in
+    record {
+      inside = near.1;
+      before = let done = fault-completes bytes k f in (done.0, (instruction_of (take k bytes ++ done.0), fit-row (take k bytes ++ done.0) done.1));
+      here = λ long word more rest w e.
+          fault-refuses-row bytes more k w.0 f long
+          (subst (IsRow w.0) (sym (ap (λ n. take 8 (take n bytes ++ more)) (sym (add-one k)) ∙ ap (take 8) e ∙ eight w.0 word rest w.1)) w.1);
+      short = λ ends word rest w e.
+          let size = (row-fits w.0 word w.1).0 in
+          let all = ap length e ∙ length-append word rest in
+          absurd (omega arith);
+    }

@@ -1,15 +1,11 @@
 -- Each row is the row of one instruction, and which bytes are a row.
-use Rattle.std.proofs.Common.{◌≡◌, ℕ, zero, suc, ◌+◌, ◌-◌, ◌<◌, ◌≤◌, ◌^◌, List, [], ◌∷◌, ◌++◌, length, get_or, refl, ap, sym, ◌∙◌, subst, arith, nat_lt, if◌then◌else◌, ◌==◌}
-use Rattle.std.specs.Int.{from_le_bytes, to_le_bytes, w16, w32}
+use Rattle.std.proofs.Common.{◌≡◌, ℕ, List, [], ◌∷◌, get_or, refl, sym, ◌∙◌, if◌then◌else◌, ◌==◌}
+use Rattle.std.specs.Int.{from_le_bytes, w16, w32}
 use Rattle.std.proofs.lemmas.Nat.{from_le_bytes-to_le_bytes_2, from_le_bytes-to_le_bytes_4}
-use Rattle.std.proofs.lemmas.Bool.Decides.{nat_tests}
 use Rattle.uc_isa.specs.declared.instruction.Instr.{Instr}
 use Rattle.uc_isa.specs.declared.instruction.Instr.TheVariants.{Alu, Un, Immed, Br, Read, Write, Halt}
-use Rattle.object_bytes.specs.Rows.{IsRow, IsSource, IsTarget, IsAddress, shift_count, number_of_unary}
-use Rattle.object_bytes.specs.Columns.{Fit, row_columns, Allows}
-use Rattle.object_bytes.specs.declared.column.Column.TheVariants.{Source, Target}
-use Rattle.uc_object.proofs.Reader.{source_of, source_of-is, source_of-one, target_of, target_of-is, target_of-one, address_of, address_of-is, address_of-one, binary_of, binary_of-is, binary_of-one, unary_of, unary_of-is, unary_of-one, condition_of, condition_of-is, condition_of-one, memory_of, memory_of-is, memory_of-one}
-use Rattle.uc_object.proofs.Reading.{of_kind, kind-le, alu-row, un-row, immed-row, br-row, read-row, write-row, halt-row}
+use Rattle.object_bytes.specs.Rows.{IsRow}
+use Rattle.uc_object.proofs.Reader.{source_of, source_of-one, target_of, target_of-one, address_of, address_of-one, binary_of, binary_of-one, unary_of, unary_of-one, condition_of, condition_of-one, memory_of, memory_of-one}
 
 -- the instruction of a row
 abbrev pub instruction_of : List ℕ → Instr

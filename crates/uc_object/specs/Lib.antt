@@ -1,3 +1,4 @@
+pub mod Tagged
 pub mod Object
 pub mod Worked
 pub mod inner

@@ -1,5 +1,5 @@
 // Where bytes first don't fit their places.
-ghost use Rattle.std.specs.Prelude.{IfSome, IfNone};
+ghost use Rattle.std.specs.Prelude.{◌≡◌, slice_index, IfSome, IfNone};
 ghost use Rattle.object_bytes.specs.Columns.{Fit, IsFault};
 
 use object_bytes::Column;
@@ -16,4 +16,11 @@ pub fn first_fault(columns: &[Column], bytes: &[u8]) -> Option<usize>
         }
     }
     None
+}
+
+// A byte, or 0 past the end.
+pub fn byte_at(bytes: &[u8], i: usize) -> u8
+    ensures { result ≡ slice_index bytes.now i }
+{
+    bytes.get(i).copied().unwrap_or(0)
 }

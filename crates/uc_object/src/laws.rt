@@ -1,33 +1,32 @@
 //! What holds of all objects.
-ghost use Rattle.std.specs.Prelude.{◌≡◌, ◌+◌, ◌*◌, ◌<◌, ◌^◌, ◌⊎◌, ℕ, List, length, Ok, Err};
-ghost use Rattle.uc_isa.specs.Code.{CodeView};
+ghost use Rattle.std.specs.Prelude.{◌≡◌, ◌<◌, ◌^◌, ◌⊎◌, ℕ, List, length, Ok, Err};
 ghost use Rattle.uc_object.specs.Object.{IsObject};
-ghost use Rattle.uc_object.specs.Worked.{SumObject};
+ghost use Rattle.uc_object.specs.declared.object.Object.{Object as AnObject};
+ghost use Rattle.uc_object.specs.Worked.{ShortObjects};
 
-use crate::{ObjectError, decode, encode};
+use crate::{Object, ObjectError, decode, encode};
 use std::alloc::Global;
-use uc_isa::Code;
 
-/// Bytes are the object of one code.
-pub fn one_code()
-    ensures { (bytes : List ℕ) (c d : CodeView) → IsObject bytes c → IsObject bytes d → c ≡ d }
+/// Bytes are one object, of one version.
+pub fn one_object()
+    ensures { (bytes : List ℕ) (o p : AnObject) → IsObject bytes o → IsObject bytes p → o ≡ p }
 {}
 
-/// A code has one object.
-pub fn one_object()
-    ensures { (c : CodeView) (a b : List ℕ) → IsObject a c → IsObject b c → a ≡ b }
+/// An object has one spelling.
+pub fn one_spelling()
+    ensures { (o : AnObject) (a b : List ℕ) → IsObject a o → IsObject b o → a ≡ b }
 {}
 
 /// What was encoded decodes to itself.
-pub fn decode_encoded(alloc: Global, code: &Code) -> Result<Code, ObjectError>
-    requires { 12 + 8 * length code.now.list < 2 ^ 32 }
-    ensures { (result ≡ Ok code.now) ⊎ (result ≡ Err ObjectError.NoMemory) }
+pub fn decode_encoded(alloc: Global, o: &Object) -> Result<Object, ObjectError>
+    requires { (bytes : List ℕ) → IsObject bytes o.now → length bytes < 2 ^ 32 }
+    ensures { (result ≡ Ok o.now) ⊎ (result ≡ Err ObjectError.NoMemory) }
 {
-    decode(alloc, &encode(alloc, code)?)
+    decode(alloc, &encode(alloc, o)?)
 }
 
-/// The bytes of a short code.
-#[tactic(auto, using(crate::proofs::Worked::sum_object))]
-pub fn short_object()
-    ensures { SumObject }
+/// The bytes of two short objects.
+#[tactic(auto, using(crate::proofs::Worked::short_objects))]
+pub fn short_objects()
+    ensures { ShortObjects }
 {}

@@ -1,6 +1,6 @@
-use Rattle.std.proofs.Common.{ℕ, ◌≡◌, ◌+◌, ◌<◌, ◌≤◌, length, get_or, subst, arith, suc, add-zero}
+use Rattle.std.proofs.Common.{◌≡◌, ◌<◌, ◌≤◌, length, get_or, subst, arith, suc, add-zero}
 use Rattle.std.proofs.lemmas.Bool.Decides.{nat_tests}
-use Rattle.object_bytes.specs.Columns.{Allows, Fit, IsFault}
+use Rattle.object_bytes.specs.Columns.{Allows, IsFault}
 use Rattle.object_bytes.specs.declared.column.Column.TheVariants.{Between}
 use Rattle.uc_object.proofs.Faults.{fault_here, fault_end, fit_more, fault_more}
 use Rattle.uc_object.proofs.column.first_fault.Goals as goal

@@ -37,3 +37,9 @@ returns-in-None-clause-header c =
     let bytes = c.args.bytes.now in
     let its = its-columns bytes _ _ _ _ c.header_columns-columns.ensures c.byte_at.ensures c.byte_at-2.ensures c.byte_at-3.ensures in
     fits-header bytes _ (subst (λ cs. Fit cs bytes) its c.in-None.ensures.none) c.from_le_bytes-count.ensures
+
+pub returns-in-None-clause-length : goal.returns-in-None-clause-length
+returns-in-None-clause-length c =
+    let bytes = c.args.bytes.now in
+    let its = its-columns bytes _ _ _ _ c.header_columns-columns.ensures c.byte_at.ensures c.byte_at-2.ensures c.byte_at-3.ensures in
+    fit-length (header_columns (get_or bytes 8 0) (get_or bytes 9 0) (get_or bytes 10 0)) bytes (subst (λ cs. Fit cs bytes) its c.in-None.ensures.none)

@@ -1,4 +1,4 @@
-use Rattle.std.proofs.Common.{◌≡◌, ℕ, ◌≤◌, length, get_or, arith}
+use Rattle.std.proofs.Common.{◌≤◌, get_or, arith}
 use Rattle.uc_isa.specs.declared.instruction.Instr.TheVariants.{Alu, Un, Immed, Read, Write, Halt}
 use Rattle.uc_object.proofs.Reading.{of_kind, kind-le, alu-row, un-row, immed-row, read-row, write-row, halt-row}
 use Rattle.uc_object.proofs.field.instruction.Goals as goal

@@ -1,7 +1,7 @@
 use Rattle.std.proofs.Common.{subst}
-use Rattle.object_bytes.specs.Columns.{Fit, IsFault}
-use Rattle.uc_object.proofs.Faults.{fit-eight, row-columns, fault-within}
-use Rattle.uc_object.proofs.decoder.read_row.Goals as goal
+use Rattle.object_bytes.specs.Columns.{Fit}
+use Rattle.uc_object.proofs.Faults.{fit-eight, row-columns}
+use Rattle.uc_object.proofs.parts.read_row.Goals as goal
 
 pub instruction-requires : goal.instruction-requires
 instruction-requires c =
