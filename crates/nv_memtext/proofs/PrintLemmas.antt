@@ -70,21 +70,25 @@ memory_more m ws start out out' k e f =
     ∙ ap text_of (ap (λ t. flat_map (stretch_lines m ws) (numbers_below k) ++ t) (sym (append-nil (stretch_lines m ws k))) ∙ sym (flat_map-append (stretch_lines m ws) (numbers_below k) (k ∷ [])))))
 
 -- a text and one line more, or a text more
-text_line : (ls : List (List ℕ)) (i j x : List ℕ) → i ≡ text_of ls → j ≡ i ++ (x ++ 10 ∷ []) → j ≡ text_of (ls ++ x ∷ [])
-text_line ls i j x e f = f ∙ (ap (λ t. t ++ (x ++ 10 ∷ [])) e ∙ (ap (λ t. text_of ls ++ t) (sym (append-nil (x ++ 10 ∷ []))) ∙ sym (text_of-append ls (x ∷ []))))
+text_line : (start : List ℕ) (ls : List (List ℕ)) (i j x : List ℕ) → i ≡ start ++ text_of ls → j ≡ i ++ (x ++ 10 ∷ []) → j ≡ start ++ text_of (ls ++ x ∷ [])
+text_line start ls i j x e f =
+    join2 start i j (text_of ls) (x ++ 10 ∷ []) e f ∙ ap (λ t. start ++ t) (ap (λ t. text_of ls ++ t) (sym (append-nil (x ++ 10 ∷ []))) ∙ sym (text_of-append ls (x ∷ [])))
 
-text_more : (ls ms : List (List ℕ)) (i j : List ℕ) → i ≡ text_of ls → j ≡ i ++ text_of ms → j ≡ text_of (ls ++ ms)
-text_more ls ms i j e f = f ∙ (ap (λ t. t ++ text_of ms) e ∙ sym (text_of-append ls ms))
+text_more : (start : List ℕ) (ls ms : List (List ℕ)) (i j : List ℕ) → i ≡ start ++ text_of ls → j ≡ i ++ text_of ms → j ≡ start ++ text_of (ls ++ ms)
+text_more start ls ms i j e f = join2 start i j (text_of ls) (text_of ms) e f ∙ ap (λ t. start ++ t) (sym (text_of-append ls ms))
 
-pub outcome_pieces : (o w : List ℕ) (ws : List (List ℕ)) (s : List ℕ) (m1 m2 m3 : List (List ℕ)) (i1 i2 i3 i4 i5 i6 i7 : List ℕ) → i1 ≡ o ++ 10 ∷ [] → i2 ≡ i1 ++ (w ++ 10 ∷ []) → i3 ≡ i2 ++ text_of ws → i4 ≡ i3 ++ (s ++ 10 ∷ []) → i5 ≡ i4 ++ text_of m1 → i6 ≡ i5 ++ text_of m2 → i7 ≡ i6 ++ text_of m3 → i7 ≡ text_of (o ∷ w ∷ ws ++ s ∷ m1 ++ m2 ++ m3)
-outcome_pieces o w ws s m1 m2 m3 i1 i2 i3 i4 i5 i6 i7 e1 e2 e3 e4 e5 e6 e7 =
-    let t1 : i1 ≡ text_of (o ∷ []) = e1 ∙ sym (append-nil (o ++ 10 ∷ [])) in
-    let t2 : i2 ≡ text_of (o ∷ w ∷ []) = text_line (o ∷ []) i1 i2 w t1 e2 in
-    let t3 : i3 ≡ text_of (o ∷ w ∷ ws) = text_more (o ∷ w ∷ []) ws i2 i3 t2 e3 in
-    let t4 = text_line (o ∷ w ∷ ws) i3 i4 s t3 e4 in
-    let t5 = text_more ((o ∷ w ∷ ws) ++ s ∷ []) m1 i4 i5 t4 e5 ∙ ap text_of (append_assoc (o ∷ w ∷ ws) (s ∷ []) m1) in
-    let t6 = text_more ((o ∷ w ∷ ws) ++ s ∷ m1) m2 i5 i6 t5 e6 in
-    text_more (((o ∷ w ∷ ws) ++ s ∷ m1) ++ m2) m3 i6 i7 t6 e7
+pub state_pieces : (start w : List ℕ) (ws : List (List ℕ)) (s : List ℕ) (m1 m2 m3 : List (List ℕ)) (i2 i3 i4 i5 i6 i7 : List ℕ) → i2 ≡ start ++ (w ++ 10 ∷ []) → i3 ≡ i2 ++ text_of ws → i4 ≡ i3 ++ (s ++ 10 ∷ []) → i5 ≡ i4 ++ text_of m1 → i6 ≡ i5 ++ text_of m2 → i7 ≡ i6 ++ text_of m3 → i7 ≡ start ++ text_of (w ∷ ws ++ s ∷ m1 ++ m2 ++ m3)
+state_pieces start w ws s m1 m2 m3 i2 i3 i4 i5 i6 i7 e2 e3 e4 e5 e6 e7 =
+    let t2 : i2 ≡ start ++ text_of (w ∷ []) = e2 ∙ ap (λ t. start ++ t) (sym (append-nil (w ++ 10 ∷ []))) in
+    let t3 : i3 ≡ start ++ text_of (w ∷ ws) = text_more start (w ∷ []) ws i2 i3 t2 e3 in
+    let t4 = text_line start (w ∷ ws) i3 i4 s t3 e4 in
+    let t5 = text_more start ((w ∷ ws) ++ s ∷ []) m1 i4 i5 t4 e5 ∙ ap (λ ls. start ++ text_of ls) (append_assoc (w ∷ ws) (s ∷ []) m1) in
+    let t6 = text_more start ((w ∷ ws) ++ s ∷ m1) m2 i5 i6 t5 e6 in
+    text_more start (((w ∷ ws) ++ s ∷ m1) ++ m2) m3 i6 i7 t6 e7
+
+-- the line of an outcome, that of a name, and the others
+pub named_pieces : (o : List ℕ) (names rest : List (List ℕ)) (i1 i2 i3 : List ℕ) → i1 ≡ o ++ 10 ∷ [] → i2 ≡ i1 ++ text_of names → i3 ≡ i2 ++ text_of rest → i3 ≡ text_of (o ∷ names ++ rest)
+named_pieces o names rest i1 i2 i3 e f g = join2 (o ++ 10 ∷ []) i2 i3 (text_of names) (text_of rest) (f ∙ ap (λ t. t ++ text_of names) e) g ∙ ap (λ t. (o ++ 10 ∷ []) ++ t) (sym (text_of-append names rest))
 
 -- a stretch's words, read in two cuts
 pub part_is : (ws : List ℕ) (k : ℕ) (part : List ℕ) → part ≡ take 8 (take (length ws - 8 * k) (drop (8 * k) ws)) → part ≡ stretch_words ws k

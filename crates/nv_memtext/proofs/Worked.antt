@@ -3,8 +3,8 @@ use Rattle.std.proofs.Common.{[], ◌∷◌, refl, lit<, lit≤, codes}
 use Rattle.std.specs.Fmt.{digits}
 use Rattle.line_text.specs.Number.{SpellsWord, hex_word}
 use Rattle.nv_base.specs.declared.term.Mem.TheVariants.{Sram, Sdram}
-use Rattle.nv_memtext.specs.OutcomeText.{outcome_text}
-use Rattle.nv_memtext.specs.Worked.{ShortText, ShortOutcome}
+use Rattle.nv_memtext.specs.OutcomeText.{outcome_text, named_text}
+use Rattle.nv_memtext.specs.Worked.{ShortText, ShortOutcome, NamedOutcome}
 
 -- the words of the text
 args_0 : SpellsWord (codes "FFFFFFFF") 4294967295
@@ -62,3 +62,7 @@ short_text = record {
 pub short_outcome : ShortOutcome
 unfolding outcome_text hex_word digits
 short_outcome = refl
+
+pub named_outcome : NamedOutcome
+unfolding named_text hex_word digits
+named_outcome = refl

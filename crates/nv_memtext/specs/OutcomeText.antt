@@ -50,13 +50,26 @@ memory_lines m ws = flat_map (stretch_lines m ws) (numbers_below ((length ws + 7
 abbrev pub sizes_line : Memories → List ℕ
 sizes_line p = parted (codes "memory" ∷ decimal (length p.sram) ∷ decimal (length p.sdram / 2) ∷ [])
 
--- the outcome, the number of writes, the first 64 of those that were kept, the sizes, and what isn't 0 of SRAM, SDRAM
--- and the scratch of the source
-abbrev pub outcome_lines : Outcome → Memories → Log → List (List ℕ)
-outcome_lines o p log =
-    outcome_line o ∷ parted (codes "writes" ∷ decimal log.count ∷ []) ∷ map write_line (take 64 log.kept)
+-- the number of writes, the first 64 of those that were kept, the sizes, and what isn't 0 of SRAM, SDRAM and the scratch
+-- of the source
+abbrev pub state_lines : Memories → Log → List (List ℕ)
+state_lines p log =
+    parted (codes "writes" ∷ decimal log.count ∷ []) ∷ map write_line (take 64 log.kept)
     ++ sizes_line p ∷ memory_lines Sram p.sram ++ memory_lines Sdram p.sdram ++ memory_lines Scratch (take source_scratch p.scratch)
 
--- the text of these lines
+-- the text of the outcome and of these lines
 unfoldable pub outcome_text : Outcome → Memories → Log → List ℕ
-outcome_text o p log = text_of (outcome_lines o p log)
+outcome_text o p log = text_of (outcome_line o ∷ state_lines p log)
+
+-- the name of an exception, and the line of its declaration
+abbrev pub exception_line : ℕ × List ℕ → List ℕ
+exception_line exception = parted (codes "exception" ∷ exception.1 ∷ codes "line" ∷ decimal exception.0 ∷ [])
+
+-- where the outcome is an exception, the line with its name
+abbrev pub name_lines : Outcome → ℕ × List ℕ → List (List ℕ)
+name_lines (Raised k ws) exception = exception_line exception ∷ []
+name_lines _ exception = []
+
+-- the text of the outcome, of the name and the line of its exception, and of the other lines
+unfoldable pub named_text : Outcome → ℕ × List ℕ → Memories → Log → List ℕ
+named_text o exception p log = text_of (outcome_line o ∷ name_lines o exception ++ state_lines p log)

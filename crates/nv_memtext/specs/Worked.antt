@@ -1,4 +1,4 @@
--- A short memory text, and the text of a short outcome.
+-- A short memory text, and the texts of short outcomes.
 use Rattle.std.specs.Prelude.{◌≡◌, ℕ, List, [], ◌∷◌, codes, replicate}
 use Rattle.line_text.specs.Line.{text_of}
 use Rattle.nv_base.specs.Log.{empty_log, noted}
@@ -6,7 +6,7 @@ use Rattle.nv_base.specs.Memories.{Memories}
 use Rattle.nv_base.specs.declared.outcome.Outcome.TheVariants.{Raised}
 use Rattle.nv_base.specs.declared.term.Mem.TheVariants.{Sram}
 use Rattle.nv_memtext.specs.MemoryText.{Gives}
-use Rattle.nv_memtext.specs.OutcomeText.{outcome_text}
+use Rattle.nv_memtext.specs.OutcomeText.{outcome_text, named_text}
 
 -- the second line of SRAM goes over the first, and address 2 of SDRAM is its words 4 and 5
 abbrev pub short_text : List ℕ
@@ -41,4 +41,15 @@ ShortOutcome =
     ∷ codes "write sram 8 0000000a"
     ∷ codes "memory 9 0"
     ∷ codes "sram 8 0000000a"
+    ∷ [])
+
+-- exception 1 with its name and line
+abbrev pub NamedOutcome : Type 0
+NamedOutcome =
+    named_text (Raised 1 (10 ∷ [])) (3, codes "Expired") (record { sram = []; sdram = []; scratch = replicate 1024 0 }) (empty_log 64)
+    ≡ text_of (
+    codes "raised 1 0000000a"
+    ∷ codes "exception Expired line 3"
+    ∷ codes "writes 0"
+    ∷ codes "memory 0 0"
     ∷ [])

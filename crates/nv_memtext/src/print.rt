@@ -1,11 +1,11 @@
 //! An outcome text, written.
 
-ghost use Rattle.std.specs.Prelude.{◌≡◌, ◌+◌, ◌*◌, ◌/◌, ◌<◌, ◌≤◌, ◌^◌, ◌++◌, ◌∷◌, ◌==◌, [], map, take, length, codes, decimal, IfOk, OnOk};
+ghost use Rattle.std.specs.Prelude.{◌≡◌, ◌+◌, ◌*◌, ◌/◌, ◌<◌, ◌≤◌, ◌^◌, ◌++◌, ◌∷◌, ◌==◌, [], map, take, length, codes, decimal, IfOk, OnOk, MatchOption};
 ghost use Rattle.std.specs.List.{flat_map, list_all};
 ghost use Rattle.line_text.specs.Line.{text_of};
 ghost use Rattle.line_text.specs.Number.{hex_word};
 ghost use Rattle.mem_lines.specs.Spelling.{name_of};
-ghost use Rattle.nv_memtext.specs.OutcomeText.{outcome_line, write_line, stretch_line, stretch_lines, memory_lines, sizes_line, outcome_text};
+ghost use Rattle.nv_memtext.specs.OutcomeText.{outcome_line, write_line, stretch_line, stretch_lines, memory_lines, sizes_line, state_lines, name_lines, outcome_text, named_text};
 
 use line_text::{push_decimal, push_word};
 use mem_lines::start;
@@ -163,6 +163,37 @@ fn push_sizes(out: &mut Vec<u8>, packet: &Packet) -> Result<(), AllocError>
     push_counted(out, b" ", u64::from(packet.size(Mem::Sdram)))
 }
 
+/// Writes the line of an exception's name, where the outcome is an exception.
+fn push_name(out: &mut Vec<u8>, outcome: &Outcome, line: u32, name: &[u8]) -> Result<(), AllocError>
+    ensures { OnOk result (out.new.items ≡ out.old.items ++ text_of (name_lines outcome.now (line, name.now))) }
+{
+    match outcome {
+        Outcome::Raised(_, _) => {
+            out.extend_from_slice(b"exception ")?;
+            out.extend_from_slice(name)?;
+            push_counted(out, b" line ", u64::from(line))
+        }
+        Outcome::Ended(_) | Outcome::Fault(_, _) | Outcome::Going => Ok(()),
+    }
+}
+
+/// Writes the lines behind the outcome.
+fn push_state(out: &mut Vec<u8>, p: &Packet, log: &WriteLog) -> Result<(), AllocError>
+    ensures { OnOk result (out.new.items ≡ out.old.items ++ text_of (state_lines p.now log.now)) }
+{
+    push_counted(out, b"writes ", log.count())?;
+    push_writes(out, front(log.kept(), SHOWN))?;
+    push_sizes(out, p)?;
+    push_memory(out, Mem::Sram, p.words(Mem::Sram))?;
+    push_memory(out, Mem::Sdram, p.words(Mem::Sdram))?;
+    push_memory(
+        out,
+        Mem::Scratch,
+        front(p.words(Mem::Scratch), SOURCE_SCRATCH as usize),
+    )?;
+    Ok(())
+}
+
 /// The text of an outcome: how the run stands, the number of its writes and the first 64 of those that the log kept,
 /// and the memories.
 pub fn print_outcome(
@@ -175,15 +206,29 @@ pub fn print_outcome(
 {
     let mut out = Vec::new(alloc);
     push_outcome(&mut out, o)?;
-    push_counted(&mut out, b"writes ", log.count())?;
-    push_writes(&mut out, front(log.kept(), SHOWN))?;
-    push_sizes(&mut out, p)?;
-    push_memory(&mut out, Mem::Sram, p.words(Mem::Sram))?;
-    push_memory(&mut out, Mem::Sdram, p.words(Mem::Sdram))?;
-    push_memory(
-        &mut out,
-        Mem::Scratch,
-        front(p.words(Mem::Scratch), SOURCE_SCRATCH as usize),
-    )?;
+    push_state(&mut out, p, log)?;
     Ok(out)
+}
+
+/// The text of an outcome, and behind the line of an exception one with its name and the line of its declaration, where
+/// these are given.
+pub fn print_named(
+    alloc: Global,
+    o: &Outcome,
+    name: Option<(u32, &[u8])>,
+    p: &Packet,
+    log: &WriteLog,
+) -> Result<Vec<u8>, NoMemory>
+    ensures { IfOk result (λ text. MatchOption name.entry (text.items ≡ outcome_text o.now p.now log.now) (λ given. text.items ≡ named_text o.now (given.0, given.1.now) p.now log.now)) }
+{
+    match name {
+        None => print_outcome(alloc, o, p, log),
+        Some((line, bytes)) => {
+            let mut out = Vec::new(alloc);
+            push_outcome(&mut out, o)?;
+            push_name(&mut out, o, line, bytes)?;
+            push_state(&mut out, p, log)?;
+            Ok(out)
+        }
+    }
 }

@@ -7,3 +7,5 @@ pub mod MeaningLemmas
 pub mod Exact
 pub mod ListingLemmas
 pub mod Worked
+pub mod StartLemmas
+pub mod NumberedLemmas

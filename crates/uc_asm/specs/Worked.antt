@@ -1,7 +1,9 @@
--- The listings of short code.
+-- The listings of short code, and of a short object.
 use Rattle.std.specs.Prelude.{◌≡◌, [], ◌∷◌, codes}
 use Rattle.line_text.specs.Line.{text_of}
 use Rattle.uc_isa.specs.Worked.{sum_code, moving_code}
+use Rattle.uc_object.specs.Worked.{raising}
+use Rattle.uc_asm.specs.Starts.{tagged_listing}
 use Rattle.uc_asm.specs.Text.{listing}
 
 abbrev pub SumListing : Type 0
@@ -23,4 +25,11 @@ MovingListing = listing (record { params = 4; list = moving_code }) ≡ text_of 
     ∷ codes "un A1 COPY L0"
     ∷ codes "un A2 COPY A3"
     ∷ codes "halt 0 2"
+    ∷ [])
+
+abbrev pub RaisingListing : Type 0
+RaisingListing = tagged_listing raising ≡ text_of (
+    codes "params 0"
+    ∷ codes "L0:"
+    ∷ codes "halt 1 0"
     ∷ [])

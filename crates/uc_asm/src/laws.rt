@@ -6,7 +6,7 @@ ghost use Rattle.uc_asm.specs.Answer.{Answers, IsTrueError};
 ghost use Rattle.uc_asm.specs.Labels.{IsCodeOf};
 ghost use Rattle.uc_asm.specs.Text.{listing};
 ghost use Rattle.asm_parts.specs.Words.{InRange};
-ghost use Rattle.uc_asm.specs.Worked.{MovingListing, SumListing};
+ghost use Rattle.uc_asm.specs.Worked.{MovingListing, RaisingListing, SumListing};
 ghost use Rattle.uc_asm.specs.declared.error.AsmError.{AsmError};
 
 use crate::{AsmError, assemble, print};
@@ -34,9 +34,10 @@ pub fn assemble_printed(alloc: Global, code: &Code) -> Result<Code, AsmError>
     assemble(alloc, &print(alloc, code)?)
 }
 
-/// The listings of two short codes.
-#[tactic(auto, using(crate::proofs::Worked::sum_listing, crate::proofs::Worked::moving_listing))]
+/// The listings of two short codes, and of an object with a label.
+#[tactic(auto, using(crate::proofs::Worked::sum_listing, crate::proofs::Worked::moving_listing, crate::proofs::Worked::raising_listing))]
 pub fn short_listings()
     ensures sum { SumListing }
     ensures moves { MovingListing }
+    ensures raising { RaisingListing }
 {}

@@ -1,4 +1,4 @@
-//! Assembly text: the listing of a code, and the assembler.
+//! Assembly text: the listings of a code and of an object, and the assembler.
 #![tactic(auto)]
 
 mod assembler;
@@ -8,7 +8,9 @@ pub mod laws;
 mod line;
 mod listing;
 mod resolve;
+mod starts;
 
 pub use assembler::assemble;
 pub use error::AsmError;
 pub use listing::print;
+pub use starts::print_object;

@@ -26,7 +26,8 @@ pub fn print(alloc: Global, code: &Code) -> Result<Vec<u8>, NoMemory>
     Ok(out)
 }
 
-fn push_params(out: &mut Vec<u8>, params: u8) -> Result<(), AllocError>
+/// The line of the number of parameters, with its end.
+pub fn push_params(out: &mut Vec<u8>, params: u8) -> Result<(), AllocError>
     ensures { OnOk result (out.new.items ≡ out.old.items ++ (params_line params ++ 10 ∷ [])) }
 {
     out.extend_from_slice(b"params")?;
@@ -35,8 +36,8 @@ fn push_params(out: &mut Vec<u8>, params: u8) -> Result<(), AllocError>
     Ok(())
 }
 
-// The line of an instruction, with its end.
-fn push_instruction(out: &mut Vec<u8>, i: Instr) -> Result<(), AllocError>
+/// The line of an instruction, with its end.
+pub fn push_instruction(out: &mut Vec<u8>, i: Instr) -> Result<(), AllocError>
     ensures line { OnOk result (out.new.items ≡ out.old.items ++ (instruction_line i ++ 10 ∷ [])) }
     ensures fits { InRange i }
 {

@@ -1,25 +1,10 @@
-use Rattle.std.proofs.Common.{◌++◌, ◌∷◌, [], length, map, take, ap, ◌∙◌, codes, decimal, arith}
-use Rattle.std.proofs.lemmas.List.{length-take}
-use Rattle.line_text.specs.Line.{text_of, parted}
-use Rattle.nv_base.specs.declared.term.Mem.TheVariants.{Sram, Sdram, Scratch}
-use Rattle.nv_memtext.specs.OutcomeText.{outcome_text, outcome_line, write_line, sizes_line, memory_lines}
-use Rattle.nv_memtext.proofs.PrintLemmas.{outcome_pieces}
+use Rattle.std.proofs.Common.{ℕ, List, ◌++◌, ◌∷◌, [], ap, ◌∙◌}
+use Rattle.line_text.specs.Line.{text_of}
+use Rattle.nv_memtext.specs.OutcomeText.{outcome_text, outcome_line, state_lines}
 use Rattle.nv_memtext.proofs.print.print_outcome.Goals as goal
-
-pub push_memory-requires-3 : goal.push_memory-requires-3
-push_memory-requires-3 c =
-    omega (arith, ap length c.front-2.ensures, length-take 512 c.words-3.result.now, ap length c.words-3.ensures.words, c.words-3.ensures.sizes.scratch.0)
 
 pub returns : goal.returns
 unfolding outcome_text
 returns c =
-    outcome_pieces (outcome_line c.args.o.now) (parted (codes "writes" ∷ decimal c.args.log.now.count ∷ [])) (map write_line (take 64 c.args.log.now.kept)) (sizes_line c.args.p.now)
-    (memory_lines Sram c.args.p.now.sram) (memory_lines Sdram c.args.p.now.sdram) (memory_lines Scratch (take 512 c.args.p.now.scratch))
-    c.push_outcome.new.out.items c.push_counted.new.out.items c.push_writes.new.out.items c.push_sizes.new.out.items c.push_memory.new.out.items c.push_memory-2.new.out.items c.push_memory-3.new.out.items
-    (c.in_ok-push_outcome.ensures ∙ ap (λ t. t ++ (outcome_line c.args.o.now ++ 10 ∷ [])) c.new-out.ensures.items)
-    (c.in_ok-push_counted.ensures ∙ ap (λ n. c.push_outcome.new.out.items ++ (codes "writes " ++ (decimal n ++ 10 ∷ []))) c.count.ensures)
-    (c.in_ok-push_writes.ensures ∙ ap (λ t. c.push_counted.new.out.items ++ text_of (map write_line t)) (c.front.ensures ∙ ap (take 64) c.kept.ensures.kept))
-    c.in_ok-push_sizes.ensures
-    (c.in_ok-push_memory.ensures ∙ ap (λ t. c.push_sizes.new.out.items ++ text_of (memory_lines Sram t)) c.words.ensures.words)
-    (c.in_ok-push_memory-2.ensures ∙ ap (λ t. c.push_memory.new.out.items ++ text_of (memory_lines Sdram t)) c.words-2.ensures.words)
-    (c.in_ok-push_memory-3.ensures ∙ ap (λ t. c.push_memory-2.new.out.items ++ text_of (memory_lines Scratch t)) (c.front-2.ensures ∙ ap (take 512) c.words-3.ensures.words))
+    c.in_ok-push_state.ensures
+    ∙ ap (λ (t : List ℕ). t ++ text_of (state_lines c.args.p.now c.args.log.now)) (c.in_ok-push_outcome.ensures ∙ ap (λ (t : List ℕ). t ++ (outcome_line c.args.o.now ++ 10 ∷ [])) c.new-out.ensures.items)
