@@ -19,6 +19,14 @@ def header(count):
     return b"NVO1" + (0).to_bytes(4, "little") + count.to_bytes(4, "little")
 
 
+def tagged(count):
+    """An object of so many halts, and of as many exceptions with the longest names, and starts, as there can be."""
+    numbers = (65535).to_bytes(4, "little") + (1 << 20).to_bytes(4, "little")
+    exception = (7).to_bytes(4, "little") + bytes([64]) + b"n" * 64
+    start = (count - 1).to_bytes(4, "little")
+    return b"NVO2" + header(count)[4:] + numbers + HALT * count + exception * 65535 + start * (1 << 20)
+
+
 def code(count):
     """An object of so many halts."""
     return header(count) + HALT * count
@@ -117,7 +125,11 @@ def sizes():
 
     def whole(it, count, over):
         it.put("o", code(count) + b"\0" * over)
-        it.runs("lint o", 8 if over else 0, "too large 8388620\n" if over else f"lawful {count}\n")
+        it.runs("lint o", 12 if over else 0, "object 8388620\n" if over else f"lawful {count}\n")
+
+    def longest(it, count, over):
+        it.put("o", tagged(count) + b"\0" * over)
+        it.runs("lint o", 8 if over else 0, "too large 17104847\n" if over else f"lawful {count}\n")
 
     def zeros(it, words, length, status, output):
         it.zeros("z", length)
@@ -130,6 +142,8 @@ def sizes():
         row(f"an object cut behind {length:,} bytes", length)(cut)
     row("an object of 8,388,620 bytes", 1048576, 0)(whole)
     row("an object of 8,388,621 bytes", 1048576, 1)(whole)
+    row("an object of 17,104,847 bytes", 1048576, 0)(longest)
+    row("an object of 17,104,848 bytes", 1048576, 1)(longest)
     for what, words, limit, status, output in (
         ("a memory text", "run o z steps=1", 4 << 20, 13, "memory line 1\n"),
         ("an assembly text", "asm z p", 64 << 20, 6, "syntax text line 1\n"),

@@ -3,9 +3,9 @@ use Rattle.std.specs.Prelude.{ℕ}
 -- a source
 pub use Rattle.nv_text.specs.Limits.{source_limit}
 
--- an object: 2 ^ 20 instructions and the header
+-- an object: 2 ^ 20 instructions, 65,535 exceptions with the longest names, 2 ^ 20 starts, and the header
 abbrev pub object_limit : ℕ
-object_limit = 8388620
+object_limit = 17104847
 
 -- a memory text
 abbrev pub memory_limit : ℕ

@@ -7,8 +7,8 @@ use nv_text::MOST_BYTES;
 /// A source.
 pub const SOURCE_LIMIT: u64 = MOST_BYTES as u64;
 
-/// An object: 2^20 instructions and the header.
-pub const OBJECT_LIMIT: u64 = 8_388_620;
+/// An object: 2^20 instructions, 65,535 exceptions with the longest names, 2^20 starts, and the header.
+pub const OBJECT_LIMIT: u64 = 17_104_847;
 
 /// A memory text.
 pub const MEMORY_LIMIT: u64 = 4_194_304;

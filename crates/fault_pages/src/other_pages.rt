@@ -386,18 +386,24 @@ Of `asm`: the first line that isn't of the form; else a label that is missing or
                 name: "object",
                 text: r#"object
 
-The bytes are no object: the first byte that can't be there, or the file's length where it only ends too early.
-`lint` and `run` then answer 18 with a place where the code breaks a rule; `dis` lists such code.
+The bytes are no object: the first byte that no object of either version has there, or the file's length where it only ends too early.
+Version 2 tells the names of exceptions and where labels start. `lint` and `run` then answer 18 with a place where the code breaks a rule; `dis` lists such code.
 
     short: %hex 4e564f310000000001000000060000000000
     kind: %hex 4e564f310000000001000000ff00000000000000
     corrected: %hex 4e564f3100000000010000000600000000000000
+    start: %hex 4e564f320000000001000000 0000000001000000 0600000000000000 01000000
+    named: %hex 4e564f320000000001000000 0100000000000000 0600010000000000 03000000 03 4c6f77
     unlawful: %hex 4e564f31020000000200000000000000010000000601000000000000
     $ lint short
     12 object 18
     $ lint kind
     12 object 12
     $ lint corrected
+    0 lawful 1
+    $ lint start
+    12 object 28
+    $ lint named
     0 lawful 1
     $ lint unlawful
     18 unlawful place 0 rule 1
@@ -629,7 +635,7 @@ or a memory text asks for a memory of size N, more than 65,536.
                 name: "status 12",
                 text: r#"status 12: no object
 
-`object BYTE`: the bytes are no object, from this one on.
+`object BYTE`: the bytes are no object, of version 1 or 2, from this one on.
 "#,
             },
             Page {

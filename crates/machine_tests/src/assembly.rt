@@ -3,7 +3,7 @@ use std::alloc::Global;
 use std::test::Fail;
 use uc_asm::laws::assemble_printed;
 use uc_asm::{AsmError, assemble, print};
-use uc_object::encode;
+use uc_object::encode_code;
 
 const SUM: &[u8] = b"params 2\n\
     alu A0 ADD A0 B0\n\
@@ -16,7 +16,7 @@ const OBJECT: &[u8] = b"NVO1\x02\0\0\0\x02\0\0\0\0\0\0\0\x10\0\0\0\x06\x01\0\0\0
 fn a_text_gives_its_code(rt: HostRuntime) -> Result<(), Fail> {
     let code = assemble(rt.alloc(), SUM)?;
     assert_eq!(rt; code.params(), 2);
-    let object = encode(rt.alloc(), &code)?;
+    let object = encode_code(rt.alloc(), &code)?;
     assert_eq!(rt; object.as_slice(), OBJECT);
     Ok(())
 }

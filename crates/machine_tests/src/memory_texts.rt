@@ -1,5 +1,5 @@
 use nv_base::{Access, Mem, NoMemory, Outcome, Packet, Words, Write, WriteLog};
-use nv_memtext::{Job, MemError, print_outcome, read_memory};
+use nv_memtext::{Job, MemError, print_named, print_outcome, read_memory};
 use std::alloc::Global;
 use std::test::Fail;
 
@@ -59,5 +59,26 @@ fn an_outcome_text_shows_what_is_not_zero(rt: HostRuntime) -> Result<(), Fail> {
     let want =
         b"raised 3 deadbeef\nwrites 1\nwrite sram 8 0000000a\nmemory 9 5\nsram 8 0000000a\nsdram 4 00000001 00000002\nscratch 504 000000ff 00000000 00000000 00000000 00000000 00000000 00000000 00000000\n";
     assert!(rt; shown.as_slice() == want.as_slice());
+    Ok(())
+}
+
+#[test]
+fn an_outcome_text_names_a_raised_exception_alone(rt: HostRuntime) -> Result<(), Fail> {
+    let alloc = rt.alloc();
+    let packet = read_memory(alloc, b"memory 0 0\nargs\n", 0)?.packet;
+    let log = WriteLog::new(alloc, 64)?;
+    let name = Some((3, b"Expired".as_slice()));
+    let raised = Outcome::Raised(1, Words::of(&[0x0a00_0001]));
+    let shown = print_named(alloc, &raised, name, &packet, &log)?;
+    let want = b"raised 1 0a000001\nexception Expired line 3\nwrites 0\nmemory 0 0\n";
+    assert_eq!(rt; shown.as_slice(), want.as_slice());
+    let shown = print_named(alloc, &raised, None, &packet, &log)?;
+    let want = b"raised 1 0a000001\nwrites 0\nmemory 0 0\n";
+    assert_eq!(rt; shown.as_slice(), want.as_slice());
+    let shown = print_named(alloc, &Outcome::Going, name, &packet, &log)?;
+    assert_eq!(rt;
+        shown.as_slice(),
+        b"going\nwrites 0\nmemory 0 0\n".as_slice()
+    );
     Ok(())
 }

@@ -1,9 +1,11 @@
 -- What the commands for assembly texts do, and why they refuse.
 use Rattle.std.specs.Prelude.{◌≡◌, ℕ, List, [], ◌∷◌, codes, length}
 use Rattle.uc_asm.specs.Labels.{IsCodeOf, IsLabelError, IsUnlawfulError}
-use Rattle.uc_asm.specs.Text.{IsSyntaxError, listing}
+use Rattle.uc_asm.specs.Starts.{object_listing}
+use Rattle.uc_asm.specs.Text.{IsSyntaxError}
 use Rattle.uc_isa.specs.Code.{CodeView}
-use Rattle.uc_object.specs.Object.{IsObject}
+use Rattle.uc_object.specs.Object.{IsCodeObject, IsObject}
+use Rattle.uc_object.specs.declared.object.Object.{Object}
 use Rattle.command_line.specs.Lines.{counted}
 use Rattle.object_commands.specs.Saving.{File, file}
 use Rattle.command_line.specs.declared.status.Status.{Status}
@@ -23,11 +25,11 @@ pub record HasAssembly (text : List ℕ) : Type 0 where
   pub c : CodeView
   pub code : IsCodeOf text c
 
--- the object is that of the text's code, which has so many instructions
+-- the object is that of the text's code alone, which has so many instructions
 pub record IsAssembledTo (text object : List ℕ) (instructions : ℕ) : Type 0 where
   pub c : CodeView
   pub code : IsCodeOf text c
-  pub encoded : IsObject object c
+  pub encoded : IsCodeObject object c
   pub number : instructions ≡ length c.list
 
 -- what `asm` makes of a text: the object of its code, whose length is told
@@ -39,9 +41,9 @@ pub record AsmMakes (text object_name : List ℕ) (status : Status) (files : Lis
   pub saves : files ≡ file object_name object ∷ []
   pub told : line ≡ counted (codes "assembled ") instructions
 
--- the bytes are the object of a code, whose listing is printed
+-- the bytes are an object, whose listing is printed
 pub record IsListed (bytes : List ℕ) (status : Status) (text : List ℕ) : Type 0 where
-  pub c : CodeView
-  pub object : IsObject bytes c
+  pub o : Object
+  pub object : IsObject bytes o
   pub done : status ≡ Done
-  pub prints : text ≡ listing c
+  pub prints : text ≡ object_listing o

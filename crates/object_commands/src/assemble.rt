@@ -9,7 +9,7 @@ use crate::save::{Made, Product};
 use command_line::Refusal;
 use std::alloc::Global;
 use uc_asm::{AsmError, assemble};
-use uc_object::encode;
+use uc_object::encode_code;
 
 /// Assembles a text, whose object is saved under a name.
 pub fn assemble_bytes<'a>(
@@ -39,7 +39,7 @@ fn object_of<'a>(alloc: Global, text: &[u8]) -> Result<Product, Refusal<'a>>
         Err(AsmError::Label(n)) => return Err(Refusal::Label(n)),
         Err(AsmError::Unlawful(n, rule)) => return Err(Refusal::UnlawfulLine(n, rule)),
     };
-    let object = encode(alloc, &code)?;
+    let object = encode_code(alloc, &code)?;
     let instructions = code.list().len() as u64;
     Ok(Product {
         object,

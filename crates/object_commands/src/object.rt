@@ -1,4 +1,4 @@
-//! The code of an object.
+//! Objects, and whether their code is lawful.
 ghost use Rattle.std.specs.Prelude.{◌≡◌, ◌<◌, ◌^◌, ◌⊎◌, length, IfOk, IfErr, OnOk};
 ghost use Rattle.uc_isa.specs.Lawful.{IsLawful};
 ghost use Rattle.uc_object.specs.Object.{IsObject};
@@ -8,16 +8,16 @@ ghost use Rattle.object_commands.specs.Machine.{IsBadObjectFor, IsUnlawfulFor};
 use command_line::Refusal;
 use std::alloc::Global;
 use uc_isa::{Code, lint};
-use uc_object::{ObjectError, decode};
+use uc_object::{Object, ObjectError, decode};
 
-/// The code that the bytes are the object of.
-pub fn code_of<'a>(alloc: Global, bytes: &[u8]) -> Result<Code, Refusal<'a>>
+/// The object that the bytes are.
+pub fn object_of<'a>(alloc: Global, bytes: &[u8]) -> Result<Object, Refusal<'a>>
     requires { length bytes.now < 2 ^ 32 }
-    ensures object { IfOk result (λ c. IsObject bytes.now c) }
+    ensures object { IfOk result (λ o. IsObject bytes.now o) }
     ensures refused { IfErr result (λ e. IsUncaused e ⊎ IsBadObjectFor bytes.now e) }
 {
     match decode(alloc, bytes) {
-        Ok(code) => Ok(code),
+        Ok(object) => Ok(object),
         Err(ObjectError::Bad(at)) => Err(Refusal::BadObject(at)),
         Err(ObjectError::NoMemory) => Err(Refusal::NoMemory),
     }

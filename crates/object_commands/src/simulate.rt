@@ -1,27 +1,29 @@
 //! The command `run`.
-ghost use Rattle.std.specs.Prelude.{◌≡◌, ◌≤◌, ◌⊎◌, length, IfOk, IfErr};
+ghost use Rattle.std.specs.Prelude.{◌≡◌, ◌≤◌, ◌⊎◌, length, None, Some, IfOk, IfErr, MatchOption};
 ghost use Rattle.nv_memtext.specs.MemoryText.{Gives};
 ghost use Rattle.uc_isa.specs.Engine.{engine};
 ghost use Rattle.uc_isa.specs.Lawful.{IsLawful};
+ghost use Rattle.uc_object.specs.Object.{code_of};
 ghost use Rattle.command_line.specs.Limits.{object_limit, memory_limit};
 ghost use Rattle.command_line.specs.Lines.{IsUncaused};
-ghost use Rattle.object_commands.specs.Machine.{RunRefuses, IsMemoryRefusedFor, IsRun, spill_base, full_text};
+ghost use Rattle.object_commands.specs.Machine.{RunRefuses, IsMemoryRefusedFor, IsRun, spill_base, raised_name, run_text};
 ghost use Rattle.command_line.specs.Status.{outcome_status};
 ghost use Rattle.object_commands.specs.inner.Outcomes.{IsOutcome};
 
-use crate::object::{check_lawful, code_of};
+use crate::object::{check_lawful, object_of};
 use command_line::limits::SPILL_BASE;
 use command_line::{Refusal, Reply, Status};
 use nv_base::{NoMemory, Outcome, WriteLog};
-use nv_memtext::{Job, MemError, print_outcome, read_memory};
+use nv_memtext::{Job, MemError, print_named, read_memory};
 use std::alloc::Global;
-use uc_isa::{Code, Engine};
+use uc_isa::Engine;
+use uc_object::Object;
 use uc_sim::simulate;
 
 /// How many writes are kept and shown.
 pub const SHOWN_WRITES: u32 = 64;
 
-/// Runs the code that the bytes are the object of on the memories and arguments of a memory text.
+/// Runs the code of the object that the bytes are on the memories and arguments of a memory text.
 pub fn run_bytes<'a>(
     alloc: Global,
     bytes: &[u8],
@@ -35,10 +37,11 @@ pub fn run_bytes<'a>(
     ensures refused { IfErr result (λ e. IsUncaused e ⊎ RunRefuses bytes.now text.now e) }
     ensures end { IfOk result (λ r. IsOutcome r.status) }
 {
-    let code = code_of(alloc, bytes)?;
-    check_lawful(&code)?;
+    let object = object_of(alloc, bytes)?;
+    let code = object.code();
+    check_lawful(code)?;
     let job = job_of(alloc, text, code.params())?;
-    Ok(run_job(alloc, &code, job, steps)?)
+    Ok(run_job(alloc, &object, job, steps)?)
 }
 
 /// The memories and arguments that a memory text gives.
@@ -55,25 +58,37 @@ pub fn job_of<'a>(alloc: Global, text: &[u8], params: u8) -> Result<Job, Refusal
     }
 }
 
-// Takes so many steps of lawful code, from its start.
-fn run_job(alloc: Global, code: &Code, job: Job, steps: u64) -> Result<Reply, NoMemory>
+// Takes so many steps of the lawful code of an object, from its start.
+fn run_job(alloc: Global, object: &Object, job: Job, steps: u64) -> Result<Reply, NoMemory>
     requires steps { steps ≤ 100000000 }
-    requires lawful { IsLawful code.now.list }
-    ensures ends { IfOk result (λ r. r.status ≡ outcome_status (engine code.now job.args spill_base job.packet steps).outcome) }
+    requires lawful { IsLawful (code_of object.now).list }
+    ensures ends { IfOk result (λ r. r.status ≡ outcome_status (engine (code_of object.now) job.args spill_base job.packet steps).outcome) }
     ensures end { IfOk result (λ r. IsOutcome r.status) }
-    ensures prints { IfOk result (λ r. r.text.items ≡ full_text (engine code.now job.args spill_base job.packet steps)) }
+    ensures prints { IfOk result (λ r. r.text.items ≡ run_text object.now (engine (code_of object.now) job.args spill_base job.packet steps)) }
 {
+    let code = object.code();
     // The check has to be told that the code has an instruction, which `list` promises.
     let _list = code.list();
     let mut engine = Engine::start(job.args.list(), SPILL_BASE);
     let mut packet = job.packet;
     let mut log = WriteLog::new(alloc, SHOWN_WRITES)?;
     let outcome = simulate(code, &mut engine, &mut packet, &mut log, steps);
-    let text = print_outcome(alloc, &outcome, &packet, &log)?;
+    let name = name_of(object, &outcome);
+    let text = print_named(alloc, &outcome, name, &packet, &log)?;
     Ok(Reply {
         status: status_of(&outcome),
         text,
     })
+}
+
+// The line and the name that an object has for the exception of an outcome.
+fn name_of<'a>(object: &'a Object, outcome: &Outcome) -> Option<(u32, &'a [u8])>
+    ensures { MatchOption result (raised_name object.now outcome.now ≡ None) (λ found. raised_name object.now outcome.now ≡ Some (found.0, found.1.now)) }
+{
+    match outcome {
+        Outcome::Raised(number, _) => object.exception(*number),
+        Outcome::Ended(_) | Outcome::Fault(_, _) | Outcome::Going => None,
+    }
 }
 
 /// The status of a run, by how it ended.
