@@ -1,7 +1,7 @@
 -- What a source that isn't refused comes to, as what `compile` makes of it.
 use Rattle.std.proofs.Common.{◌≡◌, ℕ, List, [], ◌∷◌, length, refl, ap, sym, ◌∙◌, subst, Result, Ok, Err, IfOk}
 use Rattle.nv_ast.specs.TypedView.{typed_program}
-use Rattle.uc_object.specs.Object.{IsObject}
+use Rattle.uc_object.specs.Object.{IsCodeObject}
 use Rattle.zo_cert.specs.declared.report.Report.{Report}
 use Rattle.zo_cert.specs.declared.report.Verdict.{Verdict}
 use Rattle.zo_cert.specs.declared.report.Verdict.TheVariants as verdict
@@ -21,7 +21,7 @@ use Rattle.command_line.specs.declared.status.Status.{Status}
 use Rattle.command_line.specs.declared.status.Status.TheVariants as status
 
 pub built-made : (text object_name report_name object report : List ℕ) (slots budget store : ℕ) (t : Compiled) (files : List File) (line : List ℕ) → IsBuilt text slots budget store t
-    → IsObject object t.built.code → IsReportOf report t.built.report → files ≡ file object_name object ∷ file report_name report ∷ []
+    → IsCodeObject object t.built.code → IsReportOf report t.built.report → files ≡ file object_name object ∷ file report_name report ∷ []
     → line ≡ compiled_text (length t.built.code.list) t.built.report.verdict (report_cost t.built.report) → CompiledMakes text object_name report_name slots budget store files line
 built-made text object_name report_name object report slots budget store t files line h encoded reports saves told = record {
   object = object;

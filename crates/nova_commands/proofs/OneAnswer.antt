@@ -11,12 +11,13 @@ use Rattle.uc_isa.specs.Engine.{engine}
 use Rattle.uc_isa.specs.Lawful.{IsLawful}
 use Rattle.uc_isa.specs.declared.instruction.Instr.{Instr}
 use Rattle.uc_isa.proofs.FirstBroken.{first-one, first-unlawful}
-use Rattle.uc_object.specs.Object.{IsObject}
-use Rattle.uc_object.proofs.Places.{object-one}
-use Rattle.uc_object.proofs.RowPlaces.{place-one, object-good}
+use Rattle.uc_object.specs.Object.{IsObject, code_of}
+use Rattle.uc_object.specs.declared.object.Object.{Object}
+use Rattle.uc_object.proofs.Results.{bad-one as place-one, object-good}
+use Rattle.uc_object.proofs.Spelling.{object-one}
 use Rattle.uc_asm.specs.Answer.{IsTrueError, Answers as Assembles}
 use Rattle.uc_asm.specs.Labels.{IsCodeOf}
-use Rattle.uc_asm.specs.Text.{listing}
+use Rattle.uc_asm.specs.Starts.{object_listing}
 use Rattle.uc_asm.specs.declared.error.AsmError.{AsmError}
 use Rattle.uc_asm.specs.declared.error.AsmError.TheVariants as asm
 use Rattle.uc_asm.proofs.Exact.{given-answer, syntax-answer, label-answer, unlawful-answer}
@@ -33,7 +34,7 @@ use Rattle.nova_commands.specs.Executing.{ExecRefuses, IsExecuted}
 use Rattle.nova_commands.specs.Forms.{form_bound}
 use Rattle.nova_commands.specs.Headline.{CompileMakes, IsUnfit, IsEndOf}
 use Rattle.command_line.specs.Lines.{counted, refusal_status}
-use Rattle.object_commands.specs.Machine.{IsBadObjectFor, IsUnlawfulFor, IsMemoryRefusedFor, LintRefuses, RunRefuses, IsLinted, IsRun, spill_base, full_text}
+use Rattle.object_commands.specs.Machine.{IsBadObjectFor, IsUnlawfulFor, IsMemoryRefusedFor, LintRefuses, RunRefuses, IsLinted, IsRun, spill_base, full_text, run_text}
 use Rattle.object_commands.specs.Saving.{File}
 use Rattle.command_line.specs.Status.{outcome_status, MaySave}
 use Rattle.object_commands.specs.inner.Outcomes.{IsOutcome}
@@ -50,8 +51,8 @@ bad-one b (BadObject at) (BadObject at') h k = ap (λ (n : ℕ). BadObject n) (p
 bad-one b (BadObject at) _ h k = absurd k
 bad-one b _ e' h k = absurd h
 
-bad-good : (b : List ℕ) (e : Refusal) (c : CodeView) → IsObject b c → IsBadObjectFor b e → ⊥
-bad-good b (BadObject at) c o h = object-good b c at o h
+bad-good : (b : List ℕ) (e : Refusal) (o : Object) → IsObject b o → IsBadObjectFor b e → ⊥
+bad-good b (BadObject at) o is h = object-good b o at is h
 bad-good b _ c o h = h
 
 unlawful-one : (code : List Instr) (e e' : Refusal) → IsUnlawfulFor code e → IsUnlawfulFor code e' → e ≡ e'
@@ -71,24 +72,24 @@ lint-one b e e' (inl h) (inr k) = absurd (bad-good b e k.0 k.1 h)
 lint-one b e e' (inr h) (inl k) = absurd (bad-good b e' h.0 h.1 k)
 lint-one b e e' (inr h) (inr k) =
     let same = object-one b h.0 k.0 h.1 k.1 in
-    unlawful-one k.0.list e e' (subst (λ (c : CodeView). IsUnlawfulFor c.list e) same h.2) k.2
+    unlawful-one (code_of k.0).list e e' (subst (λ (o : Object). IsUnlawfulFor (code_of o).list e) same h.2) k.2
 
-lint-good : (b : List ℕ) (e : Refusal) (c : CodeView) → IsObject b c → IsLawful c.list → LintRefuses b e → ⊥
-lint-good b e c o l (inl h) = bad-good b e c o h
-lint-good b e c o l (inr h) =
-    let same = object-one b h.0 c h.1 o in
-    unlawful-bad c.list e l (subst (λ (d : CodeView). IsUnlawfulFor d.list e) same h.2)
+lint-good : (b : List ℕ) (e : Refusal) (o : Object) → IsObject b o → IsLawful (code_of o).list → LintRefuses b e → ⊥
+lint-good b e o is l (inl h) = bad-good b e o is h
+lint-good b e o is l (inr h) =
+    let same = object-one b h.0 o h.1 is in
+    unlawful-bad (code_of o).list e l (subst (λ (p : Object). IsUnlawfulFor (code_of p).list e) same h.2)
 
 linted-one : (b : List ℕ) (s s' : Status) (t t' : List ℕ) → IsLinted b s t → IsLinted b s' t' → (s ≡ s') × (t ≡ t')
 linted-one b s s' t t' h k =
-    let same = object-one b h.c k.c h.object k.object in
-    let line : CodeView → List ℕ = λ c. counted (codes "lawful ") (length c.list) in
+    let same = object-one b h.o k.o h.object k.object in
+    let line : Object → List ℕ = λ o. counted (codes "lawful ") (length (code_of o).list) in
     (h.done ∙ sym k.done, h.line ∙ ap line same ∙ sym k.line)
 
 listed-one : (b : List ℕ) (s s' : Status) (t t' : List ℕ) → IsListed b s t → IsListed b s' t' → (s ≡ s') × (t ≡ t')
 listed-one b s s' t t' h k =
-    let same = object-one b h.c k.c h.object k.object in
-    (h.done ∙ sym k.done, h.prints ∙ ap listing same ∙ sym k.prints)
+    let same = object-one b h.o k.o h.object k.object in
+    (h.done ∙ sym k.done, h.prints ∙ ap object_listing same ∙ sym k.prints)
 
 -- assembly texts: why one is refused, as the assembler says it
 refusal-of : AsmError → Refusal
@@ -155,24 +156,25 @@ runs-one b t e e' (inl h) (inr k) = absurd (lint-good b e k.0 k.1 k.2.0 h)
 runs-one b t e e' (inr h) (inl k) = absurd (lint-good b e' h.0 h.1 h.2.0 k)
 runs-one b t e e' (inr h) (inr k) =
     let same = object-one b h.0 k.0 h.1 k.1 in
-    memory-one k.0.params t e e' (subst (λ (c : CodeView). IsMemoryRefusedFor c.params t e) same h.2.1) k.2.1
+    memory-one (code_of k.0).params t e e' (subst (λ (o : Object). IsMemoryRefusedFor (code_of o).params t e) same h.2.1) k.2.1
 
 run-good : (b t : List ℕ) (e : Refusal) (steps : ℕ) (s : Status) (text : List ℕ) → IsRun b t steps s text → RunRefuses b t e → ⊥
-run-good b t e steps s text r (inl h) = lint-good b e r.c r.object r.lawful h
+run-good b t e steps s text r (inl h) = lint-good b e r.o r.object r.lawful h
 run-good b t e steps s text r (inr h) =
-    let same = object-one b h.0 r.c h.1 r.object in
-    memory-good r.c.params t e r.packet r.arguments r.given (subst (λ (c : CodeView). IsMemoryRefusedFor c.params t e) same h.2.1)
+    let same = object-one b h.0 r.o h.1 r.object in
+    memory-good (code_of r.o).params t e r.packet r.arguments r.given (subst (λ (o : Object). IsMemoryRefusedFor (code_of o).params t e) same h.2.1)
 
 run-one : (b t : List ℕ) (steps : ℕ) (s s' : Status) (text text' : List ℕ) → IsRun b t steps s text → IsRun b t steps s' text' → (s ≡ s') × (text ≡ text')
 run-one b t steps s s' text text' h k =
-    let same = object-one b h.c k.c h.object k.object in
-    let given = subst (λ (c : CodeView). Gives c.params t h.packet h.arguments) same h.given in
-    let gives = gives_one k.c.params t h.packet k.packet h.arguments k.arguments given k.given in
-    let run_of : CodeView → List ℕ → Memories → FullOutcome = λ c a p. engine c a spill_base p steps in
-    let run : run_of h.c h.arguments h.packet ≡ run_of k.c k.arguments k.packet =
-    ap (λ (c : CodeView). run_of c h.arguments h.packet) same ∙ ap (λ (p : Memories). run_of k.c h.arguments p) gives.0 ∙ ap (λ (a : List ℕ). run_of k.c a k.packet) gives.1 in
+    let same = object-one b h.o k.o h.object k.object in
+    let given = subst (λ (o : Object). Gives (code_of o).params t h.packet h.arguments) same h.given in
+    let gives = gives_one (code_of k.o).params t h.packet k.packet h.arguments k.arguments given k.given in
+    let run_of : Object → List ℕ → Memories → FullOutcome = λ o a p. engine (code_of o) a spill_base p steps in
+    let run : run_of h.o h.arguments h.packet ≡ run_of k.o k.arguments k.packet =
+    ap (λ (o : Object). run_of o h.arguments h.packet) same ∙ ap (λ (p : Memories). run_of k.o h.arguments p) gives.0 ∙ ap (λ (a : List ℕ). run_of k.o a k.packet) gives.1 in
     let status : FullOutcome → Status = λ f. outcome_status f.outcome in
-    (h.ends ∙ ap status run ∙ sym k.ends, h.prints ∙ ap full_text run ∙ sym k.prints)
+    let told = ap (run_text h.o) run ∙ ap (λ (o : Object). run_text o (run_of k.o k.arguments k.packet)) same in
+    (h.ends ∙ ap status run ∙ sym k.ends, h.prints ∙ told ∙ sym k.prints)
 
 -- executions
 exec-one : (b t : List ℕ) (e e' : Refusal) → ExecRefuses b t e → ExecRefuses b t e' → e ≡ e'
@@ -244,8 +246,8 @@ makes-good (Compile source object report slots budget store) (b ∷ []) s fs t e
 makes-good (Run object memory steps) (b ∷ g ∷ []) s fs t e h k = run-good b g e steps s t h.1 k
 makes-good (Exec source memory calls) (b ∷ g ∷ []) s fs t e h k = exec-good b g e calls s t h.1 k
 makes-good (Asm input object) (b ∷ []) s fs t e h k = assembly-good b e h.assembled.c h.assembled.code k
-makes-good (Dis object) (b ∷ []) s fs t e h k = bad-good b e h.1.c h.1.object k
-makes-good (Lint object) (b ∷ []) s fs t e h k = lint-good b e h.1.c h.1.object h.1.lawful k
+makes-good (Dis object) (b ∷ []) s fs t e h k = bad-good b e h.1.o h.1.object k
+makes-good (Lint object) (b ∷ []) s fs t e h k = lint-good b e h.1.o h.1.object h.1.lawful k
 makes-good (Check report) (b ∷ []) s fs t e h k = check-good b s t e h.1 k
 makes-good _ _ s fs t e h k = k
 
@@ -253,8 +255,8 @@ makes-good _ _ s fs t e h k = k
 pub prints-good : (c : Command) (bs : List (List ℕ)) (s : Status) (t : List ℕ) (e : Refusal) → Prints c bs s t → Refuses c bs e → ⊥
 prints-good (Run object memory steps) (b ∷ g ∷ []) s t e h k = run-good b g e steps s t h k
 prints-good (Exec source memory calls) (b ∷ g ∷ []) s t e h k = exec-good b g e calls s t h k
-prints-good (Dis object) (b ∷ []) s t e h k = bad-good b e h.c h.object k
-prints-good (Lint object) (b ∷ []) s t e h k = lint-good b e h.c h.object h.lawful k
+prints-good (Dis object) (b ∷ []) s t e h k = bad-good b e h.o h.object k
+prints-good (Lint object) (b ∷ []) s t e h k = lint-good b e h.o h.object h.lawful k
 prints-good (Check report) (b ∷ []) s t e h k = check-good b s t e h k
 prints-good _ _ s t e h k = h
 
@@ -295,7 +297,7 @@ outcome-is outcome.Going = tt
 
 pub makes-outcome : (c : Command) (bs : List (List ℕ)) (s : Status) (fs : List File) (t : List ℕ) → Makes c bs s fs t → IsOutcome s
 makes-outcome (Compile source object report slots budget store) (b ∷ []) s fs t h = compiled-outcome b object report slots budget store s fs t h
-makes-outcome (Run object memory steps) (b ∷ g ∷ []) s fs t h = subst IsOutcome (sym h.1.ends) (outcome-is (engine h.1.c h.1.arguments spill_base h.1.packet steps).outcome)
+makes-outcome (Run object memory steps) (b ∷ g ∷ []) s fs t h = subst IsOutcome (sym h.1.ends) (outcome-is (engine (code_of h.1.o) h.1.arguments spill_base h.1.packet steps).outcome)
 makes-outcome (Exec source memory calls) (b ∷ g ∷ []) s fs t h = subst IsOutcome (sym h.1.ends) (outcome-is (meaning h.1.program h.1.arguments h.1.packet calls).outcome)
 makes-outcome (Asm input object) (b ∷ []) s fs t h = subst IsOutcome (sym h.done) tt
 makes-outcome (Dis object) (b ∷ []) s fs t h = subst IsOutcome (sym h.1.done) tt

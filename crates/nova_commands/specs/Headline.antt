@@ -7,7 +7,7 @@ use Rattle.nv_meaning.specs.Meaning.{source}
 use Rattle.uc_isa.specs.Code.{CodeView}
 use Rattle.uc_isa.specs.Agrees.{Agrees}
 use Rattle.uc_isa.specs.Lawful.{IsLawful}
-use Rattle.uc_object.specs.Object.{IsObject}
+use Rattle.uc_object.specs.Object.{IsCodeObject}
 use Rattle.zo_cert.specs.declared.report.Report.{Report}
 use Rattle.zo_cert.specs.declared.report.Verdict.{Verdict}
 use Rattle.zo_cert.specs.declared.report.Verdict.TheVariants as verdict
@@ -33,7 +33,7 @@ pub record IsCompiledTo (text object report : List ℕ) (slots budget store inst
   pub program : ProgramTree
   pub is_source : IsTypedSource text program
   pub code : CodeView
-  pub decodes : IsObject object code
+  pub decodes : IsCodeObject object code
   pub lawful : IsLawful code.list
   pub agrees : Agrees (main_words program) (source program) code
   pub number : instructions ≡ length code.list

@@ -18,7 +18,7 @@ use command_line::{Options, Refusal, Status, compiled_line, counted_line, line};
 use nv_base::NoMemory;
 use object_commands::{Made, Output, Outputs};
 use std::alloc::Global;
-use uc_object::encode;
+use uc_object::encode_code;
 use zo_cert::{Report, print_report};
 use zo_model::cost;
 
@@ -119,7 +119,7 @@ fn code_made<'a>(
 {
     let code = &t.built.code;
     let found = &t.built.report;
-    let bytes = encode(alloc, code)?;
+    let bytes = encode_code(alloc, code)?;
     let first = Output::new(alloc, object, bytes)?;
     let second = report_output(alloc, report, found)?;
     let instructions = code.list().len() as u64;

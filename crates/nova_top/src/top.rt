@@ -40,7 +40,7 @@ use std::alloc::Global;
 /// Where the options don't say it, `compile` takes 128 slots, which are the most, 2,000 branches of 1 to 1,000,000 in the search
 /// for banks, and 2,048 instructions of 1 to 1,048,576.
 ///
-/// Sources have at most 262,144 bytes, objects 8,388,620, memory texts 4 MiB, assembly texts and reports 64 MiB.
+/// Sources have at most 262,144 bytes, objects 17,104,847, memory texts 4 MiB, assembly texts and reports 64 MiB.
 pub fn run<F: Files, K: Sink>(
     alloc: Global,
     words: &Vec<String>,
