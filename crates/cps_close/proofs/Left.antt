@@ -24,10 +24,10 @@ use Rattle.cps_close.specs.inner.Pruned.{is_out, goes_on, all_go_on, rank, renum
 
 -- ---- numbers
 
-rank-out : (out : List Bool) (i : ℕ) → is_out out i ≡ true → rank out (suc i) ≡ rank out i
+pub rank-out : (out : List Bool) (i : ℕ) → is_out out i ≡ true → rank out (suc i) ≡ rank out i
 rank-out out i e = ap (λ c. if c then rank out i else suc (rank out i)) e
 
-rank-in : (out : List Bool) (i : ℕ) → is_out out i ≡ false → rank out (suc i) ≡ suc (rank out i)
+pub rank-in : (out : List Bool) (i : ℕ) → is_out out i ≡ false → rank out (suc i) ≡ suc (rank out i)
 rank-in out i e = ap (λ c. if c then rank out i else suc (rank out i)) e
 
 grows-at : (c : Bool) (n : ℕ) → n ≤ (if c then n else suc n)
@@ -58,7 +58,7 @@ one-less : (n : ℕ) → 1 ≤ n → (m : ℕ) × (n ≡ suc m)
 one-less zero le = absurd (omega arith)
 one-less (suc m) le = (m, refl)
 
-left-at : (out : List Bool) (to : ℕ → ℕ) (gs : List Label) (i j k n : ℕ) (l : Label) → slice_get gs j ≡ Some l → k ≡ i + j → is_out out k ≡ false → rank out k ≡ n + rank out i → slice_get (left out to i gs) n ≡ Some (relabelled to l)
+pub left-at : (out : List Bool) (to : ℕ → ℕ) (gs : List Label) (i j k n : ℕ) (l : Label) → slice_get gs j ≡ Some l → k ≡ i + j → is_out out k ≡ false → rank out k ≡ n + rank out i → slice_get (left out to i gs) n ≡ Some (relabelled to l)
 left-at out to [] i j k n l e at stays r = absurd (none-some l e)
 left-at out to (g ∷ gs) i zero k n l e at stays r =
     let here : k ≡ i = omega arith in
@@ -80,7 +80,7 @@ or-second : (a b : Bool) → a ≡ false → (a || b) ≡ true → b ≡ true
 or-second true b e h = absurd (false≢true (sym e))
 or-second false b e h = h
 
-goes-at : (out : List Bool) (gs : List Label) (i j k : ℕ) (l : Label) → all_go_on out i gs ≡ true → slice_get gs j ≡ Some l → k ≡ i + j → is_out out k ≡ false → goes_on out l.body ≡ true
+pub goes-at : (out : List Bool) (gs : List Label) (i j k : ℕ) (l : Label) → all_go_on out i gs ≡ true → slice_get gs j ≡ Some l → k ≡ i + j → is_out out k ≡ false → goes_on out l.body ≡ true
 goes-at out [] i j k l h e at stays = absurd (none-some l e)
 goes-at out (g ∷ gs) i zero k l h e at stays =
     let here : k ≡ i = omega arith in

@@ -20,3 +20,5 @@ pub mod Growing
 pub mod Left
 pub mod Renumbering
 pub mod Leaving
+pub mod Noting
+pub mod Leading

@@ -12,6 +12,7 @@ ghost use Rattle.flow_ir.specs.Bulk.{bulk as flow_bulk};
 ghost use Rattle.flow_ir.specs.Meaning.{flow_meaning, flow_params};
 ghost use Rattle.flow_ir.specs.View.{label_view};
 ghost use Rattle.flow_ir.specs.Wide.{wide as flow_wide};
+ghost use Rattle.cps_close.specs.Led.{AreLedTo};
 ghost use Rattle.cps_close.specs.inner.Closed.{IsClosed};
 
 use crate::collect::labels_in;
@@ -25,12 +26,13 @@ use std::alloc::Global;
 
 /// The flow of a program's main function, where no function calls, returns or throws: label 0 is the
 /// function, and each label behind it has its own parameters and then the variables of round it that it
-/// uses or hands on. Labels that nothing leads to are left out. More labels than 32 bits can number count as want of memory.
+/// uses or hands on. Labels that label 0 doesn't lead to are left out. More labels than 32 bits can number count as want of memory.
 pub fn close(alloc: Global, c: Cps) -> Result<Flow, NoMemory>
     requires { All (λ f. only_jumps f.body ≡ true) (map fun_view c.funs.items) }
     ensures parameters { IfOk result (λ f. flow_params (map label_view f.labels.items) ≡ params_in (map fun_view c.funs.items) c.main) }
     ensures equal { IfOk result (λ f. AreEqual (params_in (map fun_view c.funs.items) c.main) (cps_meaning (map fun_view c.funs.items) c.main) (flow_meaning (map label_view f.labels.items))) }
     ensures wide { IfOk result (λ f. flow_wide (map label_view f.labels.items) ≤ wide (map fun_view c.funs.items) c.main) }
+    ensures led { IfOk result (λ f. AreLedTo (map label_view f.labels.items)) }
     ensures bulk { IfOk result (λ f. IsAtMost (flow_bulk (map label_view f.labels.items)) (code_bulk (map fun_view c.funs.items) c.main)) }
 {
     let f = &c.funs[c.main as usize];

@@ -1,9 +1,11 @@
 // Labels that nothing leads to: copies of functions that a call doesn't reach, and what stands behind an
 // end. They are left out, and the others are numbered anew.
 
-ghost use Rattle.std.specs.Prelude.{◌≡◌, ◌<◌, ℕ, suc, true, false, ◌||◌, if◌then◌else◌, IfOk, map, slice_index_or};
+ghost use Rattle.std.specs.Prelude.{◌≡◌, ◌<◌, ℕ, suc, true, false, ◌||◌, if◌then◌else◌, IfOk, OnOk, All, Some, length, map, slice_get, slice_index_or};
 ghost use Rattle.flow_ir.specs.Spine.{put_all};
 ghost use Rattle.flow_ir.specs.View.{tree_view, label_view};
+ghost use Rattle.flow_ir.specs.Tree.{Label as LabelTree};
+ghost use Rattle.cps_close.specs.Led.{GoesTo};
 ghost use Rattle.cps_close.specs.inner.Pruned as inner;
 
 use crate::trees::{joined, push_step, read, short_atoms, short_numbers};
@@ -20,16 +22,18 @@ pub fn pruned(alloc: Global, labels: &[Label]) -> Result<Vec<Label>, NoMemory>
     left(alloc, labels, &out, &to)
 }
 
-// Which labels are left out.
+// Which labels are left out. It is tested that no other one goes on to them, which takes less to prove than that the turns are enough;
+// so the one other answer, want of memory, doesn't come of this test.
 fn left_out(alloc: Global, labels: &[Label]) -> Result<Vec<bool>, NoMemory>
     ensures first { IfOk result (λ out. inner.is_out out.items 0 ≡ false) }
     ensures closed { IfOk result (λ out. inner.all_go_on out.items 0 (map label_view labels.now) ≡ true) }
+    ensures led { IfOk result (λ out. inner.AreLed (map label_view labels.now) out.items) }
 {
     let out = unreached(alloc, labels)?;
     if !is_out(&out, 0) && all_go_on(&out, labels) {
         Ok(out)
     } else {
-        Ok(Vec::new(alloc))
+        Err(NoMemory)
     }
 }
 
@@ -85,17 +89,18 @@ fn all_go_on(out: &[bool], labels: &[Label]) -> bool
 }
 
 // Each label left out.
-fn all_out(alloc: Global, labels: &[Label]) -> Result<Vec<bool>, NoMemory> {
-    let mut out = Vec::new(alloc);
-    for _ in labels {
-        out.push(true)?;
-    }
-    Ok(out)
+fn all_out(alloc: Global, labels: &[Label]) -> Result<Vec<bool>, NoMemory>
+    ensures count { IfOk result (λ out. length out.items ≡ length labels.now) }
+    ensures out { IfOk result (λ out. All (λ b. b ≡ true) out.items) }
+{
+    Ok(vec![in alloc; true; labels.len()]?)
 }
 
 // The labels that the first one doesn't lead to. Each other one is visited once, so there are at most as
 // many turns as labels.
-fn unreached(alloc: Global, labels: &[Label]) -> Result<Vec<bool>, NoMemory> {
+fn unreached(alloc: Global, labels: &[Label]) -> Result<Vec<bool>, NoMemory>
+    ensures { IfOk result (λ out. inner.AreLed (map label_view labels.now) out.items) }
+{
     let mut out = all_out(alloc, labels)?;
     let mut pending = Vec::new(alloc);
     note(0, &mut out, &mut pending)?;
@@ -108,12 +113,13 @@ fn unreached(alloc: Global, labels: &[Label]) -> Result<Vec<bool>, NoMemory> {
 }
 
 // A label that is reached.
-fn note(l: u32, out: &mut Vec<bool>, pending: &mut Vec<u32>) -> Result<(), NoMemory> {
-    if let Some(b) = out.get_mut(l as usize) {
-        if *b {
-            *b = false;
-            pending.push(l)?;
-        }
+fn note(l: u32, out: &mut Vec<bool>, pending: &mut Vec<u32>) -> Result<(), NoMemory>
+    ensures { OnOk result (inner.Noted (λ i. i ≡ l) out.old.items out.new.items pending.old.items pending.new.items) }
+{
+    let at = l as usize;
+    if at < out.len() && out[at] {
+        out[at] = false;
+        pending.push(l)?;
     }
     Ok(())
 }
@@ -124,7 +130,9 @@ fn visit(
     labels: &[Label],
     out: &mut Vec<bool>,
     pending: &mut Vec<u32>,
-) -> Result<(), NoMemory> {
+) -> Result<(), NoMemory>
+    ensures { OnOk result (inner.Noted (λ i. (from : LabelTree) × (slice_get (map label_view labels.now) l ≡ Some from) × GoesTo from.body i) out.old.items out.new.items pending.old.items pending.new.items) }
+{
     match labels.get(l as usize) {
         Some(l) => note_all(&l.body, out, pending),
         None => Ok(()),
@@ -132,7 +140,9 @@ fn visit(
 }
 
 // Those that a tree goes on to.
-fn note_all(t: &Tree, out: &mut Vec<bool>, pending: &mut Vec<u32>) -> Result<(), NoMemory> {
+fn note_all(t: &Tree, out: &mut Vec<bool>, pending: &mut Vec<u32>) -> Result<(), NoMemory>
+    ensures { OnOk result (inner.Noted (GoesTo (tree_view t.now)) out.old.items out.new.items pending.old.items pending.new.items) }
+{
     let mut cur = t;
     'spine: loop {
         match cur {

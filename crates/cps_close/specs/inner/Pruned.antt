@@ -1,6 +1,7 @@
 -- Labels that nothing leads to are left out, and the others are numbered anew, in their order.
-use Rattle.std.specs.Prelude.{◌≡◌, ◌<◌, ℕ, zero, suc, Bool, true, false, not, ◌&&◌, ◌||◌, if◌then◌else◌, List, [], ◌∷◌, length, slice_index_or}
+use Rattle.std.specs.Prelude.{◌≡◌, ◌<◌, ℕ, zero, suc, Bool, true, false, not, ◌&&◌, ◌||◌, ◌⊎◌, ◌++◌, if◌then◌else◌, List, [], ◌∷◌, All, length, slice_index_or}
 use Rattle.flow_ir.specs.Tree.{Tree, Let, Read, Write, If, Jump, Halt, Label}
+use Rattle.cps_close.specs.Led.{GoesTo, IsLedTo}
 
 -- a label is left out
 abbrev pub is_out : List Bool → ℕ → Bool
@@ -42,6 +43,19 @@ abbrev pub left : List Bool → (ℕ → ℕ) → ℕ → List Label → List La
 left out to i [] = []
 left out to i (l ∷ ls) = if is_out out i then left out to (suc i) ls else relabelled to l ∷ left out to (suc i) ls
 
+-- labels that were left out are there, and waiting, where this holds of them
+pub record Noted (P : ℕ → Type 0) (old new : List Bool) (before after : List ℕ) : Type 0 where
+  pub same : length new ≡ length old
+  pub noted : (i : ℕ) → is_out new i ≡ false → (is_out old i ≡ false) ⊎ P i
+  pub added : List ℕ
+  pub waiting : after ≡ before ++ added
+  pub each : All P added
+
+-- what isn't left out is led to
+pub record AreLed (ls : List Label) (out : List Bool) : Type 0 where
+  pub all : length out ≡ length ls
+  pub led : (i : ℕ) → i < length ls → is_out out i ≡ false → IsLedTo ls i
+
 -- the second labels are what is left of the first, where the first label is and where those that are there lead
 pub record IsPruned (ls ms : List Label) : Type 0 where
   pub out : List Bool
@@ -49,4 +63,5 @@ pub record IsPruned (ls ms : List Label) : Type 0 where
   pub first : is_out out 0 ≡ false
   pub closed : all_go_on out 0 ls ≡ true
   pub ranked : (i : ℕ) → i < length ls → to i ≡ rank out i
+  pub led : AreLed ls out
   pub labels : ms ≡ left out to 0 ls

@@ -2,6 +2,7 @@ use Rattle.std.proofs.Common.{map, ◌∙◌, arith}
 use Rattle.cps_ir.specs.View.{fun_view}
 use Rattle.nv_base.proofs.Measures.{most-trans}
 use Rattle.flow_ir.specs.View.{label_view}
+use Rattle.cps_close.proofs.Leading.{pruned-led}
 use Rattle.cps_close.proofs.Left.{pruned-at, pruned-formed, pruned-params, pruned-means, pruned-wide, pruned-bulk}
 use Rattle.cps_close.proofs.Whole.{main-within, main-at, whole-formed, whole-params, whole-equal, whole-narrow, whole-bulk}
 use Rattle.cps_close.proofs.program.close.Goals as goal
@@ -30,3 +31,6 @@ returns-clause-wide c =
 pub returns-clause-bulk : goal.returns-clause-bulk
 returns-clause-bulk c =
     most-trans _ _ _ (pruned-bulk (map label_view c.in_ok-all.all.items) (map label_view c.in_ok-labels.labels.items) (pruned-at _ _ _ c.in_ok-labels.ensures c.deref.ensures.value)) (whole-bulk (map fun_view c.args.c.funs.items) c.args.c.main (fun_view c.index-f.result.now) (map label_view c.in_ok-all.all.items) (main-at c.args.c.funs.items c.args.c.main c.index-f.result.now c.index-f.ensures c.args.c.formed c.requires) c.in_ok-all.ensures)
+
+pub returns-clause-led : goal.returns-clause-led
+returns-clause-led c = pruned-led (map label_view c.in_ok-all.all.items) (map label_view c.in_ok-labels.labels.items) (pruned-at _ _ _ c.in_ok-labels.ensures c.deref.ensures.value)

@@ -1,6 +1,9 @@
-use Rattle.std.proofs.Common.{◌≤◌}
+use Rattle.flow_ir.specs.View.{tree_view}
 use Rattle.flow_ir.specs.declared.flow.Tree.{size-Tree}
+use Rattle.cps_close.specs.Led.{GoesTo}
+use Rattle.cps_close.specs.inner.Pruned.{Noted}
+use Rattle.cps_close.proofs.Noting.{Passing}
 use Rattle.cps_close.proofs.prune.+note_all.Given as goal
 
 abbrev pub invariant-spine : goal.invariant-spine
-invariant-spine l = size-Tree l.cur ≤ size-Tree l.t
+invariant-spine l = Passing l.t l.cur × Noted (GoesTo (tree_view l.t)) l.initial.out.items l.out.items l.initial.pending.items l.pending.items
