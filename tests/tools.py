@@ -119,6 +119,37 @@ class CrowdedRow:
         return [] if good and not os.path.exists(os.path.join(at, "o")) else [f"{found}, {branches} branches"]
 
 
+# Of six programs of bench/programs what the search says of each, and how many branches it takes.
+SEARCHES = {
+    "bank-sum0-60": ("optimal 2", 1),
+    "bank-sum2-60": ("optimal 5", 15),
+    "bank-sum3-60": ("optimal 3", 3),
+    "pack-40": ("optimal 8", 45),
+    "triangles-3": ("optimal 6", 3),
+    "triangles-8": ("optimal 16", 127),
+}
+
+
+class SearchRow:
+    """The verdict of a 0-1 program, its cost, and at how many branches. No contract fixes how long a search is; a change of it has to be
+    seen."""
+
+    where = "tests/tools.py"
+
+    def __init__(self, program, top):
+        self.name, self.program, self.top = f"the search of {program}", program, top
+
+    def differences(self, novac, at):
+        solver = os.path.join(self.top, "crates", "zo_bench", "out", "zo_bench")
+        program = os.path.join(self.top, "bench", "programs", f"{self.program}.zo")
+        status = subprocess.run([solver, program, "r"], cwd=at, capture_output=True, timeout=60).returncode
+        said = subprocess.run([novac, "check", "r"], cwd=at, capture_output=True, text=True, timeout=60).stdout.strip()
+        with open(os.path.join(at, "r")) as it:
+            branches = sum(row.startswith("b ") for row in it)
+        found, wanted = (status, said, branches), (0, *SEARCHES[self.program])
+        return [] if found == wanted else [f"{found}, wanted {wanted}"]
+
+
 def move_cost(words):
     """What a line of a listing costs: a copy from one bank to another 1, but by A15 nothing, and an access to a slot 16."""
     if words[0] == "un" and words[2] == "COPY" and words[1] != "none" and "A15" not in words:
@@ -331,4 +362,4 @@ def all_rows(top):
     rows += [("a packet's hex dump and back", there_and_back), ("forms of hex dumps", dumps), ("nothing stands twice that didn't", nothing_new_twice), ("capture files", captures), ("tables from a CSV file", tables)]
     sources = sorted(it for it in os.listdir(os.path.join(top, "examples")) if it.endswith(".nova"))
     made = [MadeRow(seed, size, top) for seed, size in ((0, 2), (1, 60), (0, 500))]
-    return [ToolRow(name, body, top) for name, body in rows] + [ReportRow(it, top) for it in sources] + made + [CrowdedRow(top), SumRow(top)]
+    return [ToolRow(name, body, top) for name, body in rows] + [ReportRow(it, top) for it in sources] + made + [CrowdedRow(top), SumRow(top)] + [SearchRow(it, top) for it in SEARCHES]

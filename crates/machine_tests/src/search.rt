@@ -5,7 +5,9 @@ use crate::zero_one::{Terms, program, triangle};
 use std::alloc::{AllocError, Global};
 use zo_cert::{Cert, CertNode, Verdict};
 use zo_model::{Assignment, ZeroOne, cost, is_valid};
-use zo_solve::{Fixed, Order, Pick, Solved, Sums, first_choice, report_of, solve};
+use zo_solve::{
+    Fixed, Order, Pick, Solved, Sums, first_choice, lower_bound, report_of, solve, solve_by,
+};
 
 /// Twice the sum of three columns is 3.
 fn odd_sum(alloc: Global) -> Result<ZeroOne, AllocError> {
@@ -93,9 +95,8 @@ fn a_reach_goes_with_what_is_fixed(rt: HostRuntime) {
     assert_eq!(rt; sums.reach(0), 2);
 }
 
-#[test]
-fn a_cycle_of_five_is_closed_at_the_root(rt: HostRuntime) {
-    let alloc = rt.alloc();
+/// A vertex cover of a cycle of five.
+fn cycle_of_five(alloc: Global) -> Result<ZeroOne, AllocError> {
     let rows: &[(Terms, i32)] = &[
         (&[(0, 1), (1, 1)], 1),
         (&[(1, 1), (2, 1)], 1),
@@ -103,7 +104,13 @@ fn a_cycle_of_five_is_closed_at_the_root(rt: HostRuntime) {
         (&[(3, 1), (4, 1)], 1),
         (&[(0, 1), (4, 1)], 1),
     ];
-    let z = program(alloc, &[1, 1, 1, 1, 1], rows).expect(&rt, "memory");
+    program(alloc, &[1, 1, 1, 1, 1], rows)
+}
+
+#[test]
+fn a_cycle_of_five_is_closed_at_the_root(rt: HostRuntime) {
+    let alloc = rt.alloc();
+    let z = cycle_of_five(alloc).expect(&rt, "memory");
     assert!(rt; is_valid(&z));
     let order = Order::new(alloc, &z).expect(&rt, "memory");
     let pick = Pick::new(
@@ -112,11 +119,23 @@ fn a_cycle_of_five_is_closed_at_the_root(rt: HostRuntime) {
             requires places { length fixed.now.at.items ≡ columns z.now }
         { order.choice(z, fixed) },
     );
-    match solve(alloc, &z, None, 15, &pick) {
+    match solve_by(alloc, &z, None, 15, &pick, &order) {
         Ok(Solved::Optimal(x, tree)) => {
             assert_eq!(rt; cost(&z, &x), 3);
             assert_eq!(rt; counts(&tree), (0, 0));
         }
         _ => assert!(rt; false),
+    }
+}
+
+#[test]
+fn a_cover_of_a_cycle_of_five_costs_three_at_least(rt: HostRuntime) {
+    let alloc = rt.alloc();
+    let z = cycle_of_five(alloc).expect(&rt, "memory");
+    assert!(rt; is_valid(&z));
+    let order = Order::new(alloc, &z).expect(&rt, "memory");
+    match lower_bound(alloc, &z, &order) {
+        Ok(bounded) => assert_eq!(rt; bounded.least, 3),
+        Err(_) => assert!(rt; false),
     }
 }

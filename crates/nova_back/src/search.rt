@@ -8,7 +8,7 @@ ghost use Rattle.nova_back.specs.inner.Search.{IsFound};
 use std::alloc::Global;
 use zo_cert::Report;
 use zo_model::{Assignment, NoMemory, ZeroOne};
-use zo_solve::{Fixed, Order, Pick, report_of, solve};
+use zo_solve::{Fixed, Order, Pick, report_of, solve_by};
 
 /// The report of a search of a program, begun with this vector, in at most `budget` branches.
 pub fn searched(
@@ -32,6 +32,6 @@ pub fn searched(
             requires places { length fixed.now.at.items ≡ columns z.now }
         { order.choice(z, fixed) },
     );
-    let solved = solve(alloc, &z, start, budget, &pick)?;
+    let solved = solve_by(alloc, &z, start, budget, &pick, &order)?;
     report_of(alloc, z, solved, slots, budget)
 }
