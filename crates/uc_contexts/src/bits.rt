@@ -1,5 +1,5 @@
 //! Sets of numbers, a bit for each.
-ghost use Rattle.std.specs.Prelude.{◌≡◌, ◌+◌, ◌<◌, ◌≤◌, ℕ, false, IfOk};
+ghost use Rattle.std.specs.Prelude.{◌≡◌, ◌+◌, ◌%◌, ◌<◌, ◌≤◌, ℕ, false, IfOk};
 ghost use Rattle.uc_contexts.specs.Sets.{Numbers, Adds, has};
 
 use nv_base::NoMemory;
@@ -60,8 +60,21 @@ impl Bits {
         self.words[(x / 32) as usize] |= 1 << (x % 32);
     }
 
-    /// Puts so many numbers into the set, from a first one on.
-    pub fn insert_from(&mut self, first: u64, count: u64)
+    // Puts so many numbers whose bits stand in one word into the set, from a first one on.
+    fn insert_within(&mut self, first: u64, count: u64)
+        requires some { 1 ≤ count }
+        requires one_word { first % 32 + count ≤ 32 }
+        requires below { first + count ≤ self.old.size }
+        ensures size { self.new.size ≡ self.old.size }
+        ensures has { Adds self.old (λ y. (first ≤ y) × (y < first + count)) self.new }
+    {
+        let from = u32::MAX << (first % 32);
+        let below = u32::MAX >> (32 - (first % 32 + count));
+        self.words[(first / 32) as usize] |= from & below;
+    }
+
+    // Puts so many numbers into the set one by one, from a first one on.
+    fn insert_each(&mut self, first: u64, count: u64)
         requires { first + count ≤ self.old.size }
         ensures size { self.new.size ≡ self.old.size }
         ensures has { Adds self.old (λ y. (first ≤ y) × (y < first + count)) self.new }
@@ -70,6 +83,22 @@ impl Bits {
         let _size = self.size;
         for x in first..first + count {
             self.insert(x);
+        }
+    }
+
+    /// Puts so many numbers into the set, from a first one on.
+    pub fn insert_from(&mut self, first: u64, count: u64)
+        requires { first + count ≤ self.old.size }
+        ensures size { self.new.size ≡ self.old.size }
+        ensures has { Adds self.old (λ y. (first ≤ y) × (y < first + count)) self.new }
+    {
+        if count == 0 {
+            return;
+        }
+        if count <= 32 && first % 32 <= 32 - count {
+            self.insert_within(first, count);
+        } else {
+            self.insert_each(first, count);
         }
     }
 }
