@@ -1,4 +1,6 @@
 // Objects by hand, of both versions, against what they hold, and bytes that no object has.
+ghost use Rattle.std.specs.Prelude.{◌<◌, ◌^◌, length};
+
 use nv_base::{Bin, Mem};
 use std::alloc::{AllocError, Global};
 use std::test::Fail;
@@ -132,7 +134,9 @@ fn a_listing_shows_the_starts(rt: HostRuntime) -> Result<(), Fail> {
 }
 
 // The place where bytes stop to begin an object.
-fn place_of(alloc: Global, bytes: &[u8]) -> Option<u32> {
+fn place_of(alloc: Global, bytes: &[u8]) -> Option<u32>
+    requires { length bytes.now < 2 ^ 32 }
+{
     match decode(alloc, bytes) {
         Err(ObjectError::Bad(at)) => Some(at),
         _ => None,

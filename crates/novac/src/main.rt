@@ -8,6 +8,7 @@ mod tests;
 pub use command_line::Status;
 pub use nova_commands::{CompileError, Compiled, compile_text};
 use nova_top::exit_code;
+pub use nova_top::run;
 use nv_outside::{DiskFiles, StdSink};
 use std::process::ExitCode;
 use std::rt::Env;
