@@ -1,11 +1,11 @@
 // Sources whose values all stand in slots.
 use crate::sources::single_of;
 use nova_front::FrontError;
-use nv_base::{Access, Mem, NoMemory, Outcome, Packet, Words, WriteLog};
+use nv_base::{Mem, Outcome, Packet, Words, WriteLog};
 use place_ir::{PlaceError, fits, spill_all};
 use ssu_ir::{Ssu, single, size};
 use std::alloc::Global;
-use uc_isa::{Code, Engine};
+use uc_isa::Engine;
 use uc_sim::simulate;
 use ucode_emit::emit;
 
@@ -23,8 +23,9 @@ const FORTY: &[u8] = b"fun main[]: word {
     + e0 + e1 + e2 + e3 + e4 + e5 + e6 + e7
 }";
 
-// The code of a form with all values in slots; nothing where they don't fit.
-fn in_slots(alloc: Global, s: &Ssu) -> Result<Option<Code>, PlaceError> {
+// How the code of a form with all values in slots ends on 16 words of SRAM of which the first eight are 1 to 8, and the last
+// eight behind it; nothing where the values don't fit.
+fn ended(alloc: Global, s: &Ssu) -> Result<Option<(Outcome, Words)>, PlaceError> {
     if !single(s) || size(alloc, s)? > 67_108_864 {
         return Ok(None);
     }
@@ -32,33 +33,26 @@ fn in_slots(alloc: Global, s: &Ssu) -> Result<Option<Code>, PlaceError> {
     if !fits(s, &placement) {
         return Ok(None);
     }
-    Ok(Some(emit(alloc, s, &placement)?.code))
-}
-
-// How code ends on 16 words of SRAM of which the first eight are 1 to 8, and the last eight behind it.
-fn ended(alloc: Global, code: &Code) -> Result<(Outcome, Words), NoMemory> {
+    let code = emit(alloc, s, &placement)?.code;
     let _list = code.list();
     let Ok(mut packet) = Packet::new(alloc, 16, 0) else {
-        return Err(NoMemory);
+        return Ok(None);
     };
-    if packet.write(Mem::Sram, 0, &[1, 2, 3, 4, 5, 6, 7, 8]) == Access::Bad {
-        return Err(NoMemory);
-    }
+    let _written = packet.write(Mem::Sram, 0, &[1, 2, 3, 4, 5, 6, 7, 8]);
     let mut engine = Engine::start(&[], 512);
     let mut log = WriteLog::new(alloc, 0)?;
-    let outcome = simulate(code, &mut engine, &mut packet, &mut log, 1_000);
+    let outcome = simulate(&code, &mut engine, &mut packet, &mut log, 1_000);
     let mut last = [0u32; 8];
     let _there = packet.read(Mem::Sram, 8, &mut last);
-    Ok((outcome, Words::of(&last)))
+    Ok(Some((outcome, Words::of(&last))))
 }
 
 #[test]
 fn eight_words_in_slots_are_copied_and_summed(rt: HostRuntime) -> Result<(), FrontError> {
     let s = single_of(rt.alloc(), COPIES)?;
-    let Ok(Some(code)) = in_slots(rt.alloc(), &s) else {
+    let Ok(Some((outcome, last))) = ended(rt.alloc(), &s) else {
         return Err(FrontError::NoMemory);
     };
-    let (outcome, last) = ended(rt.alloc(), &code)?;
     assert!(rt; outcome == Outcome::Ended(Words::of(&[0x24])));
     assert!(rt; last == Words::of(&[1, 2, 3, 4, 5, 6, 7, 8]));
     Ok(())
