@@ -101,7 +101,7 @@ three_passing false b c d h r e f g k l = absurd (false≢true e)
 
 -- ---- what a node defines
 
-defs-node : (h : Node) → node_defs h ≡ node_values h ++ node_clones h
+pub defs-node : (h : Node) → node_defs h ≡ node_values h ++ node_clones h
 defs-node (Does s) = refl
 defs-node (Forks c x y) = refl
 defs-node (Ends l) = refl

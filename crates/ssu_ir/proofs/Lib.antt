@@ -16,3 +16,10 @@ pub mod Searches
 pub mod Keeps
 pub mod Sizes
 pub mod Held
+pub mod Assignments
+pub mod Runs
+pub mod Steps
+pub mod Walking
+pub mod Visits
+pub mod Entering
+pub mod Ends

@@ -1,5 +1,5 @@
 -- Which labels a run enters, and how often.
-use Rattle.std.specs.Prelude.{ℕ, zero, suc, ◌+◌, List, map, Option, Some, None, slice_get, length, nat_eq, if◌then◌else◌}
+use Rattle.std.specs.Prelude.{◌≡◌, ℕ, zero, suc, ◌+◌, ◌<◌, List, map, Option, Some, None, slice_get, length, nat_eq, if◌then◌else◌}
 use Rattle.nv_base.specs.declared.outcome.Outcome.TheVariants as outcome
 use Rattle.nv_base.specs.Memories.{Memories, fetched, stored}
 use Rattle.nv_base.specs.Meanings.{FullOutcome}
@@ -63,3 +63,7 @@ entered_behind labels (suc n) (EndsWith f) k = 0
 -- how often the run on these words and memories has entered label k with n jumps; the start is an entry of label 0
 abbrev pub entered : List Label → List ℕ → Memories → ℕ → ℕ → ℕ
 entered labels args p n k = is_entered 0 k + entered_behind labels n (label_exit (slice_get labels 0) args (begun p)) k
+
+-- for each label the number of its entries with n jumps
+abbrev pub AreEntries : List ℕ → List Label → List ℕ → Memories → ℕ → Type 0
+AreEntries counts labels args p n = (length counts ≡ length labels) × ((k : ℕ) → k < length labels → slice_get counts k ≡ Some (entered labels args p n k))

@@ -1,3 +1,4 @@
 pub mod Checks
 pub mod Under
 pub mod Sizes
+pub mod Running

@@ -7,13 +7,18 @@ pub mod laws;
 mod measure;
 mod node;
 mod pieces;
+mod places;
+mod run;
 mod search;
 mod single_use;
 mod ssu;
+mod step;
+mod variables;
 pub mod walk;
 
 pub use build::SsuBuild;
 pub use measure::size;
 pub use node::{NodeId, SsuLabel, SsuNode};
+pub use run::enter;
 pub use single_use::single;
 pub use ssu::Ssu;
