@@ -26,8 +26,8 @@ pub span : (p k : ℕ) → p + k - p ≡ k
 span p k = omega arith
 
 -- what an answer says of a window that may be replaced
-pub asked-some : (o : Option (List Instr)) (A : Option (List Instr) → Type 0) (May : Type 0) (S : List Instr → Type 0) → ((l : List Instr) → A (Some l) → S l) → May → A o → IfSome o (λ a. May × S a)
-asked-some (Some l) A May S sound may h = (may, sound l h)
+pub asked-some : (o : Option (List Instr)) (A : Option (List Instr) → Type 0) (May : Type 0) (S : List Instr → Type 0) → ((l : List Instr) → A (Some l) → S l) → May → A o → IfSome o (λ a. May × S a × A (Some a))
+asked-some (Some l) A May S sound may h = (may, sound l h, h)
 asked-some None A May S sound may h = tt
 
 pub asked-none : (o : Option (List Instr)) (A : Option (List Instr) → Type 0) (May : Type 0) → A o → IfNone o (May → A None)

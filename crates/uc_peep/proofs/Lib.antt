@@ -7,6 +7,8 @@ pub mod Settled
 pub mod Replaced
 pub mod Puts
 pub mod Asked
+pub mod Splits
+pub mod Without
 pub mod Passes
 pub mod Counts
 pub mod Marking

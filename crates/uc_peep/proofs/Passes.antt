@@ -1,13 +1,16 @@
 -- A pass, place by place.
-use Rattle.std.proofs.Common.{◌≡◌, ◌≢◌, ℕ, suc, ◌+◌, ◌-◌, ◌<◌, ◌≤◌, ◌⊎◌, inl, inr, ⊎_elim, Bool, true, false, List, length, get_or, set, Some, None, take, drop, refl, sym, ap, ◌∙◌, subst, arith, length-set, get_or-set_same, get_or-set_other, nat_eq}
+use Rattle.std.proofs.Common.{◌≡◌, ◌≢◌, ℕ, suc, ◌+◌, ◌-◌, ◌<◌, ◌≤◌, ◌⊎◌, inl, inr, ⊎_elim, Bool, true, false, List, ◌++◌, length, get_or, set, Some, None, take, drop, refl, sym, ap, ◌∙◌, subst, arith, length-set, get_or-set_same, get_or-set_other, nat_eq}
 use Rattle.std.specs.Prelude.{slice_get}
 use Rattle.std.proofs.lemmas.Bool.Decides.{eqb_tells}
 use Rattle.std.proofs.lemmas.Bool.{false≢true, cases_lt}
 use Rattle.std.proofs.lemmas.Option.{slice_get-get_or, get_or_from_slice_get}
 use Rattle.uc_isa.specs.declared.instruction.Instr.{Instr}
 use Rattle.uc_peep.proofs.Replaced.{IsReplacement, Zone, all-at, drafted', entry, filler-lawful, next-cases, same-some, straight-lawful, zone}
-use Rattle.uc_peep.specs.Draft.{Answers, IsDraft, IsMarks, IsPassed, IsPassing, IsPut, IsRefreshed, MayReplace}
-use Rattle.uc_peep.specs.Kept.{is_gone}
+use Rattle.uc_peep.specs.Draft.{IsDraft, IsMarks, IsPassed, IsPassing, IsPut, IsRefreshed, MayReplace}
+use Rattle.uc_peep.specs.Rewrites.{Answers, Rewrites}
+use Rattle.uc_peep.specs.Rewrites.Rewrites.{Same, Replaced, InTurn}
+use Rattle.uc_peep.proofs.Splits.{all-kept, put-splits}
+use Rattle.uc_peep.specs.Kept.{is_gone, kept_of}
 use Rattle.uc_peep.specs.Liveness.{Covers, IsBefore, IsClosed}
 use Rattle.uc_peep.specs.Sets.{IsWithin, has}
 use Rattle.uc_peep.specs.Window.{IsShorter, filler}
@@ -68,6 +71,7 @@ module _ (answers : Answers) (code : List Instr) (starts : List ℕ) (entered st
   turn-stays draft gone sets changed p h none = record {
     marks = h.marks;
     drafted = h.drafted;
+    rewritten = h.rewritten;
     size_sets = h.size_sets;
     untouched = λ x lt. h.untouched x (omega arith);
     closed = h.closed;
@@ -99,6 +103,7 @@ module _ (answers : Answers) (code : List Instr) (starts : List ℕ) (entered st
       record {
         marks = a.marks;
         drafted = a.drafted;
+        rewritten = a.rewritten;
         size_sets = size ∙ a.size_sets;
         untouched = a.untouched;
         closed = closed a.closed;
@@ -111,22 +116,38 @@ module _ (answers : Answers) (code : List Instr) (starts : List ℕ) (entered st
       → MayReplace draft gone entered started p k → IsShorter (take k (drop p draft)) (get_or sets (p + k) 0) as' → IsPut p k as' draft draft' gone gone' → IsReplacement code starts entered started draft draft' gone gone' (get_or sets (p + k) 0) p k as'
   replacement draft draft' gone gone' sets changed p k as' h some may sh put = record { marks = h.marks; drafted = h.drafted; untouched = λ x lt. h.untouched x (omega arith); some = some; may = may; shorter = sh; put = put }
 
-  pub turn-drafts : (draft draft' : List Instr) (gone gone' : List Bool) (sets : List ℕ) (changed : Bool) (p k : ℕ) (as' : List Instr) → IsPassing answers code starts entered started gone0 sets0 draft gone sets changed (suc p) → 1 ≤ k
+  turn-drafts : (draft draft' : List Instr) (gone gone' : List Bool) (sets : List ℕ) (changed : Bool) (p k : ℕ) (as' : List Instr) → IsPassing answers code starts entered started gone0 sets0 draft gone sets changed (suc p) → 1 ≤ k
       → MayReplace draft gone entered started p k → IsShorter (take k (drop p draft)) (get_or sets (p + k) 0) as' → IsPut p k as' draft draft' gone gone' → IsDraft code starts draft' gone' × ((x : ℕ) × (is_gone gone' x ≡ true))
   turn-drafts draft draft' gone gone' sets changed p k as' h some may sh put =
       let r = replacement draft draft' gone gone' sets changed p k as' h some may sh put in
       let few : length as' < k = Rattle.uc_peep.proofs.Replaced.few code starts entered started draft draft' gone gone' (get_or sets (p + k) 0) p k as' r in
       (drafted' code starts entered started draft draft' gone gone' (get_or sets (p + k) 0) p k as' r sets refl h.closed, (p + length as', (put.rest (length as') few (omega arith)).1))
 
+  pub turn-rewrites : (draft draft' : List Instr) (gone gone' : List Bool) (sets : List ℕ) (changed : Bool) (p k : ℕ) (as' : List Instr) → IsPassing answers code starts entered started gone0 sets0 draft gone sets changed (suc p) → 1 ≤ k
+      → MayReplace draft gone entered started p k → IsShorter (take k (drop p draft)) (get_or sets (p + k) 0) as' → answers (take k (drop p draft)) (get_or sets (p + k) 0) (Some as') → IsPut p k as' draft draft' gone gone' → Rewrites answers code (kept_of gone' draft')
+  turn-rewrites draft draft' gone gone' sets changed p k as' h some may sh answer put =
+      let r = replacement draft draft' gone gone' sets changed p k as' h some may sh put in
+      let few : length as' < k = Rattle.uc_peep.proofs.Replaced.few code starts entered started draft draft' gone gone' (get_or sets (p + k) 0) p k as' r in
+      let s = put-splits p k as' draft draft' gone gone' put (let a = h.drafted.size in let b = h.drafted.size_gone in omega arith) (let i = may.inside in omega arith) (omega arith) (λ d lt. (may.open_ (p + d) (omega arith) (omega arith)).0.kept) in
+      InTurn code (kept_of gone draft) (kept_of gone' draft') h.rewritten
+      (subst (λ l. Rewrites answers l (kept_of gone' draft')) (sym s.before_) (subst (λ l. Rewrites answers (s.front ++ (take k (drop p draft) ++ s.rest)) l) (sym s.after_) (Replaced s.front (take k (drop p draft)) as' s.rest (get_or sets (p + k) 0) answer)))
+
+  pub turn-stops : (draft draft' : List Instr) (gone gone' : List Bool) (sets : List ℕ) (changed : Bool) (p k : ℕ) (as' : List Instr) → IsPassing answers code starts entered started gone0 sets0 draft gone sets changed (suc p) → 1 ≤ k
+      → MayReplace draft gone entered started p k → IsShorter (take k (drop p draft)) (get_or sets (p + k) 0) as' → answers (take k (drop p draft)) (get_or sets (p + k) 0) (Some as') → IsPut p k as' draft draft' gone gone' → IsDraft code starts draft' gone' × ((x : ℕ) × (is_gone gone' x ≡ true)) × Rewrites answers code (kept_of gone' draft')
+  turn-stops draft draft' gone gone' sets changed p k as' h some may sh answer put =
+      let d = turn-drafts draft draft' gone gone' sets changed p k as' h some may sh put in
+      (d.0, d.1, turn-rewrites draft draft' gone gone' sets changed p k as' h some may sh answer put)
+
   pub turn-changes : (draft draft' : List Instr) (gone gone' : List Bool) (sets sets' : List ℕ) (changed : Bool) (p k : ℕ) (as' : List Instr) → IsPassing answers code starts entered started gone0 sets0 draft gone sets changed (suc p) → 1 ≤ k
-      → MayReplace draft gone entered started p k → IsShorter (take k (drop p draft)) (get_or sets (p + k) 0) as' → IsPut p k as' draft draft' gone gone' → IsRefreshed draft' p k sets sets' → IsWithin (get_or sets' p 0) (get_or sets p 0)
+      → MayReplace draft gone entered started p k → IsShorter (take k (drop p draft)) (get_or sets (p + k) 0) as' → answers (take k (drop p draft)) (get_or sets (p + k) 0) (Some as') → IsPut p k as' draft draft' gone gone' → IsRefreshed draft' p k sets sets' → IsWithin (get_or sets' p 0) (get_or sets p 0)
       → IsPassing answers code starts entered started gone0 sets0 draft' gone' sets' true p
-  turn-changes draft draft' gone gone' sets sets' changed p k as' h some may sh put fresh within =
+  turn-changes draft draft' gone gone' sets sets' changed p k as' h some may sh answer put fresh within =
       let r = replacement draft draft' gone gone' sets changed p k as' h some may sh put in
       let d = turn-drafts draft draft' gone gone' sets changed p k as' h some may sh put in
       record {
         marks = h.marks;
         drafted = d.0;
+        rewritten = turn-rewrites draft draft' gone gone' sets changed p k as' h some may sh answer put;
         size_sets = fresh.size ∙ h.size_sets;
         untouched = λ x lt. (put.outside x (inl lt)).1 ∙ h.untouched x (omega arith);
         closed = closed-after draft draft' sets sets' p k some h.closed (λ x o. (put.outside x o).0) (entry code starts entered started draft draft' gone gone' (get_or sets (p + k) 0) p k as' r) fresh within;
@@ -151,6 +172,7 @@ module _ (answers : Answers) (code : List Instr) (starts : List ℕ) (entered st
       apart = λ s y pinned lt inside met. (s, omega arith, lt, kept s);
       moves = λ ws. omega arith;
     };
+    rewritten = subst (λ l. Rewrites answers code l) (sym (all-kept gone0 code size kept)) (Same code);
     size_sets = sizes;
     untouched = λ x lt. kept x;
     closed = closed;
@@ -162,6 +184,7 @@ module _ (answers : Answers) (code : List Instr) (starts : List ℕ) (entered st
   pub passing-ends : (draft : List Instr) (gone : List Bool) (sets : List ℕ) (changed : Bool) (p : ℕ) → p ≤ 0 → IsPassing answers code starts entered started gone0 sets0 draft gone sets changed p → IsPassed answers code starts entered started gone0 sets0 draft gone changed
   passing-ends draft gone sets changed p end' h = record {
     drafted = h.drafted;
+    rewritten = h.rewritten;
     fewer = h.fewer;
     same = λ e. (h.same e).0;
     settled = λ e q k le inside some few may. h.settled e q k (omega arith) inside some few may;
@@ -274,9 +297,10 @@ put-lawful draft draft' gone gone' entered started set p k as' lawful may sh put
 pub window-ahead : (draft draft' : List Instr) (gone gone' : List Bool) (p k set : ℕ) (as' : List Instr) → IsShorter (take k (drop p draft)) set as' → IsPut p k as' draft draft' gone gone' → (x y : ℕ) (i : Instr) → p ≤ x → x < p + k → slice_get draft' x ≡ Some i → IsNext i x y → y ≡ x + 1
 window-ahead draft draft' gone gone' p k set as' sh put = put-ahead p k as' draft draft' gone gone' put (λ d i at. all-at IsStraight as' d i sh.straight at)
 
-pub stopped-passed : (answers : Answers) (code : List Instr) (starts : List ℕ) (entered started gone0 : List Bool) (sets0 : List ℕ) (draft : List Instr) (gone : List Bool) → IsDraft code starts draft gone → (x : ℕ) × (is_gone gone x ≡ true) → IsPassed answers code starts entered started gone0 sets0 draft gone true
-stopped-passed answers code starts entered started gone0 sets0 draft gone d few = record {
+pub stopped-passed : (answers : Answers) (code : List Instr) (starts : List ℕ) (entered started gone0 : List Bool) (sets0 : List ℕ) (draft : List Instr) (gone : List Bool) → IsDraft code starts draft gone → (x : ℕ) × (is_gone gone x ≡ true) → Rewrites answers code (kept_of gone draft) → IsPassed answers code starts entered started gone0 sets0 draft gone true
+stopped-passed answers code starts entered started gone0 sets0 draft gone d few rewritten = record {
   drafted = d;
+  rewritten = rewritten;
   fewer = λ e. few;
   same = λ e. absurd (false≢true (sym e));
   settled = λ e. absurd (false≢true (sym e));

@@ -14,8 +14,11 @@ use Rattle.uc_peep.proofs.Compaction.{IsCompaction, access-back, access-there, g
 use Rattle.uc_peep.proofs.Counts.{gone-next, kept-at, kept-between, kept-most, kept-next, kept-zero, length-compacted}
 use Rattle.uc_peep.proofs.Marking.{compacted-end, compacted-kept, compacted-next}
 use Rattle.uc_peep.proofs.Replaced.{all-at, gone-cases, length-text, next-cases, text-at}
-use Rattle.uc_peep.specs.Draft.{Answers, AreMarked, AreSettledFrom, IsDraft, IsQuiet, MayReplace}
-use Rattle.uc_peep.specs.Kept.{compacted, is_gone, kept_before}
+use Rattle.uc_peep.specs.Draft.{AreMarked, AreSettledFrom, IsDraft, IsQuiet, MayReplace}
+use Rattle.uc_peep.proofs.Without.{compacted-kept_of}
+use Rattle.uc_peep.specs.Rewrites.{Answers, Rewrites}
+use Rattle.uc_peep.specs.Rewrites.Rewrites.{Relocated, InTurn}
+use Rattle.uc_peep.specs.Kept.{compacted, is_gone, kept_before, kept_of}
 use Rattle.uc_peep.specs.Liveness.{IsLiveAt}
 use Rattle.uc_peep.specs.Becomes.{IsKept, IsSettled}
 use Rattle.uc_peep.specs.Window.{IsPinned, IsWindow, filler}
@@ -447,13 +450,14 @@ module _ (code : List Instr) (starts : List ℕ) (draft : List Instr) (gone : Li
       omega arith
 
 -- the same where places are counted by a table
-pub kept-round : (code : List Instr) (starts : List ℕ) (draft : List Instr) (gone : List Bool) (f : ℕ → ℕ) (next : List Instr) (moved' : List ℕ) → AreInside code starts → IsDraft code starts draft gone → ((x : ℕ) → x ≤ length gone → f x ≡ kept_before gone x) → next ≡ compacted f gone draft → moved' ≡ map f starts → (x : ℕ) × (is_gone gone x ≡ true)
-    → IsKept code starts next moved' × (length next < length code)
-kept-round code starts draft gone f next moved' inside d counts is-next is-moved some =
+pub kept-round : (code : List Instr) (starts : List ℕ) (draft : List Instr) (gone : List Bool) (f : ℕ → ℕ) (next : List Instr) (moved' : List ℕ) → AreInside code starts → IsDraft code starts draft gone → ((x : ℕ) → x ≤ length gone → f x ≡ kept_before gone x) → next ≡ compacted f gone draft → moved' ≡ map f starts → (x : ℕ) × (is_gone gone x ≡ true) → (answers : Answers) → Rewrites answers code (kept_of gone draft)
+    → IsKept code starts next moved' × (length next < length code) × Rewrites answers code next
+kept-round code starts draft gone f next moved' inside d counts is-next is-moved some answers rewritten =
     let codes : next ≡ compacted (kept_before gone) gone draft = is-next ∙ compacted-same f (kept_before gone) (length draft) gone draft (λ t lt. counts t (let a = d.size in let b = d.size_gone in omega arith)) (λ k i at. (d.lawful.each k i at).target) in
     let places : moved' ≡ map (kept_before gone) starts = is-moved ∙ mapped-same f (kept_before gone) (length code) starts (λ t lt. counts t (let b = d.size_gone in omega arith)) inside in (
       subst (λ l. IsKept code starts l moved') (sym codes) (subst (λ l. IsKept code starts (compacted (kept_before gone) gone draft) l) (sym places) (kept-all code starts draft gone inside d)),
       subst (λ l. length l < length code) (sym codes) (kept-less code starts draft gone inside d some.0 some.1),
+      InTurn code (kept_of gone draft) next rewritten (subst (Rewrites answers (kept_of gone draft)) (sym (is-next ∙ compacted-kept_of f gone draft)) (Relocated f (kept_of gone draft))),
     )
   where
     mapped-same : (f g : ℕ → ℕ) (n : ℕ) (starts : List ℕ) → ((t : ℕ) → t < n → f t ≡ g t) → All (λ t. t < n) starts → map f starts ≡ map g starts

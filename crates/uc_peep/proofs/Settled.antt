@@ -2,7 +2,7 @@
 use Rattle.std.proofs.Common.{◌≡◌, ℕ, ◌⊎◌, inl, inr, List, take, drop, Option, None, sym, Result, Ok, Err}
 use Rattle.std.specs.Prelude.{IfOk}
 use Rattle.uc_isa.specs.declared.instruction.Instr.{Instr}
-use Rattle.uc_peep.specs.Draft.{Answers}
+use Rattle.uc_peep.specs.Rewrites.{Answers}
 use Rattle.uc_peep.specs.Needless.{HasNoNeedless, dead_rule, idle_rule, back_rule}
 use Rattle.uc_peep.specs.Becomes.{IsPeeped}
 use Rattle.uc_peep.specs.Rules.{IsSomeOf}

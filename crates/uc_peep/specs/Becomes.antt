@@ -2,9 +2,9 @@
 use Rattle.std.specs.Prelude.{◌≡◌, ℕ, ◌+◌, ◌<◌, ◌≤◌, List, Option, Some, None, length, take, drop}
 use Rattle.uc_isa.specs.Moves.{moves}
 use Rattle.uc_isa.specs.declared.instruction.Instr.{Instr}
-use Rattle.uc_peep.specs.Draft.{Answers}
 use Rattle.uc_peep.specs.Liveness.{IsLiveAt}
 use Rattle.uc_peep.specs.declared.peeping.Listing.{Listing}
+use Rattle.uc_peep.specs.Rewrites.{Answers, Rewrites}
 use Rattle.uc_peep.specs.Window.{IsWindow}
 use Rattle.uc_runs.specs.Alike.{Follows}
 use Rattle.uc_runs.specs.Program.{IsProgram}
@@ -28,8 +28,9 @@ IsSettled answers code starts = (p k : ℕ) → IsWindow code starts p k → (se
 pub record IsPeeped (answers : Answers) (code : List Instr) (starts : List ℕ) (code' : List Instr) (starts' : List ℕ) : Type 0 where
   pub kept : IsKept code starts code' starts'
   pub settled : IsSettled answers code' starts'
+  pub rewritten : Rewrites answers code code'
 
 -- one round: nothing is to be replaced, or there is shorter code
 abbrev pub IsRound : Answers → List Instr → List ℕ → Option Listing → Type 0
 IsRound answers code starts None = IsSettled answers code starts
-IsRound answers code starts (Some next) = IsKept code starts next.code.items next.starts.items × (length next.code.items < length code)
+IsRound answers code starts (Some next) = IsKept code starts next.code.items next.starts.items × (length next.code.items < length code) × Rewrites answers code next.code.items

@@ -1,13 +1,14 @@
 -- Work on code: places are replaced, and some are gone.
-use Rattle.std.specs.Prelude.{◌≡◌, ℕ, suc, ◌+◌, ◌<◌, ◌≤◌, ◌⊎◌, Bool, true, false, List, Option, Some, None, length, take, drop, slice_get, slice_index, slice_index_or}
+use Rattle.std.specs.Prelude.{◌≡◌, ℕ, suc, ◌+◌, ◌<◌, ◌≤◌, ◌⊎◌, Bool, true, false, List, Some, None, length, take, drop, slice_get, slice_index, slice_index_or}
 use Rattle.nv_base.specs.Memories.{Memories}
 use Rattle.uc_isa.specs.Moves.{moves}
 use Rattle.uc_isa.specs.declared.engine.Engine.{Engine}
 use Rattle.uc_isa.specs.declared.instruction.Instr.{Instr}
 use Rattle.uc_peep.specs.declared.draft.Turn.{Turn}
 use Rattle.uc_peep.specs.declared.draft.Turn.TheVariants.{Stays, Changed, Stops}
-use Rattle.uc_peep.specs.Kept.{is_gone}
+use Rattle.uc_peep.specs.Kept.{is_gone, kept_of}
 use Rattle.uc_peep.specs.Liveness.{Covers, IsClosed}
+use Rattle.uc_peep.specs.Rewrites.{Answers, Rewrites}
 use Rattle.uc_peep.specs.Window.{IsPinned, filler}
 use Rattle.uc_runs.specs.Alike.{Begins, RunsAlike}
 use Rattle.uc_runs.specs.Program.{IsProgram}
@@ -75,10 +76,6 @@ pub record IsRefreshed (code : List Instr) (p k : ℕ) (sets sets' : List ℕ) :
   pub outside : (x : ℕ) → (x < p) ⊎ (p + k ≤ x) → slice_index sets' x ≡ slice_index sets x
   pub inside : (x : ℕ) (i : Instr) → p ≤ x → x < p + k → slice_get code x ≡ Some i → Covers i x sets' (slice_index sets' x)
 
--- the answers of a rule
-abbrev pub Answers : Type 1
-Answers = List Instr → ℕ → Option (List Instr) → Type 0
-
 -- no answer is due at the windows from a place on
 abbrev pub AreSettledFrom : Answers → List Instr → List Bool → List Bool → List Bool → List ℕ → ℕ → Type 0
 AreSettledFrom answers code gone entered started sets from = (q k : ℕ) → from ≤ q → q < length code → 1 ≤ k → k < 5 → MayReplace code gone entered started q k → answers (take k (drop q code)) (slice_index sets (q + k)) None
@@ -87,6 +84,7 @@ AreSettledFrom answers code gone entered started sets from = (q k : ℕ) → fro
 pub record IsPassing (answers : Answers) (code : List Instr) (starts : List ℕ) (entered started gone0 : List Bool) (sets0 : List ℕ) (draft : List Instr) (gone : List Bool) (sets : List ℕ) (changed : Bool) (p : ℕ) : Type 0 where
   pub marks : IsMarks code starts entered started
   pub drafted : IsDraft code starts draft gone
+  pub rewritten : Rewrites answers code (kept_of gone draft)
   pub size_sets : length sets ≡ length code
   pub untouched : (x : ℕ) → x < p → is_gone gone x ≡ false
   pub closed : IsClosed draft sets
@@ -97,6 +95,7 @@ pub record IsPassing (answers : Answers) (code : List Instr) (starts : List ℕ)
 -- what a pass is to give
 pub record IsPassed (answers : Answers) (code : List Instr) (starts : List ℕ) (entered started gone0 : List Bool) (sets0 : List ℕ) (draft : List Instr) (gone : List Bool) (changed : Bool) : Type 0 where
   pub drafted : IsDraft code starts draft gone
+  pub rewritten : Rewrites answers code (kept_of gone draft)
   pub fewer : changed ≡ true → (x : ℕ) × (is_gone gone x ≡ true)
   pub same : changed ≡ false → draft ≡ code
   pub settled : changed ≡ false → AreSettledFrom answers code gone0 entered started sets0 0
@@ -105,4 +104,4 @@ pub record IsPassed (answers : Answers) (code : List Instr) (starts : List ℕ) 
 abbrev pub AfterTurn : Turn → Answers → List Instr → List ℕ → List Bool → List Bool → List Bool → List ℕ → List Instr → List Bool → List ℕ → Bool → ℕ → Type 0
 AfterTurn Stays answers code starts entered started gone0 sets0 draft gone sets changed p = IsPassing answers code starts entered started gone0 sets0 draft gone sets changed p
 AfterTurn Changed answers code starts entered started gone0 sets0 draft gone sets changed p = IsPassing answers code starts entered started gone0 sets0 draft gone sets true p
-AfterTurn Stops answers code starts entered started gone0 sets0 draft gone sets changed p = IsDraft code starts draft gone × ((x : ℕ) × (is_gone gone x ≡ true))
+AfterTurn Stops answers code starts entered started gone0 sets0 draft gone sets changed p = IsDraft code starts draft gone × ((x : ℕ) × (is_gone gone x ≡ true)) × Rewrites answers code (kept_of gone draft)

@@ -14,6 +14,14 @@ kept_before (g ∷ gone) zero = zero
 kept_before (true ∷ gone) (suc x) = kept_before gone x
 kept_before (false ∷ gone) (suc x) = suc (kept_before gone x)
 
+-- what is kept
+abbrev pub kept_of : List Bool → List Instr → List Instr
+kept_of [] code = []
+kept_of (g ∷ gone) [] = []
+kept_of (true ∷ gone) (i ∷ code) = kept_of gone code
+kept_of (false ∷ gone) (i ∷ code) = i ∷ kept_of gone code
+
+-- what is kept, its branches led to new places
 abbrev pub compacted : (ℕ → ℕ) → List Bool → List Instr → List Instr
 compacted f [] code = []
 compacted f (g ∷ gone) [] = []

@@ -3,6 +3,7 @@ pub mod Liveness
 pub mod Window
 pub mod Kept
 pub mod Rules
+pub mod Rewrites
 pub mod Draft
 pub mod Becomes
 pub mod Needless

@@ -5,6 +5,7 @@ ghost use Rattle.uc_isa.specs.Agrees.{Agrees, SourceMeaning};
 ghost use Rattle.uc_isa.specs.Lawful.{IsLawful};
 ghost use Rattle.uc_runs.specs.Starts.{AreInside};
 ghost use Rattle.uc_peep.specs.Becomes.{IsKept};
+ghost use Rattle.uc_peep.specs.Rewrites.{IsWithout};
 ghost use Rattle.uc_peep.specs.Needless as spec;
 ghost use Rattle.uc_peep.specs.Needless.{HasNoNeedless, back_rule, dead_rule, has_flag, idle_rule, is_same};
 
@@ -115,6 +116,7 @@ pub fn without_needless(alloc: Global, c: Code, starts: Vec<u32>) -> Result<Peep
     ensures params { IfOk result (λ q. q.code.params ≡ c.params) }
     ensures agrees { IfOk result (λ q. (params : ℕ) (source : SourceMeaning) → (Agrees params source c ↔ Agrees params source q.code)) }
     ensures kept { IfOk result (λ q. IsKept c.list starts.items q.code.list q.starts.items) }
+    ensures without { IfOk result (λ q. IsWithout c.list q.code.list) }
     ensures settled { IfOk result (λ q. HasNoNeedless q.code.list q.starts.items) }
 {
     let deads = WindowRule::new(|w: &[Instr], after: &LiveSet| dead(w, after));

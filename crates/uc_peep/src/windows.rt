@@ -124,7 +124,7 @@ fn ask<R: Window>(
     requires small { length code.now < 2147483648 }
     requires some { 1 ≤ k }
     requires few { k ≤ 4 }
-    ensures some { IfSome result (λ a. MayReplace code.now gone.now entered.now started.now p k × IsShorter (take k (drop p code.now)) (slice_index sets.now (p + k)) a) }
+    ensures some { IfSome result (λ a. MayReplace code.now gone.now entered.now started.now p k × IsShorter (take k (drop p code.now)) (slice_index sets.now (p + k)) a × R.answers r.now (take k (drop p code.now)) (slice_index sets.now (p + k)) (Some a)) }
     ensures none { IfNone result (MayReplace code.now gone.now entered.now started.now p k → R.answers r.now (take k (drop p code.now)) (slice_index sets.now (p + k)) None) }
 {
     if !may_replace(code, gone, entered, started, p, k) {
@@ -153,7 +153,7 @@ pub fn shorter_at<R: Window>(
     requires sets { length sets.now ≡ length code.now }
     requires inside { p < length code.now }
     requires small { length code.now < 2147483648 }
-    ensures some { IfSome result (λ t. (1 ≤ t.0) × MayReplace code.now gone.now entered.now started.now p t.0 × IsShorter (take t.0 (drop p code.now)) (slice_index sets.now (p + t.0)) t.1) }
+    ensures some { IfSome result (λ t. (1 ≤ t.0) × MayReplace code.now gone.now entered.now started.now p t.0 × IsShorter (take t.0 (drop p code.now)) (slice_index sets.now (p + t.0)) t.1 × R.answers r.now (take t.0 (drop p code.now)) (slice_index sets.now (p + t.0)) (Some t.1)) }
     ensures none { IfNone result ((k : ℕ) → 1 ≤ k → k < 5 → MayReplace code.now gone.now entered.now started.now p k → R.answers r.now (take k (drop p code.now)) (slice_index sets.now (p + k)) None) }
 {
     for k in 1..5 {

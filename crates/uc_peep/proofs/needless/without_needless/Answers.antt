@@ -2,6 +2,7 @@ use Rattle.std.proofs.Common.{◌≡◌, rules, Some}
 use Rattle.uc_peep.specs.Needless.{dead_rule, idle_rule, back_rule}
 use Rattle.uc_peep.proofs.Sound.{dead_sound, idle_sound, back_sound}
 use Rattle.uc_peep.proofs.Settled.{if-ok-map, settled-in-turn}
+use Rattle.uc_peep.proofs.Without.{needless-without}
 use Rattle.uc_peep.proofs.needless.without_needless.Goals as goal
 
 pub new-deads-requires-clause-sound : goal.new-deads-requires-clause-sound
@@ -21,4 +22,14 @@ returns-clause-settled c =
     (λ ws set o h. let e : o ≡ idle_rule ws set = search rules in e)
     (λ ws set o h. let e : o ≡ back_rule ws set = search rules in e)
     h)
+    c.peep.ensures.peeped
+
+pub returns-clause-without : goal.returns-clause-without
+returns-clause-without c =
+    if-ok-map c.peep.result _ _
+    (λ q h. needless-without _ _ _ _ _
+    (λ ws set o h. let e : o ≡ dead_rule ws set = search rules in e)
+    (λ ws set o h. let e : o ≡ idle_rule ws set = search rules in e)
+    (λ ws set o h. let e : o ≡ back_rule ws set = search rules in e)
+    h.rewritten)
     c.peep.ensures.peeped

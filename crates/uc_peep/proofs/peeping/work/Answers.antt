@@ -1,5 +1,7 @@
 use Rattle.std.proofs.Common.{◌≡◌, ◌+◌, ℕ, length, get_or, map, sym, ap, ◌∙◌, subst, arith}
 use Rattle.uc_peep.specs.Draft.{IsDraft, AreSettledFrom}
+use Rattle.uc_peep.specs.Kept.{kept_of}
+use Rattle.uc_peep.specs.Rewrites.{Rewrites}
 use Rattle.uc_peep.proofs.Peeps.{targets-inside, targets-counted, settled-by, kept-round}
 use Rattle.uc_peep.proofs.peeping.work.Goals as goal
 
@@ -26,3 +28,5 @@ returns g c =
     c.in_ok-next.ensures
     (subst (λ l. c.in_ok-moved.moved.items ≡ map (λ s. get_or l s 0) c.args.starts.now) (c.deref-2.ensures.value ∙ sym c.deref.ensures.value) c.in_ok-moved.ensures)
     (c.pass-changed.ensures.fewer c.if-not-changed.false)
+    (g.R.Window.answers c.args.r.now)
+    (subst (λ l. Rewrites (g.R.Window.answers c.args.r.now) l (kept_of c.pass-changed.new.gone c.pass-changed.new.code)) c.requires.draft c.pass-changed.ensures.rewritten)

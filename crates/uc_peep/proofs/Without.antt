@@ -1,0 +1,159 @@
+-- What is kept where windows are replaced by some of their instructions.
+use Rattle.std.proofs.Common.{◌≡◌, ℕ, ◌⊎◌, inl, inr, Bool, true, false, List, [], ◌∷◌, ◌++◌, map, Option, Some, None, if◌then◌else◌, refl, sym, ap, subst}
+use Rattle.std.proofs.lemmas.Bool.{false≢true}
+use Rattle.uc_isa.specs.declared.instruction.Instr.{Instr}
+use Rattle.uc_isa.specs.declared.instruction.Instr.TheVariants.{Alu, Un, Immed, Br, Read, Write, Halt}
+use Rattle.uc_isa.specs.declared.instruction.UnOp.TheVariants.{Copy, Not, Shl, Shr, Rol}
+use Rattle.uc_peep.specs.Kept.{compacted, kept_of}
+use Rattle.uc_peep.specs.Needless.{dead_rule, idle_rule, back_rule, is_dead, is_idle, copies_back}
+use Rattle.uc_peep.specs.Rewrites.{Answers, Rewrites, IsWithout}
+use Rattle.uc_peep.specs.Rewrites.Rewrites.{Same, Replaced, Relocated, InTurn}
+use Rattle.uc_peep.specs.Rewrites.IsWithout.{Nothing, Gone, Stays}
+use Rattle.uc_peep.specs.Rules.{IsSomeOf}
+use Rattle.uc_runs.specs.Relocated.{relocated}
+use Rattle.uc_runs.specs.StraightCode.{IsStraight}
+
+pub compacted-kept_of : (f : ℕ → ℕ) (gone : List Bool) (code : List Instr) → compacted f gone code ≡ map (relocated f) (kept_of gone code)
+compacted-kept_of f [] code = refl
+compacted-kept_of f (g ∷ gone) [] = refl
+compacted-kept_of f (true ∷ gone) (i ∷ code) = compacted-kept_of f gone code
+compacted-kept_of f (false ∷ gone) (i ∷ code) = ap (λ l. relocated f i ∷ l) (compacted-kept_of f gone code)
+
+relocated-nowhere : (i : Instr) → relocated (λ x. x) i ≡ i
+relocated-nowhere (Alu d op x y) = refl
+relocated-nowhere (Un d op x) = refl
+relocated-nowhere (Immed d v k) = refl
+relocated-nowhere (Br cond target) = refl
+relocated-nowhere (Read m r n x off) = refl
+relocated-nowhere (Write m r n x off) = refl
+relocated-nowhere (Halt k n) = refl
+
+relocated-twice : (f g : ℕ → ℕ) (i : Instr) → relocated (λ x. g (f x)) i ≡ relocated g (relocated f i)
+relocated-twice f g (Alu d op x y) = refl
+relocated-twice f g (Un d op x) = refl
+relocated-twice f g (Immed d v k) = refl
+relocated-twice f g (Br cond target) = refl
+relocated-twice f g (Read m r n x off) = refl
+relocated-twice f g (Write m r n x off) = refl
+relocated-twice f g (Halt k n) = refl
+
+straight-relocated : (f : ℕ → ℕ) (i : Instr) → IsStraight (relocated f i) → IsStraight i
+straight-relocated f (Alu d op x y) h = tt
+straight-relocated f (Un d op x) h = tt
+straight-relocated f (Immed d v k) h = tt
+straight-relocated f (Br cond target) h = absurd h
+straight-relocated f (Read m r n x off) h = absurd h
+straight-relocated f (Write m r n x off) h = absurd h
+straight-relocated f (Halt k n) h = absurd h
+
+stays : (i : Instr) (code code' : List Instr) → IsWithout code code' → IsWithout (i ∷ code) (i ∷ code')
+stays i code code' h = subst (λ j. IsWithout (i ∷ code) (j ∷ code')) (relocated-nowhere i) (Stays (λ x. x) i code code' h)
+
+without-none : (code : List Instr) → IsWithout code code
+without-none [] = Nothing
+without-none (i ∷ code) = stays i code code (without-none code)
+
+without-relocated : (f : ℕ → ℕ) (code : List Instr) → IsWithout code (map (relocated f) code)
+without-relocated f [] = Nothing
+without-relocated f (i ∷ code) = Stays f i code (map (relocated f) code) (without-relocated f code)
+
+without-front : (front code code' : List Instr) → IsWithout code code' → IsWithout (front ++ code) (front ++ code')
+without-front [] code code' h = h
+without-front (i ∷ front) code code' h = stays i (front ++ code) (front ++ code') (without-front front code code' h)
+
+without-both : (a a' b : List Instr) → IsWithout a a' → IsWithout (a ++ b) (a' ++ b)
+without-both a a' b Nothing = without-none b
+without-both a a' b (Gone i code code' straight h) = Gone i (code ++ b) (code' ++ b) straight (without-both code code' b h)
+without-both a a' b (Stays f i code code' h) = Stays f i (code ++ b) (code' ++ b) (without-both code code' b h)
+
+without-trans : (a b c : List Instr) → IsWithout a b → IsWithout b c → IsWithout a c
+without-trans a b c Nothing g = g
+without-trans a b c (Gone i code code' straight h) g = Gone i code c straight (without-trans code code' c h g)
+without-trans a b c (Stays f i code code' h) (Gone j more more' straight g) = Gone i code more' (straight-relocated f i straight) (without-trans code code' more' h g)
+without-trans a b c (Stays f i code code' h) (Stays f' j more more' g) =
+    subst (λ j. IsWithout (i ∷ code) (j ∷ more')) (relocated-twice f f' i) (Stays (λ x. f' (f x)) i code more' (without-trans code code' more' h g))
+
+pub rewrites-without : (A : Answers) → ((ws : List Instr) (set : ℕ) (shorter : List Instr) → A ws set (Some shorter) → IsWithout ws shorter) → (code code' : List Instr) → Rewrites A code code' → IsWithout code code'
+rewrites-without A f a b (Same code) = without-none code
+rewrites-without A f a b (Replaced front window shorter rest set answer) = without-front front (window ++ rest) (shorter ++ rest) (without-both window shorter rest (f window set shorter answer))
+rewrites-without A f a b (Relocated to code) = without-relocated to code
+rewrites-without A f a b (InTurn first second third h g) = without-trans first second third (rewrites-without A f first second h) (rewrites-without A f second third g)
+
+-- ---- the three rules
+
+dead-straight : (i : Instr) (set : ℕ) → is_dead i set ≡ true → IsStraight i
+dead-straight (Alu d op x y) set h = tt
+dead-straight (Un d op x) set h = tt
+dead-straight (Immed d v k) set h = tt
+dead-straight (Br cond target) set h = absurd (false≢true h)
+dead-straight (Read m r n x off) set h = absurd (false≢true h)
+dead-straight (Write m r n x off) set h = absurd (false≢true h)
+dead-straight (Halt k n) set h = absurd (false≢true h)
+
+idle-straight : (i : Instr) (set : ℕ) → is_idle i set ≡ true → IsStraight i
+idle-straight (Alu d op x y) set h = tt
+idle-straight (Un d op x) set h = tt
+idle-straight (Immed d v k) set h = tt
+idle-straight (Br cond target) set h = absurd (false≢true h)
+idle-straight (Read m r n x off) set h = absurd (false≢true h)
+idle-straight (Write m r n x off) set h = absurd (false≢true h)
+idle-straight (Halt k n) set h = absurd (false≢true h)
+
+copies-straight : (i j : Instr) → copies_back i j ≡ true → IsStraight j
+copies-straight i (Alu d op x y) h = tt
+copies-straight i (Un d op x) h = tt
+copies-straight i (Immed d v k) h = tt
+copies-straight (Un d Copy x) (Br cond target) h = absurd (false≢true h)
+copies-straight (Un d Copy x) (Read m r n y off) h = absurd (false≢true h)
+copies-straight (Un d Copy x) (Write m r n y off) h = absurd (false≢true h)
+copies-straight (Un d Copy x) (Halt k n) h = absurd (false≢true h)
+copies-straight (Un d Not x) j h = absurd (false≢true h)
+copies-straight (Un d (Shl k) x) j h = absurd (false≢true h)
+copies-straight (Un d (Shr k) x) j h = absurd (false≢true h)
+copies-straight (Un d (Rol k) x) j h = absurd (false≢true h)
+copies-straight (Alu d op x y) j h = absurd (false≢true h)
+copies-straight (Immed d v k) j h = absurd (false≢true h)
+copies-straight (Br cond target) j h = absurd (false≢true h)
+copies-straight (Read m r n x off) j h = absurd (false≢true h)
+copies-straight (Write m r n x off) j h = absurd (false≢true h)
+copies-straight (Halt k n) j h = absurd (false≢true h)
+
+-- where a test decides whether there is an answer
+if-some : (b : Bool) (l shorter : List Instr) → (if b then Some l else None) ≡ Some shorter → (b ≡ true) × (l ≡ shorter)
+if-some true l shorter h = (refl, let e : l ≡ shorter = cc in e)
+if-some false l shorter h = absurd (let e : None ≡ Some shorter = h in cc)
+
+dead-without : (ws : List Instr) (set : ℕ) (shorter : List Instr) → dead_rule ws set ≡ Some shorter → IsWithout ws shorter
+dead-without [] set shorter h = absurd cc
+dead-without (i ∷ []) set shorter h =
+    let t = if-some (is_dead i set) [] shorter h in
+    subst (IsWithout (i ∷ [])) t.1 (Gone i [] [] (dead-straight i set t.0) Nothing)
+dead-without (i ∷ j ∷ ws) set shorter h = absurd cc
+
+idle-without : (ws : List Instr) (set : ℕ) (shorter : List Instr) → idle_rule ws set ≡ Some shorter → IsWithout ws shorter
+idle-without [] set shorter h = absurd cc
+idle-without (i ∷ []) set shorter h =
+    let t = if-some (is_idle i set) [] shorter h in
+    subst (IsWithout (i ∷ [])) t.1 (Gone i [] [] (idle-straight i set t.0) Nothing)
+idle-without (i ∷ j ∷ ws) set shorter h = absurd cc
+
+back-without : (ws : List Instr) (set : ℕ) (shorter : List Instr) → back_rule ws set ≡ Some shorter → IsWithout ws shorter
+back-without [] set shorter h = absurd cc
+back-without (i ∷ []) set shorter h = absurd cc
+back-without (i ∷ j ∷ []) set shorter h =
+    let t = if-some (copies_back i j) (i ∷ []) shorter h in
+    subst (IsWithout (i ∷ j ∷ [])) t.1 (stays i (j ∷ []) [] (Gone j [] [] (copies-straight i j t.0) Nothing))
+back-without (i ∷ j ∷ k ∷ ws) set shorter h = absurd cc
+
+pub needless-without : (A B C : Answers) (code code' : List Instr)
+    → ((ws : List Instr) (set : ℕ) (o : Option (List Instr)) → A ws set o → o ≡ dead_rule ws set)
+    → ((ws : List Instr) (set : ℕ) (o : Option (List Instr)) → B ws set o → o ≡ idle_rule ws set)
+    → ((ws : List Instr) (set : ℕ) (o : Option (List Instr)) → C ws set o → o ≡ back_rule ws set)
+    → Rewrites (λ ws set o. (IsSomeOf o × A ws set o) ⊎ (A ws set None × ((IsSomeOf o × B ws set o) ⊎ (B ws set None × C ws set o)))) code code'
+    → IsWithout code code'
+needless-without A B C code code' f g h = rewrites-without _ each code code'
+  where
+    each : (ws : List Instr) (set : ℕ) (shorter : List Instr) → (IsSomeOf (Some shorter) × A ws set (Some shorter)) ⊎ (A ws set None × ((IsSomeOf (Some shorter) × B ws set (Some shorter)) ⊎ (B ws set None × C ws set (Some shorter)))) → IsWithout ws shorter
+    each ws set shorter (inl a) = dead-without ws set shorter (sym (f ws set (Some shorter) a.1))
+    each ws set shorter (inr (a, inl b)) = idle-without ws set shorter (sym (g ws set (Some shorter) b.1))
+    each ws set shorter (inr (a, inr (b, c))) = back-without ws set shorter (sym (h ws set (Some shorter) c))

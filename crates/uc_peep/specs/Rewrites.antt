@@ -1,0 +1,22 @@
+-- Code to which replaced windows lead.
+use Rattle.std.specs.Prelude.{ℕ, List, [], ◌∷◌, ◌++◌, map, Option, Some}
+use Rattle.uc_isa.specs.declared.instruction.Instr.{Instr}
+use Rattle.uc_runs.specs.Relocated.{relocated}
+use Rattle.uc_runs.specs.StraightCode.{IsStraight}
+
+-- the answers of a rule
+abbrev pub Answers : Type 1
+Answers = List Instr → ℕ → Option (List Instr) → Type 0
+
+-- the second code comes of the first where windows are replaced by answers of a rule, one after the other, and branches follow their targets
+pub data Rewrites (answers : Answers) : List Instr → List Instr → Type 0 where
+  Same : (code : List Instr) → Rewrites answers code code
+  Replaced : (front window shorter rest : List Instr) (set : ℕ) → answers window set (Some shorter) → Rewrites answers (front ++ (window ++ rest)) (front ++ (shorter ++ rest))
+  Relocated : (f : ℕ → ℕ) (code : List Instr) → Rewrites answers code (map (relocated f) code)
+  InTurn : (first second third : List Instr) → Rewrites answers first second → Rewrites answers second third → Rewrites answers first third
+
+-- the second code is the first without some of its straight instructions; branches follow their targets
+pub data IsWithout : List Instr → List Instr → Type 0 where
+  Nothing : IsWithout [] []
+  Gone : (i : Instr) (code code' : List Instr) → IsStraight i → IsWithout code code' → IsWithout (i ∷ code) code'
+  Stays : (f : ℕ → ℕ) (i : Instr) (code code' : List Instr) → IsWithout code code' → IsWithout (i ∷ code) (relocated f i ∷ code')
