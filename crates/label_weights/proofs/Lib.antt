@@ -1,1 +1,4 @@
+pub mod Bounds
 pub mod Ones
+pub mod Summed
+pub mod Labels

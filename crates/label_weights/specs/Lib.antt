@@ -1,1 +1,2 @@
+pub mod ByLabel
 pub mod Weighted

@@ -9,4 +9,5 @@ pub use checking::fits;
 pub use held_values::{
     Copies, Slots, Spot, copies_of, held, peak, row_numbers, spots_of, value_of,
 };
+pub use label_weights::Weights;
 pub use slot_placement::{First, Home, Pass, Place, PlaceError, Placement, Serve, spill_all};

@@ -10,7 +10,8 @@ use Rattle.ssu_ir.specs.Tree.{Label}
 use Rattle.ssu_ir.specs.Points.{own, Entry, nodes, label_points}
 use Rattle.ssu_ir.proofs.PointLemmas.{length-tree_points}
 use Rattle.slot_placement.specs.Plan.{Plan}
-use Rattle.label_weights.specs.Weighted.{label_from, point_weight, weighted_cost}
+use Rattle.label_weights.specs.ByLabel.{label_from}
+use Rattle.label_weights.specs.Weighted.{point_weight, weighted_cost}
 use Rattle.ucode_emit.specs.inner.Drafted.{label_starts}
 use Rattle.ucode_emit.specs.inner.Layers.{Placed}
 use Rattle.ucode_emit.specs.inner.Marks.{Mark, mark, tree_marks, marks_from, marks, point_piece, pieces, joined}
