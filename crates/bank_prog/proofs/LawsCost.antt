@@ -1,5 +1,5 @@
 -- What a vector costs, by the columns' names.
-use Rattle.std.proofs.Common.{◌≡◌, ℕ, zero, suc, ◌+◌, Bool, true, if◌then◌else◌, List, [], ◌∷◌, map, length, Some, refl, sym, ap, ◌∙◌, arith}
+use Rattle.std.proofs.Common.{◌≡◌, ℕ, zero, suc, ◌+◌, ◌*◌, Bool, true, if◌then◌else◌, List, [], ◌∷◌, map, length, Some, refl, sym, ap, ◌∙◌, arith}
 use Rattle.ssu_ir.specs.Tree.{Label}
 use Rattle.ssu_ir.specs.Single.{single}
 use Rattle.slot_placement.proofs.Sound.{Each}
@@ -9,7 +9,8 @@ use Rattle.zo_model.specs.Program.{cost_where, cost_below, costs_of, cost_of}
 use Rattle.bank_form.specs.declared.column.Column.{Column}
 use Rattle.bank_form.specs.Columns.{Priced, priced, costs}
 use Rattle.bank_prog.specs.Meaning.{Chosen, number_on, on, named_cost}
-use Rattle.bank_form.specs.Program.{Numbers, number_in, number_of, bank_program}
+use Rattle.bank_prog.specs.Weighted.{weigh, weighted, weighted_costs, weighted_program}
+use Rattle.bank_form.specs.Program.{Numbers, number_in, number_of}
 use Rattle.bank_rows.proofs.Distinct.{Apart, Distinct}
 use Rattle.bank_rows.proofs.Families.{priced-distinct}
 use Rattle.bank_form.proofs.Itself.{column-itself}
@@ -57,10 +58,30 @@ named-sum on y (p ∷ ps) h =
     first-cost (length (map (λ c. c.1) ps)) p.1 (map (λ c. c.1) ps) y ∙ ap (λ b. cost_where b p.1 + costs_of (map (λ c. c.1) ps) (λ i. y (suc i))) (sym h.0)
     ∙ ap (λ n. cost_where (on p.0) p.1 + n) (named-sum on (λ i. y (suc i)) ps h.1)
 
-pub costs-by-name : (labels : List Label) (x : ℕ → Bool) → single labels ≡ true → costs_of (costs labels) x ≡ named_cost (on labels x) (priced labels)
-costs-by-name labels x s =
+says-all : (labels : List Label) (x : ℕ → Bool) → single labels ≡ true → Says (on labels x) x (priced labels)
+says-all labels x s =
     let ps = priced labels in
-    named-sum (on labels x) x ps (says (number_of labels) x x 0 ps (λ i. let n : i ≡ 0 + i = omega arith in ap x n) (priced-distinct labels s) (found-all (number_of labels) 0 ps ps (λ c. refl)))
+    says (number_of labels) x x 0 ps (λ i. let n : i ≡ 0 + i = omega arith in ap x n) (priced-distinct labels s) (found-all (number_of labels) 0 ps ps (λ c. refl))
 
-pub cost-by-name : (z : ZeroOne) (labels : List Label) (slots : ℕ) (x : ℕ → Bool) → single labels ≡ true → contents z ≡ bank_program labels slots → cost_of z x ≡ named_cost (on labels x) (priced labels)
-cost-by-name z labels slots x s e = ap (λ cs. costs_of cs x) (ap (λ c. c.costs) e) ∙ costs-by-name labels x s
+pub costs-by-name : (labels : List Label) (x : ℕ → Bool) → single labels ≡ true → costs_of (costs labels) x ≡ named_cost (on labels x) (priced labels)
+costs-by-name labels x s = named-sum (on labels x) x (priced labels) (says-all labels x s)
+
+-- ---- under weights
+
+-- weights leave the columns as they are
+says-weighed : (labels : List Label) (ws : List ℕ) (on : Chosen) (y : ℕ → Bool) (ps : List Priced) → Says on y ps → Says on y (map (weigh labels ws) ps)
+says-weighed labels ws on y [] h = tt
+says-weighed labels ws on y (p ∷ ps) h = (h.0, says-weighed labels ws on (λ i. y (suc i)) ps h.1)
+
+pub weighted-by-name : (labels : List Label) (ws : List ℕ) (x : ℕ → Bool) → single labels ≡ true → costs_of (weighted_costs labels ws) x ≡ named_cost (on labels x) (weighted labels ws)
+weighted-by-name labels ws x s = named-sum (on labels x) x (weighted labels ws) (says-weighed labels ws (on labels x) x (priced labels) (says-all labels x s))
+
+weighed-once : (labels : List Label) (ps : List Priced) → map (λ c. c.1) (map (weigh labels []) ps) ≡ map (λ c. c.1) ps
+weighed-once labels [] = refl
+weighed-once labels (p ∷ ps) = let one : p.1 * 1 ≡ p.1 = omega arith in ap (λ n. n ∷ map (λ c. c.1) (map (weigh labels []) ps)) one ∙ ap (λ ns. p.1 ∷ ns) (weighed-once labels ps)
+
+pub weights-of-one : (labels : List Label) → weighted_costs labels [] ≡ costs labels
+weights-of-one labels = weighed-once labels (priced labels)
+
+pub cost-by-name : (z : ZeroOne) (labels : List Label) (slots : ℕ) (ws : List ℕ) (x : ℕ → Bool) → single labels ≡ true → contents z ≡ weighted_program labels slots ws → cost_of z x ≡ named_cost (on labels x) (weighted labels ws)
+cost-by-name z labels slots ws x s e = ap (λ cs. costs_of cs x) (ap (λ c. c.costs) e) ∙ weighted-by-name labels ws x s

@@ -10,7 +10,8 @@ use Rattle.zo_model.specs.Contents.{RowContents, row_contents, contents}
 use Rattle.zo_model.specs.Program.{total, where_one, terms_sum, Meets, Feasible}
 use Rattle.bank_form.specs.declared.column.Column.{Column}
 use Rattle.bank_prog.specs.Meaning.{number_on, on, named_sum, Holds}
-use Rattle.bank_form.specs.Program.{Numbers, Terms, add_term, add_named, terms_of, row_of, number_of, bank_program}
+use Rattle.bank_form.specs.Program.{Numbers, Terms, add_term, add_named, terms_of, row_of, number_of}
+use Rattle.bank_prog.specs.Weighted.{weighted_program}
 use Rattle.bank_form.specs.Rows.{Line, lines}
 use Rattle.bank_form.proofs.RowTerms.{crossed}
 
@@ -76,5 +77,5 @@ rows-hold number x (r ∷ rs) (l ∷ ls) e =
       (λ h. All-cons (Meets x) r rs (here.1 (All-head (Holds (λ c. number_on x (number c))) l ls h)) (there.1 (All-tail (Holds (λ c. number_on x (number c))) l ls h))),
     )
 
-pub feasible-by-name : (z : ZeroOne) (labels : List Label) (slots : ℕ) (x : ℕ → Bool) → contents z ≡ bank_program labels slots → Feasible z x ↔ All (Holds (on labels x)) (lines labels slots)
-feasible-by-name z labels slots x e = rows-hold (number_of labels) x z.rows.items (lines labels slots) (ap (λ c. c.rows) e)
+pub feasible-by-name : (z : ZeroOne) (labels : List Label) (slots : ℕ) (ws : List ℕ) (x : ℕ → Bool) → contents z ≡ weighted_program labels slots ws → Feasible z x ↔ All (Holds (on labels x)) (lines labels slots)
+feasible-by-name z labels slots ws x e = rows-hold (number_of labels) x z.rows.items (lines labels slots) (ap (λ c. c.rows) e)

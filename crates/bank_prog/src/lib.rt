@@ -4,6 +4,7 @@
 pub mod error;
 pub mod laws;
 pub mod program;
+mod weighing;
 
 pub use bank_columns::{column_names, column_numbers};
 pub use bank_form::{

@@ -1,91 +1,31 @@
-use Rattle.std.proofs.Common.{◌≡◌, ◌∙◌, ℕ, ap, sym, inl, inr, map, length, arith}
-use Rattle.std.proofs.lemmas.List.{length-map}
-use Rattle.std.specs.HashMap.{get}
+use Rattle.std.proofs.Common.{◌≡◌, ◌≤◌, ◌∙◌, ℕ, List, All, refl, sym, ap, subst, map}
 use Rattle.ssu_ir.specs.View.{labels_view}
 use Rattle.zo_model.specs.Contents.{row_contents}
 use Rattle.bank_form.specs.declared.column.Column.{Column}
-use Rattle.bank_form.specs.Columns.{priced, columns, costs}
+use Rattle.bank_form.specs.Columns.{priced}
 use Rattle.bank_form.specs.Program as program
-use Rattle.bank_form.specs.Program.{same_column, row_of, number_in, number_of}
-use Rattle.bank_form.specs.Rows.{lines}
-use Rattle.bank_form.proofs.FormLemmas.{rows-alike, same-program}
-use Rattle.bank_rows.proofs.PlainLines.{program-valid}
-use Rattle.bank_sizes.proofs.FewRows.{large_few}
+use Rattle.bank_form.proofs.FormLemmas.{same-program}
+use Rattle.bank_prog.specs.Weighted.{weigh, weighted_costs}
+use Rattle.bank_prog.proofs.Valid.{costs-small, weighted-valid}
 use Rattle.bank_prog.proofs.program.build.Goals as goal
-
-pub returns-then-len-gt-COUNT_LIMIT-clause-many : goal.returns-then-len-gt-COUNT_LIMIT-clause-many
-returns-then-len-gt-COUNT_LIMIT-clause-many c = λ n h.
-    let labels = labels_view c.args.s.now in
-    let here : labels_view c.in_ok-f.f.ssu.now ≡ labels = ap labels_view c.in_ok-f.ensures in
-    let all : c.in_ok-priced.priced.items ≡ priced labels = c.in_ok-priced.ensures ∙ ap priced here in
-    let cols : length (columns labels) ≡ length c.in_ok-priced.priced.items = length-map (priced labels) (λ (x : Column × ℕ). x.0) ∙ ap length (sym all) in
-    let e : c.len-then-len-gt-COUNT_LIMIT.result ≡ n = cc in
-    inl (omega (arith, cols, e), omega (arith, cols, e))
-
-pub returns-clause-few : goal.returns-clause-few
-returns-clause-few c =
-    let labels = labels_view c.args.s.now in
-    let here : labels_view c.in_ok-f.f.ssu.now ≡ labels = ap labels_view c.in_ok-f.ensures in
-    let all : c.in_ok-priced.priced.items ≡ priced labels = c.in_ok-priced.ensures ∙ ap priced here in
-    let cols : length (columns labels) ≡ length c.in_ok-priced.priced.items = length-map (priced labels) (λ (x : Column × ℕ). x.0) ∙ ap length (sym all) in
-    omega (arith, cols)
-
-pub returns-then-len-gt-COUNT_LIMIT-2-clause-many : goal.returns-then-len-gt-COUNT_LIMIT-2-clause-many
-returns-then-len-gt-COUNT_LIMIT-2-clause-many c = λ n h.
-    let labels = labels_view c.args.s.now in
-    let here : labels_view c.in_ok-f.f.ssu.now ≡ labels = ap labels_view c.in_ok-f.ensures in
-    let all : c.in_ok-priced.priced.items ≡ priced labels = c.in_ok-priced.ensures ∙ ap priced here in
-    let cols : length (columns labels) ≡ length c.in_ok-priced.priced.items = length-map (priced labels) (λ (x : Column × ℕ). x.0) ∙ ap length (sym all) in
-    let rows : length c.in_ok-rows.rows.items ≡ length (program.rows labels c.args.slots) =
-    sym (length-map c.in_ok-rows.rows.items row_contents) ∙ ap length c.in_ok-rows.ensures
-    ∙ length-map (lines (labels_view c.in_ok-f.f.ssu.now) c.args.slots) (row_of (get same_column c.in_ok-numbers.numbers))
-    ∙ ap (λ ls. length (lines ls c.args.slots)) here ∙ sym (length-map (lines labels c.args.slots) (row_of (number_of labels))) in
-    let e : c.len-then-len-gt-COUNT_LIMIT-2.result ≡ n = cc in
-    inr (omega (arith, cols), (omega (arith, rows, e), omega (arith, rows, e)))
 
 pub returns-clause-program : goal.returns-clause-program
 returns-clause-program c =
     let labels = labels_view c.args.s.now in
     let here : labels_view c.in_ok-f.f.ssu.now ≡ labels = ap labels_view c.in_ok-f.ensures in
     let all : c.in_ok-priced.priced.items ≡ priced labels = c.in_ok-priced.ensures ∙ ap priced here in
-    let same : (x : Column) → get same_column c.in_ok-numbers.numbers x ≡ number_of labels x = λ x.
-    c.in_ok-numbers.ensures x ∙ ap (λ ps. number_in 0 (map (λ (d : Column × ℕ). d.0) ps) x) (c.deref.ensures.value ∙ all) in
-    same-program c.in_ok-costs.costs.items (costs labels) (map row_contents c.in_ok-rows.rows.items) (program.rows labels c.args.slots)
-    (c.in_ok-costs.ensures ∙ ap (map (λ (d : Column × ℕ). d.1)) (c.deref-3.ensures.value ∙ all))
-    (c.in_ok-rows.ensures ∙ ap (λ ls. map (row_of (get same_column c.in_ok-numbers.numbers)) (lines ls c.args.slots)) here ∙ rows-alike (get same_column c.in_ok-numbers.numbers) (number_of labels) same (lines labels c.args.slots))
+    same-program c.in_ok-costs.costs.items (weighted_costs labels c.args.w.now) (map row_contents c.in_ok-plain.plain.rows.items) (program.rows labels c.args.slots)
+    (c.in_ok-costs.ensures.costs
+    ∙ ap (λ ls. map (λ (d : Column × ℕ). d.1) (map (weigh ls c.args.w.now) c.deref-2.result.now)) here
+    ∙ ap (λ ps. map (λ (d : Column × ℕ). d.1) (map (weigh labels c.args.w.now) ps)) (c.deref-2.ensures.value ∙ all))
+    (ap (λ p. p.rows) c.in_ok-plain.ensures.program ∙ ap (λ ls. program.rows ls c.args.slots) here)
 
 pub returns-clause-valid : goal.returns-clause-valid
 returns-clause-valid c =
+    weighted-valid c.in_ok-plain.plain _ (labels_view c.args.s.now) (labels_view c.in_ok-f.f.ssu.now) c.args.slots c.args.w.now (ap labels_view c.in_ok-f.ensures) c.in_ok-plain.ensures.program c.in_ok-plain.ensures.valid (returns-clause-program c) refl c.in_ok-costs.ensures.weights
+
+pub weighted_costs-requires : goal.weighted_costs-requires
+weighted_costs-requires c =
     let labels = labels_view c.args.s.now in
-    let here : labels_view c.in_ok-f.f.ssu.now ≡ labels = ap labels_view c.in_ok-f.ensures in
-    let all : c.in_ok-priced.priced.items ≡ priced labels = c.in_ok-priced.ensures ∙ ap priced here in
-    let same : (x : Column) → get same_column c.in_ok-numbers.numbers x ≡ number_of labels x = λ x.
-    c.in_ok-numbers.ensures x ∙ ap (λ ps. number_in 0 (map (λ (d : Column × ℕ). d.0) ps) x) (c.deref.ensures.value ∙ all) in
-    let cols : length (columns labels) ≡ length c.in_ok-priced.priced.items = length-map (priced labels) (λ (x : Column × ℕ). x.0) ∙ ap length (sym all) in
-    let rows : length c.in_ok-rows.rows.items ≡ length (program.rows labels c.args.slots) =
-    sym (length-map c.in_ok-rows.rows.items row_contents) ∙ ap length c.in_ok-rows.ensures
-    ∙ length-map (lines (labels_view c.in_ok-f.f.ssu.now) c.args.slots) (row_of (get same_column c.in_ok-numbers.numbers))
-    ∙ ap (λ ls. length (lines ls c.args.slots)) here ∙ sym (length-map (lines labels c.args.slots) (row_of (number_of labels))) in
-    program-valid _ labels c.args.slots
-    (same-program c.in_ok-costs.costs.items (costs labels) (map row_contents c.in_ok-rows.rows.items) (program.rows labels c.args.slots)
-    (c.in_ok-costs.ensures ∙ ap (map (λ (d : Column × ℕ). d.1)) (c.deref-3.ensures.value ∙ all))
-    (c.in_ok-rows.ensures ∙ ap (λ ls. map (row_of (get same_column c.in_ok-numbers.numbers)) (lines ls c.args.slots)) here ∙ rows-alike (get same_column c.in_ok-numbers.numbers) (number_of labels) same (lines labels c.args.slots))) c.requires.single c.requires.slots (omega (arith, cols)) (omega (arith, rows))
-
-pub returns-clause-rows : goal.returns-clause-rows
-returns-clause-rows c =
-    let labels = labels_view c.args.s.now in
-    let here : labels_view c.in_ok-f.f.ssu.now ≡ labels = ap labels_view c.in_ok-f.ensures in
-    let all : c.in_ok-priced.priced.items ≡ priced labels = c.in_ok-priced.ensures ∙ ap priced here in
-    let rows : length c.in_ok-rows.rows.items ≡ length (program.rows labels c.args.slots) =
-    sym (length-map c.in_ok-rows.rows.items row_contents) ∙ ap length c.in_ok-rows.ensures
-    ∙ length-map (lines (labels_view c.in_ok-f.f.ssu.now) c.args.slots) (row_of (get same_column c.in_ok-numbers.numbers))
-    ∙ ap (λ ls. length (lines ls c.args.slots)) here ∙ sym (length-map (lines labels c.args.slots) (row_of (number_of labels))) in
-    omega (arith, rows)
-
-pub returns-then-len-gt-COUNT_LIMIT-clause-bounded : goal.returns-then-len-gt-COUNT_LIMIT-clause-bounded
-returns-then-len-gt-COUNT_LIMIT-clause-bounded c = λ n h.
-    large_few (labels_view c.args.s.now) c.args.slots n c.requires.single (returns-then-len-gt-COUNT_LIMIT-clause-many c n h)
-
-pub returns-then-len-gt-COUNT_LIMIT-2-clause-bounded : goal.returns-then-len-gt-COUNT_LIMIT-2-clause-bounded
-returns-then-len-gt-COUNT_LIMIT-2-clause-bounded c = λ n h.
-    large_few (labels_view c.args.s.now) c.args.slots n c.requires.single (returns-then-len-gt-COUNT_LIMIT-2-clause-many c n h)
+    let all : c.in_ok-priced.priced.items ≡ priced labels = c.in_ok-priced.ensures ∙ ap priced (ap labels_view c.in_ok-f.ensures) in
+    subst (λ (ps : List (Column × ℕ)). All (λ p. p.1 ≤ 33) ps) (sym (c.deref-2.ensures.value ∙ all)) (costs-small labels)
