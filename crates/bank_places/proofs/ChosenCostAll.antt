@@ -75,7 +75,7 @@ pas-s-free : (labels : List Label) → Each IsFree (all_pas_s labels)
 pas-s-free labels = points-each IsFree (pas_s_columns labels) 0 (points labels) (λ i k q e at. eight-free _ (PasS k))
 
 -- the columns of four families alone
-families-cost : (on : Chosen) (labels : List Label)
+pub families-cost : (on : Chosen) (labels : List Label)
     → named_cost on (priced labels) ≡ named_cost on (flat_map def_columns (values labels)) + (named_cost on (flat_map (fill_columns labels) (values labels)) + (named_cost on (all_ears labels) + named_cost on (flat_map (srv_columns labels) (uses labels))))
 families-cost on labels =
     nine-parts (flat_map def_columns (values labels)) (all_dirs labels) (flat_map (fill_columns labels) (values labels)) (all_stays labels) (all_ears labels) (flat_map first_columns (accesses labels)) (flat_map (srv_columns labels) (uses labels)) (all_pas_l labels) (all_pas_s labels)
@@ -122,7 +122,7 @@ begins-among labels p k q u s f at i e =
     let fits = All-contains (λ (a : Access). IsFirst a.mem a.words (first p a.point)) (accesses labels) a f.registers (contained-in a (accesses labels) there) in
     subst (λ r. In (first p u.point) (role_beginnings n r)) (sym w.2) (first-begins w.0 n (first p u.point) (access-words labels a s there) fits)
 
-ear-cost : (labels : List Label) (p : Plan) (k : ℕ) (q : Point) (u : Use) → single labels ≡ true → Fits labels p → slice_get (points labels) k ≡ Some q → In u (point_uses k q) → named_cost (chosen labels p) (ear_columns (place_words q.place) u) ≡ early_price p u
+pub ear-cost : (labels : List Label) (p : Plan) (k : ℕ) (q : Point) (u : Use) → single labels ≡ true → Fits labels p → slice_get (points labels) k ≡ Some q → In u (point_uses k q) → named_cost (chosen labels p) (ear_columns (place_words q.place) u) ≡ early_price p u
 ear-cost labels p k q u s f at i =
     let rs = role_beginnings (place_words q.place) u.role in
     let b = waits p u.point u.operand && not (goes_there p u.value) in
@@ -141,7 +141,7 @@ flat-cost on f g (u ∷ us) h =
     let c = cost-append on (f u) (flat_map f us) in
     omega (arith, a, b, c)
 
-points-cost : (on : Chosen) (f : ℕ → Point → Use → List Priced) (g : Use → ℕ) (j : ℕ) (ps : List Point) → ((i k : ℕ) (q : Point) → k ≡ j + i → slice_get ps i ≡ Some q → (u : Use) → In u (point_uses k q) → named_cost on (f k q u) ≡ g u)
+pub points-cost : (on : Chosen) (f : ℕ → Point → Use → List Priced) (g : Use → ℕ) (j : ℕ) (ps : List Point) → ((i k : ℕ) (q : Point) → k ≡ j + i → slice_get ps i ≡ Some q → (u : Use) → In u (point_uses k q) → named_cost on (f k q u) ≡ g u)
     → named_cost on (each_point (λ k q. flat_map (f k q) (point_uses k q)) j ps) ≡ sum_of g (uses_from j ps)
 points-cost on f g j [] h = refl
 points-cost on f g j (p ∷ ps) h =
@@ -187,14 +187,14 @@ all-found g (u ∷ us) vs d h =
     let b = all-found g us vs d h.1 in
     omega (arith, a, b)
 
-by-values : (labels : List Label) (g : Use → ℕ) → single labels ≡ true → by_value g (uses labels) (values labels) ≡ sum_of g (uses labels)
+pub by-values : (labels : List Label) (g : Use → ℕ) → single labels ≡ true → by_value g (uses labels) (values labels) ≡ sum_of g (uses labels)
 by-values labels g s = all-found g (uses labels) (values labels) (values-different labels s) (each-from (λ u. is_in u.value (map (λ v. v.var) (values labels)) ≡ true) (uses labels) (λ u i.
     let w = use-value labels u s i in
     subst (λ x. is_in x (map (λ v. v.var) (values labels)) ≡ true) w.var (in-test w.value.var (map (λ v. v.var) (values labels)) (map-in (λ (v : Value). v.var) w.value (values labels) w.there))))
 
 -- ---- the whole
 
-same-cost : (on other : Chosen) (cs : List Priced) → Each (λ c. on c.0 ≡ other c.0) cs → named_cost on cs ≡ named_cost other cs
+pub same-cost : (on other : Chosen) (cs : List Priced) → Each (λ c. on c.0 ≡ other c.0) cs → named_cost on cs ≡ named_cost other cs
 same-cost on other [] h = refl
 same-cost on other (c ∷ cs) h = ap (λ b. cost_where b c.1 + named_cost on cs) h.0 ∙ ap (λ n. cost_where (other c.0) c.1 + n) (same-cost on other cs h.1)
 

@@ -282,13 +282,13 @@ use-price labels p u (Ending j) s f i e h =
     subst (λ r. price read (Ending j) q r ≡ served_cost q r) (sym h.1)
     (ending-price read j q (home-read labels p u q s f i h.0) (home-not-write p u.value q h.0) (omega (arith, l)))
 
-use-priced : (labels : List Label) (p : Plan) (u : Use) → single labels ≡ true → Fits labels p → In u (uses labels) → use_cost p u ≡ named_cost (chosen labels p) (srv_columns labels u)
+pub use-priced : (labels : List Label) (p : Plan) (u : Use) → single labels ≡ true → Fits labels p → In u (uses labels) → use_cost p u ≡ named_cost (chosen labels p) (srv_columns labels u)
 use-priced labels p u s f i =
     let a = services-sum labels p u (filter (λ (s : Service). has_bank (is_fetched (sort_of labels u.value)) s.from) (services u.role)) (use-there labels u i) in
     let b = use-price labels p u u.role s f i refl (use-served labels p u f i) in
     sym (a ∙ b)
 
-each-priced : (labels : List Label) (p : Plan) (us : List Use) → Each (λ u. use_cost p u ≡ named_cost (chosen labels p) (srv_columns labels u)) us → uses_cost p us ≡ named_cost (chosen labels p) (flat_map (srv_columns labels) us)
+pub each-priced : (labels : List Label) (p : Plan) (us : List Use) → Each (λ u. use_cost p u ≡ named_cost (chosen labels p) (srv_columns labels u)) us → uses_cost p us ≡ named_cost (chosen labels p) (flat_map (srv_columns labels) us)
 each-priced labels p [] h = refl
 each-priced labels p (u ∷ us) h =
     let ih = each-priced labels p us h.1 in

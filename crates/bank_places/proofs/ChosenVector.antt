@@ -11,7 +11,9 @@ use Rattle.slot_placement.specs.Uses.{Use, uses_of}
 use Rattle.slot_placement.specs.Fits.{is_read_register, is_write_register, served, Fits}
 use Rattle.bank_form.specs.declared.column.Column.{Column}
 use Rattle.bank_form.specs.declared.column.Column.TheVariants.{Def, Dir, Fill, Stay, Ear, First, Srv, PasL, PasS}
+use Rattle.label_weights.specs.Weighted.{weighted_cost}
 use Rattle.bank_form.specs.Columns.{columns, costs}
+use Rattle.bank_prog.specs.Weighted.{weighted_costs}
 use Rattle.bank_form.specs.Program.{same_bank}
 use Rattle.bank_prog.specs.Meaning.{on, IsFeasible}
 use Rattle.bank_prog.proofs.LawsColumns.{on-there, chosen-on}
@@ -22,6 +24,8 @@ use Rattle.bank_places.specs.inner.PlanTables.{first_told, from_told, at_told, v
 use Rattle.bank_places.proofs.FitWords.{map-same}
 use Rattle.bank_places.proofs.ChosenAll.{lines-hold}
 use Rattle.bank_places.proofs.ChosenCostAll.{cost-same}
+use Rattle.bank_places.proofs.ChosenCostKept.{label-same}
+use Rattle.bank_places.proofs.Weighed.{weighted-same}
 
 -- ---- the tables tell of the columns that the placement has on
 
@@ -98,3 +102,9 @@ pub vector-costs : (labels : List Label) (p : Plan) (xs : List Bool) → single 
 vector-costs labels p xs s f v =
     let ys = map (chosen labels p) (columns labels) in
     ap (λ zs. costs_of (costs labels) (vector zs)) v.is ∙ costs-by-name labels (vector ys) s ∙ cost-same labels p (on labels (vector ys)) s f (is-chosen labels p)
+
+pub vector-weighted : (labels : List Label) (p : Plan) (xs : List Bool) → single labels ≡ true → Fits labels p → IsVector labels p xs → (ws : List ℕ) → costs_of (weighted_costs labels ws) (vector xs) ≡ weighted_cost labels ws p
+vector-weighted labels p xs s f v ws =
+    let ys = map (chosen labels p) (columns labels) in
+    ap (λ zs. costs_of (weighted_costs labels ws) (vector zs)) v.is
+    ∙ weighted-same labels p (vector ys) s (λ l. label-same labels p (on labels (vector ys)) l s f (is-chosen labels p)) ws

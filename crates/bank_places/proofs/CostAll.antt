@@ -22,10 +22,12 @@ use Rattle.bank_form.specs.declared.column.Column.{Column}
 use Rattle.bank_form.specs.declared.column.Column.TheVariants.{Def, Dir, Fill, Ear, Srv}
 use Rattle.bank_form.specs.declared.column.Service.{Service}
 use Rattle.bank_form.specs.Columns.{Priced, eight, sort_of, is_fetched, point_uses, place_words, role_beginnings, sort_defs, def_columns, fill_columns, ear_columns, first_columns, services, has_bank, srv_columns, all_dirs, all_stays, all_ears, all_pas_l, all_pas_s, priced}
+use Rattle.bank_prog.specs.Weighted.{point_in, column_point}
 use Rattle.bank_form.specs.Rows.{ear, lines}
 use Rattle.bank_prog.specs.Meaning.{Chosen, on, named_cost, Holds}
 use Rattle.bank_rows.proofs.PlainLines.{each-kept}
-use Rattle.bank_places.specs.ByLabel.{lies_in, point_in, column_point, label_cost, label_price}
+use Rattle.label_weights.specs.ByLabel.{lies_in, label_cost}
+use Rattle.bank_places.specs.ByLabel.{label_price}
 use Rattle.bank_places.specs.inner.Facts.{OnlyThere, ValueFacts, UseFacts, Facts}
 use Rattle.bank_places.specs.inner.ReadOff.{Numbers, AreRead, read_off}
 use Rattle.bank_places.proofs.Counts.{In, contained-in, in-map, in-kept, in-if, map-in}
@@ -44,7 +46,7 @@ use Rattle.bank_places.proofs.LabelPoints.{uses-in-label}
 -- ---- by a test of points
 
 -- the columns that are on at the points that `keep` says
-abbrev kept_on : List Label → (ℕ → Bool) → Chosen → Chosen
+abbrev pub kept_on : List Label → (ℕ → Bool) → Chosen → Chosen
 kept_on labels keep on = and_passes on (λ c. keep (column_point labels c))
 
 -- a word that is copied early pays for its column, which stands at its use
@@ -76,7 +78,7 @@ ears-paid labels on keep g = cost-points (kept_on labels keep on) (λ k q u. ear
     kept-ear-paid labels on keep k q u g at j (keep u.point) refl)
 
 -- `keep` says the same of a use and of its value's definition
-abbrev KeepsTogether : List Label → (ℕ → Bool) → Type 0
+abbrev pub KeepsTogether : List Label → (ℕ → Bool) → Type 0
 KeepsTogether labels keep = (u : Use) (v : Value) → In u (uses labels) → In v (values labels) → u.value ≡ v.var → keep u.point ≡ keep v.point
 
 -- the words of the values that are kept, each at its use
@@ -112,7 +114,7 @@ value-found (w ∷ ws) v f i = by (nat_eq w.var v.var) refl (λ j. value-found w
         (λ (k : In v ws). k)
         i)
 
-value-stands : (vs : List Value) (v : Value) → all_different (map (λ v. v.var) vs) ≡ true → In v vs → point_in vs v.var ≡ v.point
+pub value-stands : (vs : List Value) (v : Value) → all_different (map (λ v. v.var) vs) ≡ true → In v vs → point_in vs v.var ≡ v.point
 value-stands vs v d i = value-found vs v (λ w j e. same-value vs v w d i j e) i
 
 three-stand : (labels : List Label) (k : ℕ) (a b d c : Priced) → column_point labels a.0 ≡ k → column_point labels b.0 ≡ k → column_point labels d.0 ≡ k → In c (a ∷ b ∷ d ∷ []) → column_point labels c.0 ≡ k
@@ -121,18 +123,18 @@ three-stand labels k a b d c p q r (inr (inl e)) = ap (λ (z : Priced). column_p
 three-stand labels k a b d c p q r (inr (inr (inl e))) = ap (λ (z : Priced). column_point labels z.0) (sym e) ∙ r
 three-stand labels k a b d c p q r (inr (inr (inr e))) = absurd e
 
-def-stands : (labels : List Label) (x : ℕ) (s : Sort) (c : Priced) → In c (sort_defs x s) → column_point labels c.0 ≡ point_in (values labels) x
+pub def-stands : (labels : List Label) (x : ℕ) (s : Sort) (c : Priced) → In c (sort_defs x s) → column_point labels c.0 ≡ point_in (values labels) x
 def-stands labels x (Parameter zero i) c h = three-stand labels (point_in (values labels) x) (Def x A, 0) (Def x B, 1) (Def x M, 17) c refl refl refl h
 def-stands labels x (Parameter (suc l) i) c h = three-stand labels (point_in (values labels) x) (Def x A, 0) (Def x B, 0) (Def x M, 0) c refl refl refl h
 def-stands labels x Result c h = three-stand labels (point_in (values labels) x) (Def x A, 0) (Def x B, 0) (Def x M, 16) c refl refl refl h
 def-stands labels x (Fetched m i) c h = absurd h
 
-fill-stands : (labels : List Label) (v : Value) (c : Priced) → In c (fill_columns labels v) → column_point labels c.0 ≡ point_in (values labels) v.var
+pub fill-stands : (labels : List Label) (v : Value) (c : Priced) → In c (fill_columns labels v) → column_point labels c.0 ≡ point_in (values labels) v.var
 fill-stands labels v c h =
     let x = v.var in
     three-stand labels (point_in (values labels) x) (Fill x A, 1) (Fill x B, 1) (Fill x M, 17) c refl refl refl (in-if c (is_used labels x) ((Fill x A, 1) ∷ (Fill x B, 1) ∷ (Fill x M, 17) ∷ []) h).1
 
-srv-stands : (labels : List Label) (u : Use) (c : Priced) → In c (srv_columns labels u) → column_point labels c.0 ≡ u.point
+pub srv-stands : (labels : List Label) (u : Use) (c : Priced) → In c (srv_columns labels u) → column_point labels c.0 ≡ u.point
 srv-stands labels u c h =
     let w = in-map c (λ (s : Service). (Srv u.point u.operand s.from s.at, s.cost)) (filter (λ (s : Service). has_bank (is_fetched (sort_of labels u.value)) s.from) (services u.role)) h in
     ap (λ (z : Priced). column_point labels z.0) (sym w.2)

@@ -48,7 +48,7 @@ cost-kept on test (c ∷ cs) = by (test c.0) (on c.0) refl (cost-kept on test cs
     by false true e k = omega (arith, k)
     by false false e k = omega (arith, k)
 
-all-pass : (on : Chosen) (test : Column → Bool) (cs : List Priced) → ((c : Priced) → In c cs → test c.0 ≡ true) → named_cost on cs ≡ named_cost (and_passes on test) cs
+pub all-pass : (on : Chosen) (test : Column → Bool) (cs : List Priced) → ((c : Priced) → In c cs → test c.0 ≡ true) → named_cost on cs ≡ named_cost (and_passes on test) cs
 all-pass on test [] h = refl
 all-pass on test (c ∷ cs) h = by (on c.0) (test c.0) (h c (inl refl)) (all-pass on test cs (λ d i. h d (inr i)))
   where

@@ -18,7 +18,7 @@ use Rattle.slot_placement.proofs.Sound.{Each, each-append}
 use Rattle.slot_placement.proofs.Spilled.{all-each, each-left, each-right}
 use Rattle.slot_placement.proofs.Joined.{values-different}
 use Rattle.held_values.proofs.SpotSteps.{places-of-points}
-use Rattle.bank_places.specs.ByLabel.{label_from}
+use Rattle.label_weights.specs.ByLabel.{label_from}
 use Rattle.bank_places.proofs.Counts.{In, in-either}
 use Rattle.bank_places.proofs.FactsThere.{point-of}
 use Rattle.bank_places.proofs.FitPasses.{value-point}

@@ -25,6 +25,7 @@ pub mod CostValues
 pub mod CostKept
 pub mod LabelPoints
 pub mod CostAll
+pub mod Weighed
 pub mod ChosenHolds
 pub mod ChosenForm
 pub mod ChosenThere
@@ -40,6 +41,7 @@ pub mod ChosenOwners
 pub mod ChosenCostValues
 pub mod ChosenCostUses
 pub mod ChosenCostAll
+pub mod ChosenCostKept
 pub mod Readings
 pub mod Numbered
 pub mod HomesRead
