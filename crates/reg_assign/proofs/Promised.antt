@@ -13,18 +13,22 @@ use Rattle.slot_placement.specs.Plan.{Plan, home_view, plan_view}
 use Rattle.zo_model.specs.declared.program.Assignment.{Assignment}
 use Rattle.zo_model.specs.Program.{vector, costs_of}
 use Rattle.bank_form.specs.Columns.{priced, costs}
+use Rattle.bank_prog.specs.Weighted.{weighted_costs}
 use Rattle.bank_prog.specs.Meaning.{on, named_cost, IsFeasible}
 use Rattle.bank_prog.proofs.LawsColumns.{on-there}
 use Rattle.bank_prog.proofs.LawsCost.{costs-by-name}
 use Rattle.reg_assign.specs.declared.given.Given.{Given}
 use Rattle.bank_places.specs.declared.numbers.BankNumbers.{BankNumbers}
 use Rattle.bank_places.specs.declared.reading.Reading.{Reading}
-use Rattle.bank_places.specs.ByLabel.{label_cost, label_price}
+use Rattle.label_weights.specs.ByLabel.{label_cost}
+use Rattle.label_weights.specs.Weighted.{weighted_cost}
+use Rattle.bank_places.specs.ByLabel.{label_price}
 use Rattle.bank_places.specs.inner.Facts.{OnlyThere}
 use Rattle.bank_places.specs.inner.ReadOff.{Numbers, AreNumbered, read_off}
 use Rattle.reg_assign.specs.inner.Given.{labels_in, says_in, numbers_in}
 use Rattle.bank_places.specs.inner.Reading.{labels_of, says, numbers_of, IsReadOff}
 use Rattle.bank_places.proofs.CostAll.{plan-cost, label-paid}
+use Rattle.bank_places.proofs.Weighed.{weighted-paid}
 use Rattle.bank_places.proofs.FitAll.{read-off-fits}
 
 -- what is promised of the placement of a vector
@@ -33,6 +37,7 @@ pub record IsAssigned (labels : List Label) (n : ℕ) (v : ℕ → Bool) (p : Pl
   pub slots : p.slots ≡ n
   pub paid : cost labels (plan_view p) ≤ costs_of (costs labels) v
   pub label_paid : (l : ℕ) → label_cost labels l (plan_view p) ≤ label_price labels l v
+  pub weighted_paid : (ws : List ℕ) → weighted_cost labels ws (plan_view p) ≤ costs_of (weighted_costs labels ws) v
 
 read-assigned : (labels : List Label) (n : ℕ) (v : ℕ → Bool) (numbers : Numbers) (p : Placement) → single labels ≡ true → n ≤ 128 → IsFeasible labels n v → AreNumbered labels n (on labels v) numbers → IsReadOff labels n (on labels v) numbers p
     → IsAssigned labels n v p
@@ -41,12 +46,14 @@ read-assigned labels n v numbers p form few rows numbered r =
     let only : OnlyThere labels (on labels v) = λ c e. on-there labels v c e in
     let paid = plan-cost labels n (on labels v) numbers hs form only rows r.homes in
     let same : cost labels (plan_view p) ≡ cost labels (read_off labels n (on labels v) numbers hs) = ap (cost labels) r.same in
+    let labels_paid : (l : ℕ) → label_cost labels l (plan_view p) ≤ label_price labels l v = subst (λ (q : Plan). (l : ℕ) → label_cost labels l q ≤ label_price labels l v) (sym r.same) (label-paid labels n v numbers hs form only rows r.homes) in
     let law : costs_of (costs labels) v ≡ named_cost (on labels v) (priced labels) = costs-by-name labels v form in
     record {
       fits = subst (λ (q : Plan). Fits labels q) (sym r.same) (read-off-fits labels n (on labels v) numbers hs form few only rows r.homes numbered);
       slots = ap (λ (q : Plan). q.slots) r.same;
       paid = omega arith;
-      label_paid = subst (λ (q : Plan). (l : ℕ) → label_cost labels l q ≤ label_price labels l v) (sym r.same) (label-paid labels n v numbers hs form only rows r.homes);
+      label_paid = labels_paid;
+      weighted_paid = weighted-paid labels (plan_view p) v form labels_paid;
     }
 
 -- the numbers of homes by which the vector that is read meets the rows

@@ -1,6 +1,6 @@
 //! The placement of a vector.
 
-ghost use Rattle.std.specs.Prelude.{◌≡◌, ℕ, ◌≤◌, true, length, IfOk};
+ghost use Rattle.std.specs.Prelude.{◌≡◌, ℕ, ◌≤◌, true, List, length, IfOk};
 ghost use Rattle.ssu_ir.specs.Single.{single};
 ghost use Rattle.ssu_ir.specs.View.{labels_view};
 ghost use Rattle.slot_placement.specs.Costs as costs;
@@ -9,7 +9,10 @@ ghost use Rattle.slot_placement.specs.Plan.{plan_view};
 ghost use Rattle.zo_model.specs.Program.{vector, costs_of};
 ghost use Rattle.bank_form.specs.Columns as columns;
 ghost use Rattle.bank_prog.specs.Meaning.{IsFeasible};
-ghost use Rattle.bank_places.specs.ByLabel as by_label;
+ghost use Rattle.bank_prog.specs.Weighted.{weighted_costs};
+ghost use Rattle.label_weights.specs.ByLabel as by_label;
+ghost use Rattle.label_weights.specs.Weighted as under_weights;
+ghost use Rattle.bank_places.specs.ByLabel.{label_price};
 ghost use Rattle.reg_assign.specs.inner.Given.{labels_in, says_in, numbers_in};
 ghost use Rattle.bank_places.specs.inner.Reading.{IsReadOff};
 
@@ -50,7 +53,8 @@ pub fn assign(alloc: Global, s: &Ssu, slots: u32, x: &Assignment) -> Result<Plac
     ensures fits { IfOk result (λ p. Fits (labels_view s.now) (plan_view p)) }
     ensures slots { IfOk result (λ p. p.slots ≡ slots) }
     ensures cost { IfOk result (λ p. costs.cost (labels_view s.now) (plan_view p) ≤ costs_of (columns.costs (labels_view s.now)) (vector x.now.on.items)) }
-    ensures label_cost { IfOk result (λ p. (l : ℕ) → by_label.label_cost (labels_view s.now) l (plan_view p) ≤ by_label.label_price (labels_view s.now) l (vector x.now.on.items)) }
+    ensures label_cost { IfOk result (λ p. (l : ℕ) → by_label.label_cost (labels_view s.now) l (plan_view p) ≤ label_price (labels_view s.now) l (vector x.now.on.items)) }
+    ensures weighted_cost { IfOk result (λ p. (ws : List ℕ) → under_weights.weighted_cost (labels_view s.now) ws (plan_view p) ≤ costs_of (weighted_costs (labels_view s.now) ws) (vector x.now.on.items)) }
 {
     let reading = reading_of(alloc, s, x)?;
     let numbers = bank_numbers(alloc, &reading)?;

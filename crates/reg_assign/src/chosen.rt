@@ -1,14 +1,16 @@
 //! The vector of a placement.
 
-ghost use Rattle.std.specs.Prelude.{◌≡◌, true, length, map, IfOk};
+ghost use Rattle.std.specs.Prelude.{◌≡◌, ℕ, true, List, length, map, IfOk};
 ghost use Rattle.ssu_ir.specs.Single.{single};
 ghost use Rattle.ssu_ir.specs.View.{labels_view};
+ghost use Rattle.label_weights.specs.Weighted as under_weights;
 ghost use Rattle.slot_placement.specs.Costs as costs;
 ghost use Rattle.slot_placement.specs.Fits.{Fits};
 ghost use Rattle.slot_placement.specs.Plan.{plan_view};
 ghost use Rattle.zo_model.specs.Program.{vector, costs_of};
 ghost use Rattle.bank_form.specs.Columns as columns;
 ghost use Rattle.bank_prog.specs.Meaning.{IsFeasible};
+ghost use Rattle.bank_prog.specs.Weighted.{weighted_costs};
 ghost use Rattle.bank_places.specs.inner.Chosen as chosen;
 
 use crate::plan_columns::all_on;
@@ -40,6 +42,7 @@ pub fn from_placement(alloc: Global, s: &Ssu, p: &Placement) -> Result<Assignmen
     ensures columns { IfOk result (λ x. length x.on.items ≡ length (columns.columns (labels_view s.now))) }
     ensures feasible { IfOk result (λ x. IsFeasible (labels_view s.now) p.now.slots (vector x.on.items)) }
     ensures cost { IfOk result (λ x. costs_of (columns.costs (labels_view s.now)) (vector x.on.items) ≡ costs.cost (labels_view s.now) (plan_view p.now)) }
+    ensures weighted_cost { IfOk result (λ x. (ws : List ℕ) → costs_of (weighted_costs (labels_view s.now) ws) (vector x.on.items) ≡ under_weights.weighted_cost (labels_view s.now) ws (plan_view p.now)) }
 {
     let columns = column_names(alloc, s)?;
     let f = form_of(alloc, s)?;

@@ -2,7 +2,7 @@ use Rattle.std.proofs.Common.{◌∙◌, map, ap}
 use Rattle.ssu_ir.specs.View.{labels_view}
 use Rattle.slot_placement.specs.Plan.{plan_view}
 use Rattle.bank_places.specs.inner.Chosen.{chosen}
-use Rattle.bank_places.proofs.ChosenVector.{IsVector, vector-long, vector-feasible, vector-costs}
+use Rattle.bank_places.proofs.ChosenVector.{IsVector, vector-long, vector-feasible, vector-costs, vector-weighted}
 use Rattle.reg_assign.proofs.chosen.from_placement.Goals as goal
 
 pub returns : goal.returns
@@ -19,4 +19,5 @@ returns c =
       columns = vector-long labels p c.in_ok-on.on.items is;
       feasible = vector-feasible labels p c.in_ok-on.on.items c.requires.single c.requires.fits is;
       cost = vector-costs labels p c.in_ok-on.on.items c.requires.single c.requires.fits is;
+      weighted_cost = vector-weighted labels p c.in_ok-on.on.items c.requires.single c.requires.fits is;
     }
