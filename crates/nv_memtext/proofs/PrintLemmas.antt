@@ -69,22 +69,20 @@ memory_more m ws start out out' k e f =
     sym (text_of-append (flat_map (stretch_lines m ws) (numbers_below k)) (stretch_lines m ws k))
     ∙ ap text_of (ap (λ t. flat_map (stretch_lines m ws) (numbers_below k) ++ t) (sym (append-nil (stretch_lines m ws k))) ∙ sym (flat_map-append (stretch_lines m ws) (numbers_below k) (k ∷ [])))))
 
--- a text and one line more, or a text more
-text_line : (start : List ℕ) (ls : List (List ℕ)) (i j x : List ℕ) → i ≡ start ++ text_of ls → j ≡ i ++ (x ++ 10 ∷ []) → j ≡ start ++ text_of (ls ++ x ∷ [])
-text_line start ls i j x e f =
-    join2 start i j (text_of ls) (x ++ 10 ∷ []) e f ∙ ap (λ t. start ++ t) (ap (λ t. text_of ls ++ t) (sym (append-nil (x ++ 10 ∷ []))) ∙ sym (text_of-append ls (x ∷ [])))
-
-text_more : (start : List ℕ) (ls ms : List (List ℕ)) (i j : List ℕ) → i ≡ start ++ text_of ls → j ≡ i ++ text_of ms → j ≡ start ++ text_of (ls ++ ms)
+-- a text behind a text
+pub text_more : (start : List ℕ) (ls ms : List (List ℕ)) (i j : List ℕ) → i ≡ start ++ text_of ls → j ≡ i ++ text_of ms → j ≡ start ++ text_of (ls ++ ms)
 text_more start ls ms i j e f = join2 start i j (text_of ls) (text_of ms) e f ∙ ap (λ t. start ++ t) (sym (text_of-append ls ms))
 
-pub state_pieces : (start w : List ℕ) (ws : List (List ℕ)) (s : List ℕ) (m1 m2 m3 : List (List ℕ)) (i2 i3 i4 i5 i6 i7 : List ℕ) → i2 ≡ start ++ (w ++ 10 ∷ []) → i3 ≡ i2 ++ text_of ws → i4 ≡ i3 ++ (s ++ 10 ∷ []) → i5 ≡ i4 ++ text_of m1 → i6 ≡ i5 ++ text_of m2 → i7 ≡ i6 ++ text_of m3 → i7 ≡ start ++ text_of (w ∷ ws ++ s ∷ m1 ++ m2 ++ m3)
-state_pieces start w ws s m1 m2 m3 i2 i3 i4 i5 i6 i7 e2 e3 e4 e5 e6 e7 =
-    let t2 : i2 ≡ start ++ text_of (w ∷ []) = e2 ∙ ap (λ t. start ++ t) (sym (append-nil (w ++ 10 ∷ []))) in
-    let t3 : i3 ≡ start ++ text_of (w ∷ ws) = text_more start (w ∷ []) ws i2 i3 t2 e3 in
-    let t4 = text_line start (w ∷ ws) i3 i4 s t3 e4 in
-    let t5 = text_more start ((w ∷ ws) ++ s ∷ []) m1 i4 i5 t4 e5 ∙ ap (λ ls. start ++ text_of ls) (append_assoc (w ∷ ws) (s ∷ []) m1) in
-    let t6 = text_more start ((w ∷ ws) ++ s ∷ m1) m2 i5 i6 t5 e6 in
-    text_more start (((w ∷ ws) ++ s ∷ m1) ++ m2) m3 i6 i7 t6 e7
+-- a line and a text
+pub log_pieces : (start w : List ℕ) (ws : List (List ℕ)) (i j : List ℕ) → i ≡ start ++ (w ++ 10 ∷ []) → j ≡ i ++ text_of ws → j ≡ start ++ text_of (w ∷ ws)
+log_pieces start w ws i j e f = text_more start (w ∷ []) ws i j (e ∙ ap (λ t. start ++ t) (sym (append-nil (w ++ 10 ∷ [])))) f
+
+-- a line and three texts
+pub packet_pieces : (start s : List ℕ) (m1 m2 m3 : List (List ℕ)) (i4 i5 i6 i7 : List ℕ) → i4 ≡ start ++ (s ++ 10 ∷ []) → i5 ≡ i4 ++ text_of m1 → i6 ≡ i5 ++ text_of m2 → i7 ≡ i6 ++ text_of m3 → i7 ≡ start ++ text_of (s ∷ m1 ++ m2 ++ m3)
+packet_pieces start s m1 m2 m3 i4 i5 i6 i7 e4 e5 e6 e7 =
+    let t5 : i5 ≡ start ++ text_of (s ∷ m1) = log_pieces start s m1 i4 i5 e4 e5 in
+    let t6 = text_more start (s ∷ m1) m2 i5 i6 t5 e6 in
+    text_more start ((s ∷ m1) ++ m2) m3 i6 i7 t6 e7
 
 -- the line of an outcome, that of a name, and the others
 pub named_pieces : (o : List ℕ) (names rest : List (List ℕ)) (i1 i2 i3 : List ℕ) → i1 ≡ o ++ 10 ∷ [] → i2 ≡ i1 ++ text_of names → i3 ≡ i2 ++ text_of rest → i3 ≡ text_of (o ∷ names ++ rest)

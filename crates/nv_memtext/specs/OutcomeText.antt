@@ -50,12 +50,21 @@ memory_lines m ws = flat_map (stretch_lines m ws) (numbers_below ((length ws + 7
 abbrev pub sizes_line : Memories → List ℕ
 sizes_line p = parted (codes "memory" ∷ decimal (length p.sram) ∷ decimal (length p.sdram / 2) ∷ [])
 
--- the number of writes, the first 64 of those that were kept, the sizes, and what isn't 0 of SRAM, SDRAM and the scratch
--- of the source
+-- the number of writes, and the first 64 of those that were kept
+abbrev pub log_lines : Log → List (List ℕ)
+log_lines log = parted (codes "writes" ∷ decimal log.count ∷ []) ∷ map write_line (take 64 log.kept)
+
+-- the sizes, and what isn't 0 of SRAM, SDRAM and the scratch of the source
+abbrev pub packet_lines : Memories → List (List ℕ)
+packet_lines p = sizes_line p ∷ memory_lines Sram p.sram ++ memory_lines Sdram p.sdram ++ memory_lines Scratch (take source_scratch p.scratch)
+
+-- the writes, and then the memories
 abbrev pub state_lines : Memories → Log → List (List ℕ)
-state_lines p log =
-    parted (codes "writes" ∷ decimal log.count ∷ []) ∷ map write_line (take 64 log.kept)
-    ++ sizes_line p ∷ memory_lines Sram p.sram ++ memory_lines Sdram p.sdram ++ memory_lines Scratch (take source_scratch p.scratch)
+state_lines p log = log_lines log ++ packet_lines p
+
+-- how a run stands and what it wrote, without the memories
+abbrev pub run_lines : Outcome → Log → List (List ℕ)
+run_lines o log = outcome_line o ∷ log_lines log
 
 -- the text of the outcome and of these lines
 unfoldable pub outcome_text : Outcome → Memories → Log → List ℕ

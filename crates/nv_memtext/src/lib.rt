@@ -7,5 +7,5 @@ mod line;
 mod print;
 mod read;
 
-pub use print::{print_named, print_outcome};
+pub use print::{memory_name, print_named, print_outcome, push_packet, push_run};
 pub use read::{Job, MemError, read_memory};

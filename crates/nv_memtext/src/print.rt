@@ -5,7 +5,7 @@ ghost use Rattle.std.specs.List.{flat_map, list_all};
 ghost use Rattle.line_text.specs.Line.{text_of};
 ghost use Rattle.line_text.specs.Number.{hex_word};
 ghost use Rattle.mem_lines.specs.Spelling.{name_of};
-ghost use Rattle.nv_memtext.specs.OutcomeText.{outcome_line, write_line, stretch_line, stretch_lines, memory_lines, sizes_line, state_lines, name_lines, outcome_text, named_text};
+ghost use Rattle.nv_memtext.specs.OutcomeText.{outcome_line, write_line, stretch_line, stretch_lines, memory_lines, sizes_line, log_lines, packet_lines, state_lines, run_lines, name_lines, outcome_text, named_text};
 
 use line_text::{push_decimal, push_word};
 use mem_lines::start;
@@ -16,7 +16,7 @@ use std::alloc::{AllocError, Global};
 const SHOWN: usize = 64;
 
 /// The name of a memory.
-fn name(mem: Mem) -> &'static [u8]
+pub fn memory_name(mem: Mem) -> &'static [u8]
     ensures { result.now ≡ name_of mem }
 {
     match mem {
@@ -41,7 +41,7 @@ fn push_words(out: &mut Vec<u8>, words: &[u32]) -> Result<(), AllocError>
 fn push_stretch(out: &mut Vec<u8>, mem: Mem, at: u64, words: &[u32]) -> Result<(), AllocError>
     ensures { OnOk result (out.new.items ≡ out.old.items ++ (stretch_line mem at words.now ++ 10 ∷ [])) }
 {
-    out.extend_from_slice(name(mem))?;
+    out.extend_from_slice(memory_name(mem))?;
     out.push(b' ')?;
     push_decimal(out, at)?;
     push_words(out, words)?;
@@ -85,7 +85,7 @@ fn push_fault(out: &mut Vec<u8>, mem: Mem, at: u64) -> Result<(), AllocError>
     ensures { OnOk result (out.new.items ≡ out.old.items ++ (codes "fault " ++ (name_of mem ++ (32 ∷ (decimal at ++ 10 ∷ []))))) }
 {
     out.extend_from_slice(b"fault ")?;
-    out.extend_from_slice(name(mem))?;
+    out.extend_from_slice(memory_name(mem))?;
     push_counted(out, b" ", at)
 }
 
@@ -177,12 +177,34 @@ fn push_name(out: &mut Vec<u8>, outcome: &Outcome, line: u32, name: &[u8]) -> Re
     }
 }
 
+/// Writes the lines of a log.
+fn push_log(out: &mut Vec<u8>, log: &WriteLog) -> Result<(), AllocError>
+    ensures { OnOk result (out.new.items ≡ out.old.items ++ text_of (log_lines log.now)) }
+{
+    push_counted(out, b"writes ", log.count())?;
+    push_writes(out, front(log.kept(), SHOWN))
+}
+
 /// Writes the lines behind the outcome.
 fn push_state(out: &mut Vec<u8>, p: &Packet, log: &WriteLog) -> Result<(), AllocError>
     ensures { OnOk result (out.new.items ≡ out.old.items ++ text_of (state_lines p.now log.now)) }
 {
-    push_counted(out, b"writes ", log.count())?;
-    push_writes(out, front(log.kept(), SHOWN))?;
+    push_log(out, log)?;
+    push_packet(out, p)
+}
+
+/// Writes how a run stands, the number of its writes and the first 64 of those that the log kept; without the memories.
+pub fn push_run(out: &mut Vec<u8>, o: &Outcome, log: &WriteLog) -> Result<(), AllocError>
+    ensures { OnOk result (out.new.items ≡ out.old.items ++ text_of (run_lines o.now log.now)) }
+{
+    push_outcome(out, o)?;
+    push_log(out, log)
+}
+
+/// Writes the memories' sizes, and their words that aren't 0.
+pub fn push_packet(out: &mut Vec<u8>, p: &Packet) -> Result<(), AllocError>
+    ensures { OnOk result (out.new.items ≡ out.old.items ++ text_of (packet_lines p.now)) }
+{
     push_sizes(out, p)?;
     push_memory(out, Mem::Sram, p.words(Mem::Sram))?;
     push_memory(out, Mem::Sdram, p.words(Mem::Sdram))?;
