@@ -171,7 +171,7 @@ bad_count params bytes line rest e h none = wrong [] line rest e h (nothing refl
 
 -- ---- of a text's answers one is true
 
-gives_one : (params : ℕ) (bytes : List ℕ) (args args' : List (List ℕ)) (es es' : List (ℕ × ℕ)) → Gives params bytes args es → Gives params bytes args' es' → (args ≡ args') × (es ≡ es')
+pub gives_one : (params : ℕ) (bytes : List ℕ) (args args' : List (List ℕ)) (es es' : List (ℕ × ℕ)) → Gives params bytes args es → Gives params bytes args' es' → (args ≡ args') × (es ≡ es')
 gives_one params bytes args args' es es' g h =
     let same = lines_one g.lines h.lines [] [] (begins_lack params g.text.contexts g.lines args es g.text.begun) (begins_lack params h.text.contexts h.lines args' es' h.text.begun) tt tt (ap (λ t. t ++ []) (sym g.spelled ∙ h.spelled)) in
     let there : BeginsSchedule params h.lines g.text.contexts args es = subst (λ l. BeginsSchedule params l g.text.contexts args es) same.0 g.text.begun in
@@ -181,8 +181,11 @@ gives_one params bytes args args' es es' g h =
 gives_text : (params : ℕ) (bytes : List ℕ) (args : List (List ℕ)) (es : List (ℕ × ℕ)) → Gives params bytes args es → IsText (IsWhole params) bytes
 gives_text params bytes args es g = record { lines = g.lines; spelled = g.spelled; whole = record { args = args; entries = es; text = g.text } }
 
-gives_not_bad : (params : ℕ) (bytes : List ℕ) (args : List (List ℕ)) (es : List (ℕ × ℕ)) (n : ℕ) → Gives params bytes args es → IsBad params bytes n → ⊥
+pub gives_not_bad : (params : ℕ) (bytes : List ℕ) (args : List (List ℕ)) (es : List (ℕ × ℕ)) (n : ℕ) → Gives params bytes args es → IsBad params bytes n → ⊥
 gives_not_bad params bytes args es n g b = no_text (IsFront params) (IsWhole params) bytes n (schedule_format params) b (gives_text params bytes args es g)
+
+pub bad_one : (params : ℕ) (bytes : List ℕ) (m n : ℕ) → IsBad params bytes m → IsBad params bytes n → m ≡ n
+bad_one params bytes m n b d = one_fault (IsFront params) (IsWhole params) bytes m n (schedule_format params) b d
 
 pub given_answer : (params : ℕ) (bytes : List ℕ) (r : Result Schedule ScheduleError) → IfOk r (λ s. Gives params bytes s.args.items s.entries.items) → IfErr r (IsTrueError params bytes) → (args : List (List ℕ)) (es : List (ℕ × ℕ)) → Gives params bytes args es → AnswersSchedule r args es
 given_answer params bytes (Ok s) ok err args es g = gives_one params bytes s.args.items args s.entries.items es ok g
@@ -192,4 +195,4 @@ given_answer params bytes (Err (Bad n)) ok err args es g = gives_not_bad params 
 pub bad_answer : (params : ℕ) (bytes : List ℕ) (r : Result Schedule ScheduleError) → IfOk r (λ s. Gives params bytes s.args.items s.entries.items) → IfErr r (IsTrueError params bytes) → (n : ℕ) → IsBad params bytes n → AnswersBad r n
 bad_answer params bytes (Ok s) ok err n b = gives_not_bad params bytes s.args.items s.entries.items n ok b
 bad_answer params bytes (Err NoMemory) ok err n b = tt
-bad_answer params bytes (Err (Bad m)) ok err n b = one_fault (IsFront params) (IsWhole params) bytes m n (schedule_format params) err b
+bad_answer params bytes (Err (Bad m)) ok err n b = bad_one params bytes m n err b

@@ -1,5 +1,5 @@
 -- The text of a schedule: how many contexts there are, the arguments of all but the first, and whose turns they are.
-use Rattle.std.specs.Prelude.{◌≡◌, ℕ, zero, suc, ◌+◌, ◌-◌, ◌<◌, ◌≤◌, List, [], ◌∷◌, length, codes, decimal, ⊤}
+use Rattle.std.specs.Prelude.{◌≡◌, ℕ, zero, suc, ◌+◌, ◌-◌, ◌<◌, ◌≤◌, List, [], ◌∷◌, length, codes, decimal, sum_by, ⊤}
 use Rattle.line_text.specs.Format.{FirstFault}
 use Rattle.line_text.specs.Line.{text_of, parted}
 use Rattle.mem_lines.specs.Spelling.{SpellWords}
@@ -30,6 +30,18 @@ pub record SpellsEntries (k left : ℕ) (line : List ℕ) (entry : ℕ × ℕ) :
   pub some : 1 ≤ entry.1
   pub few : entry.1 ≤ left
   pub spelled : line ≡ parted (codes "run" ∷ decimal entry.0 ∷ decimal entry.1 ∷ [])
+
+-- an entry is of one of k contexts
+abbrev pub IsNamed : ℕ → ℕ × ℕ → Type 0
+IsNamed k entry = entry.0 < k
+
+-- a context is started on so many words
+abbrev pub HasWords : ℕ → List ℕ → Type 0
+HasWords params args = length args ≡ params
+
+-- how many steps the entries are
+abbrev pub steps_of : List (ℕ × ℕ) → ℕ
+steps_of entries = sum_by (λ entry. entry.1) entries
 
 -- the lines are entries of k contexts, of which so many are left
 abbrev pub AreEntries : ℕ → ℕ → List (List ℕ) → List (ℕ × ℕ) → Type 0

@@ -1,6 +1,6 @@
 //! A schedule's text, read.
-ghost use Rattle.std.specs.Prelude.{◌≡◌, ◌+◌, ◌<◌, ◌≤◌, ◌^◌, ℕ, List, [], length, IfOk, IfErr};
-ghost use Rattle.schedule_text.specs.ScheduleText.{Gives, IsBad};
+ghost use Rattle.std.specs.Prelude.{◌≡◌, ◌+◌, ◌<◌, ◌≤◌, ◌^◌, ℕ, List, [], All, length, IfOk, IfErr};
+ghost use Rattle.schedule_text.specs.ScheduleText.{Gives, HasWords, IsBad, IsNamed, entry_limit, steps_of};
 ghost use Rattle.schedule_text.specs.Answer.{IsTrueError, AnswersSchedule, AnswersBad};
 ghost use Rattle.schedule_text.specs.inner.Reading.{HasRead};
 ghost use Rattle.schedule_text.specs.declared.read.ScheduleError.TheVariants.{NoMemory as WantOfMemory};
@@ -126,6 +126,10 @@ pub fn read_schedule(alloc: Global, bytes: &[u8], params: u8) -> Result<Schedule
     ensures refuses { IfErr result (IsTrueError params bytes.now) }
     ensures given { (args : List (List ℕ)) (entries : List (ℕ × ℕ)) → Gives params bytes.now args entries → AnswersSchedule result args entries }
     ensures bad { (n : ℕ) → IsBad params bytes.now n → AnswersBad result n }
+    ensures four { IfOk result (λ s. length s.args.items < 4) }
+    ensures words { IfOk result (λ s. All (HasWords params) s.args.items) }
+    ensures named { IfOk result (λ s. All (IsNamed (length s.args.items + 1)) s.entries.items) }
+    ensures steps { IfOk result (λ s. steps_of s.entries.items ≤ entry_limit) }
 {
     read_text(alloc, bytes, params)
 }
