@@ -1,13 +1,14 @@
 -- Marks tell whether runs are disjoint.
-use Rattle.std.proofs.Common.{◌≡◌, ℕ, zero, suc, inl, inr, List, [], ◌∷◌, Some, refl, subst}
+use Rattle.std.proofs.Common.{◌≡◌, ℕ, zero, suc, ◌<◌, ◌⊎◌, inl, inr, List, [], ◌∷◌, Some, refl, ap, sym, subst, arith}
 use Rattle.std.specs.Prelude.{slice_get}
 use Rattle.nv_base.specs.declared.term.Mem.{Mem}
+use Rattle.nv_base.specs.declared.term.Mem.TheVariants.{Sram, Sdram, Scratch}
 use Rattle.nv_base.specs.Memories.{Memories}
 use Rattle.uc_isa.specs.Code.{CodeView}
 use Rattle.uc_contexts.specs.declared.alone.Marks.{Marks}
-use Rattle.uc_contexts.specs.Alone.{AreDisjoint}
+use Rattle.uc_contexts.specs.Alone.{AreDisjoint, IsCommon}
 use Rattle.uc_contexts.specs.Feet.{Lone}
-use Rattle.uc_contexts.specs.Marked.{AreFeet, IsFoot, IsShared}
+use Rattle.uc_contexts.specs.Marked.{AreFeet, IsFoot, IsShared, IsFirstShared, IsFirstCommon, Precedes, rank}
 
 -- each run has its marks
 foot-of : (c : CodeView) (p : Memories) (runs : List Lone) (feet : List Marks) (i : ℕ) (x : Lone) → AreFeet c p runs feet → slice_get runs i ≡ Some x → (f : Marks) × (slice_get feet i ≡ Some f) × IsFoot c p x f
@@ -53,3 +54,107 @@ shared-not_disjoint c p runs feet m a h s = λ d.
       | inl r ↦ inl ((y.2.read m a).0 r)
       | inr v ↦ inr ((y.2.written m a).0 v)
     ])
+
+-- ---- what is shared is common to the runs
+
+shared-common : (c : CodeView) (p : Memories) (runs : List Lone) (feet : List Marks) (m : Mem) (a : ℕ) → AreFeet c p runs feet → IsShared feet m a → IsCommon c p runs m a
+shared-common c p runs feet m a h s =
+    let o = s.4 in
+    let x = run-of c p runs feet s.0 s.1 h s.2 in
+    let y = run-of c p runs feet o.0 o.1 h o.3 in
+    record {
+      writer = s.0;
+      other = o.0;
+      first = x.0;
+      second = y.0;
+      apart = o.2;
+      first_is = x.1;
+      second_is = y.1;
+      written = (x.2.written m a).0 s.3;
+      touched = elim o.4 [
+        | inl r ↦ inl ((y.2.read m a).0 r)
+        | inr v ↦ inr ((y.2.written m a).0 v)
+      ];
+    }
+
+common-shared : (c : CodeView) (p : Memories) (runs : List Lone) (feet : List Marks) (m : Mem) (a : ℕ) → AreFeet c p runs feet → IsCommon c p runs m a → IsShared feet m a
+common-shared c p runs feet m a h s =
+    let f = foot-of c p runs feet s.writer s.first h s.first_is in
+    let g = foot-of c p runs feet s.other s.second h s.second_is in (
+      s.writer,
+      f.0,
+      f.1,
+      (f.2.written m a).1 s.written,
+      (
+        s.other,
+        g.0,
+        s.apart,
+        g.1,
+        elim s.touched [
+          | inl r ↦ inl ((g.2.read m a).1 r)
+          | inr v ↦ inr ((g.2.written m a).1 v)
+        ],
+      ),
+    )
+
+pub first-common : (c : CodeView) (p : Memories) (runs : List Lone) (feet : List Marks) (m : Mem) (a : ℕ) → AreFeet c p runs feet → IsFirstShared feet m a → IsFirstCommon c p runs m a
+first-common c p runs feet m a h f = record {
+  common = shared-common c p runs feet m a h f.shared;
+  first = λ k b before common. f.first k b before (common-shared c p runs feet k b h common);
+}
+
+-- where an address is common, the runs aren't disjoint
+pub common-not_disjoint : (c : CodeView) (p : Memories) (runs : List Lone) (m : Mem) (a : ℕ) → IsCommon c p runs m a → ¬ AreDisjoint c p runs
+common-not_disjoint c p runs m a s = λ d. d s.writer s.other s.first s.second s.apart s.first_is s.second_is m a s.written s.touched
+
+-- ---- there is one first address
+
+-- of two numbers one is less, or they are one
+compare : (a b : ℕ) → (a < b) ⊎ (a ≡ b) ⊎ (b < a)
+compare zero zero = inr (inl refl)
+compare zero (suc b) = inl (omega arith)
+compare (suc a) zero = inr (inr (omega arith))
+compare (suc a) (suc b) = elim (compare a b) [
+  | inl l ↦ inl (omega (arith, l))
+  | inr r ↦ elim r [
+    | inl e ↦ inr (inl (ap suc e))
+    | inr g ↦ inr (inr (omega (arith, g)))
+  ]
+]
+
+same-memory : (m k : Mem) → rank m ≡ rank k → m ≡ k
+same-memory Sram Sram e = refl
+same-memory Sdram Sdram e = refl
+same-memory Scratch Scratch e = refl
+same-memory Sram Sdram e = absurd (omega (arith, e))
+same-memory Sram Scratch e = absurd (omega (arith, e))
+same-memory Sdram Sram e = absurd (omega (arith, e))
+same-memory Sdram Scratch e = absurd (omega (arith, e))
+same-memory Scratch Sram e = absurd (omega (arith, e))
+same-memory Scratch Sdram e = absurd (omega (arith, e))
+
+order : (m : Mem) (a : ℕ) (k : Mem) (b : ℕ) → Precedes m a k b ⊎ ((m ≡ k) × (a ≡ b)) ⊎ Precedes k b m a
+order m a k b = elim (compare (rank m) (rank k)) [
+  | inl l ↦ inl (inl l)
+  | inr r ↦ elim r [
+    | inr g ↦ inr (inr (inl g))
+    | inl e ↦
+        let same : m ≡ k = same-memory m k e in
+        elim (compare a b) [
+          | inl l ↦ inl (inr (same, l))
+          | inr t ↦ elim t [
+            | inl f ↦ inr (inl (same, f))
+            | inr g ↦ inr (inr (inr (sym same, g)))
+          ]
+        ]
+  ]
+]
+
+pub first-one : (c : CodeView) (p : Memories) (runs : List Lone) (m : Mem) (a : ℕ) (k : Mem) (b : ℕ) → IsFirstCommon c p runs m a → IsFirstCommon c p runs k b → (m ≡ k) × (a ≡ b)
+first-one c p runs m a k b f g = elim (order m a k b) [
+  | inl l ↦ absurd (g.first m a l f.common)
+  | inr r ↦ elim r [
+    | inl same ↦ same
+    | inr l ↦ absurd (f.first k b l g.common)
+  ]
+]

@@ -28,6 +28,18 @@ abbrev pub AreDisjoint : CodeView → Memories → List Lone → Type 0
 AreDisjoint c p runs = (i j : ℕ) (x y : Lone) → ¬ (i ≡ j) → slice_get runs i ≡ Some x → slice_get runs j ≡ Some y
     → (m : Mem) (a : ℕ) → Writes c p x m a → ¬ (Reads c p y m a ⊎ Writes c p y m a)
 
+-- one run writes the address, and another reads or writes it
+pub record IsCommon (c : CodeView) (p : Memories) (runs : List Lone) (m : Mem) (a : ℕ) : Type 0 where
+  pub writer : ℕ
+  pub other : ℕ
+  pub first : Lone
+  pub second : Lone
+  pub apart : ¬ (writer ≡ other)
+  pub first_is : slice_get runs writer ≡ Some first
+  pub second_is : slice_get runs other ≡ Some second
+  pub written : Writes c p first m a
+  pub touched : Reads c p second m a ⊎ Writes c p second m a
+
 -- a context as its run alone leaves it: the engine, the outcome, and the source's writes in its log
 abbrev pub left_alone : CodeView → Memories → Lone → Context
 left_alone c p run = record {

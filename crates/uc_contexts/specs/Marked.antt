@@ -5,6 +5,7 @@ use Rattle.nv_base.specs.declared.term.Mem.TheVariants.{Sram, Sdram, Scratch}
 use Rattle.nv_base.specs.Memories.{Memories, first_word, words_at}
 use Rattle.uc_isa.specs.Code.{CodeView}
 use Rattle.uc_contexts.specs.declared.alone.Marks.{Marks}
+use Rattle.uc_contexts.specs.Alone.{IsCommon}
 use Rattle.uc_contexts.specs.Feet.{Lone, Reads, Writes}
 use Rattle.uc_contexts.specs.Sets.{has, within}
 
@@ -51,6 +52,11 @@ Precedes m a k b = (rank m < rank k) ⊎ ((m ≡ k) × (a < b))
 pub record IsFirstShared (feet : List Marks) (m : Mem) (a : ℕ) : Type 0 where
   pub shared : IsShared feet m a
   pub first : (k : Mem) (b : ℕ) → Precedes k b m a → ¬ IsShared feet k b
+
+-- the first address that one run writes and another reads or writes
+pub record IsFirstCommon (c : CodeView) (p : Memories) (runs : List Lone) (m : Mem) (a : ℕ) : Type 0 where
+  pub common : IsCommon c p runs m a
+  pub first : (k : Mem) (b : ℕ) → Precedes k b m a → ¬ IsCommon c p runs k b
 
 -- the marks of each run, in order
 abbrev pub AreFeet : CodeView → Memories → List Lone → List Marks → Type 0
