@@ -4,7 +4,7 @@ use Rattle.std.specs.Global.{Global}
 use Rattle.std.specs.Prelude.{String, not, ◌==◌, option_map, if◌then◌else◌}
 use Rattle.std.specs.Str.{bytes_eq}
 use Rattle.std.proofs.lemmas.Slice.Eq.{bytes_eq-Decides}
-use Rattle.command_line.specs.Command.{Command, Run, Exec, Asm, Dis, Lint, Check, Options, IfCompile, is_name, are_names, number_in, steps_of, gen_with, gen_of, command_of_two, command_of_three, command_of_four, command_of_more, compile_with, compile_of, options_of, options_with, taken, texts, command_of}
+use Rattle.command_line.specs.Command.{Command, Run, Exec, Asm, Dis, Lint, Check, Contexts, Peep, Options, IfCompile, is_name, are_names, are_three_names, number_in, steps_of, gen_with, gen_of, command_of_two, command_of_three, command_of_four, command_of_more, compile_with, compile_of, options_of, options_with, taken, texts, command_of}
 use Rattle.command_line.specs.Limits.{slots_limit, budget_default, budget_limit, store_default, store_limit}
 
 abbrev pub AreApart : Option Command → Type 0
@@ -27,7 +27,8 @@ gen-apart None size = tt
 
 three-apart : (verb a b : List ℕ) → AreApart (command_of_three verb a b)
 three-apart verb a b =
-    either (bytes_eq verb (codes "gen")) (gen_of a b) _ (λ e. gen-apart (number_in 0 4294967295 a) (number_in 1 500 b)) (either (bytes_eq verb (codes "asm") && are_names a b) (Some (Asm a b)) None (λ e. tt) tt)
+    either (bytes_eq verb (codes "gen")) (gen_of a b) _ (λ e. gen-apart (number_in 0 4294967295 a) (number_in 1 500 b))
+    (either (bytes_eq verb (codes "asm") && are_names a b) (Some (Asm a b)) _ (λ e. tt) (either (bytes_eq verb (codes "peep") && are_names a b) (Some (Peep a b)) None (λ e. tt) tt))
 
 -- of four words
 run-apart : (a b : List ℕ) (steps : Option ℕ) → AreApart (option_map (Run a b) steps)
@@ -42,7 +43,8 @@ four-apart : (verb a b c : List ℕ) (words : List (List ℕ)) → AreApart (com
 four-apart verb a b c (word ∷ words) = tt
 four-apart verb a b c [] =
     either (bytes_eq verb (codes "run") && are_names a b) (option_map (Run a b) (steps_of c)) _ (λ e. run-apart a b (steps_of c))
-    (either (bytes_eq verb (codes "exec") && are_names a b) (option_map (Exec a b) (steps_of c)) None (λ e. exec-apart a b (steps_of c)) tt)
+    (either (bytes_eq verb (codes "exec") && are_names a b) (option_map (Exec a b) (steps_of c)) _ (λ e. exec-apart a b (steps_of c))
+    (either (bytes_eq verb (codes "contexts") && are_three_names a b c) (Some (Contexts a b c)) None (λ e. tt) tt))
 
 -- of `compile`
 second-true : (x y : Bool) → (x && y) ≡ true → y ≡ true
@@ -61,7 +63,7 @@ with-apart source object report None h = tt
 
 compile-apart : (source object report : List ℕ) (words : List (List ℕ)) → AreApart (compile_of source object report words)
 compile-apart source object report words =
-    either (are_names source object && are_names source report && are_names object report) (option_map (compile_with source object report) (options_of words)) None
+    either (are_three_names source object report) (option_map (compile_with source object report) (options_of words)) None
     (λ e. with-apart source object report (options_of words) (differ object report (second-true (are_names source object && are_names source report) (are_names object report) e))) tt
 
 more-apart : (verb a b c : List ℕ) (words : List (List ℕ)) → AreApart (command_of_more verb a b c words)

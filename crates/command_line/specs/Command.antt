@@ -15,6 +15,8 @@ pub data Command : Type 0 where
   Lint : (object : List ℕ) → Command
   Check : (report : List ℕ) → Command
   Gen : (seed size : ℕ) → Command
+  Contexts : (object memory schedule : List ℕ) → Command
+  Peep : (object output : List ℕ) → Command
 
 -- the texts of words
 abbrev pub texts : List (String Global) → List (List ℕ)
@@ -27,9 +29,13 @@ texts_of words = texts words.items
 abbrev pub is_name : List ℕ → Bool
 is_name a = not (bytes_eq a [])
 
--- two file names differ
+-- two file names, which differ
 abbrev pub are_names : List ℕ → List ℕ → Bool
 are_names a b = is_name a && is_name b && not (bytes_eq a b)
+
+-- three file names, which differ
+abbrev pub are_three_names : List ℕ → List ℕ → List ℕ → Bool
+are_three_names a b c = are_names a b && are_names a c && are_names b c
 
 -- the number of a range that a word spells behind a key
 abbrev pub option_of : List ℕ → ℕ → ℕ → List ℕ → Option ℕ
@@ -97,19 +103,21 @@ command_of_two verb name =
     else if bytes_eq verb (codes "check") && is_name name then Some (Check name)
     else None
 
--- gen SEED SIZE, asm TEXT OBJ
+-- gen SEED SIZE, asm TEXT OBJ, peep OBJ OUT
 abbrev pub command_of_three : List ℕ → List ℕ → List ℕ → Option Command
 command_of_three verb input object =
     if bytes_eq verb (codes "gen") then gen_of input object
     else if bytes_eq verb (codes "asm") && are_names input object then Some (Asm input object)
+    else if bytes_eq verb (codes "peep") && are_names input object then Some (Peep input object)
     else None
 
--- run OBJ MEM steps=N, exec SRC MEM steps=N, with no word behind them
+-- run OBJ MEM steps=N, exec SRC MEM steps=N, contexts OBJ MEM SCHEDULE, with no word behind them
 abbrev pub command_of_four : List ℕ → List ℕ → List ℕ → List ℕ → List (List ℕ) → Option Command
-command_of_four verb first second option (word ∷ words) = None
-command_of_four verb first second option [] =
-    if bytes_eq verb (codes "run") && are_names first second then option_map (Run first second) (steps_of option)
-    else if bytes_eq verb (codes "exec") && are_names first second then option_map (Exec first second) (steps_of option)
+command_of_four verb first second third (word ∷ words) = None
+command_of_four verb first second third [] =
+    if bytes_eq verb (codes "run") && are_names first second then option_map (Run first second) (steps_of third)
+    else if bytes_eq verb (codes "exec") && are_names first second then option_map (Exec first second) (steps_of third)
+    else if bytes_eq verb (codes "contexts") && are_three_names first second third then Some (Contexts first second third)
     else None
 
 -- compile SRC OBJ REPORT, and options
@@ -118,7 +126,7 @@ compile_with source object report o = Compile source object report o.slots o.bud
 
 abbrev pub compile_of : List ℕ → List ℕ → List ℕ → List (List ℕ) → Option Command
 compile_of source object report options =
-    if are_names source object && are_names source report && are_names object report then option_map (compile_with source object report) (options_of options)
+    if are_three_names source object report then option_map (compile_with source object report) (options_of options)
     else None
 
 abbrev pub command_of_more : List ℕ → List ℕ → List ℕ → List ℕ → List (List ℕ) → Option Command
@@ -141,6 +149,8 @@ outputs_of (Dis object) = []
 outputs_of (Lint object) = []
 outputs_of (Check report) = []
 outputs_of (Gen seed size) = []
+outputs_of (Contexts object memory schedule) = []
+outputs_of (Peep object output) = output ∷ []
 
 -- a fact about one of these files
 abbrev pub SomeFile : List (List ℕ) → (List ℕ → Type 0) → Type 0

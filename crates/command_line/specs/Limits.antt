@@ -15,6 +15,10 @@ memory_limit = 4194304
 abbrev pub assembly_limit : ℕ
 assembly_limit = 67108864
 
+-- a schedule
+abbrev pub schedule_limit : ℕ
+schedule_limit = 4194304
+
 -- a report
 abbrev pub report_limit : ℕ
 report_limit = 67108864

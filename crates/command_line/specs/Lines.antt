@@ -6,7 +6,7 @@ use Rattle.zo_cert.specs.declared.report.Verdict.TheVariants as verdict
 use Rattle.command_line.specs.declared.status.Status.{Status}
 use Rattle.command_line.specs.declared.status.Status.TheVariants as status
 use Rattle.command_line.specs.declared.refusal.Refusal.{Refusal}
-use Rattle.command_line.specs.declared.refusal.Refusal.TheVariants.{NoMemory, ReadFault, TooLarge, SourceChar, SourceNumber, SourceName, SourceSyntax, SourceDeep, SourceType, SourceLarge, Syntax, Label, BadObject, BadMemoryText, BadReport, FalseReport, Unlawful, UnlawfulLine, StoreFull}
+use Rattle.command_line.specs.declared.refusal.Refusal.TheVariants.{NoMemory, ReadFault, TooLarge, SourceChar, SourceNumber, SourceName, SourceSyntax, SourceDeep, SourceType, SourceLarge, Syntax, Label, BadObject, BadMemoryText, BadReport, FalseReport, Unlawful, UnlawfulLine, StoreFull, BadSchedule}
 
 -- a text and a name
 abbrev pub named : List ℕ → List ℕ → List ℕ
@@ -34,6 +34,10 @@ verdict_name verdict.Spent = codes "spent"
 -- the number of instructions of a source's code, and the verdict on its banks with the cost
 abbrev pub compiled_text : ℕ → Verdict → ℕ → List ℕ
 compiled_text instructions found cost = codes "compiled " ++ decimal instructions ++ 32 ∷ verdict_name found ++ 32 ∷ decimal cost ++ 10 ∷ []
+
+-- how many instructions code had, and how many it has without the needless ones
+abbrev pub peeped_text : ℕ → ℕ → List ℕ
+peeped_text before after = codes "peeped " ++ decimal before ++ 32 ∷ decimal after ++ 10 ∷ []
 
 -- where no choice of banks meets the rows, or none was found with so many branches
 abbrev pub infeasible_text : List ℕ
@@ -74,6 +78,7 @@ refusal_text FalseReport = codes "report refused" ++ 10 ∷ []
 refusal_text (Unlawful place rule) = ruled (codes "unlawful place ") place rule
 refusal_text (UnlawfulLine n rule) = ruled (codes "unlawful line ") n rule
 refusal_text (StoreFull n) = counted (codes "store ") n
+refusal_text (BadSchedule n) = counted (codes "schedule line ") n
 
 -- the status of a command that isn't done
 abbrev pub refusal_status : Refusal → Status
@@ -96,6 +101,7 @@ refusal_status FalseReport = status.CertificateRefused
 refusal_status (Unlawful place rule) = status.Unlawful
 refusal_status (UnlawfulLine n rule) = status.Unlawful
 refusal_status (StoreFull n) = status.StoreFull
+refusal_status (BadSchedule n) = status.BadSchedule
 
 -- memory ran out, which has no cause that is told
 abbrev pub IsUncaused : Refusal → Type 0

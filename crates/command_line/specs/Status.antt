@@ -3,7 +3,7 @@ use Rattle.std.specs.Prelude.{ℕ}
 use Rattle.nv_base.specs.declared.outcome.Outcome.{Outcome}
 use Rattle.nv_base.specs.declared.outcome.Outcome.TheVariants as outcome
 use Rattle.command_line.specs.declared.status.Status.{Status}
-use Rattle.command_line.specs.declared.status.Status.TheVariants.{Done, Usage, ReadFault, WriteFault, NoMemory, Syntax, TypeFault, TooLarge, Infeasible, BudgetSpent, StoreFull, BadObject, BadMemoryText, Raised, Fault, StepsSpent, CertificateRefused, Unlawful}
+use Rattle.command_line.specs.declared.status.Status.TheVariants.{Done, Usage, ReadFault, WriteFault, NoMemory, Syntax, TypeFault, TooLarge, Infeasible, BudgetSpent, StoreFull, BadObject, BadMemoryText, Raised, Fault, StepsSpent, CertificateRefused, Unlawful, BadSchedule}
 
 -- the numbers of the statuses
 abbrev pub status_number : Status → ℕ
@@ -25,6 +25,7 @@ status_number Fault = 15
 status_number StepsSpent = 16
 status_number CertificateRefused = 17
 status_number Unlawful = 18
+status_number BadSchedule = 22
 
 -- the status of a run of the engine, or of a program, by how it ended
 abbrev pub outcome_status : Outcome → Status

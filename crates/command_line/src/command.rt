@@ -1,7 +1,7 @@
 //! The words of a command line.
 ghost use Rattle.std.specs.Prelude.{◌≡◌, ◌≤◌, [], None, Some, IfSome, IfNone};
 ghost use Rattle.command_line.specs.Command.{command_of, command_of_two, command_of_three, command_of_four, command_of_more, compile_of, options_of, taken, gen_of, number_in, option_of, texts, texts_of};
-ghost use Rattle.command_line.specs.Command.{are_names as names_differ};
+ghost use Rattle.command_line.specs.Command.{are_names as names_differ, are_three_names as three_names_differ};
 ghost use Rattle.command_line.specs.inner.Words.{command_as, options_as, AreInLimits, HasLimits};
 
 use crate::limits::{DEFAULT_BUDGET, DEFAULT_STORE, MOST_BUDGET, MOST_SLOTS, MOST_STORE};
@@ -43,6 +43,10 @@ pub enum Command<'a> {
     Check(&'a str),
     /// Seed, size.
     Gen(u32, u32),
+    /// Object, memory text, schedule.
+    Contexts(&'a str, &'a str, &'a str),
+    /// Object, the object that is saved.
+    Peep(&'a str, &'a str),
 }
 
 impl<'a> Command<'a> {
@@ -86,7 +90,7 @@ fn of_two<'a>(verb: &'a str, name: &'a str) -> Option<Command<'a>>
     }
 }
 
-// `gen SEED SIZE` and `asm TEXT OBJ`.
+// `gen SEED SIZE`, `asm TEXT OBJ` and `peep OBJ OUT`.
 fn of_three<'a>(verb: &'a str, input: &'a str, object: &'a str) -> Option<Command<'a>>
     ensures some { IfSome result (λ c. command_of_three verb.now input.now object.now ≡ Some (command_as c)) }
     ensures none { IfNone result (command_of_three verb.now input.now object.now ≡ None) }
@@ -96,6 +100,8 @@ fn of_three<'a>(verb: &'a str, input: &'a str, object: &'a str) -> Option<Comman
         of_gen(input, object)
     } else if verb == "asm" && are_names(input, object) {
         Some(Command::Asm(input, object))
+    } else if verb == "peep" && are_names(input, object) {
+        Some(Command::Peep(input, object))
     } else {
         None
     }
@@ -130,6 +136,13 @@ fn are_names(a: &str, b: &str) -> bool
     !a.is_empty() && !b.is_empty() && a != b
 }
 
+// Whether no file name is empty, and the three differ.
+fn are_three_names(a: &str, b: &str, c: &str) -> bool
+    ensures { result ≡ three_names_differ a.now b.now c.now }
+{
+    are_names(a, b) && are_names(a, c) && are_names(b, c)
+}
+
 // A command of four words or more, `words` being those behind the fourth.
 fn of_more<'a>(
     verb: &'a str,
@@ -151,29 +164,29 @@ fn of_more<'a>(
     }
 }
 
-// `run OBJ MEM steps=N` and `exec SRC MEM steps=N`.
+// `run OBJ MEM steps=N`, `exec SRC MEM steps=N` and `contexts OBJ MEM SCHEDULE`.
 fn of_four<'a>(
     verb: &'a str,
     first: &'a str,
     second: &'a str,
-    option: &'a str,
+    third: &'a str,
 ) -> Option<Command<'a>>
-    ensures some { IfSome result (λ c. command_of_four verb.now first.now second.now option.now [] ≡ Some (command_as c)) }
-    ensures none { IfNone result (command_of_four verb.now first.now second.now option.now [] ≡ None) }
+    ensures some { IfSome result (λ c. command_of_four verb.now first.now second.now third.now [] ≡ Some (command_as c)) }
+    ensures none { IfNone result (command_of_four verb.now first.now second.now third.now [] ≡ None) }
     ensures limits { IfSome result HasLimits }
 {
-    if !are_names(first, second) {
-        None
-    } else if verb == "run" {
-        match option_in(option, "steps=", 1, MOST_STEPS) {
+    if verb == "run" && are_names(first, second) {
+        match option_in(third, "steps=", 1, MOST_STEPS) {
             Some(n) => Some(Command::Run(first, second, n)),
             None => None,
         }
-    } else if verb == "exec" {
-        match option_in(option, "steps=", 1, MOST_STEPS) {
+    } else if verb == "exec" && are_names(first, second) {
+        match option_in(third, "steps=", 1, MOST_STEPS) {
             Some(n) => Some(Command::Exec(first, second, n)),
             None => None,
         }
+    } else if verb == "contexts" && are_three_names(first, second, third) {
+        Some(Command::Contexts(first, second, third))
     } else {
         None
     }
@@ -190,7 +203,7 @@ fn of_compile<'a>(
     ensures none { IfNone result (compile_of source.now object.now report.now (texts words.now) ≡ None) }
     ensures limits { IfSome result HasLimits }
 {
-    if !are_names(source, object) || !are_names(source, report) || !are_names(object, report) {
+    if !are_three_names(source, object, report) {
         return None;
     }
     match options_in(words) {

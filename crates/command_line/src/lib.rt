@@ -2,12 +2,16 @@
 #![tactic(auto)]
 
 mod command;
+mod input;
 pub mod limits;
 mod refusal;
 mod reply;
 mod status;
 
 pub use command::{Command, Options};
-pub use refusal::{Refusal, compiled_line, counted_line, line, named_line, push_verdict};
+pub use input::Input;
+pub use refusal::{
+    Refusal, compiled_line, counted_line, line, named_line, peeped_line, push_verdict,
+};
 pub use reply::Reply;
 pub use status::Status;

@@ -16,6 +16,9 @@ pub const MEMORY_LIMIT: u64 = 4_194_304;
 /// An assembly text.
 pub const ASSEMBLY_LIMIT: u64 = 67_108_864;
 
+/// A schedule.
+pub const SCHEDULE_LIMIT: u64 = 4_194_304;
+
 /// A report.
 pub const REPORT_LIMIT: u64 = 67_108_864;
 

@@ -1,13 +1,13 @@
 //! Why a command isn't done, and the line that says so.
 ghost use Rattle.std.specs.Prelude.{◌≡◌, ◌++◌, ◌∷◌, [], IfOk, OnOk};
-ghost use Rattle.command_line.specs.Lines.{refusal_text, refusal_status, counted, named, ruled, type_text, verdict_name, compiled_text};
+ghost use Rattle.command_line.specs.Lines.{refusal_text, refusal_status, counted, named, ruled, type_text, verdict_name, compiled_text, peeped_text};
 ghost use Rattle.command_line.specs.declared.refusal.Refusal.TheVariants.{NoMemory as WantOfMemory};
 
 use crate::status::Status;
 use line_text::push_decimal;
 use nv_ast::Span;
 use nv_base::NoMemory;
-use std::alloc::{AllocError, Global};
+use std::alloc::{AllocError, AllocFailed, Global};
 use zo_cert::Verdict;
 
 /// Why a command isn't done.
@@ -52,6 +52,8 @@ pub enum Refusal<'a> {
     UnlawfulLine(u32, u8),
     /// The number of instructions of a source's code, more than were allowed.
     StoreFull(u32),
+    /// The first line of a schedule that isn't of its form, counted from 1.
+    BadSchedule(u32),
 }
 
 impl<'a> From<NoMemory> for Refusal<'a> {
@@ -66,6 +68,14 @@ impl<'a> From<AllocError> for Refusal<'a> {
     ghost from_gives = { λ _ e. e ≡ WantOfMemory };
 
     fn from(_error: AllocError) -> Refusal<'a> {
+        Refusal::NoMemory
+    }
+}
+
+impl<'a, T: Drop> From<AllocFailed<T>> for Refusal<'a> {
+    ghost from_gives = { λ _ e. e ≡ WantOfMemory };
+
+    fn from(_error: AllocFailed<T>) -> Refusal<'a> {
         Refusal::NoMemory
     }
 }
@@ -92,6 +102,7 @@ impl<'a> Refusal<'a> {
             Refusal::BadReport(_) | Refusal::FalseReport => Status::CertificateRefused,
             Refusal::Unlawful(_, _) | Refusal::UnlawfulLine(_, _) => Status::Unlawful,
             Refusal::StoreFull(_) => Status::StoreFull,
+            Refusal::BadSchedule(_) => Status::BadSchedule,
         }
     }
 
@@ -119,6 +130,7 @@ impl<'a> Refusal<'a> {
             Refusal::Unlawful(n, rule) => ruled_line(alloc, b"unlawful place ", n, rule),
             Refusal::UnlawfulLine(n, rule) => ruled_line(alloc, b"unlawful line ", n, rule),
             Refusal::StoreFull(n) => counted_line(alloc, b"store ", u64::from(n)),
+            Refusal::BadSchedule(n) => counted_line(alloc, b"schedule line ", u64::from(n)),
         }
     }
 }
@@ -211,6 +223,19 @@ pub fn compiled_line(
     push_verdict(&mut out, verdict)?;
     out.push(b' ')?;
     push_decimal(&mut out, cost)?;
+    out.push(b'\n')?;
+    Ok(out)
+}
+
+/// The line of code without its needless instructions: how many it had, and how many it has.
+pub fn peeped_line(alloc: Global, before: u64, after: u64) -> Result<Vec<u8>, NoMemory>
+    ensures { IfOk result (λ out. out.items ≡ peeped_text before after) }
+{
+    let mut out = Vec::new(alloc);
+    out.extend_from_slice(b"peeped ")?;
+    push_decimal(&mut out, before)?;
+    out.push(b' ')?;
+    push_decimal(&mut out, after)?;
     out.push(b'\n')?;
     Ok(out)
 }

@@ -42,6 +42,8 @@ pub enum Status {
     CertificateRefused,
     /// The code isn't lawful.
     Unlawful,
+    /// A schedule isn't of its form.
+    BadSchedule,
 }
 
 impl Status {
@@ -68,6 +70,7 @@ impl Status {
             Status::StepsSpent => 16,
             Status::CertificateRefused => 17,
             Status::Unlawful => 18,
+            Status::BadSchedule => 22,
         }
     }
 }

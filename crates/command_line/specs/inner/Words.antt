@@ -1,6 +1,6 @@
 -- Commands as the code has them.
 use Rattle.std.specs.Prelude.{◌≤◌, ⊤}
-use Rattle.command_line.specs.Command.{Command, Compile, Run, Exec, Asm, Dis, Lint, Check, Gen, Options}
+use Rattle.command_line.specs.Command.{Command, Compile, Run, Exec, Asm, Dis, Lint, Check, Gen, Contexts, Peep, Options}
 use Rattle.command_line.specs.declared.command.Command.{Command as Spoken}
 use Rattle.command_line.specs.declared.command.Command.TheVariants as spoken
 use Rattle.command_line.specs.declared.command.Options.{Options as Chosen}
@@ -15,6 +15,8 @@ command_as (spoken.Dis object) = Dis object.now
 command_as (spoken.Lint object) = Lint object.now
 command_as (spoken.Check report) = Check report.now
 command_as (spoken.Gen seed size) = Gen seed size
+command_as (spoken.Contexts object memory schedule) = Contexts object.now memory.now schedule.now
+command_as (spoken.Peep object output) = Peep object.now output.now
 
 -- the numbers of a compilation
 abbrev pub options_as : Chosen → Options
