@@ -3,4 +3,4 @@
 
 mod place;
 
-pub use place::{column_of, line_of};
+pub use place::{column_of, line_behind, line_of};

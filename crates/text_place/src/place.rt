@@ -1,6 +1,6 @@
 //! Lines and columns.
 
-ghost use Rattle.std.specs.Prelude.{◌≡◌, ◌==◌, ◌≤◌, length, take, take_while, reverse, count_by, not};
+ghost use Rattle.std.specs.Prelude.{◌≡◌, ◌==◌, ◌-◌, ◌≤◌, length, take, drop, take_while, reverse, count_by, not};
 ghost use Rattle.text_place.specs.Place.{line_at, column_at};
 
 /// The line of the byte at a place, counted from 1: one more than the line feeds before it.
@@ -8,6 +8,18 @@ pub fn line_of(bytes: &[u8], at: usize) -> usize
     ensures { result ≡ line_at bytes.now at }
 {
     line_ends(front(bytes, at)) + 1
+}
+
+/// The line of the byte at a place, where `line` is that of the byte at another one: where this one lies behind it, the bytes
+/// between them alone are read.
+pub fn line_behind(bytes: &[u8], from: usize, line: usize, at: usize) -> usize
+    requires { line ≡ line_at bytes.now from }
+    ensures { result ≡ line_at bytes.now at }
+{
+    if at < from {
+        return line_of(bytes, at);
+    }
+    line + line_ends(between(bytes, from, at))
 }
 
 /// The column of the byte at a place, counted from 1: the bytes since the last line feed before it, plus one.
@@ -23,6 +35,15 @@ fn front(bytes: &[u8], at: usize) -> &[u8]
     ensures { result.now ≡ take at bytes.now }
 {
     &bytes[..at.min(bytes.len())]
+}
+
+// The bytes from a place to one behind it.
+fn between(bytes: &[u8], from: usize, to: usize) -> &[u8]
+    requires { from ≤ to }
+    ensures { result.now ≡ take (to - from) (drop from bytes.now) }
+{
+    let behind = &bytes[from.min(bytes.len())..];
+    front(behind, to - from)
 }
 
 // How many line feeds there are.
