@@ -27,6 +27,7 @@ pub record AreInLimits (options : Chosen) : Type 0 where
   pub slots : options.slots ≤ 128
   pub some : 1 ≤ options.budget
   pub budget : options.budget ≤ 1000000
+  pub store : options.store ≤ 1048576
 
 -- the numbers of a command are
 abbrev pub HasLimits : Spoken → Type 0
