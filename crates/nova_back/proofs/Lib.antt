@@ -2,6 +2,8 @@ pub mod PairedOn
 pub mod PairedRows
 pub mod PairedPoints
 pub mod PairedCost
+pub mod ColumnLabels
 pub mod PairedAll
 pub mod Reported
 pub mod Sizes
+pub mod LeftOut

@@ -1,11 +1,12 @@
 -- The vector of the paired choice: it meets all lines, and costs little.
-use Rattle.std.proofs.Common.{◌≡◌, ℕ, ◌+◌, ◌*◌, ◌≤◌, nat_eq, Bool, true, not, ◌&&◌, List, [], ◌++◌, length, map, refl, ap, ◌∙◌, arith}
+use Rattle.std.proofs.Common.{◌≡◌, ℕ, ◌≤◌, nat_eq, Bool, true, not, ◌&&◌, List, ◌++◌, map, refl, sym, ap, subst, ◌∙◌}
 use Rattle.std.specs.Prelude.{All, is_some}
 use Rattle.std.specs.List.{flat_map}
 use Rattle.ssu_ir.specs.Measures.{peak}
 use Rattle.ssu_ir.specs.Single.{single}
 use Rattle.ssu_ir.specs.Tree.{Label}
 use Rattle.slot_placement.specs.Uses.{accesses, values, uses}
+use Rattle.std.proofs.Math.Nat.{le_trans, mul-le-mul_right}
 use Rattle.slot_placement.proofs.Sound.{Each, each-append}
 use Rattle.slot_placement.proofs.Spilled.{each-all}
 use Rattle.zo_model.specs.Program.{vector, costs_of}
@@ -13,12 +14,15 @@ use Rattle.bank_form.specs.declared.column.Bank.{Bank}
 use Rattle.bank_form.specs.declared.column.Bank.TheVariants.{A, B, M, T, L, A15, W}
 use Rattle.bank_form.specs.declared.column.Column.{Column}
 use Rattle.bank_form.specs.declared.column.Column.TheVariants.{Def, Dir, Fill, Stay, Ear, First, Srv, PasL, PasS}
-use Rattle.bank_form.specs.Columns.{columns, costs}
-use Rattle.bank_prog.specs.Meaning.{Chosen, on, Holds}
+use Rattle.bank_form.specs.Columns.{columns, costs, priced}
+use Rattle.bank_prog.specs.Weighted.{weighted_costs}
+use Rattle.bank_prog.specs.Meaning.{Chosen, on, named_cost, Holds}
 use Rattle.bank_form.specs.Program.{Numbers, number_of}
 use Rattle.bank_form.specs.Rows.{Line, lines, parameter_choice, result_choice, access_choice, use_choice, one_choice, use_cover, copy_cover, argument_cover, homes_cover, operand_banks, capacity, owners, adjacency, passes}
 use Rattle.bank_prog.proofs.LawsColumns.{on-there, chosen-on}
 use Rattle.bank_prog.proofs.LawsCost.{costs-by-name}
+use Rattle.nova_back.specs.Causes.{IsCheapFor, copies_cost}
+use Rattle.nova_back.proofs.ColumnLabels.{weighted-cost}
 use Rattle.nova_back.specs.inner.Paired.{fills, serves, paired}
 use Rattle.nova_back.proofs.PairedCost.{paired-cost}
 use Rattle.nova_back.proofs.PairedOn.{IsPaired}
@@ -93,8 +97,8 @@ vector-paired labels number items form h e = record {
   same = λ c m. ap (λ l. on labels (vector l) c) e ∙ chosen-on labels (paired number) c m ∙ paired-same number (number_of labels) c h;
 }
 
-pub paired-costs : (labels : List Label) (x : ℕ → Bool) → IsPaired labels (on labels x) → costs_of (costs labels) x ≤ 2 * length (values labels) + length (uses labels)
-paired-costs labels x g =
-    let a = costs-by-name labels x g.form in
-    let b = paired-cost labels (on labels x) g in
-    omega (arith, a, b)
+pub paired-costs : (labels : List Label) (ws : List ℕ) (x : ℕ → Bool) → IsPaired labels (on labels x) → IsCheapFor labels ws (costs_of (weighted_costs labels ws) x)
+paired-costs labels ws x g = λ most all.
+    let a : costs_of (costs labels) x ≡ named_cost (on labels x) (priced labels) = costs-by-name labels x g.form in
+    let b : named_cost (on labels x) (priced labels) ≤ copies_cost labels = paired-cost labels (on labels x) g in
+    le_trans (weighted-cost labels ws most x all) (mul-le-mul_right most (subst (λ n. n ≤ copies_cost labels) (sym a) b))

@@ -1,6 +1,6 @@
 -- What the report of a search says of the form whose program was searched.
-use Rattle.std.proofs.Common.{◌≡◌, ℕ, ◌+◌, ◌-◌, ◌^◌, ◌≤◌, List, [], Option, Some, None, length, sym, ap, subst, ◌∙◌, Result, Ok, Err, IfOk, IfErr, IfSome, arith}
-use Rattle.std.proofs.lemmas.List.{length-map}
+use Rattle.std.proofs.Common.{◌≡◌, ℕ, ◌+◌, ◌-◌, ◌*◌, ◌^◌, ◌≤◌, List, Option, Some, None, length, sym, ap, subst, ◌∙◌, Result, Ok, Err, IfOk, IfErr, IfSome, arith}
+use Rattle.std.proofs.Math.Nat.{le_trans}
 use Rattle.ssu_ir.specs.Measures.{peak}
 use Rattle.ssu_ir.specs.Tree.{Label}
 use Rattle.uc_isa.specs.Code.{CodeView}
@@ -23,13 +23,14 @@ use Rattle.zo_solve.specs.Solved.{CostsAtMost, HadNoStart, IsDecided, OfVector, 
 use Rattle.zo_state.specs.Vector.{IsVector, cost_at, start_cost}
 use Rattle.zo_solve.specs.declared.search.Solved.{Solved}
 use Rattle.zo_solve.specs.declared.search.Solved.TheVariants as answers
-use Rattle.bank_form.specs.Columns.{columns, costs, priced}
-use Rattle.bank_form.specs.Program.{bank_program}
+use Rattle.bank_form.specs.Columns.{columns}
+use Rattle.bank_prog.specs.Weighted.{weighted_costs, weighted_program}
 use Rattle.bank_prog.proofs.LawsRows.{feasible-by-name}
-use Rattle.nova_back.specs.Causes.{IsCodeOf, IsCodeBy, HasVector, IsEnded, IsReportOn, IsWithout, claim_of, report_cost}
+use Rattle.nova_back.proofs.ColumnLabels.{weighted-length}
+use Rattle.nova_back.specs.Causes.{IsCodeOf, AreStartsOf, IsCodeBy, HasVector, IsEnded, IsReportOn, IsWithout, IsCheapFor, claim_of, copies_cost, report_cost}
 use Rattle.nova_back.specs.declared.error.BackError.{BackError}
 use Rattle.nova_back.specs.declared.error.BackError.TheVariants as back
-use Rattle.nova_back.specs.inner.Search.{IsChoice, IsCrowded, IsStart, IsCheap, HadNone, IsNoDearer, IsFound, IsCrowdedWithout, IsSearchOn, IsChosen, IsTold, IsUnfound, copies_cost}
+use Rattle.nova_back.specs.inner.Search.{IsChoice, IsCrowded, IsStart, IsCheap, HadNone, IsNoDearer, IsFound, IsCrowdedWithout, IsSearchOn, IsChosen, IsTold, IsUnfound}
 
 -- ---- from an answer to its report
 
@@ -96,26 +97,26 @@ found-report z start s slots budget (Err e) valid holds says tree within decided
 
 -- ---- from a choice to a vector of the program
 
-columns-same : (z : ZeroOne) (labels : List Label) (slots : ℕ) → contents z ≡ bank_program labels slots → zero_one.columns z ≡ length (columns labels)
-columns-same z labels slots e = ap (λ c. length c.costs) e ∙ length-map (priced labels) (λ c. c.1) ∙ sym (length-map (priced labels) (λ c. c.0))
+columns-same : (z : ZeroOne) (labels : List Label) (slots : ℕ) (ws : List ℕ) → contents z ≡ weighted_program labels slots ws → zero_one.columns z ≡ length (columns labels)
+columns-same z labels slots ws e = ap (λ c. length c.costs) e ∙ weighted-length labels ws
 
-pub choice-vector : (z : ZeroOne) (labels : List Label) (slots : ℕ) (start : Option Assignment) → contents z ≡ bank_program labels slots → IsStart labels slots start → IfSome start (IsVector z)
-choice-vector z labels slots None e h = tt
-choice-vector z labels slots (Some x) e h = record {
-  one_a_column = h.one_a_column ∙ sym (columns-same z labels slots e);
-  feasible = (feasible-by-name z labels slots (vector x.on.items) e).1 h.feasible;
+pub choice-vector : (z : ZeroOne) (labels : List Label) (slots : ℕ) (ws : List ℕ) (start : Option Assignment) → contents z ≡ weighted_program labels slots ws → IsStart labels slots start → IfSome start (IsVector z)
+choice-vector z labels slots ws None e h = tt
+choice-vector z labels slots ws (Some x) e h = record {
+  one_a_column = h.one_a_column ∙ sym (columns-same z labels slots ws e);
+  feasible = (feasible-by-name z labels slots ws (vector x.on.items) e).1 h.feasible;
 }
 
 -- ---- from the report of a search to what it says of the form
 
-found-contents : (z : ZeroOne) (labels : List Label) (start : Option Assignment) (slots budget : ℕ) (r : Report) → contents z ≡ bank_program labels slots → IsFound z start slots budget r → contents r.z ≡ bank_program labels slots
-found-contents z labels start slots budget r e f = ap contents f.program ∙ e
+found-contents : (z : ZeroOne) (labels : List Label) (start : Option Assignment) (slots : ℕ) (ws : List ℕ) (budget : ℕ) (r : Report) → contents z ≡ weighted_program labels slots ws → IsFound z start slots budget r → contents r.z ≡ weighted_program labels slots ws
+found-contents z labels start slots ws budget r e f = ap contents f.program ∙ e
 
-report-on : (z : ZeroOne) (labels : List Label) (start : Option Assignment) (slots budget : ℕ) (r : Report) → contents z ≡ bank_program labels slots → IsFound z start slots budget r → IsReportOn labels slots budget r
-report-on z labels start slots budget r e f = record {
+report-on : (z : ZeroOne) (labels : List Label) (start : Option Assignment) (slots : ℕ) (ws : List ℕ) (budget : ℕ) (r : Report) → contents z ≡ weighted_program labels slots ws → IsFound z start slots budget r → IsReportOn labels slots ws budget r
+report-on z labels start slots ws budget r e f = record {
   valid = f.valid;
   holds = f.holds;
-  program = found-contents z labels start slots budget r e f;
+  program = found-contents z labels start slots ws budget r e f;
   slots_are = f.slots_are;
   budget_is = f.budget_is;
   searched = f.searched;
@@ -129,10 +130,10 @@ vector-meets Feasible r g h = h.0
 vector-meets Infeasible r g h = absurd g
 vector-meets Spent r g h = absurd g
 
-pub choice-of-report : (labels : List Label) (slots budget : ℕ) (r : Report) → IsReportOn labels slots budget r → HasVector r.verdict → IsChoice labels slots r.x
-choice-of-report labels slots budget r h g = record {
-  one_a_column = h.valid.one_a_column ∙ columns-same r.z labels slots h.program;
-  feasible = (feasible-by-name r.z labels slots (vector r.x.on.items) h.program).0 (vector-meets r.verdict r g h.holds.verdict_holds);
+pub choice-of-report : (labels : List Label) (slots : ℕ) (ws : List ℕ) (budget : ℕ) (r : Report) → IsReportOn labels slots ws budget r → HasVector r.verdict → IsChoice labels slots r.x
+choice-of-report labels slots ws budget r h g = record {
+  one_a_column = h.valid.one_a_column ∙ columns-same r.z labels slots ws h.program;
+  feasible = (feasible-by-name r.z labels slots ws (vector r.x.on.items) h.program).0 (vector-meets r.verdict r g h.holds.verdict_holds);
 }
 
 at-most-start : (z : ZeroOne) (start : Option Assignment) (v : Verdict) (r : Report) → HasVector v → IsNoDearer z start v r → CostsAtMost (report_cost r) (start_cost z start)
@@ -141,13 +142,13 @@ at-most-start z start Feasible r g h = h
 at-most-start z start Infeasible r g h = absurd g
 at-most-start z start Spent r g h = absurd g
 
-cheap-start : (z : ZeroOne) (labels : List Label) (slots n : ℕ) (start : Option Assignment) → contents z ≡ bank_program labels slots → IsStart labels slots start → peak labels ≤ 15 → IsCheap labels start → CostsAtMost n (start_cost z start) → n ≤ copies_cost labels
-cheap-start z labels slots n None e s p c m = absurd (omega (arith, s.over_bank, p))
-cheap-start z labels slots n (Some x) e s p c m = omega (arith, m, ap (λ k. costs_of k.costs (vector x.on.items)) e, c)
+cheap-start : (z : ZeroOne) (labels : List Label) (slots : ℕ) (ws : List ℕ) (n : ℕ) (start : Option Assignment) → contents z ≡ weighted_program labels slots ws → IsStart labels slots start → peak labels ≤ 15 → IsCheap labels start → CostsAtMost n (start_cost z start) → IsCheapFor labels ws n
+cheap-start z labels slots ws n None e s p c m = absurd (omega (arith, s.over_bank, p))
+cheap-start z labels slots ws n (Some x) e s p c m = λ most all. le_trans m (subst (λ k. k ≤ copies_cost labels * most) (sym (ap (λ k. costs_of k.costs (vector x.on.items)) e)) (c ws most all))
 
-cheap-report : (z : ZeroOne) (labels : List Label) (start : Option Assignment) (slots budget : ℕ) (r : Report) → contents z ≡ bank_program labels slots → IsStart labels slots start → IsFound z start slots budget r → HasVector r.verdict
-    → peak labels ≤ 15 → IsCheap labels start → report_cost r ≤ copies_cost labels
-cheap-report z labels start slots budget r e s f g p c = cheap-start z labels slots (report_cost r) start e s p c (at-most-start z start r.verdict r g f.no_dearer)
+cheap-report : (z : ZeroOne) (labels : List Label) (start : Option Assignment) (slots : ℕ) (ws : List ℕ) (budget : ℕ) (r : Report) → contents z ≡ weighted_program labels slots ws → IsStart labels slots start → IsFound z start slots budget r → HasVector r.verdict
+    → peak labels ≤ 15 → IsCheap labels start → IsCheapFor labels ws (report_cost r)
+cheap-report z labels start slots ws budget r e s f g p c = cheap-start z labels slots ws (report_cost r) start e s p c (at-most-start z start r.verdict r g f.no_dearer)
 
 crowded : (labels : List Label) (slots : ℕ) (start : Option Assignment) → start ≡ None → IsStart labels slots start → IsCrowded labels slots
 crowded labels slots start e s = subst (IsStart labels slots) e s
@@ -158,48 +159,56 @@ crowded-without labels slots start Feasible s h = tt
 crowded-without labels slots start Infeasible s h = crowded labels slots start h s
 crowded-without labels slots start Spent s h = crowded labels slots start h s
 
-pub search-on : (z : ZeroOne) (labels : List Label) (start : Option Assignment) (slots budget : ℕ) (r : Report) → contents z ≡ bank_program labels slots → IsStart labels slots start → (peak labels ≤ 15 → IsCheap labels start)
-    → IsFound z start slots budget r → IsSearchOn labels slots budget r
-search-on z labels start slots budget r e s c f = record {
-  report = report-on z labels start slots budget r e f;
+pub search-on : (z : ZeroOne) (labels : List Label) (start : Option Assignment) (slots : ℕ) (ws : List ℕ) (budget : ℕ) (r : Report) → contents z ≡ weighted_program labels slots ws → IsStart labels slots start → (peak labels ≤ 15 → IsCheap labels start)
+    → IsFound z start slots budget r → IsSearchOn labels slots ws budget r
+search-on z labels start slots ws budget r e s c f = record {
+  report = report-on z labels start slots ws budget r e f;
   crowded = crowded-without labels slots start r.verdict s f.had_none;
-  cheap = λ p g. cheap-report z labels start slots budget r e s f g p (c p);
+  cheap = λ p g. cheap-report z labels start slots ws budget r e s f g p (c p);
 }
 
-without : (labels : List Label) (slots budget : ℕ) (v : Verdict) (r : Report) → IsSearchOn labels slots budget r → r.verdict ≡ v → IsCrowded labels slots → IsWithout labels slots budget v r
-without labels slots budget v r f is w = record { report = f.report; says = is; over_bank = w.over_bank; over_slots = w.over_slots }
+without : (labels : List Label) (slots : ℕ) (ws : List ℕ) (budget : ℕ) (v : Verdict) (r : Report) → IsSearchOn labels slots ws budget r → r.verdict ≡ v → IsCrowded labels slots → IsWithout labels slots ws budget v r
+without labels slots ws budget v r f is w = record { report = f.report; says = is; over_bank = w.over_bank; over_slots = w.over_slots }
 
 -- ---- from the report to the answer
 
-pub chosen-report : (labels : List Label) (slots budget : ℕ) (report : Report) (result : Result Report BackError) → IsSearchOn labels slots budget report → IfOk result (λ r. r ≡ report) → IfOk result (λ r. HasVector r.verdict)
-    → IfOk result (IsChosen labels slots budget)
-chosen-report labels slots budget report (Ok r) f same found = record { on_form = subst (IsSearchOn labels slots budget) (sym same) f; found = found }
-chosen-report labels slots budget report (Err e) f same found = tt
+pub chosen-report : (labels : List Label) (slots : ℕ) (ws : List ℕ) (budget : ℕ) (report : Report) (result : Result Report BackError) → IsSearchOn labels slots ws budget report → IfOk result (λ r. r ≡ report) → IfOk result (λ r. HasVector r.verdict)
+    → IfOk result (IsChosen labels slots ws budget)
+chosen-report labels slots ws budget report (Ok r) f same found = record { on_form = subst (IsSearchOn labels slots ws budget) (sym same) f; found = found }
+chosen-report labels slots ws budget report (Err e) f same found = tt
 
-told-unfound : (labels : List Label) (slots budget : ℕ) (report : Report) (e : BackError) → IsSearchOn labels slots budget report → IsTold report e → IsUnfound labels slots budget e
-told-unfound labels slots budget report back.NoMemory f h = absurd h
-told-unfound labels slots budget report (back.TooLarge n) f h = absurd h
-told-unfound labels slots budget report (back.Infeasible r) f h =
-    let g = subst (IsSearchOn labels slots budget) (sym h.0) f in
-    without labels slots budget Infeasible r g h.1 (subst (IsCrowdedWithout labels slots) h.1 g.crowded)
-told-unfound labels slots budget report (back.Spent r) f h =
-    let g = subst (IsSearchOn labels slots budget) (sym h.0) f in
-    without labels slots budget Spent r g h.1 (subst (IsCrowdedWithout labels slots) h.1 g.crowded)
-told-unfound labels slots budget report (back.StoreFull n) f h = absurd h
+told-unfound : (labels : List Label) (slots : ℕ) (ws : List ℕ) (budget : ℕ) (report : Report) (e : BackError) → IsSearchOn labels slots ws budget report → IsTold report e → IsUnfound labels slots ws budget e
+told-unfound labels slots ws budget report back.NoMemory f h = absurd h
+told-unfound labels slots ws budget report (back.TooLarge n) f h = absurd h
+told-unfound labels slots ws budget report (back.Infeasible r) f h =
+    let g = subst (IsSearchOn labels slots ws budget) (sym h.0) f in
+    without labels slots ws budget Infeasible r g h.1 (subst (IsCrowdedWithout labels slots) h.1 g.crowded)
+told-unfound labels slots ws budget report (back.Spent r) f h =
+    let g = subst (IsSearchOn labels slots ws budget) (sym h.0) f in
+    without labels slots ws budget Spent r g h.1 (subst (IsCrowdedWithout labels slots) h.1 g.crowded)
+told-unfound labels slots ws budget report (back.StoreFull n) f h = absurd h
 
-pub unfound-report : (labels : List Label) (slots budget : ℕ) (report : Report) (result : Result Report BackError) → IsSearchOn labels slots budget report → IfErr result (IsTold report) → IfErr result (IsUnfound labels slots budget)
-unfound-report labels slots budget report (Ok r) f h = tt
-unfound-report labels slots budget report (Err e) f h = told-unfound labels slots budget report e f h
+pub unfound-report : (labels : List Label) (slots : ℕ) (ws : List ℕ) (budget : ℕ) (report : Report) (result : Result Report BackError) → IsSearchOn labels slots ws budget report → IfErr result (IsTold report) → IfErr result (IsUnfound labels slots ws budget)
+unfound-report labels slots ws budget report (Ok r) f h = tt
+unfound-report labels slots ws budget report (Err e) f h = told-unfound labels slots ws budget report e f h
 
 -- ---- code by the vector
 
-pub code-by : (labels : List Label) (slots budget : ℕ) (r : Report) (c : CodeView) → IsChosen labels slots budget r → IsCodeOf labels slots c → moves c.list [] [] ≤ costs_of (costs labels) (vector r.x.on.items) → IsCodeBy labels slots budget r c
-code-by labels slots budget r c h code light =
-    let worth : report_cost r ≡ costs_of (costs labels) (vector r.x.on.items) = ap (λ k. costs_of k.costs (vector r.x.on.items)) h.on_form.report.program in
+pub code-by : (labels : List Label) (slots : ℕ) (ws : List ℕ) (budget : ℕ) (r : Report) (c : CodeView) (starts : List ℕ) → IsChosen labels slots ws budget r → IsCodeOf labels slots c → AreStartsOf labels c starts
+    → moves c.list starts ws ≤ costs_of (weighted_costs labels ws) (vector r.x.on.items) → IsCodeBy labels slots ws budget r c starts
+code-by labels slots ws budget r c starts h code begin light =
+    let worth : report_cost r ≡ costs_of (weighted_costs labels ws) (vector r.x.on.items) = ap (λ k. costs_of k.costs (vector r.x.on.items)) h.on_form.report.program in
     record {
       report = h.on_form.report;
       found = h.found;
       code = code;
+      labels_start = begin;
       light = omega (arith, worth, light);
       cheap = λ p. h.on_form.cheap p h.found;
     }
+
+pub light_by : (labels : List Label) (slots : ℕ) (ws : List ℕ) (budget : ℕ) (r : Report) (c : CodeView) (starts : List ℕ) → IsChosen labels slots ws budget r → ((vs : List ℕ) → moves c.list starts vs ≤ costs_of (weighted_costs labels vs) (vector r.x.on.items))
+    → moves c.list starts ws ≤ report_cost r
+light_by labels slots ws budget r c starts h light =
+    let worth : report_cost r ≡ costs_of (weighted_costs labels ws) (vector r.x.on.items) = ap (λ k. costs_of k.costs (vector r.x.on.items)) h.on_form.report.program in
+    omega (arith, worth, light ws)

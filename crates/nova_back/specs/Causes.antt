@@ -1,5 +1,6 @@
 -- What the back end makes of a form in single use: lawful code and a true report, and why it makes none.
-use Rattle.std.specs.Prelude.{◌≡◌, ◌≤◌, ◌<◌, ◌+◌, ◌-◌, ◌*◌, ◌^◌, ℕ, List, [], length, ⊤}
+use Rattle.std.specs.Prelude.{◌≡◌, ◌≤◌, ◌<◌, ◌+◌, ◌-◌, ◌*◌, ◌^◌, ℕ, List, length, ⊤}
+use Rattle.ssu_ir.specs.Entered.{entered}
 use Rattle.ssu_ir.specs.Meaning.{ssu_meaning, ssu_params}
 use Rattle.ssu_ir.specs.Measures.{peak, size, code_bound}
 use Rattle.ssu_ir.specs.Tree.{Label}
@@ -8,8 +9,13 @@ use Rattle.uc_isa.specs.Agrees.{Agrees}
 use Rattle.uc_isa.specs.Code.{CodeView}
 use Rattle.uc_isa.specs.Lawful.{IsLawful}
 use Rattle.uc_isa.specs.Moves.{moves}
+use Rattle.label_weights.specs.Weighted.{weight_of}
+use Rattle.uc_runs.specs.Entries.{IsVisited}
+use Rattle.uc_peep.specs.Needless.{HasNoNeedless}
+use Rattle.uc_runs.specs.Starts.{AreStarts}
 use Rattle.ucode_emit.specs.SpillBase.{SpillsByBase}
 use Rattle.ucode_emit.specs.Operations.{code_operations, form_operations}
+use Rattle.nova_back.specs.LeftOut.{LeavesOut}
 use Rattle.zo_model.specs.Contents.{contents}
 use Rattle.zo_model.specs.Program.{columns, cost_of, vector}
 use Rattle.zo_cert.specs.Certificate.{IsTreeWith, branches}
@@ -20,19 +26,27 @@ use Rattle.zo_leaf.specs.declared.cert.Claim.TheVariants.{Least, Nothing}
 use Rattle.zo_cert.specs.declared.report.Report.{Report}
 use Rattle.zo_cert.specs.declared.report.Verdict.{Verdict}
 use Rattle.zo_cert.specs.declared.report.Verdict.TheVariants.{Optimal, Feasible, Infeasible, Spent}
-use Rattle.bank_form.specs.Program.{bank_program, IsTooLarge}
+use Rattle.bank_form.specs.Program.{IsTooLarge}
+use Rattle.bank_prog.specs.Weighted.{weighted_program}
 use Rattle.nova_back.specs.declared.error.BackError.{BackError}
 use Rattle.nova_back.specs.declared.error.BackError.TheVariants as back
 
 -- ---- code
 
 -- lawful code that does what the form says. It has B15 for the addresses of so many slots alone, and without its moves it is the operations
--- of the form's nodes in order
+-- of the form's nodes in order, but for computations that nothing needs
 pub record IsCodeOf (labels : List Label) (slots : ℕ) (c : CodeView) : Type 0 where
   pub lawful : IsLawful c.list
   pub agrees : Agrees (ssu_params labels) (ssu_meaning labels) c
   pub spills : SpillsByBase slots c.list
-  pub does : code_operations c.list ≡ form_operations labels
+  pub does : LeavesOut (form_operations labels) (code_operations c.list)
+
+-- where the labels of the form start in the code: the engine comes to the start of a label as often as the form's run enters the label,
+-- and between the starts no instruction is needless
+pub record AreStartsOf (labels : List Label) (c : CodeView) (starts : List ℕ) : Type 0 where
+  pub starts_are : AreStarts (length labels) c.list starts
+  pub visited : IsVisited (ssu_params labels) (entered labels) c.list starts
+  pub settled : HasNoNeedless c.list starts
 
 -- ---- reports
 
@@ -61,26 +75,39 @@ IsEnded Feasible = ⊥
 IsEnded Infeasible = ⊤
 IsEnded Spent = ⊥
 
--- a true report on the program of the banks of a form, with a tree that was searched within the budget. A budget that is enough for every
--- tree over the program's columns ends every search
-pub record IsReportOn (labels : List Label) (slots budget : ℕ) (r : Report) : Type 0 where
+-- a true report on the program of the banks of a form under weights of its labels, with a tree that was searched within the budget. A
+-- budget that is enough for every tree over the program's columns ends every search
+pub record IsReportOn (labels : List Label) (slots : ℕ) (ws : List ℕ) (budget : ℕ) (r : Report) : Type 0 where
   pub valid : IsValidReport r
   pub holds : IsTrueReport r
-  pub program : contents r.z ≡ bank_program labels slots
+  pub program : contents r.z ≡ weighted_program labels slots ws
   pub slots_are : r.slots ≡ slots
   pub budget_is : r.budget ≡ budget
   pub searched : IsTreeWith (IsSearched r.z (claim_of r.verdict r)) r.tree
   pub within_budget : branches r.tree.nodes.items ≤ budget
   pub ended : 2 ^ (columns r.z + 1) - 1 ≤ budget → IsEnded r.verdict
 
--- code by the vector of such a report: the moves cost at most what the vector does. Where all values that are held at once fit a bank, that
--- is at most two copies a value, and one a use
-pub record IsCodeBy (labels : List Label) (slots budget : ℕ) (r : Report) (c : CodeView) : Type 0 where
-  pub report : IsReportOn labels slots budget r
+-- two copies a value, and one a use
+abbrev pub copies_cost : List Label → ℕ
+copies_cost labels = 2 * length (values labels) + length (uses labels)
+
+-- no label of the form weighs more than this
+abbrev pub WeighAtMost : List Label → List ℕ → ℕ → Type 0
+WeighAtMost labels ws most = (l : ℕ) → l < length labels → weight_of ws l ≤ most
+
+-- a vector that costs so much costs at most those copies, each times the greatest weight of a label
+abbrev pub IsCheapFor : List Label → List ℕ → ℕ → Type 0
+IsCheapFor labels ws cost = (most : ℕ) → WeighAtMost labels ws most → cost ≤ copies_cost labels * most
+
+-- code by the vector of such a report, with its labels' starts: the moves cost at most what the vector does. Where all values that are held
+-- at once fit a bank, that is at most two copies a value and one a use, each times the greatest weight of a label
+pub record IsCodeBy (labels : List Label) (slots : ℕ) (ws : List ℕ) (budget : ℕ) (r : Report) (c : CodeView) (starts : List ℕ) : Type 0 where
+  pub report : IsReportOn labels slots ws budget r
   pub found : HasVector r.verdict
   pub code : IsCodeOf labels slots c
-  pub light : moves c.list [] [] ≤ report_cost r
-  pub cheap : peak labels ≤ 15 → report_cost r ≤ 2 * length (values labels) + length (uses labels)
+  pub labels_start : AreStartsOf labels c starts
+  pub light : moves c.list starts ws ≤ report_cost r
+  pub cheap : peak labels ≤ 15 → IsCheapFor labels ws (report_cost r)
 
 -- ---- causes
 
@@ -89,25 +116,26 @@ abbrev pub HasLargeProgram : List Label → ℕ → ℕ → Type 0
 HasLargeProgram labels slots n = IsTooLarge labels slots n × (n ≤ 64 * size labels)
 
 -- a report without a vector: at some point more values are held than fit a bank, and more than there are slots
-pub record IsWithout (labels : List Label) (slots budget : ℕ) (verdict : Verdict) (r : Report) : Type 0 where
-  pub report : IsReportOn labels slots budget r
+pub record IsWithout (labels : List Label) (slots : ℕ) (ws : List ℕ) (budget : ℕ) (verdict : Verdict) (r : Report) : Type 0 where
+  pub report : IsReportOn labels slots ws budget r
   pub says : r.verdict ≡ verdict
   pub over_bank : 15 < peak labels
   pub over_slots : slots < peak labels
 
 -- the code by a report's vector has so many instructions, more than were allowed
-pub record IsLong (labels : List Label) (slots budget store n : ℕ) : Type 0 where
+pub record IsLong (labels : List Label) (slots : ℕ) (ws : List ℕ) (budget store n : ℕ) : Type 0 where
   pub r : Report
   pub c : CodeView
-  pub code : IsCodeBy labels slots budget r c
+  pub starts : List ℕ
+  pub code : IsCodeBy labels slots ws budget r c starts
   pub counted : n ≡ length c.list
   pub bounded : n ≤ code_bound labels
   pub long : store < n
 
 -- why a form has no code of at most so many instructions
-abbrev pub IsCause : List Label → ℕ → ℕ → ℕ → BackError → Type 0
-IsCause labels slots budget store back.NoMemory = ⊥
-IsCause labels slots budget store (back.TooLarge n) = HasLargeProgram labels slots n
-IsCause labels slots budget store (back.Infeasible r) = IsWithout labels slots budget Infeasible r
-IsCause labels slots budget store (back.Spent r) = IsWithout labels slots budget Spent r
-IsCause labels slots budget store (back.StoreFull n) = IsLong labels slots budget store n
+abbrev pub IsCause : List Label → ℕ → List ℕ → ℕ → ℕ → BackError → Type 0
+IsCause labels slots ws budget store back.NoMemory = ⊥
+IsCause labels slots ws budget store (back.TooLarge n) = HasLargeProgram labels slots n
+IsCause labels slots ws budget store (back.Infeasible r) = IsWithout labels slots ws budget Infeasible r
+IsCause labels slots ws budget store (back.Spent r) = IsWithout labels slots ws budget Spent r
+IsCause labels slots ws budget store (back.StoreFull n) = IsLong labels slots ws budget store n

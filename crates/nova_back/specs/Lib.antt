@@ -1,2 +1,3 @@
+pub mod LeftOut
 pub mod Causes
 pub mod inner

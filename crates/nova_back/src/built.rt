@@ -1,87 +1,106 @@
 //! Code whose banks are chosen by the 0-1 program.
 
-ghost use Rattle.std.specs.Prelude.{◌≡◌, ◌≤◌, ◌+◌, ◌*◌, ◌^◌, ◌⊎◌, ℕ, [], true, length, IfOk, IfErr, MatchResult};
+ghost use Rattle.std.specs.Prelude.{◌≡◌, ◌≤◌, ◌^◌, ◌⊎◌, ℕ, List, true, length, IfOk, IfErr, MatchResult};
 ghost use Rattle.ssu_ir.specs.Measures.{code_bound, peak};
 ghost use Rattle.ssu_ir.specs.Single.{single};
 ghost use Rattle.ssu_ir.specs.View.{labels_view};
-ghost use Rattle.slot_placement.specs.Uses.{values, uses};
 ghost use Rattle.zo_model.specs.Program.{costs_of, vector};
-ghost use Rattle.bank_form.specs.Columns.{columns, costs};
+ghost use Rattle.bank_form.specs.Columns.{columns};
+ghost use Rattle.bank_prog.specs.Weighted.{weighted_costs};
 ghost use Rattle.bank_form.specs.Program.{rows, IsTooLarge};
 ghost use Rattle.uc_isa.specs.Moves.{moves};
-ghost use Rattle.nova_back.specs.Causes.{IsCodeOf, IsReportOn, HasVector, IsCause, report_cost};
+ghost use Rattle.nova_back.specs.Causes.{IsCodeOf, AreStartsOf, IsReportOn, HasVector, IsCheapFor, IsCause, report_cost};
 ghost use Rattle.nova_back.specs.inner.Search.{IsChoice};
 
 use crate::choice::choice_of;
 use crate::error::BackError;
+use label_weights::Weights;
 use nv_base::NoMemory;
 use reg_assign::assign;
 use ssu_ir::Ssu;
 use std::alloc::Global;
 use uc_isa::Code;
-use ucode_emit::emit;
+use uc_peep::without_needless;
+use ucode_emit::{Emitted, emit};
 use zo_cert::Report;
 use zo_model::Assignment;
 
-/// A form in single use, the report on its banks, and its code.
+/// A form in single use, the report on its banks, its code, and where its labels start in that.
 #[derive(Drop)]
 pub struct Built {
     pub ssu: Ssu,
     /// What the search found, with the program of the banks and the certificate.
     pub report: Report,
     pub code: Code,
+    pub starts: Vec<u32>,
 }
 
-/// The code of a form whose values stand where a choice of banks has them.
-fn code_of(alloc: Global, s: &Ssu, slots: u32, x: &Assignment) -> Result<Code, NoMemory>
+/// The code of a form whose values stand where a choice of banks has them, without needless instructions.
+fn code_of(alloc: Global, s: &Ssu, slots: u32, x: &Assignment) -> Result<Emitted, NoMemory>
     requires single { single (labels_view s.now) ≡ true }
     requires slots { slots ≤ 128 }
     requires choice { IsChoice (labels_view s.now) slots x.now }
     requires few { length (columns (labels_view s.now)) ≤ 2 ^ 26 }
     requires few_rows { length (rows (labels_view s.now) slots) ≤ 2 ^ 26 }
-    ensures code { IfOk result (IsCodeOf (labels_view s.now) slots) }
-    ensures light { IfOk result (λ c. moves c.list [] [] ≤ costs_of (costs (labels_view s.now)) (vector x.now.on.items)) }
-    ensures short { IfOk result (λ c. length c.list ≤ code_bound (labels_view s.now)) }
+    ensures code { IfOk result (λ e. IsCodeOf (labels_view s.now) slots e.code) }
+    ensures starts { IfOk result (λ e. AreStartsOf (labels_view s.now) e.code e.starts.items) }
+    ensures light { IfOk result (λ e. (ws : List ℕ) → moves e.code.list e.starts.items ws ≤ costs_of (weighted_costs (labels_view s.now) ws) (vector x.now.on.items)) }
+    ensures short { IfOk result (λ e. length e.code.list ≤ code_bound (labels_view s.now)) }
 {
     let placement = assign(alloc, s, slots, x)?;
-    Ok(emit(alloc, s, &placement)?.code)
+    let emitted = emit(alloc, s, &placement)?;
+    let peeped = without_needless(alloc, emitted.code, emitted.starts)?;
+    Ok(Emitted {
+        code: peeped.code,
+        starts: peeped.starts,
+    })
 }
 
 /// The code of a form in single use, of at most `store` instructions, with each value in the banks that the 0-1 program
-/// of the form and `slots` spill slots chooses in a search of at most `budget` branches.
+/// of the form and `slots` spill slots chooses, where its labels have these weights, in a search of at most `budget` branches.
 ///
 /// # Errors
 ///
 /// The size of the program is looked at first, then whether the search found a choice, and last how long the code is.
-pub fn back(alloc: Global, s: Ssu, slots: u32, budget: u32, store: u32) -> Result<Built, BackError>
+#[tactic(auto, using(crate::proofs::Reported::light_by))]
+pub fn back(
+    alloc: Global,
+    s: Ssu,
+    slots: u32,
+    budget: u32,
+    store: u32,
+    w: &Weights,
+) -> Result<Built, BackError>
     requires single { single (labels_view s) ≡ true }
     requires slots { slots ≤ 128 }
     requires some { 1 ≤ budget }
     requires budget { budget ≤ 1000000 }
     ensures form { IfOk result (λ b. labels_view b.ssu ≡ labels_view s) }
     ensures code { IfOk result (λ b. IsCodeOf (labels_view s) slots b.code) }
+    ensures starts { IfOk result (λ b. AreStartsOf (labels_view s) b.code b.starts.items) }
     ensures short { IfOk result (λ b. length b.code.list ≤ store) }
     ensures brief { IfOk result (λ b. length b.code.list ≤ code_bound (labels_view s)) }
-    ensures report { IfOk result (λ b. IsReportOn (labels_view s) slots budget b.report) }
+    ensures report { IfOk result (λ b. IsReportOn (labels_view s) slots w.now budget b.report) }
     ensures found { IfOk result (λ b. HasVector b.report.verdict) }
-    // The code's moves cost at most what the report's vector does.
-    ensures light { IfOk result (λ b. moves b.code.list [] [] ≤ report_cost b.report) }
-    // Where all values that are held at once fit a bank, at most two copies a value, and one a use.
-    ensures cheap { peak (labels_view s) ≤ 15 → IfOk result (λ b. report_cost b.report ≤ 2 * length (values (labels_view s)) + length (uses (labels_view s))) }
+    // Under the weights the code's moves cost at most what the report's vector does.
+    ensures light { IfOk result (λ b. moves b.code.list b.starts.items w.now ≤ report_cost b.report) }
+    // Where all values that are held at once fit a bank, at most two copies a value and one a use, each times the greatest weight.
+    ensures cheap { peak (labels_view s) ≤ 15 → IfOk result (λ b. IsCheapFor (labels_view s) w.now (report_cost b.report)) }
     ensures few { IfOk result (λ _. length (columns (labels_view s)) ≤ 2 ^ 26) }
     ensures few_rows { IfOk result (λ _. length (rows (labels_view s) slots) ≤ 2 ^ 26) }
-    ensures refused { IfErr result (λ e. (e ≡ BackError.NoMemory) ⊎ IsCause (labels_view s) slots budget store e) }
+    ensures refused { IfErr result (λ e. (e ≡ BackError.NoMemory) ⊎ IsCause (labels_view s) slots w.now budget store e) }
     ensures only_large { (n : ℕ) → IsTooLarge (labels_view s) slots n → MatchResult result (λ _. ⊥) (λ e. (e ≡ BackError.NoMemory) ⊎ (e ≡ BackError.TooLarge n)) }
 {
-    let report = choice_of(alloc, &s, slots, budget)?;
-    let code = code_of(alloc, &s, slots, &report.x)?;
-    let instructions = code.list().len();
+    let report = choice_of(alloc, &s, slots, budget, w)?;
+    let emitted = code_of(alloc, &s, slots, &report.x)?;
+    let instructions = emitted.code.list().len();
     if instructions > store as usize {
         return Err(BackError::StoreFull(instructions as u32));
     }
     Ok(Built {
         ssu: s,
         report,
-        code,
+        code: emitted.code,
+        starts: emitted.starts,
     })
 }

@@ -1,15 +1,16 @@
 //! The choice of banks that suits every form that holds at most 15 values at once.
 
-ghost use Rattle.std.specs.Prelude.{◌≡◌, ◌≤◌, ◌+◌, ◌*◌, ℕ, true, is_some, length, map, IfOk};
+ghost use Rattle.std.specs.Prelude.{◌≡◌, ◌≤◌, ℕ, List, true, is_some, length, map, IfOk};
 ghost use Rattle.std.specs.HashMap.{get};
 ghost use Rattle.ssu_ir.specs.Measures.{peak};
 ghost use Rattle.ssu_ir.specs.Single.{single};
 ghost use Rattle.ssu_ir.specs.View.{labels_view};
-ghost use Rattle.slot_placement.specs.Uses.{values, uses};
 ghost use Rattle.zo_model.specs.Program.{vector, costs_of};
 ghost use Rattle.bank_form.specs.Columns as columns;
 ghost use Rattle.bank_prog.specs.Meaning.{IsFeasible};
+ghost use Rattle.bank_prog.specs.Weighted.{weighted_costs};
 ghost use Rattle.bank_form.specs.Program.{same_column};
+ghost use Rattle.nova_back.specs.Causes.{IsCheapFor};
 ghost use Rattle.nova_back.specs.inner.Paired as inner;
 
 use bank_prog::{Bank, Column, Numbers, column_names, column_numbers, number};
@@ -115,7 +116,7 @@ pub fn paired(alloc: Global, s: &Ssu) -> Result<Assignment, NoMemory>
     requires { single (labels_view s.now) ≡ true }
     ensures columns { IfOk result (λ x. length x.on.items ≡ length (columns.columns (labels_view s.now))) }
     ensures feasible { (slots : ℕ) → peak (labels_view s.now) ≤ 15 → IfOk result (λ x. IsFeasible (labels_view s.now) slots (vector x.on.items)) }
-    ensures cheap { IfOk result (λ x. costs_of (columns.costs (labels_view s.now)) (vector x.on.items) ≤ 2 * length (values (labels_view s.now)) + length (uses (labels_view s.now))) }
+    ensures cheap { IfOk result (λ x. (ws : List ℕ) → IsCheapFor (labels_view s.now) ws (costs_of (weighted_costs (labels_view s.now) ws) (vector x.on.items))) }
 {
     let names = column_names(alloc, s)?;
     let numbers = column_numbers(alloc, s)?;

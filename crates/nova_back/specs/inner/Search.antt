@@ -1,8 +1,7 @@
 -- What the steps of the back end hand on: a choice to begin the search with, the report of the search, and why there is none.
-use Rattle.std.specs.Prelude.{◌≡◌, ◌≤◌, ◌<◌, ◌+◌, ◌-◌, ◌*◌, ◌^◌, ℕ, List, Option, Some, None, length, ⊤}
+use Rattle.std.specs.Prelude.{◌≡◌, ◌≤◌, ◌<◌, ◌+◌, ◌-◌, ◌^◌, ℕ, List, Option, Some, None, length, ⊤}
 use Rattle.ssu_ir.specs.Measures.{peak}
 use Rattle.ssu_ir.specs.Tree.{Label}
-use Rattle.slot_placement.specs.Uses.{values, uses}
 use Rattle.zo_model.specs.Program.{costs_of, vector}
 use Rattle.zo_model.specs.Program as zero_one
 use Rattle.zo_model.specs.declared.program.Assignment.{Assignment}
@@ -15,9 +14,10 @@ use Rattle.zo_cert.specs.declared.report.Verdict.{Verdict}
 use Rattle.zo_cert.specs.declared.report.Verdict.TheVariants.{Optimal, Feasible, Infeasible, Spent}
 use Rattle.zo_solve.specs.Solved.{CostsAtMost}
 use Rattle.zo_state.specs.Vector.{start_cost}
-use Rattle.bank_form.specs.Columns.{columns, costs}
+use Rattle.bank_form.specs.Columns.{columns}
+use Rattle.bank_prog.specs.Weighted.{weighted_costs}
 use Rattle.bank_prog.specs.Meaning.{IsFeasible}
-use Rattle.nova_back.specs.Causes.{IsReportOn, IsWithout, HasLargeProgram, HasVector, IsEnded, claim_of, report_cost}
+use Rattle.nova_back.specs.Causes.{IsReportOn, IsWithout, HasLargeProgram, HasVector, IsEnded, IsCheapFor, claim_of, report_cost}
 use Rattle.nova_back.specs.declared.error.BackError.{BackError}
 use Rattle.nova_back.specs.declared.error.BackError.TheVariants as back
 
@@ -38,13 +38,9 @@ abbrev pub IsStart : List Label → ℕ → Option Assignment → Type 0
 IsStart labels slots (Some x) = IsChoice labels slots x
 IsStart labels slots None = IsCrowded labels slots
 
--- two copies a value, and one a use
-abbrev pub copies_cost : List Label → ℕ
-copies_cost labels = 2 * length (values labels) + length (uses labels)
-
--- the choice to begin with costs at most those copies
+-- under all weights the choice to begin with costs at most two copies a value and one a use, each times the greatest weight of a label
 abbrev pub IsCheap : List Label → Option Assignment → Type 0
-IsCheap labels (Some x) = costs_of (costs labels) (vector x.on.items) ≤ copies_cost labels
+IsCheap labels (Some x) = (ws : List ℕ) → IsCheapFor labels ws (costs_of (weighted_costs labels ws) (vector x.on.items))
 IsCheap labels None = ⊤
 
 -- ---- where it ends
@@ -86,14 +82,14 @@ IsCrowdedWithout labels slots Infeasible = IsCrowded labels slots
 IsCrowdedWithout labels slots Spent = IsCrowded labels slots
 
 -- the report of a search on the form
-pub record IsSearchOn (labels : List Label) (slots budget : ℕ) (r : Report) : Type 0 where
-  pub report : IsReportOn labels slots budget r
+pub record IsSearchOn (labels : List Label) (slots : ℕ) (ws : List ℕ) (budget : ℕ) (r : Report) : Type 0 where
+  pub report : IsReportOn labels slots ws budget r
   pub crowded : IsCrowdedWithout labels slots r.verdict
-  pub cheap : peak labels ≤ 15 → HasVector r.verdict → report_cost r ≤ copies_cost labels
+  pub cheap : peak labels ≤ 15 → HasVector r.verdict → IsCheapFor labels ws (report_cost r)
 
 -- such a report with a vector
-pub record IsChosen (labels : List Label) (slots budget : ℕ) (r : Report) : Type 0 where
-  pub on_form : IsSearchOn labels slots budget r
+pub record IsChosen (labels : List Label) (slots : ℕ) (ws : List ℕ) (budget : ℕ) (r : Report) : Type 0 where
+  pub on_form : IsSearchOn labels slots ws budget r
   pub found : HasVector r.verdict
 
 -- the report is told by its verdict
@@ -113,9 +109,9 @@ IsUnbuilt labels slots (back.Spent r) = ⊥
 IsUnbuilt labels slots (back.StoreFull n) = ⊥
 
 -- why no choice is found for it
-abbrev pub IsUnfound : List Label → ℕ → ℕ → BackError → Type 0
-IsUnfound labels slots budget back.NoMemory = ⊤
-IsUnfound labels slots budget (back.TooLarge n) = HasLargeProgram labels slots n
-IsUnfound labels slots budget (back.Infeasible r) = IsWithout labels slots budget Infeasible r
-IsUnfound labels slots budget (back.Spent r) = IsWithout labels slots budget Spent r
-IsUnfound labels slots budget (back.StoreFull n) = ⊥
+abbrev pub IsUnfound : List Label → ℕ → List ℕ → ℕ → BackError → Type 0
+IsUnfound labels slots ws budget back.NoMemory = ⊤
+IsUnfound labels slots ws budget (back.TooLarge n) = HasLargeProgram labels slots n
+IsUnfound labels slots ws budget (back.Infeasible r) = IsWithout labels slots ws budget Infeasible r
+IsUnfound labels slots ws budget (back.Spent r) = IsWithout labels slots ws budget Spent r
+IsUnfound labels slots ws budget (back.StoreFull n) = ⊥

@@ -1,6 +1,50 @@
+use Rattle.std.proofs.Common.{◌-◌, ◌∙◌, subst, arith, length}
+use Rattle.std.proofs.Math.Nat.{le_trans}
+use Rattle.ssu_ir.specs.Entered.{entered}
+use Rattle.ssu_ir.specs.Meaning.{ssu_meaning, ssu_params}
 use Rattle.ssu_ir.specs.View.{labels_view}
+use Rattle.uc_runs.proofs.EntryLemmas.{visited-along}
+use Rattle.ucode_emit.specs.Operations.{code_operations}
+use Rattle.ucode_emit.specs.SpillBase.{SpillsByBase}
+use Rattle.nova_back.specs.LeftOut.{LeavesOut}
+use Rattle.nova_back.proofs.LeftOut.{operations-left, params-few, spills-left}
 use Rattle.nova_back.proofs.Sizes.{size-few}
 use Rattle.nova_back.proofs.built.code_of.Goals as goal
 
 pub emit-requires-clause-few : goal.emit-requires-clause-few
 emit-requires-clause-few c = size-few (labels_view c.args.s.now) c.args.slots c.requires.single c.requires.few c.requires.few_rows
+
+pub returns-clause-code : goal.returns-clause-code
+returns-clause-code c =
+    let labels = labels_view c.args.s.now in
+    let old = c.in_ok-emitted.emitted.code in
+    let new = c.in_ok-peeped.peeped.code in
+    let without = c.in_ok-peeped.ensures.without in
+    record {
+      lawful = c.in_ok-peeped.ensures.lawful;
+      agrees = (c.in_ok-peeped.ensures.agrees (ssu_params labels) (ssu_meaning labels)).0 c.in_ok-emitted.ensures.agrees;
+      spills = spills-left c.args.slots old.list new.list without (subst (λ n. SpillsByBase n old.list) c.in_ok-placement.ensures.slots c.in_ok-emitted.ensures.spills);
+      does = subst (λ os. LeavesOut os (code_operations new.list)) c.in_ok-emitted.ensures.operations (operations-left old.list new.list without);
+    }
+
+pub returns-clause-starts : goal.returns-clause-starts
+returns-clause-starts c =
+    let labels = labels_view c.args.s.now in
+    let kept = c.in_ok-peeped.ensures.kept in
+    let starts = c.in_ok-emitted.ensures.starts in
+    record {
+      starts_are = record {
+        count = kept.count ∙ starts.count;
+        shape = kept.shape starts.shape;
+        inside = kept.inside;
+        end_ = λ i at. (kept.lawful.each (length c.in_ok-peeped.peeped.code.list - 1) i at).last (let some = kept.lawful.some in omega (arith, some));
+      };
+      visited = visited-along (ssu_params labels) (entered labels) c.in_ok-emitted.emitted.code.list c.in_ok-peeped.peeped.code.list c.in_ok-emitted.emitted.starts.items c.in_ok-peeped.peeped.starts.items (params-few labels c.requires.single) kept.count kept.follows c.in_ok-emitted.ensures.visited;
+      settled = c.in_ok-peeped.ensures.settled;
+    }
+
+pub returns-clause-light : goal.returns-clause-light
+returns-clause-light c = λ ws. le_trans (c.in_ok-peeped.ensures.kept.moves ws) (le_trans (c.in_ok-emitted.ensures.weighted ws) (c.in_ok-placement.ensures.weighted_cost ws))
+
+pub returns-clause-short : goal.returns-clause-short
+returns-clause-short c = le_trans c.in_ok-peeped.ensures.kept.most c.in_ok-emitted.ensures.short

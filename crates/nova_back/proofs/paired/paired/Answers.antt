@@ -24,8 +24,8 @@ returns-clause-feasible c = λ slots l.
     paired-lines labels (on labels (vector c.in_ok-on.on.items)) slots (vector-paired labels number c.in_ok-on.on.items c.requires c.in_ok-numbers.ensures e) l
 
 pub returns-clause-cheap : goal.returns-clause-cheap
-returns-clause-cheap c =
+returns-clause-cheap c = λ ws.
     let labels = labels_view c.args.s.now in
     let number = get same_column c.in_ok-numbers.numbers in
     let e : c.in_ok-on.on.items ≡ map (paired number) (columns labels) = c.in_ok-on.ensures ∙ ap (map (paired number)) (c.deref.ensures.value ∙ c.in_ok-names.ensures) in
-    paired-costs labels (vector c.in_ok-on.on.items) (vector-paired labels number c.in_ok-on.on.items c.requires c.in_ok-numbers.ensures e)
+    paired-costs labels ws (vector c.in_ok-on.on.items) (vector-paired labels number c.in_ok-on.on.items c.requires c.in_ok-numbers.ensures e)

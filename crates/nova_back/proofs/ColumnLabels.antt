@@ -1,0 +1,218 @@
+-- Each column of the program of the banks lies at a point of the form, so in a label. Under weights a vector costs at most so many times
+-- more as the heaviest label weighs.
+use Rattle.std.proofs.Common.{◌≡◌, ℕ, zero, suc, ◌+◌, ◌*◌, ◌<◌, ◌≤◌, nat_eq, Bool, true, false, if◌then◌else◌, List, [], ◌∷◌, ◌++◌, length, map, filter, slice_index, sym, ap, subst, ◌∙◌, ⊎_elim, arith}
+use Rattle.std.specs.List.{flat_map}
+use Rattle.std.proofs.lemmas.Bool.{cases_lt, lt-ltb, le-ltb}
+use Rattle.std.proofs.lemmas.List.{length-append, length-map}
+use Rattle.std.proofs.lemmas.Option.{slice_get_within}
+use Rattle.std.proofs.Math.Nat.{mul-le-mul_left}
+use Rattle.ssu_ir.specs.Points.{Place, Entry, At, Point, points, points_from, label_points}
+use Rattle.ssu_ir.specs.Tree.{Lit, Una, Bin, Clone, Read, Write, Label, Does, Forks, Ends}
+use Rattle.slot_placement.specs.Uses.{Access, accesses, accesses_from, place_accesses, Sort, Parameter, Result, Fetched, Value, values, values_from, place_values, Use, uses, uses_from, uses_at, place_roles, is_used}
+use Rattle.slot_placement.specs.Fits.{is_result}
+use Rattle.slot_placement.proofs.Sound.{Each, each-append}
+use Rattle.slot_placement.proofs.Slotted.{each-any}
+use Rattle.slot_placement.proofs.Spilled.{each-weaker}
+use Rattle.label_weights.specs.ByLabel.{label_from}
+use Rattle.zo_model.specs.Program.{cost_where, cost_below, costs_of}
+use Rattle.bank_form.specs.declared.column.Bank.TheVariants.{A, B, M}
+use Rattle.bank_form.specs.declared.column.Column.{Column}
+use Rattle.bank_form.specs.declared.column.Column.TheVariants.{Dir, Fill, Stay, Ear, First, Srv, PasL, PasS}
+use Rattle.bank_form.specs.declared.column.Service.{Service}
+use Rattle.bank_form.specs.Columns.{sort_of, is_fetched, eight, beginnings, role_beginnings, sort_beginnings, place_words, point_uses, Priced, sort_defs, def_columns, dir_columns, point_dirs, fill_columns, stay_columns, point_stays, ear_columns, point_ears, first_columns, services, has_bank, srv_columns, for_eight, pas_l_columns, pas_s_columns, all_dirs, all_stays, all_ears, all_pas_l, all_pas_s, priced, columns, costs}
+use Rattle.bank_prog.specs.Weighted.{point_in, column_point, weigh, weighted, weighted_costs}
+use Rattle.bank_rows.proofs.PlainLines.{mapped-each}
+use Rattle.bank_places.proofs.ChosenHolds.{flat-each, if-each, points-each}
+use Rattle.bank_places.proofs.Counts.{each-from}
+use Rattle.bank_places.proofs.FactsThere.{point-of}
+use Rattle.bank_places.proofs.FitPasses.{value-point}
+use Rattle.nova_back.specs.Causes.{WeighAtMost}
+
+-- ---- points
+
+label-within : (l n : ℕ) (ls : List Label) (k : ℕ) → n ≤ k → k < n + length (points_from l ls) → label_from l n ls k < l + length ls
+label-within l n [] k le lt = absurd (omega (arith, le, lt))
+label-within l n (x ∷ ls) k le lt =
+    let next = n + length (label_points l x) in
+    let long = length-append (label_points l x) (points_from (suc l) ls) in
+    ⊎_elim
+    (λ (low : k < next). let here : label_from l n (x ∷ ls) k ≡ l = ap (λ b. if b then l else label_from (suc l) next ls k) (lt-ltb k next low) in omega (arith, here))
+    (λ (high : next ≤ k).
+    let later : label_from l n (x ∷ ls) k ≡ label_from (suc l) next ls k = ap (λ b. if b then l else label_from (suc l) next ls k) (le-ltb k next high) in
+    let rest : label_from (suc l) next ls k < suc l + length ls = label-within (suc l) next ls k high (omega (arith, lt, long)) in
+    omega (arith, later, rest))
+    (cases_lt k next)
+
+point-within : (labels : List Label) (k : ℕ) → k < length (points labels) → label_from 0 0 labels k < length labels
+point-within labels k h = let within = label-within 0 0 labels k (omega arith) (omega (arith, h)) in omega (arith, within)
+
+values-below : (n k : ℕ) (ps : List Point) → k + length ps ≤ n → Each (λ v. v.point < n) (values_from k ps)
+values-below n k [] h = tt
+values-below n k (q ∷ ps) h =
+    each-append (λ (v : Value). v.point < n) (place_values k q.place) (values_from (suc k) ps)
+    (each-from (λ (v : Value). v.point < n) (place_values k q.place) (λ v i. let e = value-point v k q.place i in omega (arith, e, h)))
+    (values-below n (suc k) ps (omega (arith, h)))
+
+uses-below : (n k : ℕ) (ps : List Point) → k + length ps ≤ n → Each (λ u. u.point < n) (uses_from k ps)
+uses-below n k [] h = tt
+uses-below n k (q ∷ ps) h =
+    let us = uses_at k 0 q.uses (place_roles q.place) in
+    each-append (λ (u : Use). u.point < n) us (uses_from (suc k) ps)
+    (each-from (λ (u : Use). u.point < n) us (λ u i. let e = point-of u k 0 q.uses (place_roles q.place) i in omega (arith, e, h)))
+    (uses-below n (suc k) ps (omega (arith, h)))
+
+accesses-at : (n k : ℕ) (q : Place) → k < n → Each (λ a. a.point < n) (place_accesses k q)
+accesses-at n k (Entry l ps) h = tt
+accesses-at n k (At (Does (Lit x v))) h = tt
+accesses-at n k (At (Does (Una x op y))) h = tt
+accesses-at n k (At (Does (Bin x op y z))) h = tt
+accesses-at n k (At (Does (Clone xs y))) h = tt
+accesses-at n k (At (Does (Read m xs y))) h = (h, tt)
+accesses-at n k (At (Does (Write m y xs))) h = (h, tt)
+accesses-at n k (At (Forks c x y)) h = tt
+accesses-at n k (At (Ends l)) h = tt
+
+accesses-below : (n k : ℕ) (ps : List Point) → k + length ps ≤ n → Each (λ a. a.point < n) (accesses_from k ps)
+accesses-below n k [] h = tt
+accesses-below n k (q ∷ ps) h =
+    each-append (λ (a : Access). a.point < n) (place_accesses k q.place) (accesses_from (suc k) ps) (accesses-at n k q.place (omega (arith, h))) (accesses-below n (suc k) ps (omega (arith, h)))
+
+found-below : (n x : ℕ) (vs : List Value) → 0 < n → Each (λ v. v.point < n) vs → point_in vs x < n
+found-below n x [] some h = some
+found-below n x (v ∷ vs) some h = by (nat_eq v.var x) (found-below n x vs some h.1)
+  where
+    by : (b : Bool) → point_in vs x < n → (if b then v.point else point_in vs x) < n
+    by true rest = h.0
+    by false rest = rest
+
+-- ---- columns, family by family
+
+abbrev Lies : List Label → Priced → Type 0
+Lies labels c = column_point labels c.0 < length (points labels)
+
+value-lies : (labels : List Label) (x k : ℕ) → k < length (points labels) → point_in (values labels) x < length (points labels)
+value-lies labels x k h = found-below (length (points labels)) x (values labels) (omega (arith, h)) (values-below (length (points labels)) 0 (points labels) (omega arith))
+
+defs-lie : (labels : List Label) (x : ℕ) (s : Sort) → point_in (values labels) x < length (points labels) → Each (Lies labels) (sort_defs x s)
+defs-lie labels x (Parameter zero i) h = (h, (h, (h, tt)))
+defs-lie labels x (Parameter (suc l) i) h = (h, (h, (h, tt)))
+defs-lie labels x Result h = (h, (h, (h, tt)))
+defs-lie labels x (Fetched m i) h = tt
+
+each-value : (labels : List Label) (P : Value → Type 0) → ((v : Value) → point_in (values labels) v.var < length (points labels) → P v) → Each P (values labels)
+each-value labels P f = each-weaker (λ v. v.point < length (points labels)) P (values labels) (λ v h. f v (value-lies labels v.var v.point h)) (values-below (length (points labels)) 0 (points labels) (omega arith))
+
+eight-lie : (labels : List Label) (b : Bool) (column : ℕ → Column) → ((r : ℕ) → Lies labels (column r, 0)) → Each (Lies labels) (for_eight b column)
+eight-lie labels true column h = mapped-each (Lies labels) (λ r. (column r, 0)) eight (each-any (λ r. Lies labels (column r, 0)) eight h)
+eight-lie labels false column h = tt
+
+dirs-lie : (labels : List Label) → Each (Lies labels) (all_dirs labels)
+dirs-lie labels = points-each (Lies labels) (point_dirs labels) 0 (points labels) (λ i k q e s.
+    let n = place_words q.place in
+    let us = point_uses k q in
+    flat-each (Lies labels) (dir_columns labels n) us (each-from (λ u. Each (Lies labels) (dir_columns labels n u)) us (λ u j.
+    let fs = role_beginnings n u.role in
+    let at = point-of u k 0 q.uses (place_roles q.place) j in
+    let inside = slice_get_within (points labels) i q s in
+    if-each (Lies labels) (is_result (sort_of labels u.value)) (map (λ f. (Dir u.point u.operand f, 0)) fs) (λ _.
+    mapped-each (Lies labels) (λ f. (Dir u.point u.operand f, 0)) fs (each-any (λ f. Lies labels (Dir u.point u.operand f, 0)) fs (λ f. omega (arith, at, inside, e)))))))
+
+stays-lie : (labels : List Label) → Each (Lies labels) (all_stays labels)
+stays-lie labels = points-each (Lies labels) (point_stays labels) 0 (points labels) (λ i k q e s.
+    let n = place_words q.place in
+    let vs = place_values k q.place in
+    let inside = slice_get_within (points labels) i q s in
+    flat-each (Lies labels) (stay_columns labels n) vs (each-any (λ v. Each (Lies labels) (stay_columns labels n v)) vs (λ v.
+    let fs = sort_beginnings n v.sort in
+    if-each (Lies labels) (is_used labels v.var) (map (λ f. (Stay v.var f, 0)) fs) (λ _.
+    mapped-each (Lies labels) (λ f. (Stay v.var f, 0)) fs (each-any (λ f. Lies labels (Stay v.var f, 0)) fs (λ f. value-lies labels v.var i inside))))))
+
+ears-lie : (labels : List Label) → Each (Lies labels) (all_ears labels)
+ears-lie labels = points-each (Lies labels) point_ears 0 (points labels) (λ i k q e s.
+    let n = place_words q.place in
+    let us = point_uses k q in
+    flat-each (Lies labels) (ear_columns n) us (each-from (λ u. Each (Lies labels) (ear_columns n u)) us (λ u j.
+    let fs = role_beginnings n u.role in
+    let at = point-of u k 0 q.uses (place_roles q.place) j in
+    let inside = slice_get_within (points labels) i q s in
+    mapped-each (Lies labels) (λ f. (Ear u.point u.operand f, 1)) fs (each-any (λ f. Lies labels (Ear u.point u.operand f, 1)) fs (λ f. omega (arith, at, inside, e))))))
+
+firsts-lie : (labels : List Label) → Each (Lies labels) (flat_map first_columns (accesses labels))
+firsts-lie labels = flat-each (Lies labels) first_columns (accesses labels)
+    (each-weaker (λ a. a.point < length (points labels)) (λ a. Each (Lies labels) (first_columns a)) (accesses labels)
+    (λ a h.
+    let fs = beginnings a.mem a.words in
+    mapped-each (Lies labels) (λ f. (First a.point f, 0)) fs (each-any (λ f. Lies labels (First a.point f, 0)) fs (λ f. h)))
+    (accesses-below (length (points labels)) 0 (points labels) (omega arith)))
+
+services-lie : (labels : List Label) → Each (Lies labels) (flat_map (srv_columns labels) (uses labels))
+services-lie labels = flat-each (Lies labels) (srv_columns labels) (uses labels)
+    (each-weaker (λ u. u.point < length (points labels)) (λ u. Each (Lies labels) (srv_columns labels u)) (uses labels)
+    (λ u h.
+    let ss = filter (λ (s : Service). has_bank (is_fetched (sort_of labels u.value)) s.from) (services u.role) in
+    mapped-each (Lies labels) (λ (s : Service). (Srv u.point u.operand s.from s.at, s.cost)) ss (each-any (λ s. Lies labels (Srv u.point u.operand s.from s.at, s.cost)) ss (λ s. h)))
+    (uses-below (length (points labels)) 0 (points labels) (omega arith)))
+
+pas-l-lie : (labels : List Label) → Each (Lies labels) (all_pas_l labels)
+pas-l-lie labels = points-each (Lies labels) pas_l_columns 0 (points labels) (λ i k q e s.
+    let inside = slice_get_within (points labels) i q s in
+    eight-lie labels _ (PasL k) (λ r. omega (arith, inside, e)))
+
+pas-s-lie : (labels : List Label) → Each (Lies labels) (all_pas_s labels)
+pas-s-lie labels = points-each (Lies labels) (pas_s_columns labels) 0 (points labels) (λ i k q e s.
+    let inside = slice_get_within (points labels) i q s in
+    eight-lie labels _ (PasS k) (λ r. omega (arith, inside, e)))
+
+columns-lie : (labels : List Label) → Each (Lies labels) (priced labels)
+columns-lie labels =
+    let defs = flat_map def_columns (values labels) in
+    let fills = flat_map (fill_columns labels) (values labels) in
+    let firsts = flat_map first_columns (accesses labels) in
+    let srvs = flat_map (srv_columns labels) (uses labels) in
+    let t8 = all_pas_l labels ++ all_pas_s labels in
+    let t7 = srvs ++ t8 in
+    let t6 = firsts ++ t7 in
+    let t5 = all_ears labels ++ t6 in
+    let t4 = all_stays labels ++ t5 in
+    let t3 = fills ++ t4 in
+    let t2 = all_dirs labels ++ t3 in
+    each-append (Lies labels) defs t2 (flat-each (Lies labels) def_columns (values labels) (each-value labels (λ v. Each (Lies labels) (def_columns v)) (λ v h. defs-lie labels v.var v.sort h)))
+    (each-append (Lies labels) (all_dirs labels) t3 (dirs-lie labels)
+    (each-append (Lies labels) fills t4 (flat-each (Lies labels) (fill_columns labels) (values labels) (each-value labels (λ v. Each (Lies labels) (fill_columns labels v)) (λ v h.
+    if-each (Lies labels) (is_used labels v.var) ((Fill v.var A, 1) ∷ (Fill v.var B, 1) ∷ (Fill v.var M, 17) ∷ []) (λ _. (h, (h, (h, tt)))))))
+    (each-append (Lies labels) (all_stays labels) t5 (stays-lie labels)
+    (each-append (Lies labels) (all_ears labels) t6 (ears-lie labels)
+    (each-append (Lies labels) firsts t7 (firsts-lie labels)
+    (each-append (Lies labels) srvs t8 (services-lie labels)
+    (each-append (Lies labels) (all_pas_l labels) (all_pas_s labels) (pas-l-lie labels) (pas-s-lie labels))))))))
+
+-- ---- costs
+
+pub weighted-length : (labels : List Label) (ws : List ℕ) → length (weighted_costs labels ws) ≡ length (columns labels)
+weighted-length labels ws = length-map (weighted labels ws) (λ c. c.1) ∙ length-map (priced labels) (weigh labels ws) ∙ sym (length-map (priced labels) (λ c. c.0))
+
+place-cost : (labels : List Label) (ws : List ℕ) (m : ℕ) (cs : List Priced) → Each (λ c. (weigh labels ws c).1 ≤ c.1 * m) cs → (i : ℕ) → slice_index (map (λ c. c.1) (map (weigh labels ws) cs)) i ≤ slice_index (map (λ c. c.1) cs) i * m
+place-cost labels ws m [] h i = omega arith
+place-cost labels ws m (c ∷ cs) h zero = h.0
+place-cost labels ws m (c ∷ cs) h (suc i) = place-cost labels ws m cs h.1 i
+
+one-cost : (b : Bool) (c d m : ℕ) → c ≤ d * m → cost_where b c ≤ cost_where b d * m
+one-cost true c d m h = h
+one-cost false c d m h = omega arith
+
+below-cost : (n m : ℕ) (as' bs : List ℕ) (x : ℕ → Bool) → ((i : ℕ) → slice_index as' i ≤ slice_index bs i * m) → cost_below n as' x ≤ cost_below n bs x * m
+below-cost zero m as' bs x h = omega arith
+below-cost (suc n) m as' bs x h =
+    let a = below-cost n m as' bs x h in
+    let b = one-cost (x n) (slice_index as' n) (slice_index bs n) m (h n) in
+    let d : (cost_below n bs x + cost_where (x n) (slice_index bs n)) * m ≡ cost_below n bs x * m + cost_where (x n) (slice_index bs n) * m = omega arith in
+    omega (arith, a, b, d)
+
+pub weighted-cost : (labels : List Label) (ws : List ℕ) (most : ℕ) (x : ℕ → Bool) → WeighAtMost labels ws most → costs_of (weighted_costs labels ws) x ≤ costs_of (costs labels) x * most
+weighted-cost labels ws most x h =
+    let ps = priced labels in
+    let each : Each (λ (c : Priced). (weigh labels ws c).1 ≤ c.1 * most) ps = each-weaker (Lies labels) (λ (c : Priced). (weigh labels ws c).1 ≤ c.1 * most) ps
+    (λ c lies. mul-le-mul_left c.1 (h (label_from 0 0 labels (column_point labels c.0)) (point-within labels (column_point labels c.0) lies))) (columns-lie labels) in
+    let below = below-cost (length (weighted_costs labels ws)) most (weighted_costs labels ws) (costs labels) x (place-cost labels ws most ps each) in
+    let same : length (weighted_costs labels ws) ≡ length (costs labels) = length-map (weighted labels ws) (λ c. c.1) ∙ length-map ps (weigh labels ws) ∙ sym (length-map ps (λ c. c.1)) in
+    subst (λ n. costs_of (weighted_costs labels ws) x ≤ cost_below n (costs labels) x * most) same below

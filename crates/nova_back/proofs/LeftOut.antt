@@ -1,0 +1,83 @@
+-- What holds of code without some of its instructions.
+use Rattle.std.proofs.Common.{◌≡◌, ℕ, zero, suc, ◌≤◌, List, ◌∷◌, length, Option, Some, None, refl, sym, subst, arith}
+use Rattle.std.specs.List.{cons_option}
+use Rattle.std.specs.Prelude.{true, slice_get}
+use Rattle.std.proofs.lemmas.Bool.{and_parts, leb-true}
+use Rattle.ssu_ir.specs.Meaning.{ssu_params, params_of}
+use Rattle.ssu_ir.specs.Single.{single, is_entry}
+use Rattle.ssu_ir.specs.Tree.{Label}
+use Rattle.uc_isa.specs.declared.instruction.Instr.{Instr}
+use Rattle.uc_isa.specs.declared.instruction.Instr.TheVariants.{Alu, Un, Immed, Br, Read, Write, Halt}
+use Rattle.uc_isa.specs.declared.instruction.UnOp.TheVariants.{Copy, Not, Shl, Shr, Rol}
+use Rattle.uc_peep.specs.Rewrites.{IsWithout}
+use Rattle.uc_peep.specs.Rewrites.IsWithout.{Nothing, Gone, Stays}
+use Rattle.uc_runs.specs.Relocated.{relocated}
+use Rattle.uc_runs.specs.StraightCode.{IsStraight}
+use Rattle.ucode_emit.specs.Operations.{Operation, code_operations, instr_operation}
+use Rattle.ucode_emit.specs.SpillBase.{KeepsBase, SpillsByBase}
+use Rattle.nova_back.specs.LeftOut.{LeavesOut}
+use Rattle.nova_back.specs.LeftOut.LeavesOut.{Empty, Needless, Kept}
+
+-- ---- operations
+
+relocated-operation : (f : ℕ → ℕ) (i : Instr) → instr_operation (relocated f i) ≡ instr_operation i
+relocated-operation f (Alu d op x y) = refl
+relocated-operation f (Un d op x) = refl
+relocated-operation f (Immed d v k) = refl
+relocated-operation f (Br cond target) = refl
+relocated-operation f (Read m r n x off) = refl
+relocated-operation f (Write m r n x off) = refl
+relocated-operation f (Halt k n) = refl
+
+stays : (o : Option Operation) (all rest : List Operation) → LeavesOut all rest → LeavesOut (cons_option o all) (cons_option o rest)
+stays None all rest h = h
+stays (Some o) all rest h = Kept o all rest h
+
+gone : (i : Instr) (all rest : List Operation) → IsStraight i → LeavesOut all rest → LeavesOut (cons_option (instr_operation i) all) rest
+gone (Alu d op x y) all rest straight h = Needless _ all rest tt h
+gone (Un d Copy x) all rest straight h = h
+gone (Un d Not x) all rest straight h = Needless _ all rest tt h
+gone (Un d (Shl k) x) all rest straight h = Needless _ all rest tt h
+gone (Un d (Shr k) x) all rest straight h = Needless _ all rest tt h
+gone (Un d (Rol k) x) all rest straight h = Needless _ all rest tt h
+gone (Immed d v k) all rest straight h = Needless _ all rest tt h
+gone (Br cond target) all rest straight h = absurd straight
+gone (Read m r n x off) all rest straight h = absurd straight
+gone (Write m r n x off) all rest straight h = absurd straight
+gone (Halt k n) all rest straight h = absurd straight
+
+pub operations-left : (code code' : List Instr) → IsWithout code code' → LeavesOut (code_operations code) (code_operations code')
+operations-left a b Nothing = Empty
+operations-left a b (Gone i code code' straight h) = gone i (code_operations code) (code_operations code') straight (operations-left code code' h)
+operations-left a b (Stays f i code code' h) =
+    subst (λ o. LeavesOut (cons_option (instr_operation i) (code_operations code)) (cons_option o (code_operations code'))) (sym (relocated-operation f i))
+    (stays (instr_operation i) (code_operations code) (code_operations code') (operations-left code code' h))
+
+-- ---- the spill base
+
+keeps-relocated : (f : ℕ → ℕ) (slots : ℕ) (i : Instr) → KeepsBase slots i → KeepsBase slots (relocated f i)
+keeps-relocated f slots (Alu d op x y) h = h
+keeps-relocated f slots (Un d op x) h = h
+keeps-relocated f slots (Immed d v k) h = h
+keeps-relocated f slots (Br cond target) h = h
+keeps-relocated f slots (Read m r n x off) h = h
+keeps-relocated f slots (Write m r n x off) h = h
+keeps-relocated f slots (Halt k n) h = h
+
+pub spills-left : (slots : ℕ) (code code' : List Instr) → IsWithout code code' → SpillsByBase slots code → SpillsByBase slots code'
+spills-left slots a b Nothing h = h
+spills-left slots a b (Gone i code code' straight w) h = spills-left slots code code' w (λ k d lt. h (suc k) d (omega arith))
+spills-left slots a b (Stays f i code code' w) h = both (spills-left slots code code' w (λ k d lt. h (suc k) d (omega arith)))
+  where
+    both : SpillsByBase slots code' → SpillsByBase slots (relocated f i ∷ code')
+    both rest zero d lt = keeps-relocated f slots i (h zero d (omega arith))
+    both rest (suc k) d lt = rest k d (omega arith)
+
+-- ---- parameters
+
+entry-few : (o : Option Label) → is_entry o ≡ true → params_of o ≤ 8
+entry-few (Some l) h = leb-true (length l.params) 8 h
+entry-few None h = omega arith
+
+pub params-few : (labels : List Label) → single labels ≡ true → ssu_params labels ≤ 8
+params-few labels h = entry-few (slice_get labels 0) (and_parts (is_entry (slice_get labels 0)) _ h).0
