@@ -18,7 +18,7 @@ use Rattle.bank_prog.specs.Meaning.{on, named_cost, IsFeasible}
 use Rattle.bank_prog.proofs.LawsColumns.{on-there}
 use Rattle.bank_prog.proofs.LawsCost.{costs-by-name}
 use Rattle.reg_assign.specs.declared.given.Given.{Given}
-use Rattle.bank_places.specs.declared.numbers.BankNumbers.{BankNumbers}
+use Rattle.home_numbers.specs.declared.homes.HomeNumbers.{HomeNumbers}
 use Rattle.bank_places.specs.declared.reading.Reading.{Reading}
 use Rattle.label_weights.specs.ByLabel.{label_cost}
 use Rattle.label_weights.specs.Weighted.{weighted_cost}
@@ -26,7 +26,8 @@ use Rattle.bank_places.specs.ByLabel.{label_price}
 use Rattle.bank_places.specs.inner.Facts.{OnlyThere}
 use Rattle.bank_places.specs.inner.ReadOff.{Numbers, AreNumbered, read_off}
 use Rattle.reg_assign.specs.inner.Given.{labels_in, says_in, numbers_in}
-use Rattle.bank_places.specs.inner.Reading.{labels_of, says, numbers_of, IsReadOff}
+use Rattle.bank_places.specs.inner.Reading.{labels_of, says, IsReadOff}
+use Rattle.home_numbers.specs.inner.Chosen.{numbers_of}
 use Rattle.bank_places.proofs.CostAll.{plan-cost, label-paid}
 use Rattle.bank_places.proofs.Weighed.{weighted-paid}
 use Rattle.bank_places.proofs.FitAll.{read-off-fits}
@@ -57,10 +58,10 @@ read-assigned labels n v numbers p form few rows numbered r =
     }
 
 -- the numbers of homes by which the vector that is read meets the rows
-abbrev HasNumbers : Reading → BankNumbers → Type 0
+abbrev HasNumbers : Reading → HomeNumbers → Type 0
 HasNumbers r b = (n : ℕ) → n ≤ 128 → IsFeasible (labels_of r) n (vector r.x.now.on.items) → AreNumbered (labels_of r) n (says r) (numbers_of b)
 
-placed-assigned : (s : Ssu) (x : Assignment) (n : ℕ) (r : Reading) (b : BankNumbers) (p : Placement) → r.form.ssu.now ≡ s → r.x.now ≡ x → single (labels_view s) ≡ true → n ≤ 128 → IsFeasible (labels_view s) n (vector x.on.items)
+placed-assigned : (s : Ssu) (x : Assignment) (n : ℕ) (r : Reading) (b : HomeNumbers) (p : Placement) → r.form.ssu.now ≡ s → r.x.now ≡ x → single (labels_view s) ≡ true → n ≤ 128 → IsFeasible (labels_view s) n (vector x.on.items)
     → HasNumbers r b → IsReadOff (labels_of r) n (says r) (numbers_of b) p → IsAssigned (labels_view s) n (vector x.on.items) p
 placed-assigned s x n r b p es ex form few rows numbered it =
     let v = vector r.x.now.on.items in
@@ -70,11 +71,11 @@ placed-assigned s x n r b p es ex form few rows numbered it =
     let whole : IsAssigned (labels_of r) n v p = read-assigned (labels_of r) n v (numbers_of b) p form' few rows'' (numbered n few rows'') it in
     subst (λ (y : Assignment). IsAssigned (labels_view s) n (vector y.on.items) p) ex (subst (λ (t : Ssu). IsAssigned (labels_view t) n v p) es whole)
 
-pub assigned : {E : Type 0} (s : Ssu) (x : Assignment) (n : ℕ) (r : Reading) (b : BankNumbers) (g : Given) (o : Outcome Placement E) → r.form.ssu.now ≡ s → r.x.now ≡ x → g.reading ≡ r → g.numbers ≡ b → single (labels_view s) ≡ true → n ≤ 128 → IsFeasible (labels_view s) n (vector x.on.items)
+pub assigned : {E : Type 0} (s : Ssu) (x : Assignment) (n : ℕ) (r : Reading) (b : HomeNumbers) (g : Given) (o : Outcome Placement E) → r.form.ssu.now ≡ s → r.x.now ≡ x → g.reading ≡ r → g.numbers ≡ b → single (labels_view s) ≡ true → n ≤ 128 → IsFeasible (labels_view s) n (vector x.on.items)
     → HasNumbers r b → IfOk o (IsReadOff (labels_in g) n (says_in g) (numbers_in g)) → IfOk o (IsAssigned (labels_view s) n (vector x.on.items))
 assigned s x n r b g o es ex er eb form few rows numbered it = IfOk-weaker o (IsReadOff (labels_in g) n (says_in g) (numbers_in g)) (IsAssigned (labels_view s) n (vector x.on.items))
     (λ p q.
     let q' : IsReadOff (labels_of r) n (says r) (numbers_of g.numbers) p = subst (λ (t : Reading). IsReadOff (labels_of t) n (says t) (numbers_of g.numbers) p) er q in
-    let q'' : IsReadOff (labels_of r) n (says r) (numbers_of b) p = subst (λ (t : BankNumbers). IsReadOff (labels_of r) n (says r) (numbers_of t) p) eb q' in
+    let q'' : IsReadOff (labels_of r) n (says r) (numbers_of b) p = subst (λ (t : HomeNumbers). IsReadOff (labels_of r) n (says r) (numbers_of t) p) eb q' in
     placed-assigned s x n r b p es ex form few rows numbered q'')
     it

@@ -19,8 +19,8 @@ ghost use Rattle.bank_places.specs.inner.Reading.{IsReadOff};
 use crate::given::{Given, given_of};
 use crate::homes::{by_variable, homes_of};
 use crate::serves::{firsts_of, passes_of, serves_of};
-use bank_places::numbers::bank_numbers;
 use bank_places::reading::reading_of;
+use home_numbers::number_homes;
 use nv_base::NoMemory;
 use slot_placement::Placement;
 use ssu_ir::Ssu;
@@ -57,7 +57,7 @@ pub fn assign(alloc: Global, s: &Ssu, slots: u32, x: &Assignment) -> Result<Plac
     ensures weighted_cost { IfOk result (λ p. (ws : List ℕ) → under_weights.weighted_cost (labels_view s.now) ws (plan_view p) ≤ costs_of (weighted_costs (labels_view s.now) ws) (vector x.now.on.items)) }
 {
     let reading = reading_of(alloc, s, x)?;
-    let numbers = bank_numbers(alloc, &reading)?;
+    let numbers = number_homes(alloc, &reading)?;
     let given = given_of(alloc, reading, numbers)?;
     placed(alloc, &given, slots)
 }

@@ -7,8 +7,8 @@ ghost use Rattle.bank_places.specs.inner.ReadOff as pure;
 ghost use Rattle.bank_places.specs.inner.Reading.{says, labels_of, known_place};
 
 use crate::places::{Came, came_of};
-use bank_places::numbers::BankNumbers;
 use bank_places::reading::Reading;
+use home_numbers::HomeNumbers;
 use nv_base::NoMemory;
 use std::alloc::Global;
 
@@ -16,7 +16,7 @@ use std::alloc::Global;
 #[derive(Drop)]
 pub struct Given<'a> {
     pub reading: Reading<'a>,
-    pub numbers: BankNumbers,
+    pub numbers: HomeNumbers,
     pub came: Came,
     ghost right: { (x : ℕ) → known_place (get nat_eq came x) ≡ pure.place_in (says reading) (values (labels_of reading)) x },
 }
@@ -25,7 +25,7 @@ pub struct Given<'a> {
 pub fn given_of<'a>(
     alloc: Global,
     reading: Reading<'a>,
-    numbers: BankNumbers,
+    numbers: HomeNumbers,
 ) -> Result<Given<'a>, NoMemory>
     ensures reading { IfOk result (λ g. g.reading ≡ reading.entry) }
     ensures numbers { IfOk result (λ g. g.numbers ≡ numbers) }

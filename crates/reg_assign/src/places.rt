@@ -6,13 +6,14 @@ ghost use Rattle.slot_placement.specs.Fits as fits;
 ghost use Rattle.bank_form.specs.inner.Form.{use_view, value_view, sort_view};
 ghost use Rattle.bank_places.specs.inner.ReadOff as pure;
 ghost use Rattle.reg_assign.specs.inner.Given.{labels_in, says_in, numbers_in};
-ghost use Rattle.bank_places.specs.inner.Reading.{says, numbers_of, known_place, place_noted};
+ghost use Rattle.bank_places.specs.inner.Reading.{says, known_place, place_noted};
+ghost use Rattle.home_numbers.specs.inner.Chosen.{numbers_of};
 
 use crate::given::Given;
 use bank_places::columns::Family;
-use bank_places::numbers::BankNumbers;
 use bank_places::reading::Reading;
 use bank_prog::{Bank, Role, Sort, Use, Value};
+use home_numbers::HomeNumbers;
 use nv_base::{Mem, NoMemory};
 use slot_placement::Place;
 use std::alloc::Global;
@@ -106,7 +107,7 @@ pub fn came_of(alloc: Global, r: &Reading<'_>, values: &[Value]) -> Result<Came,
 }
 
 /// The place of a value's home in a bank.
-pub fn home_place(numbers: &BankNumbers, h: Bank, x: u32) -> Place
+pub fn home_place(numbers: &HomeNumbers, h: Bank, x: u32) -> Place
     ensures { result ≡ pure.home_place (numbers_of numbers.now) h x }
 {
     match h {

@@ -4,7 +4,8 @@ use Rattle.ssu_ir.specs.Tree.{Label}
 use Rattle.bank_prog.specs.Meaning.{Chosen}
 use Rattle.reg_assign.specs.declared.given.Given.{Given}
 use Rattle.bank_places.specs.inner.ReadOff.{Numbers}
-use Rattle.bank_places.specs.inner.Reading.{labels_of, says, numbers_of}
+use Rattle.bank_places.specs.inner.Reading.{labels_of, says}
+use Rattle.home_numbers.specs.inner.Chosen.{numbers_of}
 
 abbrev pub labels_in : Given → List Label
 labels_in g = labels_of g.reading

@@ -1,0 +1,89 @@
+//! What the values of a bank want: numbers by which no move is needed.
+
+use bank_places::reading::Reading;
+use bank_prog::services::services;
+use bank_prog::{Bank, Column, Role, Sort, Use};
+use nv_base::NoMemory;
+use register_wishes::Wishes;
+use std::alloc::Global;
+use std::collections::HashMap;
+
+/// Of each label that has parameters the point at which it begins.
+type Entries = HashMap<u32, u32>;
+
+fn entries_of(alloc: Global, r: &Reading<'_>) -> Result<Entries, NoMemory> {
+    let mut entries = HashMap::new(alloc);
+    for v in &r.form.tables.values {
+        if let Sort::Parameter(l, _) = v.sort {
+            entries.insert(l, v.point)?;
+        }
+    }
+    Ok(entries)
+}
+
+/// Whether a use takes its word from a bank to the same bank.
+fn stays_in(r: &Reading<'_>, u: Use, h: Bank) -> bool {
+    match r.service_on(u, services(u.role)) {
+        Some(s) => s.from == h && s.at == h,
+        None => false,
+    }
+}
+
+/// A word and the parameter that takes it in a bank want one number: those of jumps back, or of the others.
+fn push_pairs(
+    wishes: &mut Wishes,
+    r: &Reading<'_>,
+    h: Bank,
+    entries: &Entries,
+    back: bool,
+) -> Result<(), NoMemory> {
+    for u in &r.form.tables.uses {
+        if let Role::Argument(l, i) = u.role {
+            let is_back = entries.get(&l).copied().unwrap_or(0) <= u.point;
+            if is_back == back && stays_in(r, *u, h) {
+                wishes.pairs.push((u.value, r.form.parameter(l, i)))?;
+            }
+        }
+    }
+    Ok(())
+}
+
+/// In the first bank a parameter of the program wants the place in which it comes.
+fn push_parameters(wishes: &mut Wishes, r: &Reading<'_>) -> Result<(), NoMemory> {
+    for v in &r.form.tables.values {
+        if let Sort::Parameter(0, i) = v.sort {
+            if r.is_on(Column::Def(v.var, Bank::A)) {
+                wishes.fixed.push((v.var, i))?;
+            }
+        }
+    }
+    Ok(())
+}
+
+/// In the first bank a word of an end wants its place there.
+fn push_endings(wishes: &mut Wishes, r: &Reading<'_>) -> Result<(), NoMemory> {
+    for u in &r.form.tables.uses {
+        if let Role::Ending(i) = u.role {
+            if stays_in(r, *u, Bank::A) {
+                wishes.fixed.push((u.value, i))?;
+            }
+        }
+    }
+    Ok(())
+}
+
+/// What the values with a home in a bank want, the words of jumps back first.
+pub fn wishes_in(alloc: Global, r: &Reading<'_>, h: Bank) -> Result<Wishes, NoMemory> {
+    let mut wishes = Wishes {
+        pairs: Vec::new(alloc),
+        fixed: Vec::new(alloc),
+    };
+    let entries = entries_of(alloc, r)?;
+    push_pairs(&mut wishes, r, h, &entries, true)?;
+    push_pairs(&mut wishes, r, h, &entries, false)?;
+    if h == Bank::A {
+        push_parameters(&mut wishes, r)?;
+        push_endings(&mut wishes, r)?;
+    }
+    Ok(wishes)
+}
