@@ -1,5 +1,5 @@
 -- Numbers that were found by wishes are those that a placement asks for.
-use Rattle.std.proofs.Common.{◌≡◌, ℕ, Bool, ◌<◌, ◌≤◌, if◌then◌else◌, true, ◌&&◌, Option, Some, None, List, [], ◌∷◌, map, filter, unwrap_or, sym, ap, ◌∙◌, arith, nat_eq}
+use Rattle.std.proofs.Common.{◌≡◌, ℕ, Bool, ◌<◌, if◌then◌else◌, true, Option, Some, None, List, [], ◌∷◌, unwrap_or, sym, ap, ◌∙◌, arith, nat_eq}
 use Rattle.std.specs.Prelude.{◌≢◌, All, IfSome, option_map}
 use Rattle.std.specs.HashMap.{get}
 use Rattle.std.specs.List.{AllZip}
@@ -13,7 +13,7 @@ use Rattle.slot_placement.proofs.Sound.{Each}
 use Rattle.slot_placement.proofs.Spilled.{each-all, all-each}
 use Rattle.slot_placement.specs.Uses.{Value, values}
 use Rattle.bank_form.specs.declared.column.Bank.{Bank}
-use Rattle.bank_form.specs.declared.column.Bank.TheVariants.{A, B, M}
+use Rattle.bank_form.specs.declared.column.Bank.TheVariants.{A, B}
 use Rattle.bank_form.specs.Rows.{homes}
 use Rattle.bank_prog.specs.Meaning.{Chosen}
 use Rattle.bank_places.specs.inner.ReadOff.{has_home, AreApart, is_held, IsBelow, AreNumbered}

@@ -1,6 +1,6 @@
 -- The values of a row that were looked at have numbers, and the numbers that were seen are theirs.
-use Rattle.std.proofs.Common.{◌≡◌, ℕ, ◌+◌, ◌<◌, true, false, nat_eq, ◌||◌, ⊎_elim, Option, Some, List, [], ◌∷◌, ◌++◌, length, get_or, take, refl, sym, ap, subst, ◌∙◌}
-use Rattle.std.proofs.lemmas.Bool.{or_cases, or_left, or_right, false≢true, eq-eqb, cases_eq}
+use Rattle.std.proofs.Common.{◌≡◌, ℕ, ◌+◌, ◌<◌, true, false, nat_eq, ◌||◌, ⊎_elim, Option, Some, List, [], ◌∷◌, ◌++◌, length, get_or, take, sym, ap, subst, ◌∙◌}
+use Rattle.std.proofs.lemmas.Bool.{or_cases, or_left, or_right, false≢true, eq-eqb}
 use Rattle.std.proofs.lemmas.List.{take_more}
 use Rattle.nv_base.specs.Sets.{is_in}
 use Rattle.nv_base.proofs.Sets.{same-number}
@@ -17,13 +17,11 @@ told-none number n = record {
   seen_ = λ x k h e. absurd (false≢true h);
 }
 
-same-some : (j k : ℕ) (o : Option ℕ) → o ≡ Some j → o ≡ Some k → j ≡ k
-same-some j k o e f = let s : Some j ≡ Some k = sym e ∙ f in cc
-
 -- a number that a value before has was seen
 not-new : (number : ℕ → Option ℕ) (n : ℕ) (row seen : List ℕ) (x k y m : ℕ) → number x ≡ Some k → is_in k seen ≡ false → Told number n row seen → is_in y row ≡ true → number x ≡ Some m → number y ≡ Some m → ⊥
 not-new number n row seen x k y m e free t i f g =
-    let same : m ≡ k = same-some m k (number x) f e in
+    let both : Some m ≡ Some k = sym f ∙ e in
+    let same : m ≡ k = cc in
     false≢true (sym free ∙ t.seen_ y k i (g ∙ ap Some same))
 
 pub told-more : (number : ℕ → Option ℕ) (n : ℕ) (row seen : List ℕ) (x k : ℕ) → number x ≡ Some k → k < n → is_in k seen ≡ false → Told number n row seen → Told number n (row ++ x ∷ []) (seen ++ k ∷ [])
@@ -48,7 +46,10 @@ told-more number n row seen x k e l free t =
       };
       seen_ = λ z m h f. ⊎_elim
           (λ (a : is_in z row ≡ true). in-last m seen k ∙ or_left (is_in m seen) (nat_eq m k) (t.seen_ z m a f))
-          (λ (q : nat_eq z x ≡ true). in-last m seen k ∙ or_right (is_in m seen) (nat_eq m k) (eq-eqb m k (same-some m k (number x) (ap number (sym (same-number z x q)) ∙ f) e)))
+          (λ (q : nat_eq z x ≡ true).
+          let both : Some m ≡ Some k = sym f ∙ ap number (same-number z x q) ∙ e in
+          let same : m ≡ k = cc in
+          in-last m seen k ∙ or_right (is_in m seen) (nat_eq m k) (eq-eqb m k same))
           (or_cases (is_in z row) (nat_eq z x) (there z h));
     }
 

@@ -1,4 +1,4 @@
-use Rattle.std.proofs.Common.{ℕ, nat_eq}
+use Rattle.std.proofs.Common.{nat_eq}
 use Rattle.std.specs.Prelude.{All}
 use Rattle.std.specs.HashMap.{get}
 use Rattle.ssu_ir.specs.Points.{points}
