@@ -1,2 +1,4 @@
 pub mod Files
 pub mod Outcomes
+pub mod Own
+pub mod Given
