@@ -52,7 +52,7 @@ def status_of(outcome):
 
 def examples(top):
     """Each example prints what stands beside it: a source by `exec` and when it is compiled and run, an assembly text when it is
-    assembled and run, a report by `check`."""
+    assembled and run, or its contexts by a schedule; a report by `check`."""
     found = []
     for file in sorted(os.listdir(os.path.join(top, "examples"))):
         name, kind = os.path.splitext(file)
@@ -67,7 +67,12 @@ def examples(top):
         row.files = {"t": text.encode(), "m": memory.encode()}
         row.calls = [Call(["check", "t"], 0, output.encode())]
         if kind == ".asm":
-            row.calls = [Call(["asm", "t", "o"], 0, ANY, {"o": ANY}), Call(["run", "o", "m", "steps=1000"], status_of(output), output.encode())]
+            run, turns = ["run", "o", "m", "steps=1000"], os.path.join(top, f"examples/{name}.turns")
+            if os.path.exists(turns):
+                row.files["s"] = read(top, f"examples/{name}.turns").encode()
+                run = ["contexts", "o", "m", "s"]
+            status = status_of(re.sub("^context 0\n", "", output))
+            row.calls = [Call(["asm", "t", "o"], 0, ANY, {"o": ANY}), Call(run, status, output.encode())]
         found.append(row)
     return found
 
