@@ -1,0 +1,3 @@
+pub mod WeightsText
+pub mod Answer
+pub mod inner
