@@ -1,10 +1,11 @@
-// The 0-1 program of a sum of two parameters, its placement's vector, and its code.
+// The 0-1 programs of a sum of two parameters and of two labels under weights, a placement's vector, and code.
 use crate::sum::sum;
 use bank_prog::{Bank, Column, build, column_names, column_numbers, number};
 use nova_back::{BackError, Built, back};
-use place_ir::spill_all;
+use nv_base::{NoMemory, Vars};
+use place_ir::{Weights, spill_all};
 use reg_assign::{assign, from_placement};
-use ssu_ir::single;
+use ssu_ir::{Ssu, SsuBuild, SsuLabel, SsuNode, single};
 use std::alloc::Global;
 use std::test::Fail;
 use zo_cert::Verdict;
@@ -13,10 +14,63 @@ use zo_cert::Verdict;
 fn a_sum_has_a_program(rt: HostRuntime) -> Result<(), Fail> {
     let s = sum(rt.alloc())?;
     assert!(rt; single(&s));
-    match build(rt.alloc(), &s, 128) {
+    let w = Weights::new(Vec::new(rt.alloc()));
+    match build(rt.alloc(), &s, 128, &w) {
         Ok(z) => {
             assert_eq!(rt; z.costs.len(), 63);
             assert_eq!(rt; z.rows.len(), 156);
+        }
+        Err(_) => assert!(rt; false),
+    }
+    Ok(())
+}
+
+// Label 0 hands its parameter on to label 1, which ends with it.
+fn handed_on(alloc: Global) -> Result<Ssu, NoMemory> {
+    let mut b = SsuBuild::new(alloc);
+    let words = Vars::from_slice(alloc, &[1])?;
+    let arguments = Vec::from_array(alloc, [0])?;
+    let second = b.add(SsuNode::Halt(0, words))?;
+    let first = b.add(SsuNode::Jump(1, arguments))?;
+    let labels = Vec::from_array(
+        alloc,
+        [
+            SsuLabel {
+                params: Vec::from_array(alloc, [0])?,
+                body: first,
+            },
+            SsuLabel {
+                params: Vec::from_array(alloc, [1])?,
+                body: second,
+            },
+        ],
+    )?;
+    Ok(b.finish(labels))
+}
+
+#[test]
+fn labels_past_the_list_weigh_one(rt: HostRuntime) -> Result<(), Fail> {
+    let w = Weights::new(Vec::from_array(rt.alloc(), [3, 1023])?);
+    assert_eq!(rt; w.of(0), 3);
+    assert_eq!(rt; w.of(1), 1023);
+    assert_eq!(rt; w.of(2), 1);
+    assert_eq!(rt; w.of(u32::MAX), 1);
+    Ok(())
+}
+
+// Where parameters are first put, their copies, the ways to hand the first on, and those to end with the second.
+#[test]
+fn columns_cost_by_the_weights_of_their_labels(rt: HostRuntime) -> Result<(), Fail> {
+    let s = handed_on(rt.alloc())?;
+    assert!(rt; single(&s));
+    let w = Weights::new(Vec::from_array(rt.alloc(), [3, 100])?);
+    match build(rt.alloc(), &s, 128, &w) {
+        Ok(z) => {
+            assert_eq!(rt; z.costs.len(), 56);
+            assert!(rt; z.costs.starts_with(&[0, 3, 51, 0, 0, 0]));
+            assert!(rt; z.costs[6..].starts_with(&[3, 3, 51, 100, 100, 1700]));
+            assert!(rt; z.costs[12..].starts_with(&[0, 3, 51, 3, 0, 51, 51, 51, 99]));
+            assert!(rt; z.costs[21..].starts_with(&[0, 100, 1700, 0]));
         }
         Err(_) => assert!(rt; false),
     }
