@@ -7,7 +7,7 @@ use ssu_ir::{Ssu, SsuBuild, SsuLabel, SsuNode, single, size};
 use std::alloc::Global;
 use uc_asm::print;
 use uc_isa::{Code, Cond, Instr};
-use ucode_emit::emit;
+use ucode_emit::{Emitted, emit};
 
 // Ends with exception 1 where two parameters are equal, else with exception 2.
 fn test(alloc: Global) -> Result<Ssu, NoMemory> {
@@ -20,13 +20,39 @@ fn test(alloc: Global) -> Result<Ssu, NoMemory> {
     Ok(b.finish(labels))
 }
 
-// The code of a form, where it is one in single use.
-fn code_of(alloc: Global, s: &Ssu) -> Result<Option<Code>, PlaceError> {
+// Jumps to a label that ends.
+fn two_labels(alloc: Global) -> Result<Ssu, NoMemory> {
+    let mut b = SsuBuild::new(alloc);
+    let second = b.add(SsuNode::Halt(0, Vars::new(alloc)))?;
+    let first = b.add(SsuNode::Jump(1, Vec::new(alloc)))?;
+    let labels = Vec::from_array(
+        alloc,
+        [
+            SsuLabel {
+                params: Vec::new(alloc),
+                body: first,
+            },
+            SsuLabel {
+                params: Vec::new(alloc),
+                body: second,
+            },
+        ],
+    )?;
+    Ok(b.finish(labels))
+}
+
+// The code of a form and where its labels begin, where it is one in single use.
+fn emitted(alloc: Global, s: &Ssu) -> Result<Option<Emitted>, PlaceError> {
     if !single(s) || size(alloc, s)? > 100 {
         return Ok(None);
     }
     let placement = spill_all(alloc, s, 8)?;
-    Ok(Some(emit(alloc, s, &placement)?.code))
+    Ok(Some(emit(alloc, s, &placement)?))
+}
+
+// The code alone.
+fn code_of(alloc: Global, s: &Ssu) -> Result<Option<Code>, PlaceError> {
+    Ok(emitted(alloc, s)?.map(|e| e.code))
 }
 
 // Parameters go by S0 to their slots, operands come by a read register, one of them on to A15, and the sum
@@ -59,6 +85,18 @@ fn a_branch_has_the_place_of_its_arm(rt: HostRuntime) -> Result<(), PlaceError> 
                 target: 10,
             })
         )
+    );
+    Ok(())
+}
+
+// The second label begins behind the jump of the first.
+#[test]
+fn labels_begin_behind_one_another(rt: HostRuntime) -> Result<(), PlaceError> {
+    let s = two_labels(rt.alloc())?;
+    let e = emitted(rt.alloc(), &s)?;
+    assert!(rt;
+        e.as_ref()
+            .is_some_and(|e| e.starts.as_slice() == [0, 1].as_slice())
     );
     Ok(())
 }
