@@ -464,6 +464,57 @@ A size above 65,536 in the first line is `too large N` with status 8, whatever f
 "#,
             },
             Page {
+                name: "schedule line",
+                text: r#"schedule line
+
+A schedule isn't of its form at a line: docs/MACHINE.md has it. A line that is missing is faulty at its own number.
+
+    t:
+    | params 1
+    | halt 0 1
+    m:
+    | memory 0 0
+    | args 00000007
+    five:
+    | contexts 5
+    few:
+    | contexts 2
+    | run 0 1
+    third:
+    | contexts 2
+    | args 00000008
+    | run 2 1
+    many:
+    | contexts 2
+    | args 00000008
+    | run 1 100000000
+    | run 0 1
+    corrected:
+    | contexts 2
+    | args 00000008
+    | run 1 1
+    | run 0 1
+    $ asm t o
+    0 assembled 1
+    saved o: %any
+    $ contexts o m five
+    22 schedule line 1
+    $ contexts o m few
+    22 schedule line 2
+    $ contexts o m third
+    22 schedule line 3
+    $ contexts o m many
+    22 schedule line 4
+    $ contexts o m corrected
+    0
+    | context 0
+    | ended 00000007
+    | ..
+
+The object and the memory text are looked at before the schedule.
+"#,
+            },
+            Page {
                 name: "report line",
                 text: r#"report line, report refused
 
@@ -565,7 +616,7 @@ In the refused one below, the node leaves out a row, so its bound falls short.
                 name: "status 0",
                 text: r#"status 0: done
 
-Of `run` the code ended, of `exec` the program, and of every other command what it is for is done.
+Of `run` the code ended, of `exec` the program, of `contexts` all contexts, and of every other command what it is for is done.
 "#,
             },
             Page {
@@ -592,13 +643,6 @@ So an absent memory text beside a faulty source is status 3.
 Without a line the output itself failed. Then what was saved stays.
 "#,
             },
-            Page {
-                name: "status 5",
-                text: r#"status 5: out of memory
-
-Nothing is printed, and no file was changed.
-"#,
-            },
         ],
         name,
     )
@@ -607,6 +651,13 @@ Nothing is printed, and no file was changed.
 fn other_page_3(name: &[u8]) -> Option<&'static str> {
     page_among(
         &[
+            Page {
+                name: "status 5",
+                text: r#"status 5: out of memory
+
+Nothing is printed, and no file was changed.
+"#,
+            },
             Page {
                 name: "status 6",
                 text: r#"status 6: a text
@@ -660,13 +711,6 @@ The outcome begins with `fault MEMORY ADDRESS`: an access reached past this memo
 The memory's size stands in the first line of the memory text.
 "#,
             },
-            Page {
-                name: "status 16",
-                text: r#"status 16: going
-
-The outcome begins with `going`: all steps or calls were taken. Give more by `steps=N`, or see whether the loop ends.
-"#,
-            },
         ],
         name,
     )
@@ -675,6 +719,13 @@ The outcome begins with `going`: all steps or calls were taken. Give more by `st
 fn other_page_4(name: &[u8]) -> Option<&'static str> {
     page_among(
         &[
+            Page {
+                name: "status 16",
+                text: r#"status 16: going
+
+The outcome begins with `going`: all steps or calls were taken. Give more by `steps=N`, or see whether the loop ends.
+"#,
+            },
             Page {
                 name: "status 17",
                 text: r#"status 17: no true report
@@ -687,6 +738,13 @@ fn other_page_4(name: &[u8]) -> Option<&'static str> {
                 text: r#"status 18: code that breaks a rule
 
 `unlawful place P rule R` or `unlawful line N rule R`: docs/MACHINE.md has the rules by their numbers.
+"#,
+            },
+            Page {
+                name: "status 22",
+                text: r#"status 22: no schedule
+
+`schedule line N`: this line isn't of its form, or with it the turns are more than 100,000,000.
 "#,
             },
         ],
