@@ -30,13 +30,24 @@ def blocks(text):
     return found
 
 
+def named(source, output):
+    """What `run` prints of a source's code where `exec` prints this: it names a raised exception, with the line of its declaration."""
+    raised = re.match(r"raised ([0-9]+)[^\n]*\n", output)
+    if not raised:
+        return output
+    plain = re.sub(r"//[^\n]*", lambda it: " " * len(it[0]), source)
+    declared = list(re.finditer(r"\bexception\s+([A-Za-z_][A-Za-z0-9_]*)", plain))[int(raised[1]) - 1]
+    line = plain.count("\n", 0, declared.start()) + 1
+    return f"{raised[0]}exception {declared[1]} line {line}\n{output[raised.end():]}"
+
+
 def executed(where, name, source, memory, calls, status, output):
     row = Row(where, name)
     row.files = {"s.nova": source.encode(), "s.mem": memory.encode()}
     row.calls = [Call(["exec", "s.nova", "s.mem", f"steps={calls}"], status, output.encode())]
     if status != STATUSES["going"]:
         row.calls.append(Call(["compile", "s.nova", "s.obj", "s.rep", "store=1048576"], 0, ANY, {"s.obj": ANY, "s.rep": ANY}))
-        row.calls.append(Call(["run", "s.obj", "s.mem", "steps=10000000"], status, output.encode()))
+        row.calls.append(Call(["run", "s.obj", "s.mem", "steps=10000000"], status, named(source, output).encode()))
     return row
 
 
@@ -241,7 +252,7 @@ def worked(top, name):
         if kind == "memory":
             memory = text
         elif kind == "outcome":
-            found[-1].calls[-1].output = text.encode()
+            found[-1].calls[-1].output = named(found[-1].files["s.nova"].decode(), text).encode()
         elif kind == "row":
             found += Reader(where, top, f"== {where}\n{text}").rows()
         elif kind == "nova" and word in STATUSES:
@@ -272,7 +283,7 @@ def command_lines(top):
     found = []
     for first, kind, text in blocks(read(top, "README.md")):
         if kind == "outcome":
-            found[-1].calls[-1].output = text.encode()
+            found[-1].calls[-1].output = named(found[-1].files["s.nova"].decode(), text).encode()
         for line in text.split("\n") if kind == "sh" else []:
             call = re.search(r"(?:out/novac|rt (?:run|try) --) ([^)]*)", line)
             if not call:

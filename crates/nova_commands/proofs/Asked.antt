@@ -1,7 +1,7 @@
 -- The files that a command saves are among its outputs.
 use Rattle.std.proofs.Common.{◌≡◌, ℕ, inl, inr, List, [], ◌∷◌, map, refl, sym, subst}
 use Rattle.nv_outside.specs.Calls.{Call, Save, IsPart}
-use Rattle.command_line.specs.Command.{Command, Compile, Run, Exec, Asm, Dis, Lint, Check, Gen, outputs_of}
+use Rattle.command_line.specs.Command.{Command, Compile, Run, Exec, Asm, Dis, Lint, Check, Gen, Contexts, Peep, outputs_of}
 use Rattle.command_line.specs.declared.status.Status.{Status}
 use Rattle.command_line.specs.declared.status.Status.TheVariants.{Done, Infeasible, BudgetSpent}
 use Rattle.nova_commands.specs.Answers.{Makes}
@@ -15,14 +15,14 @@ SavesPart names files = IsPart (saves_of files) (map (λ (name : List ℕ). Save
 part-by : (names : List (List ℕ)) (files others : List File) → files ≡ others → SavesPart names others → SavesPart names files
 part-by names files others e h = subst (SavesPart names) (sym e) h
 
-compiled-part : (text object report : List ℕ) (slots budget store : ℕ) (s : Status) (fs : List File) (t : List ℕ) → CompileMakes text object report slots budget store s fs t → SavesPart (object ∷ report ∷ []) fs
-compiled-part text object report slots budget store Done fs t h = part-by (object ∷ report ∷ []) fs _ h.saves (inl (refl, inl (refl, tt)))
-compiled-part text object report slots budget store Infeasible fs t h = part-by (object ∷ report ∷ []) fs _ h.0.saves (inr (inl (refl, tt)))
-compiled-part text object report slots budget store BudgetSpent fs t h = part-by (object ∷ report ∷ []) fs _ h.0.saves (inr (inl (refl, tt)))
-compiled-part text object report slots budget store _ fs t h = absurd h
+compiled-part : (text object report : List ℕ) (slots : ℕ) (ws : List ℕ) (budget store : ℕ) (s : Status) (fs : List File) (t : List ℕ) → CompileMakes text object report slots ws budget store s fs t → SavesPart (object ∷ report ∷ []) fs
+compiled-part text object report slots ws budget store Done fs t h = part-by (object ∷ report ∷ []) fs _ h.saves (inl (refl, inl (refl, tt)))
+compiled-part text object report slots ws budget store Infeasible fs t h = part-by (object ∷ report ∷ []) fs _ h.0.saves (inr (inl (refl, tt)))
+compiled-part text object report slots ws budget store BudgetSpent fs t h = part-by (object ∷ report ∷ []) fs _ h.0.saves (inr (inl (refl, tt)))
+compiled-part text object report slots ws budget store _ fs t h = absurd h
 
 pub made-part : (c : Command) (bs : List (List ℕ)) (s : Status) (fs : List File) (t : List ℕ) → Makes c bs s fs t → SavesPart (outputs_of c) fs
-made-part (Compile source object report slots budget store) (b ∷ []) s fs t h = compiled-part b object report slots budget store s fs t h
+made-part (Compile source object report slots budget store) (b ∷ []) s fs t h = compiled-part b object report slots [] budget store s fs t h
 made-part (Run object memory steps) (b ∷ g ∷ []) s fs t h = part-by [] fs [] h.0 tt
 made-part (Exec source memory calls) (b ∷ g ∷ []) s fs t h = part-by [] fs [] h.0 tt
 made-part (Asm input object) (b ∷ []) s fs t h = part-by (object ∷ []) fs _ h.saves (inl (refl, tt))
@@ -30,4 +30,6 @@ made-part (Dis object) (b ∷ []) s fs t h = part-by [] fs [] h.0 tt
 made-part (Lint object) (b ∷ []) s fs t h = part-by [] fs [] h.0 tt
 made-part (Check report) (b ∷ []) s fs t h = part-by [] fs [] h.0 tt
 made-part (Gen seed size) [] s fs t h = part-by [] fs [] h.0 tt
+made-part (Contexts object memory schedule) (b ∷ g ∷ u ∷ []) s fs t h = part-by [] fs [] h.0 tt
+made-part (Peep object output) (b ∷ []) s fs t h = part-by (output ∷ []) fs _ h.saves (inl (refl, tt))
 made-part _ _ s fs t h = absurd h

@@ -62,7 +62,7 @@ compiles old source object report slots budget store r can e =
 small-code : (b n : ℕ) → 64 * b ≤ 2 ^ 26 → n ≤ b → store_limit < n → ⊥
 small-code b n h k l = omega (arith, h, k, l)
 
-fit : (p : ProgramTree) (e : Refusal) → banks_bound p ≤ 2 ^ 26 → IsUnfit p slots_limit budget_default store_limit e → ⊥
+fit : (p : ProgramTree) (e : Refusal) → banks_bound p ≤ 2 ^ 26 → IsUnfit p slots_limit [] budget_default store_limit e → ⊥
 fit p (SourceLarge n) small h = none-large p slots_limit n (inl small) h
 fit p (StoreFull n) small h = small-code (form_bound p) n small h.bounded h.long
 fit p _ small h = h
@@ -70,4 +70,4 @@ fit p _ small h = h
 pub no-refusal : (seed size : ℕ) (e : Refusal) → IsSmallMade seed size → GenRefuses seed size e → ⊥
 no-refusal seed size e small h =
     let same = source-program (made seed size) h.0 small.0 h.1.is_source small.1.is_source in
-    fit small.0 e small.2 (subst (λ p. IsUnfit p slots_limit budget_default store_limit e) same h.2)
+    fit small.0 e small.2 (subst (λ p. IsUnfit p slots_limit [] budget_default store_limit e) same h.2)

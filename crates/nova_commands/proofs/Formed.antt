@@ -24,7 +24,6 @@ use Rattle.ssu_ir.specs.Single.{single}
 use Rattle.ssu_ir.specs.Tree.{Label}
 use Rattle.ssu_make.specs.Bounds.{size_bound, length_bound}
 use Rattle.nova_middle.proofs.SourceBounds.{size_end, code_end}
-use Rattle.slot_placement.specs.Uses.{values, uses}
 use Rattle.bank_form.specs.Columns.{columns}
 use Rattle.bank_form.specs.Program.{rows, IsTooLarge}
 use Rattle.uc_isa.specs.Code.{CodeView}
@@ -37,7 +36,7 @@ use Rattle.zo_cert.specs.declared.report.Report.{Report}
 use Rattle.zo_cert.specs.declared.report.Verdict.{Verdict}
 use Rattle.zo_cert.specs.declared.report.Verdict.TheVariants as verdict
 use Rattle.zo_leaf.proofs.Duality.{proves_holds}
-use Rattle.nova_back.specs.Causes.{IsCodeOf, IsReportOn, IsWithout, HasLargeProgram, IsCause, IsLong, HasVector, report_cost}
+use Rattle.nova_back.specs.Causes.{IsCodeOf, AreStartsOf, IsReportOn, IsCheapFor, IsWithout, HasLargeProgram, IsCause, IsLong, HasVector, report_cost}
 use Rattle.nova_back.specs.declared.error.BackError.{BackError}
 use Rattle.nova_back.specs.declared.error.BackError.TheVariants as back
 use Rattle.nova_commands.specs.Building.{IsFormCause}
@@ -99,9 +98,9 @@ optimal-least verdict.Feasible r e valid h = absurd cc
 optimal-least verdict.Infeasible r e valid h = absurd cc
 optimal-least verdict.Spent r e valid h = absurd cc
 
-pub banks-of : (p : ProgramTree) (labels : List Label) (slots budget : ℕ) (c : CodeView) (r : Report) → IsFormOf p labels → IsReportOn labels slots budget r → HasVector r.verdict
-    → IsCodeOf labels slots c → moves c.list [] [] ≤ report_cost r → (peak labels ≤ 15 → report_cost r ≤ 2 * length (values labels) + length (uses labels)) → HasBanks p slots budget c r
-banks-of p labels slots budget c r form report found code light cheap = record {
+pub banks-of : (p : ProgramTree) (labels : List Label) (slots : ℕ) (ws : List ℕ) (budget : ℕ) (c : CodeView) (starts : List ℕ) (r : Report) → IsFormOf p labels → IsReportOn labels slots ws budget r → HasVector r.verdict
+    → IsCodeOf labels slots c → AreStartsOf labels c starts → moves c.list starts ws ≤ report_cost r → (peak labels ≤ 15 → IsCheapFor labels ws (report_cost r)) → HasBanks p slots ws budget c starts r
+banks-of p labels slots ws budget c starts r form report found code begin light cheap = record {
   form = labels;
   is_form = form;
   report = report;
@@ -109,6 +108,7 @@ banks-of p labels slots budget c r form report found code light cheap = record {
   meets = found-meets r.verdict r found report.holds.verdict_holds;
   optimal = λ e. optimal-least r.verdict r e report.valid.program_valid report.holds.verdict_holds;
   form_code = code;
+  labels_start = begin;
   light = light;
   cheap = cheap;
 }
@@ -124,8 +124,8 @@ large p labels slots n form h = record { form = labels; is_form = form; large = 
 pub fewer : (s k r : ℕ) → s < k → k ≤ r → s < r
 fewer s k r lt le = omega arith
 
-without : (p : ProgramTree) (labels : List Label) (slots budget : ℕ) (v : Verdict) (r : Report) → IsFormOf p labels → IsWithout labels slots budget v r → HasNoBanks p slots budget v r
-without p labels slots budget v r form h = record { form = labels; is_form = form; without = h; few_slots = fewer slots (peak labels) (room p) h.over_slots form.narrow }
+without : (p : ProgramTree) (labels : List Label) (slots : ℕ) (ws : List ℕ) (budget : ℕ) (v : Verdict) (r : Report) → IsFormOf p labels → IsWithout labels slots ws budget v r → HasNoBanks p slots ws budget v r
+without p labels slots ws budget v r form h = record { form = labels; is_form = form; without = h; few_slots = fewer slots (peak labels) (room p) h.over_slots form.narrow }
 
 -- no number of columns or rows is too large
 abbrev pub NoneLarge : List Label → ℕ → Type 0
@@ -140,13 +140,14 @@ columns-few labels slots none = at-most (length (columns labels)) (2 ^ 26) (λ m
 rows-few : (labels : List Label) (slots : ℕ) → NoneLarge labels slots → length (rows labels slots) ≤ 2 ^ 26
 rows-few labels slots none = at-most (length (rows labels slots)) (2 ^ 26) (λ many. none (length (rows labels slots)) (inr (columns-few labels slots none, (refl, many))))
 
-long : (p : ProgramTree) (labels : List Label) (slots budget store n : ℕ) → IsFormOf p labels → NoneLarge labels slots → IsLong labels slots budget store n → HasLongCode p slots budget store n
+long : (p : ProgramTree) (labels : List Label) (slots : ℕ) (ws : List ℕ) (budget store n : ℕ) → IsFormOf p labels → NoneLarge labels slots → IsLong labels slots ws budget store n → HasLongCode p slots ws budget store n
 unfolding banks-of
-long p labels slots budget store n form none h = record {
+long p labels slots ws budget store n form none h = record {
   r = h.r;
   c = h.c;
+  starts = h.starts;
   code = code-for p labels slots h.c form h.code.code;
-  banks = banks-of p labels slots budget h.c h.r form h.code.report h.code.found h.code.code h.code.light h.code.cheap;
+  banks = banks-of p labels slots ws budget h.c h.starts h.r form h.code.report h.code.found h.code.code h.code.labels_start h.code.light h.code.cheap;
   few = columns-few labels slots none;
   few_rows = rows-few labels slots none;
   counted = h.counted;
@@ -165,12 +166,12 @@ not-long m n (inr e) = cc
 none-given : (a b : BackError) (e : CompileError) → a ≡ b → IsHandedAs a e → IsHandedAs b e
 none-given a b e is h = subst (λ (x : BackError). IsHandedAs x e) is h
 
-pub back-caused : (p : ProgramTree) (labels : List Label) (slots budget store : ℕ) (error : BackError) (e : CompileError) → IsFormOf p labels → SaysLarge labels slots error
-    → (error ≡ back.NoMemory) ⊎ IsCause labels slots budget store error → IsHandedAs error e → (e ≡ compile.NoMemory) ⊎ IsFormCause p slots budget store e
-back-caused p labels slots budget store error e form says (inl none) is = inl (none-given error back.NoMemory e none is)
-back-caused p labels slots budget store back.NoMemory e form says (inr h) is = absurd h
-back-caused p labels slots budget store (back.TooLarge n) e form says (inr h) is = inr (subst (IsFormCause p slots budget store) (sym is) (large p labels slots n form h))
-back-caused p labels slots budget store (back.Infeasible r) e form says (inr h) is = inr (subst (IsFormCause p slots budget store) (sym is) (without p labels slots budget verdict.Infeasible r form h))
-back-caused p labels slots budget store (back.Spent r) e form says (inr h) is = inr (subst (IsFormCause p slots budget store) (sym is) (without p labels slots budget verdict.Spent r form h))
-back-caused p labels slots budget store (back.StoreFull n) e form says (inr h) is =
-    inr (subst (IsFormCause p slots budget store) (sym is) (long p labels slots budget store n form (λ k large. not-long n k (says k large)) h))
+pub back-caused : (p : ProgramTree) (labels : List Label) (slots : ℕ) (ws : List ℕ) (budget store : ℕ) (error : BackError) (e : CompileError) → IsFormOf p labels → SaysLarge labels slots error
+    → (error ≡ back.NoMemory) ⊎ IsCause labels slots ws budget store error → IsHandedAs error e → (e ≡ compile.NoMemory) ⊎ IsFormCause p slots ws budget store e
+back-caused p labels slots ws budget store error e form says (inl none) is = inl (none-given error back.NoMemory e none is)
+back-caused p labels slots ws budget store back.NoMemory e form says (inr h) is = absurd h
+back-caused p labels slots ws budget store (back.TooLarge n) e form says (inr h) is = inr (subst (IsFormCause p slots ws budget store) (sym is) (large p labels slots n form h))
+back-caused p labels slots ws budget store (back.Infeasible r) e form says (inr h) is = inr (subst (IsFormCause p slots ws budget store) (sym is) (without p labels slots ws budget verdict.Infeasible r form h))
+back-caused p labels slots ws budget store (back.Spent r) e form says (inr h) is = inr (subst (IsFormCause p slots ws budget store) (sym is) (without p labels slots ws budget verdict.Spent r form h))
+back-caused p labels slots ws budget store (back.StoreFull n) e form says (inr h) is =
+    inr (subst (IsFormCause p slots ws budget store) (sym is) (long p labels slots ws budget store n form (λ k large. not-long n k (says k large)) h))

@@ -44,12 +44,12 @@ pub made-short : (seed size : ℕ) (bytes : List ℕ) → 1 ≤ size → size �
 made-short seed size bytes some few e = subst (λ (x : List ℕ). length x ≤ source_limit) (sym e) (each_has_program seed size some few).short
 
 -- it is refused only where its program isn't compiled
-pub made-refused : (seed size : ℕ) (bytes : List ℕ) (e : Refusal) → 1 ≤ size → size ≤ 500 → bytes ≡ made seed size → IsUncaused e ⊎ CompileRefuses bytes slots_limit budget_default store_limit e → IsUncaused e ⊎ GenRefuses seed size e
+pub made-refused : (seed size : ℕ) (bytes : List ℕ) (e : Refusal) → 1 ≤ size → size ≤ 500 → bytes ≡ made seed size → IsUncaused e ⊎ CompileRefuses bytes slots_limit [] budget_default store_limit e → IsUncaused e ⊎ GenRefuses seed size e
 made-refused seed size bytes e some few is (inl u) = inl u
 made-refused seed size bytes e some few is (inr (inl h)) =
     let p = each_has_program seed size some few in
     absurd (source-good bytes e p.program (subst (λ (x : List ℕ). IsTypedSource x p.program) (sym is) (made-typed seed size p)) h)
-made-refused seed size bytes e some few is (inr (inr h)) = inr (subst (λ (x : List ℕ). HasTyped x (λ program. IsUnfit program slots_limit budget_default store_limit e)) is h)
+made-refused seed size bytes e some few is (inr (inr h)) = inr (subst (λ (x : List ℕ). HasTyped x (λ program. IsUnfit program slots_limit [] budget_default store_limit e)) is h)
 
 -- its program has little room
 narrow-enough : (r : ℕ) → r ≤ 29 → r ≤ 128
@@ -63,14 +63,14 @@ made-room seed size bytes some few is = λ t h.
     narrow-enough (room t) (subst (λ (x : ProgramTree). room x ≤ 29) same p.narrow)
 
 -- so banks are found for it
-pub no-room : (bytes : List ℕ) (budget : ℕ) (verdict : Verdict) (r : Report) → HasRoom bytes → IsWithoutBanks bytes slots_limit budget verdict r → ⊥
+pub no-room : (bytes : List ℕ) (budget : ℕ) (verdict : Verdict) (r : Report) → HasRoom bytes → IsWithoutBanks bytes slots_limit [] budget verdict r → ⊥
 no-room bytes budget verdict r narrow h =
     let few : slots_limit < room h.program = h.without.few_slots in
     let most : room h.program ≤ 128 = narrow h.program h.is_source in
     omega arith
 
 -- what is told of its code
-pub generated-by : (seed size : ℕ) (bytes line : List ℕ) (t : Compiled) (long instructions word : ℕ) → bytes ≡ made seed size → IsBuilt bytes slots_limit budget_default store_limit t → long ≡ length bytes → instructions ≡ length t.built.code.list
+pub generated-by : (seed size : ℕ) (bytes line : List ℕ) (t : Compiled) (long instructions word : ℕ) → bytes ≡ made seed size → IsBuilt bytes slots_limit [] budget_default store_limit t → long ≡ length bytes → instructions ≡ length t.built.code.list
     → MeansWord (typed_program t.typed) word → line ≡ generated_text seed size long instructions t.built.report.verdict (report_cost t.built.report) word → IsGenerated seed size line
 generated-by seed size bytes line t long instructions word is h counted number means told = record {
   program = typed_program t.typed;
@@ -80,6 +80,7 @@ generated-by seed size bytes line t long instructions word is h counted number m
   short = h.short;
   brief = h.brief;
   r = t.built.report;
+  starts = t.built.starts.items;
   banks = h.banks;
   word = word;
   means = means;

@@ -6,6 +6,8 @@ pub mod OneAnswer
 pub mod Generated
 pub mod Loads
 pub mod Saves
+pub mod Named
+pub mod Begun
 pub mod Found
 pub mod Complete
 pub mod Asked

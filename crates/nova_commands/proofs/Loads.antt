@@ -1,12 +1,20 @@
 -- The inputs of a command, in their order.
-use Rattle.std.proofs.Common.{◌≡◌, ℕ, ◌≤◌, ◌<◌, ◌⊎◌, inl, inr, List, [], ◌∷◌, Some, length, refl, ap, sym, ◌∙◌, subst, arith}
-use Rattle.std.specs.Prelude.{⊤}
+use Rattle.std.proofs.Common.{◌≡◌, ℕ, suc, ◌+◌, ◌≤◌, ◌<◌, ◌⊎◌, inl, inr, List, [], ◌∷◌, ◌++◌, Some, length, map, take, drop, get_or, refl, ap, sym, ◌∙◌, subst, Result, Ok, Err, IfOk, arith}
+use Rattle.std.specs.Prelude.{Vec, ⊤}
+use Rattle.std.specs.Global.{Global}
+use Rattle.std.proofs.Math.Nat.{le_trans}
+use Rattle.std.proofs.Math.Seq.{drop-cons}
+use Rattle.std.proofs.lemmas.List.{get_or_default, map-append, take_all, take_more, take-append-drop}
+use Rattle.nv_outside.specs.Calls.{Call, Load, Asked, AsksAtMost}
 use Rattle.nv_outside.specs.Causes.{Rose}
 use Rattle.nv_outside.specs.Holding.{Holding, IsLonger}
+use Rattle.nv_outside.proofs.Calls.{at_most-none, at_most-one, at_most-both, at_most-first}
 use Rattle.nova_commands.specs.Answers.{IsFree}
+use Rattle.command_line.specs.inner.Read.{input_as, inputs_as}
 use Rattle.command_line.specs.Lines.{IsUncaused, refusal_status}
-use Rattle.nova_commands.specs.Loading.{Input, IsRead, AreRead, StopsAt, IsUnread}
-use Rattle.nova_commands.specs.inner.Contents.{AreShort}
+use Rattle.command_line.specs.declared.input.Input.{Input as Named}
+use Rattle.nova_commands.specs.Loading.{Input, IsRead, AreRead, StopsAt, IsUnread, loads_of}
+use Rattle.nova_commands.specs.inner.Contents.{AreShort, contents_of}
 use Rattle.object_commands.proofs.Saves.{rose-later}
 use Rattle.command_line.specs.declared.refusal.Refusal.{Refusal}
 use Rattle.command_line.specs.declared.refusal.Refusal.TheVariants.{ReadFault, TooLarge}
@@ -98,18 +106,97 @@ unread-later T held before mid after (ReadFault name) i rises h = (h.0, rose-lat
 unread-later T held before mid after (TooLarge n) i rises h = h
 unread-later T held before mid after _ i rises h = h
 
--- the only input isn't read, or the second of two
-pub unread-only : (T : Type 0) (held : Holding) (R : List ℕ → Type 0) (e : Refusal) (i : Input) → IsUncaused e ⊎ IsUnread T held R e i → IsUncaused e ⊎ StopsAt T held (i ∷ []) (IsUnread T held R e)
-unread-only T held R e i (inl u) = inl u
-unread-only T held R e i (inr h) = inr (inl h)
+-- ---- one input behind the other
 
-pub unread-first : (T : Type 0) (held : Holding) (R : List ℕ → Type 0) (e : Refusal) (i j : Input) → IsUncaused e ⊎ IsUnread T held R e i → IsUncaused e ⊎ StopsAt T held (i ∷ j ∷ []) (IsUnread T held R e)
-unread-first T held R e i j (inl u) = inl u
-unread-first T held R e i j (inr h) = inr (inl h)
+-- a store has loaded these inputs, with these contents, and holds what it held
+pub record HasLoaded {S : Type 0} (T : Type 0) (held : S → Holding) (history : S → List Call → Type 0) (loads saves : S → List ℕ → ℕ) (old now : S) (is : List Input) (bs : List (List ℕ)) : Type 0 where
+  pub read : AreRead T (held old) is bs
+  pub asked : AsksAtMost history old now (loads_of is)
+  pub kept : held now ≡ held old
+  pub load_faults : (q : List ℕ) → loads old q ≤ loads now q
+  pub save_faults : (q : List ℕ) → saves old q ≤ saves now q
 
-pub unread-second : (T : Type 0) (held mid : Holding) (before between after : List ℕ → ℕ) (e : Refusal) (i j : Input) (b : List ℕ) → mid ≡ held → ((q : List ℕ) → before q ≤ between q) → IsRead T held i b
-    → IsUncaused e ⊎ IsUnread T mid (λ q. Rose (between q) (after q)) e j → IsUncaused e ⊎ StopsAt T held (i ∷ j ∷ []) (IsUnread T held (λ q. Rose (before q) (after q)) e)
-unread-second T held mid before between after e i j b kept rises read (inl u) = inl u
-unread-second T held mid before between after e i j b kept rises read (inr h) =
-    let same : IsUnread T held (λ q. Rose (between q) (after q)) e j = subst (λ (x : Holding). IsUnread T x (λ q. Rose (between q) (after q)) e j) kept h in
-    inr (inr (b, read, inl (unread-later T held before between after e j rises same)))
+pub loaded-none : {S : Type 0} (T : Type 0) (held : S → Holding) (history : S → List Call → Type 0) (loads saves : S → List ℕ → ℕ) (s : S) → HasLoaded T held history loads saves s s [] []
+loaded-none T held history loads saves s = record { read = tt; asked = at_most-none history s []; kept = refl; load_faults = λ q. omega arith; save_faults = λ q. omega arith }
+
+read-more : (T : Type 0) (held : Holding) (is : List Input) (bs : List (List ℕ)) (i : Input) (b : List ℕ) → AreRead T held is bs → IsRead T held i b → AreRead T held (is ++ i ∷ []) (bs ++ b ∷ [])
+read-more T held [] [] i b h r = (r, tt)
+read-more T held [] (x ∷ bs) i b h r = absurd h
+read-more T held (j ∷ is) [] i b h r = absurd h
+read-more T held (j ∷ is) (x ∷ bs) i b h r = (h.0, read-more T held is bs i b h.1 r)
+
+stops-behind : (T : Type 0) (held : Holding) (is : List Input) (bs : List (List ℕ)) (i : Input) (rest : List Input) (P : Input → Type 0) → AreRead T held is bs → P i → StopsAt T held (is ++ i ∷ rest) P
+stops-behind T held [] bs i rest P h p = inl p
+stops-behind T held (j ∷ is) [] i rest P h p = absurd h
+stops-behind T held (j ∷ is) (x ∷ bs) i rest P h p = inr (x, h.0, stops-behind T held is bs i rest P h.1 p)
+
+pub loaded-more : {S : Type 0} (T : Type 0) (held : S → Holding) (history : S → List Call → Type 0) (loads saves : S → List ℕ → ℕ) (old now next : S) (is : List Input) (bs : List (List ℕ)) (i : Input) (b : List ℕ)
+    → HasLoaded T held history loads saves old now is bs → IsRead T (held now) i b → Asked history now next (Load i.name ∷ []) → held next ≡ held now → ((q : List ℕ) → loads now q ≤ loads next q) → ((q : List ℕ) → saves now q ≤ saves next q)
+    → HasLoaded T held history loads saves old next (is ++ i ∷ []) (bs ++ b ∷ [])
+loaded-more T held history loads saves old now next is bs i b h r asked kept more more' = record {
+  read = read-more T (held old) is bs i b h.read (subst (λ (x : Holding). IsRead T x i b) h.kept r);
+  asked = subst (AsksAtMost history old next) (sym (map-append (λ (x : Input). Load x.name) is (i ∷ []))) (at_most-both history old now next (loads_of is) (Load i.name ∷ []) h.asked (at_most-one history now next (Load i.name) asked));
+  kept = kept ∙ h.kept;
+  load_faults = λ q. le_trans (h.load_faults q) (more q);
+  save_faults = λ q. le_trans (h.save_faults q) (more' q);
+}
+
+-- the next can't be loaded
+pub loaded-stops : {S : Type 0} (T : Type 0) (held : S → Holding) (history : S → List Call → Type 0) (loads saves : S → List ℕ → ℕ) (old now next : S) (is : List Input) (bs : List (List ℕ)) (i : Input) (rest : List Input) (e : Refusal)
+    → HasLoaded T held history loads saves old now is bs → IsUncaused e ⊎ IsUnread T (held now) (λ q. Rose (loads now q) (loads next q)) e i
+    → IsUncaused e ⊎ StopsAt T (held old) (is ++ i ∷ rest) (IsUnread T (held old) (λ q. Rose (loads old q) (loads next q)) e)
+loaded-stops T held history loads saves old now next is bs i rest e h (inl u) = inl u
+loaded-stops T held history loads saves old now next is bs i rest e h (inr u) =
+    inr (stops-behind T (held old) is bs i rest (IsUnread T (held old) (λ q. Rose (loads old q) (loads next q)) e) h.read
+    (unread-later T (held old) (loads old) (loads now) (loads next) e i h.load_faults (subst (λ (x : Holding). IsUnread T x (λ q. Rose (loads now q) (loads next q)) e i) h.kept u)))
+
+pub asked-behind : {S : Type 0} (T : Type 0) (held : S → Holding) (history : S → List Call → Type 0) (loads saves : S → List ℕ → ℕ) (old now next : S) (is : List Input) (bs : List (List ℕ)) (i : Input) (rest : List Input)
+    → HasLoaded T held history loads saves old now is bs → Asked history now next (Load i.name ∷ []) → AsksAtMost history old next (loads_of (is ++ i ∷ rest))
+asked-behind T held history loads saves old now next is bs i rest h asked =
+    subst (AsksAtMost history old next) (sym (map-append (λ (x : Input). Load x.name) is (i ∷ rest)))
+    (at_most-both history old now next (loads_of is) (Load i.name ∷ loads_of rest) h.asked (at_most-first history now next (Load i.name ∷ []) (loads_of rest) (at_most-one history now next (Load i.name) asked)))
+
+-- ---- a list of inputs, cut at a place
+
+pub inputs-more : (xs : List Named) (k : ℕ) (x : Named) → k < length xs → x ≡ get_or xs k x → inputs_as (take (k + 1) xs) ≡ inputs_as (take k xs) ++ input_as x ∷ []
+inputs-more xs k x there is = ap inputs_as (take_more xs k x there ∙ ap (λ (y : Named). take k xs ++ y ∷ []) (sym is)) ∙ map-append input_as (take k xs) (x ∷ [])
+
+pub inputs-cut : (xs : List Named) (k : ℕ) (x : Named) → k < length xs → x ≡ get_or xs k x → inputs_as xs ≡ inputs_as (take k xs) ++ input_as x ∷ inputs_as (drop (suc k) xs)
+inputs-cut xs k x there is =
+    ap inputs_as (sym (take-append-drop k xs) ∙ ap (λ l. take k xs ++ l) (drop-cons xs k x there ∙ ap (λ (y : Named). y ∷ drop (suc k) xs) (sym is)))
+    ∙ map-append input_as (take k xs) (x ∷ drop (suc k) xs)
+
+pub contents-more : (xs : List (Vec ℕ Global)) (x : Vec ℕ Global) → contents_of (xs ++ x ∷ []) ≡ contents_of xs ++ x.items ∷ []
+contents-more xs x = map-append (λ (v : Vec ℕ Global). v.items) xs (x ∷ [])
+
+-- ---- the loop over a list of inputs
+
+module _ {S : Type 0} (T : Type 0) (held : S → Holding) (history : S → List Call → Type 0) (loads saves : S → List ℕ → ℕ) (old now next : S) (xs : List Named) where
+  pub loaded-next : (k : ℕ) (d : Named) (contents pushed : List (Vec ℕ Global)) (b : Vec ℕ Global) → k < length xs → HasLoaded T held history loads saves old now (inputs_as (take k xs)) (contents_of contents)
+      → IsRead T (held now) (input_as (get_or xs k d)) b.items → Asked history now next (Load (get_or xs k d).name.now ∷ []) → held next ≡ held now → ((q : List ℕ) → loads now q ≤ loads next q) → ((q : List ℕ) → saves now q ≤ saves next q)
+      → pushed ≡ contents ++ b ∷ [] → HasLoaded T held history loads saves old next (inputs_as (take (k + 1) xs)) (contents_of pushed)
+  loaded-next k d contents pushed b there h read asked kept more more' pushes =
+      subst (λ (l : List Input). HasLoaded T held history loads saves old next l (contents_of pushed)) (sym (inputs-more xs k (get_or xs k d) there (get_or_default xs k d (get_or xs k d) there)))
+      (subst (λ (bs : List (List ℕ)). HasLoaded T held history loads saves old next (inputs_as (take k xs) ++ input_as (get_or xs k d) ∷ []) bs) (sym (ap contents_of pushes ∙ contents-more contents b))
+      (loaded-more T held history loads saves old now next (inputs_as (take k xs)) (contents_of contents) (input_as (get_or xs k d)) b.items h read asked kept more more'))
+
+  pub loaded-all : (k : ℕ) (bs : List (List ℕ)) → length xs ≤ k → HasLoaded T held history loads saves old now (inputs_as (take k xs)) bs → HasLoaded T held history loads saves old now (inputs_as xs) bs
+  loaded-all k bs h loaded = subst (λ (l : List Named). HasLoaded T held history loads saves old now (inputs_as l) bs) (take_all k xs h) loaded
+
+  pub unread-next : (k : ℕ) (d : Named) (bs : List (List ℕ)) (e : Refusal) → k < length xs → HasLoaded T held history loads saves old now (inputs_as (take k xs)) bs
+      → IsUncaused e ⊎ IsUnread T (held now) (λ q. Rose (loads now q) (loads next q)) e (input_as (get_or xs k d))
+      → IsUncaused e ⊎ StopsAt T (held old) (inputs_as xs) (IsUnread T (held old) (λ q. Rose (loads old q) (loads next q)) e)
+  unread-next k d bs e there h u =
+      subst (λ (l : List Input). IsUncaused e ⊎ StopsAt T (held old) l (IsUnread T (held old) (λ q. Rose (loads old q) (loads next q)) e)) (sym (inputs-cut xs k (get_or xs k d) there (get_or_default xs k d (get_or xs k d) there)))
+      (loaded-stops T held history loads saves old now next (inputs_as (take k xs)) bs (input_as (get_or xs k d)) (inputs_as (drop (suc k) xs)) e h u)
+
+  pub asked-next : (k : ℕ) (d : Named) (bs : List (List ℕ)) → k < length xs → HasLoaded T held history loads saves old now (inputs_as (take k xs)) bs → Asked history now next (Load (get_or xs k d).name.now ∷ [])
+      → AsksAtMost history old next (loads_of (inputs_as xs))
+  asked-next k d bs there h asked =
+      subst (λ (l : List Input). AsksAtMost history old next (loads_of l)) (sym (inputs-cut xs k (get_or xs k d) there (get_or_default xs k d (get_or xs k d) there)))
+      (asked-behind T held history loads saves old now next (inputs_as (take k xs)) bs (input_as (get_or xs k d)) (inputs_as (drop (suc k) xs)) h asked)
+
+-- what was read is as short as it may be
+pub result-short : (T : Type 0) (held : Holding) (is : List Input) (q : Result (Vec (Vec ℕ Global) Global) Refusal) → IfOk q (λ x. AreRead T held is (contents_of x.items)) → IfOk q (λ x. AreShort is (contents_of x.items))
+result-short T held is (Ok x) h = read-short T held is (contents_of x.items) h
+result-short T held is (Err e) h = tt

@@ -29,13 +29,17 @@ use Rattle.nv_meaning.specs.Meaning.{source as meaning}
 use Rattle.nova_commands.proofs.Formed.{fewer}
 use Rattle.nova_commands.specs.Answers.{Makes, Prints, CanMake, CanEnd, Refuses, MustRefuse}
 use Rattle.object_commands.specs.Assembly.{AsmRefuses, IsListed}
-use Rattle.command_line.specs.Command.{Command, Compile, Run, Exec, Asm, Dis, Lint, Check, Gen}
+use Rattle.command_line.specs.Command.{Command, Compile, Run, Exec, Asm, Dis, Lint, Check, Gen, Contexts, Peep}
 use Rattle.nova_commands.specs.Executing.{ExecRefuses, IsExecuted}
 use Rattle.nova_commands.specs.Forms.{form_bound}
 use Rattle.nova_commands.specs.Headline.{CompileMakes, IsUnfit, IsEndOf}
 use Rattle.command_line.specs.Lines.{counted, refusal_status}
 use Rattle.object_commands.specs.Machine.{IsBadObjectFor, IsUnlawfulFor, IsMemoryRefusedFor, LintRefuses, RunRefuses, IsLinted, IsRun, spill_base, full_text, run_text}
+use Rattle.object_commands.specs.Scheduled.{ContextsRefuse, HaveTakenTurns, IsScheduleRefusedFor, IsScheduled}
+use Rattle.schedule_text.specs.ScheduleText.{Gives as GivesTurns}
+use Rattle.uc_contexts.specs.Turns.{entries, scheduled, started}
 use Rattle.object_commands.specs.Saving.{File}
+use Rattle.object_commands.proofs.OneSchedule.{taken-one, taken-outcome, turns-one, turns-good, turns-refused-one}
 use Rattle.command_line.specs.Status.{outcome_status, MaySave}
 use Rattle.object_commands.specs.inner.Outcomes.{IsOutcome}
 use Rattle.command_line.specs.declared.refusal.Refusal.{Refusal}
@@ -158,11 +162,14 @@ runs-one b t e e' (inr h) (inr k) =
     let same = object-one b h.0 k.0 h.1 k.1 in
     memory-one (code_of k.0).params t e e' (subst (λ (o : Object). IsMemoryRefusedFor (code_of o).params t e) same h.2.1) k.2.1
 
+runs-good : (b t : List ℕ) (e : Refusal) (o : Object) → IsObject b o → IsLawful (code_of o).list → (p : Memories) (args : List ℕ) → Gives (code_of o).params t p args → RunRefuses b t e → ⊥
+runs-good b t e o is l p args g (inl h) = lint-good b e o is l h
+runs-good b t e o is l p args g (inr h) =
+    let same = object-one b h.0 o h.1 is in
+    memory-good (code_of o).params t e p args g (subst (λ (x : Object). IsMemoryRefusedFor (code_of x).params t e) same h.2.1)
+
 run-good : (b t : List ℕ) (e : Refusal) (steps : ℕ) (s : Status) (text : List ℕ) → IsRun b t steps s text → RunRefuses b t e → ⊥
-run-good b t e steps s text r (inl h) = lint-good b e r.o r.object r.lawful h
-run-good b t e steps s text r (inr h) =
-    let same = object-one b h.0 r.o h.1 r.object in
-    memory-good (code_of r.o).params t e r.packet r.arguments r.given (subst (λ (o : Object). IsMemoryRefusedFor (code_of o).params t e) same h.2.1)
+run-good b t e steps s text r h = runs-good b t e r.o r.object r.lawful r.packet r.arguments r.given h
 
 run-one : (b t : List ℕ) (steps : ℕ) (s s' : Status) (text text' : List ℕ) → IsRun b t steps s text → IsRun b t steps s' text' → (s ≡ s') × (text ≡ text')
 run-one b t steps s s' text text' h k =
@@ -175,6 +182,35 @@ run-one b t steps s s' text text' h k =
     let status : FullOutcome → Status = λ f. outcome_status f.outcome in
     let told = ap (run_text h.o) run ∙ ap (λ (o : Object). run_text o (run_of k.o k.arguments k.packet)) same in
     (h.ends ∙ ap status run ∙ sym k.ends, h.prints ∙ told ∙ sym k.prints)
+
+-- contexts
+contexts-one : (b g u : List ℕ) (e e' : Refusal) → ContextsRefuse b g u e → ContextsRefuse b g u e' → e ≡ e'
+contexts-one b g u e e' (inl h) (inl k) = runs-one b g e e' h k
+contexts-one b g u e e' (inl h) (inr k) = absurd (runs-good b g e k.0 k.1 k.2.0 k.2.1.0 k.2.1.1 k.2.1.2 h)
+contexts-one b g u e e' (inr h) (inl k) = absurd (runs-good b g e' h.0 h.1 h.2.0 h.2.1.0 h.2.1.1 h.2.1.2 k)
+contexts-one b g u e e' (inr h) (inr k) =
+    let same = object-one b h.0 k.0 h.1 k.1 in
+    turns-refused-one (code_of k.0).params u e e' (subst (λ (o : Object). IsScheduleRefusedFor (code_of o).params u e) same h.2.2) k.2.2
+
+contexts-good : (b g u : List ℕ) (e : Refusal) (s : Status) (text : List ℕ) → IsScheduled b g u s text → ContextsRefuse b g u e → ⊥
+contexts-good b g u e s text r (inl h) = runs-good b g e r.o r.object r.lawful r.packet r.arguments r.given h
+contexts-good b g u e s text r (inr h) =
+    let same = object-one b h.0 r.o h.1 r.object in
+    turns-good (code_of r.o).params u e r.others r.pairs r.schedule (subst (λ (o : Object). IsScheduleRefusedFor (code_of o).params u e) same h.2.2)
+
+scheduled-one : (b g u : List ℕ) (s s' : Status) (text text' : List ℕ) → IsScheduled b g u s text → IsScheduled b g u s' text' → (s ≡ s') × (text ≡ text')
+scheduled-one b g u s s' text text' h k =
+    let same = object-one b h.o k.o h.object k.object in
+    let given = subst (λ (o : Object). Gives (code_of o).params g h.packet h.arguments) same h.given in
+    let gives = gives_one (code_of k.o).params g h.packet k.packet h.arguments k.arguments given k.given in
+    let turns = turns-one (code_of k.o).params u h.others k.others h.pairs k.pairs (subst (λ (o : Object). GivesTurns (code_of o).params u h.others h.pairs) same h.schedule) k.schedule in
+    let taken : HaveTakenTurns (code_of k.o) k.packet (k.arguments ∷ k.others) (entries k.pairs) s text =
+    subst (λ (x : List (ℕ × ℕ)). HaveTakenTurns (code_of k.o) k.packet (k.arguments ∷ k.others) (entries x) s text) turns.1
+    (subst (λ (x : List (List ℕ)). HaveTakenTurns (code_of k.o) k.packet (k.arguments ∷ x) (entries h.pairs) s text) turns.0
+    (subst (λ (x : List ℕ). HaveTakenTurns (code_of k.o) k.packet (x ∷ h.others) (entries h.pairs) s text) gives.1
+    (subst (λ (x : Memories). HaveTakenTurns (code_of k.o) x (h.arguments ∷ h.others) (entries h.pairs) s text) gives.0
+    (subst (λ (o : Object). HaveTakenTurns (code_of o) h.packet (h.arguments ∷ h.others) (entries h.pairs) s text) same h.taken)))) in
+    taken-one (code_of k.o) k.packet (k.arguments ∷ k.others) (entries k.pairs) s s' text text' taken k.taken
 
 -- executions
 exec-one : (b t : List ℕ) (e e' : Refusal) → ExecRefuses b t e → ExecRefuses b t e' → e ≡ e'
@@ -208,23 +244,23 @@ record IsEndWith (text : List ℕ) (slots store : ℕ) (s : Status) : Type 0 whe
   pub is_source : IsTypedSource text program
   pub ends : IsEndOf program slots store s
 
-compiled-end : (text object report : List ℕ) (slots budget store : ℕ) (s : Status) (fs : List File) (t : List ℕ) → CompileMakes text object report slots budget store s fs t → IsEndWith text slots store s
-compiled-end text object report slots budget store Done fs t h = record { program = h.compiled.program; is_source = h.compiled.is_source; ends = tt }
-compiled-end text object report slots budget store Infeasible fs t h = record { program = h.0.program; is_source = h.0.is_source; ends = h.0.without.few_slots }
-compiled-end text object report slots budget store BudgetSpent fs t h = record { program = h.0.program; is_source = h.0.is_source; ends = h.0.without.few_slots }
-compiled-end text object report slots budget store _ fs t h = absurd h
+compiled-end : (text object report : List ℕ) (slots : ℕ) (ws : List ℕ) (budget store : ℕ) (s : Status) (fs : List File) (t : List ℕ) → CompileMakes text object report slots ws budget store s fs t → IsEndWith text slots store s
+compiled-end text object report slots ws budget store Done fs t h = record { program = h.compiled.program; is_source = h.compiled.is_source; ends = tt }
+compiled-end text object report slots ws budget store Infeasible fs t h = record { program = h.0.program; is_source = h.0.is_source; ends = h.0.without.few_slots }
+compiled-end text object report slots ws budget store BudgetSpent fs t h = record { program = h.0.program; is_source = h.0.is_source; ends = h.0.without.few_slots }
+compiled-end text object report slots ws budget store _ fs t h = absurd h
 
-compiled-outcome : (text object report : List ℕ) (slots budget store : ℕ) (s : Status) (fs : List File) (t : List ℕ) → CompileMakes text object report slots budget store s fs t → IsOutcome s
-compiled-outcome text object report slots budget store Done fs t h = tt
-compiled-outcome text object report slots budget store Infeasible fs t h = tt
-compiled-outcome text object report slots budget store BudgetSpent fs t h = tt
-compiled-outcome text object report slots budget store _ fs t h = absurd h
+compiled-outcome : (text object report : List ℕ) (slots : ℕ) (ws : List ℕ) (budget store : ℕ) (s : Status) (fs : List File) (t : List ℕ) → CompileMakes text object report slots ws budget store s fs t → IsOutcome s
+compiled-outcome text object report slots ws budget store Done fs t h = tt
+compiled-outcome text object report slots ws budget store Infeasible fs t h = tt
+compiled-outcome text object report slots ws budget store BudgetSpent fs t h = tt
+compiled-outcome text object report slots ws budget store _ fs t h = absurd h
 
-compiled-may_save : (text object report : List ℕ) (slots budget store : ℕ) (s : Status) (fs : List File) (t : List ℕ) → CompileMakes text object report slots budget store s fs t → MaySave s
-compiled-may_save text object report slots budget store Done fs t h = tt
-compiled-may_save text object report slots budget store Infeasible fs t h = tt
-compiled-may_save text object report slots budget store BudgetSpent fs t h = tt
-compiled-may_save text object report slots budget store _ fs t h = absurd h
+compiled-may_save : (text object report : List ℕ) (slots : ℕ) (ws : List ℕ) (budget store : ℕ) (s : Status) (fs : List File) (t : List ℕ) → CompileMakes text object report slots ws budget store s fs t → MaySave s
+compiled-may_save text object report slots ws budget store Done fs t h = tt
+compiled-may_save text object report slots ws budget store Infeasible fs t h = tt
+compiled-may_save text object report slots ws budget store BudgetSpent fs t h = tt
+compiled-may_save text object report slots ws budget store _ fs t h = absurd h
 
 -- where contents decide a refusal, no other is true of them
 pub refusal-one : (c : Command) (bs : List (List ℕ)) (e e' : Refusal) → Refuses c bs e → MustRefuse c bs e' → e ≡ e'
@@ -236,12 +272,14 @@ refusal-one (Asm input object) (b ∷ []) e e' h k = assembly-one b e e' h k
 refusal-one (Dis object) (b ∷ []) e e' h k = bad-one b e e' h k
 refusal-one (Lint object) (b ∷ []) e e' h k = lint-one b e e' h k
 refusal-one (Check report) (b ∷ []) e e' h k = check-one b e e' h k
+refusal-one (Contexts object memory schedule) (b ∷ g ∷ u ∷ []) e e' h k = contexts-one b g u e e' h k
+refusal-one (Peep object output) (b ∷ []) e e' h k = lint-one b e e' h k
 refusal-one _ _ e e' h k = absurd k
 
 -- and none is, where the command makes something
 pub makes-good : (c : Command) (bs : List (List ℕ)) (s : Status) (fs : List File) (t : List ℕ) (e : Refusal) → Makes c bs s fs t → MustRefuse c bs e → ⊥
 makes-good (Compile source object report slots budget store) (b ∷ []) s fs t e h k =
-    let m = compiled-end b object report slots budget store s fs t h in
+    let m = compiled-end b object report slots [] budget store s fs t h in
     source-good b e m.program m.is_source k
 makes-good (Run object memory steps) (b ∷ g ∷ []) s fs t e h k = run-good b g e steps s t h.1 k
 makes-good (Exec source memory calls) (b ∷ g ∷ []) s fs t e h k = exec-good b g e calls s t h.1 k
@@ -249,6 +287,8 @@ makes-good (Asm input object) (b ∷ []) s fs t e h k = assembly-good b e h.asse
 makes-good (Dis object) (b ∷ []) s fs t e h k = bad-good b e h.1.o h.1.object k
 makes-good (Lint object) (b ∷ []) s fs t e h k = lint-good b e h.1.o h.1.object h.1.lawful k
 makes-good (Check report) (b ∷ []) s fs t e h k = check-good b s t e h.1 k
+makes-good (Contexts object memory schedule) (b ∷ g ∷ u ∷ []) s fs t e h k = contexts-good b g u e s t h.1 k
+makes-good (Peep object output) (b ∷ []) s fs t e h k = lint-good b e h.o h.object h.lawful k
 makes-good _ _ s fs t e h k = k
 
 -- what contents show isn't refused
@@ -258,6 +298,7 @@ prints-good (Exec source memory calls) (b ∷ g ∷ []) s t e h k = exec-good b 
 prints-good (Dis object) (b ∷ []) s t e h k = bad-good b e h.o h.object k
 prints-good (Lint object) (b ∷ []) s t e h k = lint-good b e h.o h.object h.lawful k
 prints-good (Check report) (b ∷ []) s t e h k = check-good b s t e h k
+prints-good (Contexts object memory schedule) (b ∷ g ∷ u ∷ []) s t e h k = contexts-good b g u e s t h k
 prints-good _ _ s t e h k = h
 
 -- and is one
@@ -267,25 +308,28 @@ prints-one (Exec source memory calls) (b ∷ g ∷ []) s s' fs t t' h k = execut
 prints-one (Dis object) (b ∷ []) s s' fs t t' h k = listed-one b s s' t t' h.1 k
 prints-one (Lint object) (b ∷ []) s s' fs t t' h k = linted-one b s s' t t' h.1 k
 prints-one (Check report) (b ∷ []) s s' fs t t' h k = checked-one b s s' t t' h.1 k
+prints-one (Contexts object memory schedule) (b ∷ g ∷ u ∷ []) s s' fs t t' h k = scheduled-one b g u s s' t t' h.1 k
 prints-one _ _ s s' fs t t' h k = absurd k
 
 -- how a command ends that can make something
-unfit-end : (p : ProgramTree) (slots budget store : ℕ) (e : Refusal) → IsUnfit p slots budget store e → IsEndOf p slots store (refusal_status e)
-unfit-end p slots budget store (SourceLarge n) h = (n, h)
-unfit-end p slots budget store (StoreFull n) h = fewer store n (form_bound p) h.long h.bounded
-unfit-end p slots budget store _ h = absurd h
+unfit-end : (p : ProgramTree) (slots : ℕ) (ws : List ℕ) (budget store : ℕ) (e : Refusal) → IsUnfit p slots ws budget store e → IsEndOf p slots store (refusal_status e)
+unfit-end p slots ws budget store (SourceLarge n) h = (n, h)
+unfit-end p slots ws budget store (StoreFull n) h = fewer store n (form_bound p) h.long h.bounded
+unfit-end p slots ws budget store _ h = absurd h
 
 pub made-end : (c : Command) (bs : List (List ℕ)) (s : Status) (fs : List File) (t : List ℕ) → Makes c bs s fs t → CanMake c bs → CanEnd c bs s
 made-end (Compile source object report slots budget store) (b ∷ []) s fs t h k =
-    let m = compiled-end b object report slots budget store s fs t h in
+    let m = compiled-end b object report slots [] budget store s fs t h in
     (m.program, m.is_source, m.ends)
 made-end (Asm input object) (b ∷ []) s fs t h k = h.done
+made-end (Peep object output) (b ∷ []) s fs t h k = h.done
 made-end _ _ s fs t h k = absurd k
 
 pub refused-end : (c : Command) (bs : List (List ℕ)) (e : Refusal) → Refuses c bs e → CanMake c bs → CanEnd c bs (refusal_status e)
 refused-end (Compile source object report slots budget store) (b ∷ []) e (inl h) k = absurd (source-good b e k.0 k.1 h)
-refused-end (Compile source object report slots budget store) (b ∷ []) e (inr h) k = (h.0, h.1, unfit-end h.0 slots budget store e h.2)
+refused-end (Compile source object report slots budget store) (b ∷ []) e (inr h) k = (h.0, h.1, unfit-end h.0 slots [] budget store e h.2)
 refused-end (Asm input object) (b ∷ []) e h k = absurd (assembly-good b e k.c k.code h)
+refused-end (Peep object output) (b ∷ []) e h k = absurd (lint-good b e k.0 k.1 k.2 h)
 refused-end _ _ e h k = absurd k
 
 -- the statuses of what is made
@@ -296,7 +340,7 @@ outcome-is (outcome.Fault m a) = tt
 outcome-is outcome.Going = tt
 
 pub makes-outcome : (c : Command) (bs : List (List ℕ)) (s : Status) (fs : List File) (t : List ℕ) → Makes c bs s fs t → IsOutcome s
-makes-outcome (Compile source object report slots budget store) (b ∷ []) s fs t h = compiled-outcome b object report slots budget store s fs t h
+makes-outcome (Compile source object report slots budget store) (b ∷ []) s fs t h = compiled-outcome b object report slots [] budget store s fs t h
 makes-outcome (Run object memory steps) (b ∷ g ∷ []) s fs t h = subst IsOutcome (sym h.1.ends) (outcome-is (engine (code_of h.1.o) h.1.arguments spill_base h.1.packet steps).outcome)
 makes-outcome (Exec source memory calls) (b ∷ g ∷ []) s fs t h = subst IsOutcome (sym h.1.ends) (outcome-is (meaning h.1.program h.1.arguments h.1.packet calls).outcome)
 makes-outcome (Asm input object) (b ∷ []) s fs t h = subst IsOutcome (sym h.done) tt
@@ -304,11 +348,13 @@ makes-outcome (Dis object) (b ∷ []) s fs t h = subst IsOutcome (sym h.1.done) 
 makes-outcome (Lint object) (b ∷ []) s fs t h = subst IsOutcome (sym h.1.done) tt
 makes-outcome (Check report) (b ∷ []) s fs t h = subst IsOutcome (sym h.1.done) tt
 makes-outcome (Gen seed size) [] s fs t h = subst IsOutcome (sym h.1) tt
+makes-outcome (Contexts object memory schedule) (b ∷ g ∷ u ∷ []) s fs t h = subst IsOutcome (sym h.1.taken.ends) (taken-outcome (scheduled (code_of h.1.o).list (entries h.1.pairs) (record { contexts = started (h.1.arguments ∷ h.1.others); packet = h.1.packet })).contexts)
+makes-outcome (Peep object output) (b ∷ []) s fs t h = subst IsOutcome (sym h.done) tt
 makes-outcome _ _ s fs t h = absurd h
 
 -- files are saved only with these statuses
 pub makes-kept : (c : Command) (bs : List (List ℕ)) (s : Status) (fs : List File) (t : List ℕ) → Makes c bs s fs t → MaySave s ⊎ (fs ≡ [])
-makes-kept (Compile source object report slots budget store) (b ∷ []) s fs t h = inl (compiled-may_save b object report slots budget store s fs t h)
+makes-kept (Compile source object report slots budget store) (b ∷ []) s fs t h = inl (compiled-may_save b object report slots [] budget store s fs t h)
 makes-kept (Run object memory steps) (b ∷ g ∷ []) s fs t h = inr h.0
 makes-kept (Exec source memory calls) (b ∷ g ∷ []) s fs t h = inr h.0
 makes-kept (Asm input object) (b ∷ []) s fs t h = inl (subst MaySave (sym h.done) tt)
@@ -316,6 +362,8 @@ makes-kept (Dis object) (b ∷ []) s fs t h = inr h.0
 makes-kept (Lint object) (b ∷ []) s fs t h = inr h.0
 makes-kept (Check report) (b ∷ []) s fs t h = inr h.0
 makes-kept (Gen seed size) [] s fs t h = inr h.0
+makes-kept (Contexts object memory schedule) (b ∷ g ∷ u ∷ []) s fs t h = inr h.0
+makes-kept (Peep object output) (b ∷ []) s fs t h = inl (subst MaySave (sym h.done) tt)
 makes-kept _ _ s fs t h = absurd h
 
 -- contents are never why an input couldn't be read
@@ -340,5 +388,9 @@ refuses-unread (ReadFault name) (Dis object) (b ∷ []) f h = h
 refuses-unread (ReadFault name) (Lint object) (b ∷ []) f h = lint-unread b (ReadFault name) tt h
 refuses-unread (ReadFault name) (Check report) (b ∷ []) f h = h
 refuses-unread (ReadFault name) (Gen seed size) [] f h = h.2
+refuses-unread (ReadFault name) (Contexts object memory schedule) (b ∷ g ∷ u ∷ []) f (inl (inl h)) = lint-unread b (ReadFault name) tt h
+refuses-unread (ReadFault name) (Contexts object memory schedule) (b ∷ g ∷ u ∷ []) f (inl (inr h)) = h.2.1
+refuses-unread (ReadFault name) (Contexts object memory schedule) (b ∷ g ∷ u ∷ []) f (inr h) = h.2.2
+refuses-unread (ReadFault name) (Peep object output) (b ∷ []) f h = lint-unread b (ReadFault name) tt h
 refuses-unread (ReadFault name) _ _ f h = h
 refuses-unread _ c bs f h = absurd f

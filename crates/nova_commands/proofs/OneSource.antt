@@ -87,8 +87,8 @@ pass-front bytes (front.Fault kind place) e (inr h) is = inr (subst (SourceRefus
 pass-front bytes (front.TooLarge size) e (inr h) is = inr (subst (SourceRefuses bytes) (sym is) h)
 
 -- what a text without code is sorted into
-abbrev pub IsWhyNot : List ℕ → ℕ → ℕ → ℕ → CompileError → Type 0
-IsWhyNot bytes slots budget store error = (error ≡ compile.NoMemory) ⊎ IsCompileCause bytes slots budget store error
+abbrev pub IsWhyNot : List ℕ → ℕ → List ℕ → ℕ → ℕ → CompileError → Type 0
+IsWhyNot bytes slots ws budget store error = (error ≡ compile.NoMemory) ⊎ IsCompileCause bytes slots ws budget store error
 
 ok-same : (f g : Found) → ◌≡◌ {A = Result Found Refusal} (Ok f) (Ok g) → f ≡ g
 ok-same f g e = cc
@@ -102,57 +102,57 @@ ok-not_err f e h = cc
 err-not_ok : (f : Found) (e : Refusal) → ◌≡◌ {A = Result Found Refusal} (Err e) (Ok f) → ⊥
 err-not_ok f e h = cc
 
-infeasible-why : (bytes : List ℕ) (slots budget store : ℕ) (r : Report) → IsWhyNot bytes slots budget store (compile.Infeasible r) → IsWithoutBanks bytes slots budget verdict.Infeasible r
-infeasible-why bytes slots budget store r (inl e) = let no-way : ⊥ = cc in absurd no-way
-infeasible-why bytes slots budget store r (inr (inl h)) = absurd h
-infeasible-why bytes slots budget store r (inr (inr h)) = record { program = h.0; is_source = h.1; without = h.2 }
+infeasible-why : (bytes : List ℕ) (slots : ℕ) (ws : List ℕ) (budget store : ℕ) (r : Report) → IsWhyNot bytes slots ws budget store (compile.Infeasible r) → IsWithoutBanks bytes slots ws budget verdict.Infeasible r
+infeasible-why bytes slots ws budget store r (inl e) = let no-way : ⊥ = cc in absurd no-way
+infeasible-why bytes slots ws budget store r (inr (inl h)) = absurd h
+infeasible-why bytes slots ws budget store r (inr (inr h)) = record { program = h.0; is_source = h.1; without = h.2 }
 
-spent-why : (bytes : List ℕ) (slots budget store : ℕ) (r : Report) → IsWhyNot bytes slots budget store (compile.Spent r) → IsWithoutBanks bytes slots budget verdict.Spent r
-spent-why bytes slots budget store r (inl e) = let no-way : ⊥ = cc in absurd no-way
-spent-why bytes slots budget store r (inr (inl h)) = absurd h
-spent-why bytes slots budget store r (inr (inr h)) = record { program = h.0; is_source = h.1; without = h.2 }
+spent-why : (bytes : List ℕ) (slots : ℕ) (ws : List ℕ) (budget store : ℕ) (r : Report) → IsWhyNot bytes slots ws budget store (compile.Spent r) → IsWithoutBanks bytes slots ws budget verdict.Spent r
+spent-why bytes slots ws budget store r (inl e) = let no-way : ⊥ = cc in absurd no-way
+spent-why bytes slots ws budget store r (inr (inl h)) = absurd h
+spent-why bytes slots ws budget store r (inr (inr h)) = record { program = h.0; is_source = h.1; without = h.2 }
 
-pub sorted-found : (bytes : List ℕ) (slots budget store : ℕ) (error : CompileError) (result : Result Found Refusal) → IsWhyNot bytes slots budget store error → IsSortedAs error result
-    → IfOk result (IsFound bytes slots budget store)
-sorted-found bytes slots budget store error (Err e) h is = tt
-sorted-found bytes slots budget store (compile.Infeasible r) (Ok f) h is = subst (IsFound bytes slots budget store) (sym (ok-same f (found.Infeasible r) is)) (infeasible-why bytes slots budget store r h)
-sorted-found bytes slots budget store (compile.Spent r) (Ok f) h is = subst (IsFound bytes slots budget store) (sym (ok-same f (found.Spent r) is)) (spent-why bytes slots budget store r h)
-sorted-found bytes slots budget store compile.NoMemory (Ok f) h is = absurd (ok-not_err f NoMemory is)
-sorted-found bytes slots budget store (compile.Text t) (Ok f) h is = absurd is
-sorted-found bytes slots budget store (compile.Fault kind place) (Ok f) h is = absurd (ok-not_err f (SourceType kind place) is)
-sorted-found bytes slots budget store (compile.TooLarge n) (Ok f) h is = absurd (ok-not_err f (SourceLarge n) is)
-sorted-found bytes slots budget store (compile.StoreFull n) (Ok f) h is = absurd (ok-not_err f (StoreFull n) is)
+pub sorted-found : (bytes : List ℕ) (slots : ℕ) (ws : List ℕ) (budget store : ℕ) (error : CompileError) (result : Result Found Refusal) → IsWhyNot bytes slots ws budget store error → IsSortedAs error result
+    → IfOk result (IsFound bytes slots ws budget store)
+sorted-found bytes slots ws budget store error (Err e) h is = tt
+sorted-found bytes slots ws budget store (compile.Infeasible r) (Ok f) h is = subst (IsFound bytes slots ws budget store) (sym (ok-same f (found.Infeasible r) is)) (infeasible-why bytes slots ws budget store r h)
+sorted-found bytes slots ws budget store (compile.Spent r) (Ok f) h is = subst (IsFound bytes slots ws budget store) (sym (ok-same f (found.Spent r) is)) (spent-why bytes slots ws budget store r h)
+sorted-found bytes slots ws budget store compile.NoMemory (Ok f) h is = absurd (ok-not_err f NoMemory is)
+sorted-found bytes slots ws budget store (compile.Text t) (Ok f) h is = absurd is
+sorted-found bytes slots ws budget store (compile.Fault kind place) (Ok f) h is = absurd (ok-not_err f (SourceType kind place) is)
+sorted-found bytes slots ws budget store (compile.TooLarge n) (Ok f) h is = absurd (ok-not_err f (SourceLarge n) is)
+sorted-found bytes slots ws budget store (compile.StoreFull n) (Ok f) h is = absurd (ok-not_err f (StoreFull n) is)
 
-fault-why : (bytes : List ℕ) (slots budget store : ℕ) (t : TextError) (e : Refusal) → IsWhyNot bytes slots budget store (compile.Text t) → IsSpelledAs t e → CompileRefuses bytes slots budget store e
-fault-why bytes slots budget store t e (inl none) is = let no-way : ⊥ = cc in absurd no-way
-fault-why bytes slots budget store t e (inr (inl h)) is = inl (fault-told bytes t e h is)
-fault-why bytes slots budget store t e (inr (inr h)) is = absurd h.2
+fault-why : (bytes : List ℕ) (slots : ℕ) (ws : List ℕ) (budget store : ℕ) (t : TextError) (e : Refusal) → IsWhyNot bytes slots ws budget store (compile.Text t) → IsSpelledAs t e → CompileRefuses bytes slots ws budget store e
+fault-why bytes slots ws budget store t e (inl none) is = let no-way : ⊥ = cc in absurd no-way
+fault-why bytes slots ws budget store t e (inr (inl h)) is = inl (fault-told bytes t e h is)
+fault-why bytes slots ws budget store t e (inr (inr h)) is = absurd h.2
 
-type-why : (bytes : List ℕ) (slots budget store kind : ℕ) (place : Span) → IsWhyNot bytes slots budget store (compile.Fault kind place) → CompileRefuses bytes slots budget store (SourceType kind place)
-type-why bytes slots budget store kind place (inl none) = let no-way : ⊥ = cc in absurd no-way
-type-why bytes slots budget store kind place (inr (inl h)) = inl h
-type-why bytes slots budget store kind place (inr (inr h)) = absurd h.2
+type-why : (bytes : List ℕ) (slots : ℕ) (ws : List ℕ) (budget store kind : ℕ) (place : Span) → IsWhyNot bytes slots ws budget store (compile.Fault kind place) → CompileRefuses bytes slots ws budget store (SourceType kind place)
+type-why bytes slots ws budget store kind place (inl none) = let no-way : ⊥ = cc in absurd no-way
+type-why bytes slots ws budget store kind place (inr (inl h)) = inl h
+type-why bytes slots ws budget store kind place (inr (inr h)) = absurd h.2
 
-large-why : (bytes : List ℕ) (slots budget store n : ℕ) → IsWhyNot bytes slots budget store (compile.TooLarge n) → CompileRefuses bytes slots budget store (SourceLarge n)
-large-why bytes slots budget store n (inl none) = let no-way : ⊥ = cc in absurd no-way
-large-why bytes slots budget store n (inr (inl h)) = inl h
-large-why bytes slots budget store n (inr (inr h)) = inr h
+large-why : (bytes : List ℕ) (slots : ℕ) (ws : List ℕ) (budget store n : ℕ) → IsWhyNot bytes slots ws budget store (compile.TooLarge n) → CompileRefuses bytes slots ws budget store (SourceLarge n)
+large-why bytes slots ws budget store n (inl none) = let no-way : ⊥ = cc in absurd no-way
+large-why bytes slots ws budget store n (inr (inl h)) = inl h
+large-why bytes slots ws budget store n (inr (inr h)) = inr h
 
-long-why : (bytes : List ℕ) (slots budget store n : ℕ) → IsWhyNot bytes slots budget store (compile.StoreFull n) → CompileRefuses bytes slots budget store (StoreFull n)
-long-why bytes slots budget store n (inl none) = let no-way : ⊥ = cc in absurd no-way
-long-why bytes slots budget store n (inr (inl h)) = absurd h
-long-why bytes slots budget store n (inr (inr h)) = inr h
+long-why : (bytes : List ℕ) (slots : ℕ) (ws : List ℕ) (budget store n : ℕ) → IsWhyNot bytes slots ws budget store (compile.StoreFull n) → CompileRefuses bytes slots ws budget store (StoreFull n)
+long-why bytes slots ws budget store n (inl none) = let no-way : ⊥ = cc in absurd no-way
+long-why bytes slots ws budget store n (inr (inl h)) = absurd h
+long-why bytes slots ws budget store n (inr (inr h)) = inr h
 
-pub sorted-refused : (bytes : List ℕ) (slots budget store : ℕ) (error : CompileError) (result : Result Found Refusal) → IsWhyNot bytes slots budget store error → IsSortedAs error result
-    → IfErr result (λ e. IsUncaused e ⊎ CompileRefuses bytes slots budget store e)
-sorted-refused bytes slots budget store error (Ok f) h is = tt
-sorted-refused bytes slots budget store (compile.Infeasible r) (Err e) h is = absurd (err-not_ok (found.Infeasible r) e is)
-sorted-refused bytes slots budget store (compile.Spent r) (Err e) h is = absurd (err-not_ok (found.Spent r) e is)
-sorted-refused bytes slots budget store compile.NoMemory (Err e) h is = inl (subst IsUncaused (sym (err-same e NoMemory is)) tt)
-sorted-refused bytes slots budget store (compile.Text t) (Err e) h is = inr (fault-why bytes slots budget store t e h is)
-sorted-refused bytes slots budget store (compile.Fault kind place) (Err e) h is = inr (subst (CompileRefuses bytes slots budget store) (sym (err-same e (SourceType kind place) is)) (type-why bytes slots budget store kind place h))
-sorted-refused bytes slots budget store (compile.TooLarge n) (Err e) h is = inr (subst (CompileRefuses bytes slots budget store) (sym (err-same e (SourceLarge n) is)) (large-why bytes slots budget store n h))
-sorted-refused bytes slots budget store (compile.StoreFull n) (Err e) h is = inr (subst (CompileRefuses bytes slots budget store) (sym (err-same e (StoreFull n) is)) (long-why bytes slots budget store n h))
+pub sorted-refused : (bytes : List ℕ) (slots : ℕ) (ws : List ℕ) (budget store : ℕ) (error : CompileError) (result : Result Found Refusal) → IsWhyNot bytes slots ws budget store error → IsSortedAs error result
+    → IfErr result (λ e. IsUncaused e ⊎ CompileRefuses bytes slots ws budget store e)
+sorted-refused bytes slots ws budget store error (Ok f) h is = tt
+sorted-refused bytes slots ws budget store (compile.Infeasible r) (Err e) h is = absurd (err-not_ok (found.Infeasible r) e is)
+sorted-refused bytes slots ws budget store (compile.Spent r) (Err e) h is = absurd (err-not_ok (found.Spent r) e is)
+sorted-refused bytes slots ws budget store compile.NoMemory (Err e) h is = inl (subst IsUncaused (sym (err-same e NoMemory is)) tt)
+sorted-refused bytes slots ws budget store (compile.Text t) (Err e) h is = inr (fault-why bytes slots ws budget store t e h is)
+sorted-refused bytes slots ws budget store (compile.Fault kind place) (Err e) h is = inr (subst (CompileRefuses bytes slots ws budget store) (sym (err-same e (SourceType kind place) is)) (type-why bytes slots ws budget store kind place h))
+sorted-refused bytes slots ws budget store (compile.TooLarge n) (Err e) h is = inr (subst (CompileRefuses bytes slots ws budget store) (sym (err-same e (SourceLarge n) is)) (large-why bytes slots ws budget store n h))
+sorted-refused bytes slots ws budget store (compile.StoreFull n) (Err e) h is = inr (subst (CompileRefuses bytes slots ws budget store) (sym (err-same e (StoreFull n) is)) (long-why bytes slots ws budget store n h))
 
 -- what the front end says is passed on
 pub front-caused : (bytes : List ℕ) (error : FrontError) (e : CompileError) → (error ≡ front.NoMemory) ⊎ IsCause bytes error → IsPassedAs error e → (e ≡ compile.NoMemory) ⊎ IsTextCause bytes e
@@ -194,22 +194,22 @@ text-good bytes p e s h =
 pub only-program : (bytes : List ℕ) (p q : ProgramTree) → IsTypedSource bytes p → IsTypedSource bytes q → p ≡ q
 only-program bytes p q s r = source-program bytes p q s.is_source r.is_source
 
-pub text-want : (bytes : List ℕ) (slots budget store : ℕ) (p : ProgramTree) (e : CompileError) → IsTypedSource bytes p → (e ≡ compile.NoMemory) ⊎ IsTextCause bytes e → (e ≡ compile.NoMemory) ⊎ IsFormCause p slots budget store e
-text-want bytes slots budget store p e s (inl none) = inl none
-text-want bytes slots budget store p e s (inr h) = absurd (text-good bytes p e s h)
+pub text-want : (bytes : List ℕ) (slots : ℕ) (ws : List ℕ) (budget store : ℕ) (p : ProgramTree) (e : CompileError) → IsTypedSource bytes p → (e ≡ compile.NoMemory) ⊎ IsTextCause bytes e → (e ≡ compile.NoMemory) ⊎ IsFormCause p slots ws budget store e
+text-want bytes slots ws budget store p e s (inl none) = inl none
+text-want bytes slots ws budget store p e s (inr h) = absurd (text-good bytes p e s h)
 
-pub text-cause : (bytes : List ℕ) (slots budget store : ℕ) (e : CompileError) → (e ≡ compile.NoMemory) ⊎ IsTextCause bytes e → (e ≡ compile.NoMemory) ⊎ IsCompileCause bytes slots budget store e
-text-cause bytes slots budget store e (inl none) = inl none
-text-cause bytes slots budget store e (inr h) = inr (inl h)
+pub text-cause : (bytes : List ℕ) (slots : ℕ) (ws : List ℕ) (budget store : ℕ) (e : CompileError) → (e ≡ compile.NoMemory) ⊎ IsTextCause bytes e → (e ≡ compile.NoMemory) ⊎ IsCompileCause bytes slots ws budget store e
+text-cause bytes slots ws budget store e (inl none) = inl none
+text-cause bytes slots ws budget store e (inr h) = inr (inl h)
 
 pub text-only : (bytes : List ℕ) (f e : CompileError) → IsTextCause bytes f → (e ≡ compile.NoMemory) ⊎ IsTextCause bytes e → (e ≡ compile.NoMemory) ⊎ (e ≡ f)
 text-only bytes f e h (inl none) = inl none
 text-only bytes f e h (inr k) = inr (text-one bytes e f k h)
 
 -- the same of what the back end says of the typed program
-pub form-want : (bytes : List ℕ) (slots budget store : ℕ) (p q : ProgramTree) (e : CompileError) → IsTypedSource bytes p → IsTypedSource bytes q → (e ≡ compile.NoMemory) ⊎ IsFormCause p slots budget store e → (e ≡ compile.NoMemory) ⊎ IsFormCause q slots budget store e
-form-want bytes slots budget store p q e s r h = subst (λ (x : ProgramTree). (e ≡ compile.NoMemory) ⊎ IsFormCause x slots budget store e) (only-program bytes p q s r) h
+pub form-want : (bytes : List ℕ) (slots : ℕ) (ws : List ℕ) (budget store : ℕ) (p q : ProgramTree) (e : CompileError) → IsTypedSource bytes p → IsTypedSource bytes q → (e ≡ compile.NoMemory) ⊎ IsFormCause p slots ws budget store e → (e ≡ compile.NoMemory) ⊎ IsFormCause q slots ws budget store e
+form-want bytes slots ws budget store p q e s r h = subst (λ (x : ProgramTree). (e ≡ compile.NoMemory) ⊎ IsFormCause x slots ws budget store e) (only-program bytes p q s r) h
 
-pub form-cause : (bytes : List ℕ) (slots budget store : ℕ) (p : ProgramTree) (e : CompileError) → IsTypedSource bytes p → (e ≡ compile.NoMemory) ⊎ IsFormCause p slots budget store e → (e ≡ compile.NoMemory) ⊎ IsCompileCause bytes slots budget store e
-form-cause bytes slots budget store p e s (inl none) = inl none
-form-cause bytes slots budget store p e s (inr h) = inr (inr (p, s, h))
+pub form-cause : (bytes : List ℕ) (slots : ℕ) (ws : List ℕ) (budget store : ℕ) (p : ProgramTree) (e : CompileError) → IsTypedSource bytes p → (e ≡ compile.NoMemory) ⊎ IsFormCause p slots ws budget store e → (e ≡ compile.NoMemory) ⊎ IsCompileCause bytes slots ws budget store e
+form-cause bytes slots ws budget store p e s (inl none) = inl none
+form-cause bytes slots ws budget store p e s (inr h) = inr (inr (p, s, h))

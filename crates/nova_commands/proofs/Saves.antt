@@ -3,7 +3,7 @@ use Rattle.std.proofs.Common.{◌≡◌, ℕ, ◌⊎◌, inl, inr, List, [], ◌
 use Rattle.std.specs.Prelude.{Contains}
 use Rattle.nv_outside.specs.Holding.{Holding, Replaced, SameElsewhere}
 use Rattle.nova_commands.specs.Answers.{Makes, Refuses, IsCaused, IsDone, IsStopped}
-use Rattle.command_line.specs.Command.{Command, Compile, Run, Exec, Asm, Dis, Lint, Check, Gen, SomeFile, outputs_of}
+use Rattle.command_line.specs.Command.{Command, Compile, Run, Exec, Asm, Dis, Lint, Check, Gen, Contexts, Peep, SomeFile, outputs_of}
 use Rattle.zo_cert.specs.declared.report.Verdict.{Verdict}
 use Rattle.zo_cert.specs.declared.report.Verdict.TheVariants as verdict
 use Rattle.nova_commands.specs.Headline.{CompiledMakes, WithoutMakes, CompileMakes, IsCompiled, IfWithout, IsReported}
@@ -71,30 +71,30 @@ both-elsewhere : (f g : File) (old new : Holding) → AreBoth f g old new → Is
 both-elsewhere f g old new h = same-twice (f.name ∷ g.name ∷ []) old h.between new (first-same f.name g.name old h.between h.first.elsewhere) (second-same f.name g.name h.between new h.second.elsewhere)
 
 -- what `compile` saves
-compiled-cut : (T : Type 0) (text object report : List ℕ) (slots budget store : ℕ) (s : Status) (fs : List File) (t : List ℕ) (old new : Holding) (P : List ℕ → Type 0) → CompileMakes text object report slots budget store s fs t → IsCut T fs old new P
+compiled-cut : (T : Type 0) (text object report : List ℕ) (slots : ℕ) (ws : List ℕ) (budget store : ℕ) (s : Status) (fs : List File) (t : List ℕ) (old new : Holding) (P : List ℕ → Type 0) → CompileMakes text object report slots ws budget store s fs t → IsCut T fs old new P
     → SomeFile (object ∷ report ∷ []) P
-compiled-cut T text object report slots budget store Done fs t old new P h k = cut-both T (file object h.object) (file report h.report) old new P (subst (λ (x : List File). IsCut T x old new P) h.saves k)
-compiled-cut T text object report slots budget store Infeasible fs t old new P h k = (report, second-of object report, (cut-only T fs (file report h.0.report) old new P h.0.saves k).0)
-compiled-cut T text object report slots budget store BudgetSpent fs t old new P h k = (report, second-of object report, (cut-only T fs (file report h.0.report) old new P h.0.saves k).0)
-compiled-cut T text object report slots budget store _ fs t old new P h k = absurd h
+compiled-cut T text object report slots ws budget store Done fs t old new P h k = cut-both T (file object h.object) (file report h.report) old new P (subst (λ (x : List File). IsCut T x old new P) h.saves k)
+compiled-cut T text object report slots ws budget store Infeasible fs t old new P h k = (report, second-of object report, (cut-only T fs (file report h.0.report) old new P h.0.saves k).0)
+compiled-cut T text object report slots ws budget store BudgetSpent fs t old new P h k = (report, second-of object report, (cut-only T fs (file report h.0.report) old new P h.0.saves k).0)
+compiled-cut T text object report slots ws budget store _ fs t old new P h k = absurd h
 
-compiled-elsewhere : (text object report : List ℕ) (slots budget store : ℕ) (s : Status) (fs : List File) (t : List ℕ) (old new : Holding) → CompileMakes text object report slots budget store s fs t → AreSaved fs old new → IsSameBut (object ∷ report ∷ []) old new
-compiled-elsewhere text object report slots budget store Done fs t old new h k =
+compiled-elsewhere : (text object report : List ℕ) (slots : ℕ) (ws : List ℕ) (budget store : ℕ) (s : Status) (fs : List File) (t : List ℕ) (old new : Holding) → CompileMakes text object report slots ws budget store s fs t → AreSaved fs old new → IsSameBut (object ∷ report ∷ []) old new
+compiled-elsewhere text object report slots ws budget store Done fs t old new h k =
     both-elsewhere (file object h.object) (file report h.report) old new (both-saved (file object h.object) (file report h.report) old new (subst (λ (x : List File). AreSaved x old new) h.saves k))
-compiled-elsewhere text object report slots budget store Infeasible fs t old new h k = second-same object report old new (saved-only fs (file report h.0.report) old new h.0.saves k).elsewhere
-compiled-elsewhere text object report slots budget store BudgetSpent fs t old new h k = second-same object report old new (saved-only fs (file report h.0.report) old new h.0.saves k).elsewhere
-compiled-elsewhere text object report slots budget store _ fs t old new h k = absurd h
+compiled-elsewhere text object report slots ws budget store Infeasible fs t old new h k = second-same object report old new (saved-only fs (file report h.0.report) old new h.0.saves k).elsewhere
+compiled-elsewhere text object report slots ws budget store BudgetSpent fs t old new h k = second-same object report old new (saved-only fs (file report h.0.report) old new h.0.saves k).elsewhere
+compiled-elsewhere text object report slots ws budget store _ fs t old new h k = absurd h
 
-compiled-cut_elsewhere : (T : Type 0) (text object report : List ℕ) (slots budget store : ℕ) (s : Status) (fs : List File) (t : List ℕ) (old new : Holding) (P : List ℕ → Type 0) → T → CompileMakes text object report slots budget store s fs t
+compiled-cut_elsewhere : (T : Type 0) (text object report : List ℕ) (slots : ℕ) (ws : List ℕ) (budget store : ℕ) (s : Status) (fs : List File) (t : List ℕ) (old new : Holding) (P : List ℕ → Type 0) → T → CompileMakes text object report slots ws budget store s fs t
     → IsCut T fs old new P → IsSameBut (object ∷ report ∷ []) old new
-compiled-cut_elsewhere T text object report slots budget store Done fs t old new P tells h k = cut-both_elsewhere T (file object h.object) (file report h.report) old new P tells (subst (λ (x : List File). IsCut T x old new P) h.saves k)
-compiled-cut_elsewhere T text object report slots budget store Infeasible fs t old new P tells h k = second-same object report old new ((cut-only T fs (file report h.0.report) old new P h.0.saves k).1 tells)
-compiled-cut_elsewhere T text object report slots budget store BudgetSpent fs t old new P tells h k = second-same object report old new ((cut-only T fs (file report h.0.report) old new P h.0.saves k).1 tells)
-compiled-cut_elsewhere T text object report slots budget store _ fs t old new P tells h k = absurd h
+compiled-cut_elsewhere T text object report slots ws budget store Done fs t old new P tells h k = cut-both_elsewhere T (file object h.object) (file report h.report) old new P tells (subst (λ (x : List File). IsCut T x old new P) h.saves k)
+compiled-cut_elsewhere T text object report slots ws budget store Infeasible fs t old new P tells h k = second-same object report old new ((cut-only T fs (file report h.0.report) old new P h.0.saves k).1 tells)
+compiled-cut_elsewhere T text object report slots ws budget store BudgetSpent fs t old new P tells h k = second-same object report old new ((cut-only T fs (file report h.0.report) old new P h.0.saves k).1 tells)
+compiled-cut_elsewhere T text object report slots ws budget store _ fs t old new P tells h k = absurd h
 
 -- a save that failed is of one of the outputs
 pub cut-output : (T : Type 0) (c : Command) (bs : List (List ℕ)) (s : Status) (fs : List File) (t : List ℕ) (old new : Holding) (P : List ℕ → Type 0) → Makes c bs s fs t → IsCut T fs old new P → SomeFile (outputs_of c) P
-cut-output T (Compile source object report slots budget store) (b ∷ []) s fs t old new P h k = compiled-cut T b object report slots budget store s fs t old new P h k
+cut-output T (Compile source object report slots budget store) (b ∷ []) s fs t old new P h k = compiled-cut T b object report slots [] budget store s fs t old new P h k
 cut-output T (Run object memory steps) (b ∷ g ∷ []) s fs t old new P h k = absurd (subst (λ (x : List File). IsCut T x old new P) h.0 k)
 cut-output T (Exec source memory calls) (b ∷ g ∷ []) s fs t old new P h k = absurd (subst (λ (x : List File). IsCut T x old new P) h.0 k)
 cut-output T (Asm input object) (b ∷ []) s fs t old new P h k = (object, (0, omega arith, refl), (cut-only T fs (file object h.object) old new P h.saves k).0)
@@ -102,6 +102,8 @@ cut-output T (Dis object) (b ∷ []) s fs t old new P h k = absurd (subst (λ (x
 cut-output T (Lint object) (b ∷ []) s fs t old new P h k = absurd (subst (λ (x : List File). IsCut T x old new P) h.0 k)
 cut-output T (Check report) (b ∷ []) s fs t old new P h k = absurd (subst (λ (x : List File). IsCut T x old new P) h.0 k)
 cut-output T (Gen seed size) [] s fs t old new P h k = absurd (subst (λ (x : List File). IsCut T x old new P) h.0 k)
+cut-output T (Contexts object memory schedule) (b ∷ g ∷ u ∷ []) s fs t old new P h k = absurd (subst (λ (x : List File). IsCut T x old new P) h.0 k)
+cut-output T (Peep object output) (b ∷ []) s fs t old new P h k = (output, (0, omega arith, refl), (cut-only T fs (file output h.saved) old new P h.saves k).0)
 cut-output T _ _ s fs t old new P h k = absurd h
 
 -- no other file changed
@@ -115,7 +117,7 @@ pub nothing-saved : (fs : List File) (old new : Holding) → fs ≡ [] → AreSa
 nothing-saved fs old new is h = subst (λ (x : List File). AreSaved x old new) is h
 
 pub saved-elsewhere : (c : Command) (bs : List (List ℕ)) (s : Status) (fs : List File) (t : List ℕ) (old new : Holding) → Makes c bs s fs t → AreSaved fs old new → IsSameBut (outputs_of c) old new
-saved-elsewhere (Compile source object report slots budget store) (b ∷ []) s fs t old new h k = compiled-elsewhere b object report slots budget store s fs t old new h k
+saved-elsewhere (Compile source object report slots budget store) (b ∷ []) s fs t old new h k = compiled-elsewhere b object report slots [] budget store s fs t old new h k
 saved-elsewhere (Run object memory steps) (b ∷ g ∷ []) s fs t old new h k = same-all [] old new (nothing-saved fs old new h.0 k)
 saved-elsewhere (Exec source memory calls) (b ∷ g ∷ []) s fs t old new h k = same-all [] old new (nothing-saved fs old new h.0 k)
 saved-elsewhere (Asm input object) (b ∷ []) s fs t old new h k = same-but old new object (saved-only fs (file object h.object) old new h.saves k).elsewhere
@@ -123,10 +125,12 @@ saved-elsewhere (Dis object) (b ∷ []) s fs t old new h k = same-all [] old new
 saved-elsewhere (Lint object) (b ∷ []) s fs t old new h k = same-all [] old new (nothing-saved fs old new h.0 k)
 saved-elsewhere (Check report) (b ∷ []) s fs t old new h k = same-all [] old new (nothing-saved fs old new h.0 k)
 saved-elsewhere (Gen seed size) [] s fs t old new h k = same-all [] old new (nothing-saved fs old new h.0 k)
+saved-elsewhere (Contexts object memory schedule) (b ∷ g ∷ u ∷ []) s fs t old new h k = same-all [] old new (nothing-saved fs old new h.0 k)
+saved-elsewhere (Peep object output) (b ∷ []) s fs t old new h k = same-but old new output (saved-only fs (file output h.saved) old new h.saves k).elsewhere
 saved-elsewhere _ _ s fs t old new h k = absurd h
 
 pub cut-elsewhere : (T : Type 0) (c : Command) (bs : List (List ℕ)) (s : Status) (fs : List File) (t : List ℕ) (old new : Holding) (P : List ℕ → Type 0) → T → Makes c bs s fs t → IsCut T fs old new P → IsSameBut (outputs_of c) old new
-cut-elsewhere T (Compile source object report slots budget store) (b ∷ []) s fs t old new P tells h k = compiled-cut_elsewhere T b object report slots budget store s fs t old new P tells h k
+cut-elsewhere T (Compile source object report slots budget store) (b ∷ []) s fs t old new P tells h k = compiled-cut_elsewhere T b object report slots [] budget store s fs t old new P tells h k
 cut-elsewhere T (Run object memory steps) (b ∷ g ∷ []) s fs t old new P tells h k = absurd (subst (λ (x : List File). IsCut T x old new P) h.0 k)
 cut-elsewhere T (Exec source memory calls) (b ∷ g ∷ []) s fs t old new P tells h k = absurd (subst (λ (x : List File). IsCut T x old new P) h.0 k)
 cut-elsewhere T (Asm input object) (b ∷ []) s fs t old new P tells h k = same-but old new object ((cut-only T fs (file object h.object) old new P h.saves k).1 tells)
@@ -134,12 +138,14 @@ cut-elsewhere T (Dis object) (b ∷ []) s fs t old new P tells h k = absurd (sub
 cut-elsewhere T (Lint object) (b ∷ []) s fs t old new P tells h k = absurd (subst (λ (x : List File). IsCut T x old new P) h.0 k)
 cut-elsewhere T (Check report) (b ∷ []) s fs t old new P tells h k = absurd (subst (λ (x : List File). IsCut T x old new P) h.0 k)
 cut-elsewhere T (Gen seed size) [] s fs t old new P tells h k = absurd (subst (λ (x : List File). IsCut T x old new P) h.0 k)
+cut-elsewhere T (Contexts object memory schedule) (b ∷ g ∷ u ∷ []) s fs t old new P tells h k = absurd (subst (λ (x : List File). IsCut T x old new P) h.0 k)
+cut-elsewhere T (Peep object output) (b ∷ []) s fs t old new P tells h k = same-but old new output ((cut-only T fs (file output h.saved) old new P h.saves k).1 tells)
 cut-elsewhere T _ _ s fs t old new P tells h k = absurd h
 
 -- what `compile` saved is compiled
-compiled-with : (T : Type 0) (old new : Holding) (source object report : List ℕ) (slots budget store : ℕ) (b : List ℕ) (fs : List File) (t : List ℕ)
-    → T → (object ≡ report → ⊥) → IsRead T old (input source source_limit) b → CompiledMakes b object report slots budget store fs t → AreSaved fs old new → IsCompiled old new source object report slots budget store t
-compiled-with T old new source object report slots budget store b fs t tells apart read h saved =
+compiled-with : (T : Type 0) (old new : Holding) (source object report : List ℕ) (slots : ℕ) (ws : List ℕ) (budget store : ℕ) (b : List ℕ) (fs : List File) (t : List ℕ)
+    → T → (object ≡ report → ⊥) → IsRead T old (input source source_limit) b → CompiledMakes b object report slots ws budget store fs t → AreSaved fs old new → IsCompiled old new source object report slots ws budget store t
+compiled-with T old new source object report slots ws budget store b fs t tells apart read h saved =
     let both : AreBoth (file object h.object) (file report h.report) old new = both-saved (file object h.object) (file report h.report) old new (subst (λ (x : List File). AreSaved x old new) h.saves saved) in
     record {
       text = b;
@@ -158,19 +164,19 @@ compiled-with T old new source object report slots budget store b fs t tells apa
 
 compiled-of : (T : Type 0) (old new : Holding) (source object report : List ℕ) (slots budget store : ℕ) (bs : List (List ℕ)) (s : Status) (fs : List File) (t : List ℕ)
     → T → s ≡ Done → (object ≡ report → ⊥) → AreRead T old (inputs_of (Compile source object report slots budget store)) bs → Makes (Compile source object report slots budget store) bs s fs t → (T → AreSaved fs old new)
-    → IsCompiled old new source object report slots budget store t
+    → IsCompiled old new source object report slots [] budget store t
 compiled-of T old new source object report slots budget store (b ∷ []) s fs t tells done apart read h saved =
-    compiled-with T old new source object report slots budget store b fs t tells apart read.0 (subst (λ (x : Status). CompileMakes b object report slots budget store x fs t) done h) (saved tells)
+    compiled-with T old new source object report slots [] budget store b fs t tells apart read.0 (subst (λ (x : Status). CompileMakes b object report slots [] budget store x fs t) done h) (saved tells)
 compiled-of T old new source object report slots budget store _ s fs t tells done apart read h saved = absurd h
 
 pub done-compiled : (T : Type 0) (old new : Holding) (source object report : List ℕ) (slots budget store : ℕ) (s : Status) (t : List ℕ) → T → s ≡ Done → (object ≡ report → ⊥) → IsDone T old new (Compile source object report slots budget store) s t
-    → IsCompiled old new source object report slots budget store t
+    → IsCompiled old new source object report slots [] budget store t
 done-compiled T old new source object report slots budget store s t tells done apart h = compiled-of T old new source object report slots budget store h.contents s h.files t tells done apart h.read h.makes h.saved
 
 -- what it saved without banks
-reported-with : (T : Type 0) (old new : Holding) (source report : List ℕ) (slots budget : ℕ) (v : Verdict) (b : List ℕ) (fs : List File) → T → IsRead T old (input source source_limit) b → WithoutMakes b report slots budget v fs
-    → AreSaved fs old new → IsReported old new source report slots budget v
-reported-with T old new source report slots budget v b fs tells read h saved = record {
+reported-with : (T : Type 0) (old new : Holding) (source report : List ℕ) (slots : ℕ) (ws : List ℕ) (budget : ℕ) (v : Verdict) (b : List ℕ) (fs : List File) → T → IsRead T old (input source source_limit) b → WithoutMakes b report slots ws budget v fs
+    → AreSaved fs old new → IsReported old new source report slots ws budget v
+reported-with T old new source report slots ws budget v b fs tells read h saved = record {
   text = b;
   held = read.here tells;
   program = h.program;
@@ -184,14 +190,14 @@ reported-with T old new source report slots budget v b fs tells read h saved = r
 
 reported-of : (T : Type 0) (old new : Holding) (source object report : List ℕ) (slots budget store : ℕ) (bs : List (List ℕ)) (s : Status) (fs : List File) (t : List ℕ)
     → T → AreRead T old (inputs_of (Compile source object report slots budget store)) bs → Makes (Compile source object report slots budget store) bs s fs t → (T → AreSaved fs old new)
-    → IfWithout s (λ v. IsReported old new source report slots budget v)
-reported-of T old new source object report slots budget store (b ∷ []) Infeasible fs t tells read h saved = reported-with T old new source report slots budget verdict.Infeasible b fs tells read.0 h.0 (saved tells)
-reported-of T old new source object report slots budget store (b ∷ []) BudgetSpent fs t tells read h saved = reported-with T old new source report slots budget verdict.Spent b fs tells read.0 h.0 (saved tells)
+    → IfWithout s (λ v. IsReported old new source report slots [] budget v)
+reported-of T old new source object report slots budget store (b ∷ []) Infeasible fs t tells read h saved = reported-with T old new source report slots [] budget verdict.Infeasible b fs tells read.0 h.0 (saved tells)
+reported-of T old new source object report slots budget store (b ∷ []) BudgetSpent fs t tells read h saved = reported-with T old new source report slots [] budget verdict.Spent b fs tells read.0 h.0 (saved tells)
 reported-of T old new source object report slots budget store (b ∷ []) _ fs t tells read h saved = tt
 reported-of T old new source object report slots budget store _ s fs t tells read h saved = absurd h
 
 pub done-reported : (T : Type 0) (old new : Holding) (source object report : List ℕ) (slots budget store : ℕ) (s : Status) (t : List ℕ) → T → IsDone T old new (Compile source object report slots budget store) s t
-    → IfWithout s (λ v. IsReported old new source report slots budget v)
+    → IfWithout s (λ v. IsReported old new source report slots [] budget v)
 done-reported T old new source object report slots budget store s t tells h = reported-of T old new source object report slots budget store h.contents s h.files t tells h.read h.makes h.saved
 
 -- what was made is saved, or a save failed

@@ -2,23 +2,26 @@
 use Rattle.std.specs.Prelude.{◌≡◌, ◌⊎◌, ◌++◌, ℕ, List, [], ◌∷◌, ⊤}
 use Rattle.nv_outside.specs.Holding.{Holding, AppendsFront}
 use Rattle.object_commands.specs.Assembly.{AsmMakes, AsmRefuses, HasAssembly, IsListed}
-use Rattle.command_line.specs.Command.{Command, Compile, Run, Exec, Asm, Dis, Lint, Check, Gen}
+use Rattle.command_line.specs.Command.{Command, Compile, Run, Exec, Asm, Dis, Lint, Check, Gen, Contexts, Peep}
 use Rattle.nova_commands.specs.Checking.{CheckRefuses, IsChecked}
 use Rattle.nova_commands.specs.Executing.{ExecRefuses, IsExecuted}
 use Rattle.nova_commands.specs.Generating.{IsGenerated, GenRefuses}
 use Rattle.nova_commands.specs.Headline.{CompileMakes, CompileRefuses, IsEndOf}
 use Rattle.command_line.specs.Lines.{IsUncaused, refusal_status, refusal_text, cannot_write}
 use Rattle.nova_commands.specs.Loading.{AreRead, StopsAt, IsUnread, inputs_of}
-use Rattle.object_commands.specs.Machine.{IsBadObjectFor, LintRefuses, IsLinted, RunRefuses, IsRun}
+use Rattle.object_commands.specs.Machine.{HasCode, IsBadObjectFor, LintRefuses, IsLinted, RunRefuses, IsRun}
+use Rattle.uc_isa.specs.Lawful.{IsLawful}
 use Rattle.nova_commands.specs.Reading.{HasTyped, SourceRefuses}
+use Rattle.object_commands.specs.Peeping.{PeepMakes}
 use Rattle.object_commands.specs.Saving.{File, AreSaved, IsCut}
+use Rattle.object_commands.specs.Scheduled.{ContextsRefuse, IsScheduled}
 use Rattle.command_line.specs.declared.refusal.Refusal.{Refusal}
 use Rattle.command_line.specs.declared.status.Status.{Status}
 use Rattle.command_line.specs.declared.status.Status.TheVariants.{Done, ReadFault, WriteFault, NoMemory}
 
 -- what a command makes of the contents of its inputs: a status, the files that it saves, in this order, and a text
 abbrev pub Makes : Command → List (List ℕ) → Status → List File → List ℕ → Type 0
-Makes (Compile source object report slots budget store) (bytes ∷ []) status files text = CompileMakes bytes object report slots budget store status files text
+Makes (Compile source object report slots budget store) (bytes ∷ []) status files text = CompileMakes bytes object report slots [] budget store status files text
 Makes (Run object memory steps) (bytes ∷ given ∷ []) status files text = (files ≡ []) × IsRun bytes given steps status text
 Makes (Exec source memory calls) (bytes ∷ given ∷ []) status files text = (files ≡ []) × IsExecuted bytes given calls status text
 Makes (Asm input object) (bytes ∷ []) status files text = AsmMakes bytes object status files text
@@ -26,6 +29,8 @@ Makes (Dis object) (bytes ∷ []) status files text = (files ≡ []) × IsListed
 Makes (Lint object) (bytes ∷ []) status files text = (files ≡ []) × IsLinted bytes status text
 Makes (Check report) (bytes ∷ []) status files text = (files ≡ []) × IsChecked bytes status text
 Makes (Gen seed size) [] status files text = (files ≡ []) × (status ≡ Done) × IsGenerated seed size text
+Makes (Contexts object memory schedule) (bytes ∷ given ∷ turns ∷ []) status files text = (files ≡ []) × IsScheduled bytes given turns status text
+Makes (Peep object output) (bytes ∷ []) status files text = PeepMakes bytes output status files text
 Makes _ _ status files text = ⊥
 
 -- what a command makes without a file, of contents that decide it
@@ -35,23 +40,26 @@ Prints (Exec source memory calls) (bytes ∷ given ∷ []) status text = IsExecu
 Prints (Dis object) (bytes ∷ []) status text = IsListed bytes status text
 Prints (Lint object) (bytes ∷ []) status text = IsLinted bytes status text
 Prints (Check report) (bytes ∷ []) status text = IsChecked bytes status text
+Prints (Contexts object memory schedule) (bytes ∷ given ∷ turns ∷ []) status text = IsScheduled bytes given turns status text
 Prints _ _ status text = ⊥
 
 -- the contents of the input of a command that saves a file are those of a program, or of code
 abbrev pub CanMake : Command → List (List ℕ) → Type 0
 CanMake (Compile source object report slots budget store) (bytes ∷ []) = HasTyped bytes (λ _. ⊤)
 CanMake (Asm input object) (bytes ∷ []) = HasAssembly bytes
+CanMake (Peep object output) (bytes ∷ []) = HasCode bytes (λ c. IsLawful c.list)
 CanMake _ _ = ⊥
 
 -- how it ends then
 abbrev pub CanEnd : Command → List (List ℕ) → Status → Type 0
 CanEnd (Compile source object report slots budget store) (bytes ∷ []) status = HasTyped bytes (λ program. IsEndOf program slots store status)
 CanEnd (Asm input object) (bytes ∷ []) status = status ≡ Done
+CanEnd (Peep object output) (bytes ∷ []) status = status ≡ Done
 CanEnd _ _ status = ⊥
 
 -- the contents of its inputs are why a command is refused
 abbrev pub Refuses : Command → List (List ℕ) → Refusal → Type 0
-Refuses (Compile source object report slots budget store) (bytes ∷ []) e = CompileRefuses bytes slots budget store e
+Refuses (Compile source object report slots budget store) (bytes ∷ []) e = CompileRefuses bytes slots [] budget store e
 Refuses (Run object memory steps) (bytes ∷ given ∷ []) e = RunRefuses bytes given e
 Refuses (Exec source memory calls) (bytes ∷ given ∷ []) e = ExecRefuses bytes given e
 Refuses (Asm input object) (bytes ∷ []) e = AsmRefuses bytes e
@@ -59,6 +67,8 @@ Refuses (Dis object) (bytes ∷ []) e = IsBadObjectFor bytes e
 Refuses (Lint object) (bytes ∷ []) e = LintRefuses bytes e
 Refuses (Check report) (bytes ∷ []) e = CheckRefuses bytes e
 Refuses (Gen seed size) [] e = GenRefuses seed size e
+Refuses (Contexts object memory schedule) (bytes ∷ given ∷ turns ∷ []) e = ContextsRefuse bytes given turns e
+Refuses (Peep object output) (bytes ∷ []) e = LintRefuses bytes e
 Refuses _ _ e = ⊥
 
 -- the same where the contents alone decide it: why a typed program isn't compiled its form and its code decide
@@ -70,6 +80,8 @@ MustRefuse (Asm input object) (bytes ∷ []) e = AsmRefuses bytes e
 MustRefuse (Dis object) (bytes ∷ []) e = IsBadObjectFor bytes e
 MustRefuse (Lint object) (bytes ∷ []) e = LintRefuses bytes e
 MustRefuse (Check report) (bytes ∷ []) e = CheckRefuses bytes e
+MustRefuse (Contexts object memory schedule) (bytes ∷ given ∷ turns ∷ []) e = ContextsRefuse bytes given turns e
+MustRefuse (Peep object output) (bytes ∷ []) e = LintRefuses bytes e
 MustRefuse _ _ e = ⊥
 
 -- an input isn't read, while those before it are, or all are, and their contents are why

@@ -17,13 +17,13 @@ IsTextCause bytes (compile.TooLarge size) = IsLarge bytes size
 IsTextCause bytes _ = ⊥
 
 -- the program of a typed program's banks is too large, or has no vector that was found, or its code is too long
-abbrev pub IsFormCause : ProgramTree → ℕ → ℕ → ℕ → CompileError → Type 0
-IsFormCause program slots budget store (compile.TooLarge n) = HasLargeBanks program slots n
-IsFormCause program slots budget store (compile.Infeasible r) = HasNoBanks program slots budget verdict.Infeasible r
-IsFormCause program slots budget store (compile.Spent r) = HasNoBanks program slots budget verdict.Spent r
-IsFormCause program slots budget store (compile.StoreFull n) = HasLongCode program slots budget store n
-IsFormCause program slots budget store _ = ⊥
+abbrev pub IsFormCause : ProgramTree → ℕ → List ℕ → ℕ → ℕ → CompileError → Type 0
+IsFormCause program slots ws budget store (compile.TooLarge n) = HasLargeBanks program slots n
+IsFormCause program slots ws budget store (compile.Infeasible r) = HasNoBanks program slots ws budget verdict.Infeasible r
+IsFormCause program slots ws budget store (compile.Spent r) = HasNoBanks program slots ws budget verdict.Spent r
+IsFormCause program slots ws budget store (compile.StoreFull n) = HasLongCode program slots ws budget store n
+IsFormCause program slots ws budget store _ = ⊥
 
 -- one of them is why the text has no code of at most so many instructions
-abbrev pub IsCompileCause : List ℕ → ℕ → ℕ → ℕ → CompileError → Type 0
-IsCompileCause bytes slots budget store e = IsTextCause bytes e ⊎ HasTyped bytes (λ program. IsFormCause program slots budget store e)
+abbrev pub IsCompileCause : List ℕ → ℕ → List ℕ → ℕ → ℕ → CompileError → Type 0
+IsCompileCause bytes slots ws budget store e = IsTextCause bytes e ⊎ HasTyped bytes (λ program. IsFormCause program slots ws budget store e)

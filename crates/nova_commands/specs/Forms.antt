@@ -1,5 +1,5 @@
 -- The forms in single use of a program, their banks and its code, and why it has none.
-use Rattle.std.specs.Prelude.{◌≡◌, ◌≤◌, ◌<◌, ◌+◌, ◌*◌, ◌^◌, ◌⊎◌, ℕ, Bool, true, List, [], length}
+use Rattle.std.specs.Prelude.{◌≡◌, ◌≤◌, ◌<◌, ◌+◌, ◌*◌, ◌^◌, ◌⊎◌, ℕ, Bool, true, List, length}
 use Rattle.nv_ast.specs.Sizes.{expanded_size, main_words, room}
 use Rattle.nv_ast.specs.Tree.{ProgramTree}
 use Rattle.nv_base.specs.Meanings.{KeepsOutcomes}
@@ -8,7 +8,6 @@ use Rattle.ssu_ir.specs.Meaning.{ssu_meaning, ssu_params}
 use Rattle.ssu_ir.specs.Measures.{peak, size, code_bound}
 use Rattle.ssu_ir.specs.Single.{single}
 use Rattle.ssu_ir.specs.Tree.{Label}
-use Rattle.slot_placement.specs.Uses.{values, uses}
 use Rattle.bank_form.specs.Columns.{columns}
 use Rattle.bank_form.specs.Program.{rows, IsTooLarge}
 use Rattle.uc_isa.specs.Agrees.{Agrees}
@@ -19,7 +18,7 @@ use Rattle.zo_model.specs.Program.{cost_of, vector, Feasible}
 use Rattle.zo_cert.specs.declared.report.Report.{Report}
 use Rattle.zo_cert.specs.declared.report.Verdict.{Verdict}
 use Rattle.zo_cert.specs.declared.report.Verdict.TheVariants.{Optimal}
-use Rattle.nova_back.specs.Causes.{IsCodeOf, IsReportOn, IsWithout, HasVector, report_cost}
+use Rattle.nova_back.specs.Causes.{IsCodeOf, AreStartsOf, IsReportOn, IsCheapFor, IsWithout, HasVector, report_cost}
 
 -- what bounds the size of a program's form, and the length of its code
 abbrev pub form_bound : ProgramTree → ℕ
@@ -42,19 +41,21 @@ pub record IsCodeFor (program : ProgramTree) (c : CodeView) : Type 0 where
   pub lawful : IsLawful c.list
   pub agrees : Agrees (main_words program) (source program) c
 
--- The report is on the banks of a form of the program, with a vector that meets the rows. No vector that meets them costs less, where the
--- verdict is optimal. The code's moves cost no more than the report's vector; where all values that are held at once fit a bank, that is
--- at most 2 a value, and 1 a use. The code is that of the form with these slots.
-pub record HasBanks (program : ProgramTree) (slots budget : ℕ) (code : CodeView) (r : Report) : Type 0 where
+-- The report is on the banks of a form of the program, whose labels have these weights, with a vector that meets the rows. No vector that
+-- meets them costs less, where the verdict is optimal. The code is that of the form with these slots, and the form's labels start at these
+-- places. Under the weights the code's moves cost no more than the report's vector; where all values that are held at once fit a bank, that
+-- is at most 2 a value and 1 a use, each times the greatest weight of a label.
+pub record HasBanks (program : ProgramTree) (slots : ℕ) (ws : List ℕ) (budget : ℕ) (code : CodeView) (starts : List ℕ) (r : Report) : Type 0 where
   pub form : List Label
   pub is_form : IsFormOf program form
-  pub report : IsReportOn form slots budget r
+  pub report : IsReportOn form slots ws budget r
   pub found : HasVector r.verdict
   pub meets : Feasible r.z (vector r.x.on.items)
   pub optimal : r.verdict ≡ Optimal → (x : ℕ → Bool) → Feasible r.z x → report_cost r ≤ cost_of r.z x
   pub form_code : IsCodeOf form slots code
-  pub light : moves code.list [] [] ≤ report_cost r
-  pub cheap : peak form ≤ 15 → report_cost r ≤ 2 * length (values form) + length (uses form)
+  pub labels_start : AreStartsOf form code starts
+  pub light : moves code.list starts ws ≤ report_cost r
+  pub cheap : peak form ≤ 15 → IsCheapFor form ws (report_cost r)
 
 -- the program of the banks of a form of the program has so many columns, or else rows, and more than fit
 pub record HasLargeBanks (program : ProgramTree) (slots n : ℕ) : Type 0 where
@@ -71,19 +72,20 @@ HasSmallBanks program slots =
 
 -- The report is on the banks of a form of the program, has no vector, and says why. The form holds more values at once than there are
 -- slots, so the program has more room.
-pub record HasNoBanks (program : ProgramTree) (slots budget : ℕ) (verdict : Verdict) (r : Report) : Type 0 where
+pub record HasNoBanks (program : ProgramTree) (slots : ℕ) (ws : List ℕ) (budget : ℕ) (verdict : Verdict) (r : Report) : Type 0 where
   pub form : List Label
   pub is_form : IsFormOf program form
-  pub without : IsWithout form slots budget verdict r
+  pub without : IsWithout form slots ws budget verdict r
   pub few_slots : slots < room program
 
 -- the program of the banks of a form of the program fits, and the code by the report on them has so many instructions, more than were
 -- allowed
-pub record HasLongCode (program : ProgramTree) (slots budget store n : ℕ) : Type 0 where
+pub record HasLongCode (program : ProgramTree) (slots : ℕ) (ws : List ℕ) (budget store n : ℕ) : Type 0 where
   pub r : Report
   pub c : CodeView
+  pub starts : List ℕ
   pub code : IsCodeFor program c
-  pub banks : HasBanks program slots budget c r
+  pub banks : HasBanks program slots ws budget c starts r
   pub few : length (columns banks.form) ≤ 2 ^ 26
   pub few_rows : length (rows banks.form slots) ≤ 2 ^ 26
   pub counted : n ≡ length c.list

@@ -39,14 +39,15 @@ pub record IsGenerated (seed size : ℕ) (line : List ℕ) : Type 0 where
   pub short : length c.list ≤ store_limit
   pub brief : length c.list ≤ form_bound program
   pub r : Report
-  pub banks : HasBanks program slots_limit budget_default c r
+  pub starts : List ℕ
+  pub banks : HasBanks program slots_limit [] budget_default c starts r
   pub word : ℕ
   pub means : MeansWord program word
   pub told : line ≡ generated_text seed size (length (made seed size)) (length c.list) r.verdict (report_cost r) word
 
 -- the program of the text isn't compiled
 abbrev pub GenRefuses : ℕ → ℕ → Refusal → Type 0
-GenRefuses seed size e = HasTyped (made seed size) (λ program. IsUnfit program slots_limit budget_default store_limit e)
+GenRefuses seed size e = HasTyped (made seed size) (λ program. IsUnfit program slots_limit [] budget_default store_limit e)
 
 -- the program of the text is so small that the program of its banks fits, and so its code does
 abbrev pub IsSmallMade : ℕ → ℕ → Type 0

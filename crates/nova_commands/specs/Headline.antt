@@ -4,16 +4,17 @@ use Rattle.nv_outside.specs.Holding.{Holding, Replaced}
 use Rattle.nv_ast.specs.Sizes.{main_words, room}
 use Rattle.nv_ast.specs.Tree.{ProgramTree}
 use Rattle.nv_meaning.specs.Meaning.{source}
-use Rattle.uc_isa.specs.Code.{CodeView}
 use Rattle.uc_isa.specs.Agrees.{Agrees}
 use Rattle.uc_isa.specs.Lawful.{IsLawful}
-use Rattle.uc_object.specs.Object.{IsCodeObject}
+use Rattle.uc_object.specs.Object.{IsTaggedObject}
+use Rattle.uc_object.specs.Tagged.{TaggedView}
 use Rattle.zo_cert.specs.declared.report.Report.{Report}
 use Rattle.zo_cert.specs.declared.report.Verdict.{Verdict}
 use Rattle.zo_cert.specs.declared.report.Verdict.TheVariants as verdict
 use Rattle.nova_back.specs.Causes.{report_cost}
 use Rattle.nova_front.specs.Sources.{IsTypedSource}
 use Rattle.nova_commands.specs.Checking.{IsReportOf}
+use Rattle.nova_commands.specs.Naming.{source_exceptions}
 use Rattle.nova_commands.specs.Forms.{form_bound, HasBanks, HasSmallBanks, HasLargeBanks, HasNoBanks, HasLongCode}
 use Rattle.command_line.specs.Lines.{compiled_text, infeasible_text, spent_text}
 use Rattle.command_line.specs.Limits.{source_limit}
@@ -26,24 +27,26 @@ use Rattle.command_line.specs.declared.status.Status.TheVariants as ends
 
 -- ---- what is compiled
 
--- The object is that of lawful code, of this length, which does what the typed program of the text says. The report is the text of this
--- one, which is true, on the banks of a form of the program, with these slots and this budget: no vector that meets its rows costs less than
--- its own, where the verdict is optimal, and the code's moves cost no more.
-pub record IsCompiledTo (text object report : List ℕ) (slots budget store instructions : ℕ) (r : Report) : Type 0 where
+-- The object is that of lawful code, of this length, which does what the typed program of the text says; it names the program's exceptions,
+-- and tells where the labels of a form of the program start. The report is the text of this one, which is true, on the banks of that form,
+-- with these slots, weights of labels and budget: no vector that meets its rows costs less than its own, where the verdict is optimal, and
+-- by those starts and the weights the code's moves cost no more.
+pub record IsCompiledTo (text object report : List ℕ) (slots : ℕ) (ws : List ℕ) (budget store instructions : ℕ) (r : Report) : Type 0 where
   pub program : ProgramTree
   pub is_source : IsTypedSource text program
-  pub code : CodeView
-  pub decodes : IsCodeObject object code
-  pub lawful : IsLawful code.list
-  pub agrees : Agrees (main_words program) (source program) code
-  pub number : instructions ≡ length code.list
+  pub tagged : TaggedView
+  pub decodes : IsTaggedObject object tagged
+  pub lawful : IsLawful tagged.code.list
+  pub agrees : Agrees (main_words program) (source program) tagged.code
+  pub exceptions : tagged.exceptions ≡ source_exceptions text program
+  pub number : instructions ≡ length tagged.code.list
   pub short : instructions ≤ store
   pub brief : instructions ≤ form_bound program
   pub reports : IsReportOf report r
-  pub banks : HasBanks program slots budget code r
+  pub banks : HasBanks program slots ws budget tagged.code tagged.starts r
 
 -- the source is held; the object and the report are now those of its code and its banks, which are told, and no other file changed
-pub record IsCompiled (old new : Holding) (source_name object_name report_name : List ℕ) (slots budget store : ℕ) (line : List ℕ) : Type 0 where
+pub record IsCompiled (old new : Holding) (source_name object_name report_name : List ℕ) (slots : ℕ) (ws : List ℕ) (budget store : ℕ) (line : List ℕ) : Type 0 where
   pub text : List ℕ
   pub held : old source_name ≡ Some text
   pub short : length text ≤ source_limit
@@ -54,7 +57,7 @@ pub record IsCompiled (old new : Holding) (source_name object_name report_name :
   pub elsewhere : IsSameBut (object_name ∷ report_name ∷ []) old new
   pub instructions : ℕ
   pub r : Report
-  pub compiled : IsCompiledTo text object report slots budget store instructions r
+  pub compiled : IsCompiledTo text object report slots ws budget store instructions r
   pub told : line ≡ compiled_text instructions r.verdict (report_cost r)
 
 -- ---- what isn't, for want of banks
@@ -67,7 +70,7 @@ IfWithout _ P = ⊤
 
 -- the source is held; the report is now the text of a true one on the banks of a form of its program, which has this verdict, and no other
 -- file changed
-pub record IsReported (old new : Holding) (source_name report_name : List ℕ) (slots budget : ℕ) (verdict : Verdict) : Type 0 where
+pub record IsReported (old new : Holding) (source_name report_name : List ℕ) (slots : ℕ) (ws : List ℕ) (budget : ℕ) (verdict : Verdict) : Type 0 where
   pub text : List ℕ
   pub held : old source_name ≡ Some text
   pub program : ProgramTree
@@ -76,48 +79,48 @@ pub record IsReported (old new : Holding) (source_name report_name : List ℕ) (
   pub saved : Replaced old new report_name report
   pub r : Report
   pub reports : IsReportOf report r
-  pub without : HasNoBanks program slots budget verdict r
+  pub without : HasNoBanks program slots ws budget verdict r
 
 -- ---- what `compile` saves and tells
 
 -- the object of a source's code and the report on its banks are saved, and told
-pub record CompiledMakes (text object_name report_name : List ℕ) (slots budget store : ℕ) (files : List File) (line : List ℕ) : Type 0 where
+pub record CompiledMakes (text object_name report_name : List ℕ) (slots : ℕ) (ws : List ℕ) (budget store : ℕ) (files : List File) (line : List ℕ) : Type 0 where
   pub object : List ℕ
   pub report : List ℕ
   pub instructions : ℕ
   pub r : Report
-  pub compiled : IsCompiledTo text object report slots budget store instructions r
+  pub compiled : IsCompiledTo text object report slots ws budget store instructions r
   pub saves : files ≡ file object_name object ∷ file report_name report ∷ []
   pub told : line ≡ compiled_text instructions r.verdict (report_cost r)
 
 -- no banks of a source's code were found: the report alone is saved, which is true and says why
-pub record WithoutMakes (text report_name : List ℕ) (slots budget : ℕ) (verdict : Verdict) (files : List File) : Type 0 where
+pub record WithoutMakes (text report_name : List ℕ) (slots : ℕ) (ws : List ℕ) (budget : ℕ) (verdict : Verdict) (files : List File) : Type 0 where
   pub program : ProgramTree
   pub is_source : IsTypedSource text program
   pub report : List ℕ
   pub r : Report
   pub reports : IsReportOf report r
-  pub without : HasNoBanks program slots budget verdict r
+  pub without : HasNoBanks program slots ws budget verdict r
   pub saves : files ≡ file report_name report ∷ []
 
 -- what `compile` makes of a source, by the status
-abbrev pub CompileMakes : List ℕ → List ℕ → List ℕ → ℕ → ℕ → ℕ → Status → List File → List ℕ → Type 0
-CompileMakes text object_name report_name slots budget store ends.Done files line = CompiledMakes text object_name report_name slots budget store files line
-CompileMakes text object_name report_name slots budget store ends.Infeasible files line = WithoutMakes text report_name slots budget verdict.Infeasible files × (line ≡ infeasible_text)
-CompileMakes text object_name report_name slots budget store ends.BudgetSpent files line = WithoutMakes text report_name slots budget verdict.Spent files × (line ≡ spent_text budget)
-CompileMakes text object_name report_name slots budget store _ files line = ⊥
+abbrev pub CompileMakes : List ℕ → List ℕ → List ℕ → ℕ → List ℕ → ℕ → ℕ → Status → List File → List ℕ → Type 0
+CompileMakes text object_name report_name slots ws budget store ends.Done files line = CompiledMakes text object_name report_name slots ws budget store files line
+CompileMakes text object_name report_name slots ws budget store ends.Infeasible files line = WithoutMakes text report_name slots ws budget verdict.Infeasible files × (line ≡ infeasible_text)
+CompileMakes text object_name report_name slots ws budget store ends.BudgetSpent files line = WithoutMakes text report_name slots ws budget verdict.Spent files × (line ≡ spent_text budget)
+CompileMakes text object_name report_name slots ws budget store _ files line = ⊥
 
 -- ---- why it is refused
 
 -- why a typed program isn't compiled: the program of its banks is too large, or its code is too long
-abbrev pub IsUnfit : ProgramTree → ℕ → ℕ → ℕ → Refusal → Type 0
-IsUnfit program slots budget store (SourceLarge n) = HasLargeBanks program slots n
-IsUnfit program slots budget store (StoreFull n) = HasLongCode program slots budget store n
-IsUnfit program slots budget store _ = ⊥
+abbrev pub IsUnfit : ProgramTree → ℕ → List ℕ → ℕ → ℕ → Refusal → Type 0
+IsUnfit program slots ws budget store (SourceLarge n) = HasLargeBanks program slots n
+IsUnfit program slots ws budget store (StoreFull n) = HasLongCode program slots ws budget store n
+IsUnfit program slots ws budget store _ = ⊥
 
 -- the source is refused, or its program isn't compiled
-abbrev pub CompileRefuses : List ℕ → ℕ → ℕ → ℕ → Refusal → Type 0
-CompileRefuses text slots budget store e = SourceRefuses text e ⊎ HasTyped text (λ program. IsUnfit program slots budget store e)
+abbrev pub CompileRefuses : List ℕ → ℕ → List ℕ → ℕ → ℕ → Refusal → Type 0
+CompileRefuses text slots ws budget store e = SourceRefuses text e ⊎ HasTyped text (λ program. IsUnfit program slots ws budget store e)
 
 -- how the compilation of a typed program can end: without banks only where there are fewer slots than room
 abbrev pub IsEndOf : ProgramTree → ℕ → ℕ → Status → Type 0

@@ -2,6 +2,7 @@ pub mod Loading
 pub mod Calling
 pub mod Reading
 pub mod Forms
+pub mod Naming
 pub mod Headline
 pub mod Building
 pub mod Executing

@@ -1,30 +1,10 @@
--- What a command reads: its inputs, in the order of the words.
+-- What a command reads: its inputs, one after the other.
 use Rattle.std.specs.Prelude.{◌≡◌, ◌≤◌, ◌⊎◌, ℕ, List, [], ◌∷◌, Some, length, map, ⊤}
 use Rattle.nv_outside.specs.Calls.{Call, Load}
 use Rattle.nv_outside.specs.Holding.{Holding, IsLonger}
-use Rattle.command_line.specs.Command.{Command, Compile, Run, Exec, Asm, Dis, Lint, Check, Gen}
-use Rattle.command_line.specs.Limits.{source_limit, object_limit, memory_limit, assembly_limit, report_limit}
+pub use Rattle.command_line.specs.Inputs.{Input, input, inputs_of}
 use Rattle.command_line.specs.declared.refusal.Refusal.{Refusal}
 use Rattle.command_line.specs.declared.refusal.Refusal.TheVariants.{ReadFault, TooLarge}
-
--- a file that is read, and how many bytes it may have
-pub record Input : Type 0 where
-  pub name : List ℕ
-  pub limit : ℕ
-
-abbrev pub input : List ℕ → ℕ → Input
-input name limit = record { name = name; limit = limit }
-
--- the inputs of a command
-abbrev pub inputs_of : Command → List Input
-inputs_of (Compile source object report slots budget store) = input source source_limit ∷ []
-inputs_of (Run object memory steps) = input object object_limit ∷ input memory memory_limit ∷ []
-inputs_of (Exec source memory calls) = input source source_limit ∷ input memory memory_limit ∷ []
-inputs_of (Asm text object) = input text assembly_limit ∷ []
-inputs_of (Dis object) = input object object_limit ∷ []
-inputs_of (Lint object) = input object object_limit ∷ []
-inputs_of (Check report) = input report report_limit ∷ []
-inputs_of (Gen seed size) = []
 
 -- the loads of these inputs
 abbrev pub loads_of : List Input → List Call

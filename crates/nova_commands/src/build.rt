@@ -1,17 +1,17 @@
 //! From the text of a program to its code.
-ghost use Rattle.std.specs.Prelude.{◌≡◌, ◌≤◌, ◌+◌, ◌*◌, ◌⊎◌, [], length, IfOk, IfErr, MatchResult};
+ghost use Rattle.std.specs.Prelude.{◌≡◌, ◌≤◌, ◌⊎◌, length, IfOk, IfErr, MatchResult};
 ghost use Rattle.nv_text.specs.Limits.{source_limit};
 ghost use Rattle.nv_ast.specs.Tree.{ProgramTree};
 ghost use Rattle.nv_ast.specs.TypedView.{typed_program};
 ghost use Rattle.ssu_ir.specs.Measures.{peak};
 ghost use Rattle.ssu_ir.specs.View.{labels_view};
-ghost use Rattle.slot_placement.specs.Uses.{values, uses};
 ghost use Rattle.uc_isa.specs.Moves.{moves};
-ghost use Rattle.nova_back.specs.Causes.{IsReportOn, HasVector, report_cost};
+ghost use Rattle.nova_back.specs.Causes.{AreStartsOf, IsReportOn, HasVector, IsCheapFor, report_cost};
 ghost use Rattle.nova_front.specs.Sources.{IsTypedSource};
 ghost use Rattle.nova_commands.specs.Building.{IsCompileCause, IsFormCause, IsTextCause};
 ghost use Rattle.nova_commands.specs.Forms.{form_bound, IsCodeFor, IsFormOf, HasBanks};
 
+use label_weights::Weights;
 use nova_back::{BackError, Built, back};
 use nova_front::{FrontError, front};
 use nova_middle::middle;
@@ -89,7 +89,8 @@ impl From<BackError> for CompileError {
 }
 
 /// Compiles a text of at most 262,144 bytes to code of at most `store` instructions, with each value in the banks that the
-/// 0-1 program of its form and of at most 128 spill slots chooses, in a search of 1 to 1,000,000 branches.
+/// 0-1 program of its form and of at most 128 spill slots chooses, where the form's labels have these weights, in a search of
+/// 1 to 1,000,000 branches.
 ///
 /// # Errors
 ///
@@ -101,6 +102,7 @@ pub fn compile_text(
     slots: u32,
     budget: u32,
     store: u32,
+    w: &Weights,
 ) -> Result<Compiled, CompileError>
     requires text { length bytes.now ≤ source_limit }
     requires slots { slots ≤ 128 }
@@ -111,18 +113,20 @@ pub fn compile_text(
     ensures code { IfOk result (λ t. IsCodeFor (typed_program t.typed) t.built.code) }
     ensures short { IfOk result (λ t. length t.built.code.list ≤ store) }
     ensures brief { IfOk result (λ t. length t.built.code.list ≤ form_bound (typed_program t.typed)) }
-    ensures report { IfOk result (λ t. IsReportOn (labels_view t.built.ssu) slots budget t.built.report) }
+    ensures starts { IfOk result (λ t. AreStartsOf (labels_view t.built.ssu) t.built.code t.built.starts.items) }
+    ensures report { IfOk result (λ t. IsReportOn (labels_view t.built.ssu) slots w.now budget t.built.report) }
     ensures found { IfOk result (λ t. HasVector t.built.report.verdict) }
-    ensures light { IfOk result (λ t. moves t.built.code.list [] [] ≤ report_cost t.built.report) }
-    // Where all values that are held at once fit a bank, at most two copies a value, and one a use.
-    ensures cheap { IfOk result (λ t. peak (labels_view t.built.ssu) ≤ 15 → report_cost t.built.report ≤ 2 * length (values (labels_view t.built.ssu)) + length (uses (labels_view t.built.ssu))) }
-    ensures banks { IfOk result (λ t. HasBanks (typed_program t.typed) slots budget t.built.code t.built.report) }
-    ensures only_program { (p : ProgramTree) → IsTypedSource bytes.now p → MatchResult result (λ t. typed_program t.typed ≡ p) (λ e. (e ≡ CompileError.NoMemory) ⊎ IsFormCause p slots budget store e) }
-    ensures refused { IfErr result (λ e. (e ≡ CompileError.NoMemory) ⊎ IsCompileCause bytes.now slots budget store e) }
+    // Under the weights the code's moves cost at most what the report's vector does.
+    ensures light { IfOk result (λ t. moves t.built.code.list t.built.starts.items w.now ≤ report_cost t.built.report) }
+    // Where all values that are held at once fit a bank, at most two copies a value and one a use, each times the greatest weight.
+    ensures cheap { IfOk result (λ t. peak (labels_view t.built.ssu) ≤ 15 → IsCheapFor (labels_view t.built.ssu) w.now (report_cost t.built.report)) }
+    ensures banks { IfOk result (λ t. HasBanks (typed_program t.typed) slots w.now budget t.built.code t.built.starts.items t.built.report) }
+    ensures only_program { (p : ProgramTree) → IsTypedSource bytes.now p → MatchResult result (λ t. typed_program t.typed ≡ p) (λ e. (e ≡ CompileError.NoMemory) ⊎ IsFormCause p slots w.now budget store e) }
+    ensures refused { IfErr result (λ e. (e ≡ CompileError.NoMemory) ⊎ IsCompileCause bytes.now slots w.now budget store e) }
     ensures only_refused { (f : CompileError) → IsTextCause bytes.now f → MatchResult result (λ _. ⊥) (λ e. (e ≡ CompileError.NoMemory) ⊎ (e ≡ f)) }
 {
     let (typed, flat) = front(alloc, bytes)?;
     let form = middle(alloc, &flat)?;
-    let built = back(alloc, form, slots, budget, store)?;
+    let built = back(alloc, form, slots, budget, store, w)?;
     Ok(Compiled { typed, built })
 }

@@ -1,24 +1,35 @@
 //! The command `compile`.
-ghost use Rattle.std.specs.Prelude.{◌≡◌, ◌⊎◌, ◌≤◌, ◌∷◌, [], ℕ, List, length, IfOk, IfErr};
+ghost use Rattle.std.specs.Prelude.{◌≡◌, ◌⊎◌, ◌≤◌, ◌<◌, ◌^◌, ◌∷◌, [], ℕ, List, All, length, IfOk, IfErr};
+ghost use Rattle.nv_ast.specs.ProgramView.{program_of};
+ghost use Rattle.uc_object.specs.Object.{IsTaggedObject};
 ghost use Rattle.zo_cert.specs.Contents.{report_contents};
 ghost use Rattle.zo_cert.specs.Report.{IsValidReport};
 ghost use Rattle.zo_cert.specs.ReportText.{report_text};
 ghost use Rattle.nova_commands.specs.Checking.{IsReportOf};
+ghost use Rattle.nova_back.specs.Causes.{report_cost};
 ghost use Rattle.nova_commands.specs.Headline.{CompileMakes, CompileRefuses};
+ghost use Rattle.nova_commands.specs.Naming.{source_exceptions};
 ghost use Rattle.command_line.specs.Limits.{source_limit};
-ghost use Rattle.command_line.specs.Lines.{IsUncaused};
+ghost use Rattle.command_line.specs.Lines.{IsUncaused, compiled_text};
+ghost use Rattle.command_line.specs.declared.status.Status.{Status};
+ghost use Rattle.zo_cert.specs.declared.report.Verdict.{Verdict};
 ghost use Rattle.object_commands.specs.Saving.{file};
 ghost use Rattle.object_commands.specs.inner.Files.{file_of, files_of, AreTold, IsTold};
-ghost use Rattle.nova_commands.specs.inner.Found.{HasReport, IsBuilt, IsFound, IsSortedAs};
+ghost use Rattle.nova_commands.specs.inner.Found.{HasParts, IsBuilt, IsFound, IsSavable, IsSortedAs, IsWithoutBanks};
 ghost use Rattle.command_line.specs.inner.Words.{AreInLimits};
 
 use crate::build::{CompileError, Compiled, compile_text};
+use crate::naming::exceptions_of;
 use crate::source::text_refusal;
 use command_line::{Options, Refusal, Status, compiled_line, counted_line, line};
+use label_weights::Weights;
+use nova_back::Built;
+use nv_ast::Program;
 use nv_base::NoMemory;
 use object_commands::{Made, Output, Outputs};
 use std::alloc::Global;
-use uc_object::encode_code;
+use uc_isa::Code;
+use uc_object::{Object, Tagged, encode};
 use zo_cert::{Report, print_report};
 use zo_model::cost;
 
@@ -42,50 +53,100 @@ pub fn compile_bytes<'a>(
 ) -> Result<Made<'a>, Refusal<'a>>
     requires text { length bytes.now ≤ source_limit }
     requires options { AreInLimits options }
-    ensures made { IfOk result (λ m. CompileMakes bytes.now object.now report.now options.slots options.budget options.store m.status (files_of m.outputs) m.text.items) }
+    ensures made { IfOk result (λ m. CompileMakes bytes.now object.now report.now options.slots [] options.budget options.store m.status (files_of m.outputs) m.text.items) }
     ensures told { IfOk result (λ m. AreTold m.outputs) }
-    ensures refused { IfErr result (λ e. IsUncaused e ⊎ CompileRefuses bytes.now options.slots options.budget options.store e) }
+    ensures refused { IfErr result (λ e. IsUncaused e ⊎ CompileRefuses bytes.now options.slots [] options.budget options.store e) }
 {
-    let found = found_of(alloc, bytes, options)?;
-    let made = found_made(alloc, &found, object, report, options.budget);
-    // By a call, and not at each way out, where the proof would follow each field.
-    drop(found);
-    Ok(made?)
+    let found = found_evenly(alloc, bytes, options)?;
+    Ok(found_made(alloc, bytes, found, object, report, options.budget)?)
 }
 
 // What is saved and told of a source that isn't refused.
 fn found_made<'a>(
     alloc: Global,
-    found: &Found,
+    text: &[u8],
+    found: Found,
     object: &'a str,
     report: &'a str,
     budget: u32,
 ) -> Result<Made<'a>, NoMemory>
-    requires { HasReport found.now }
-    ensures made { (text : List ℕ) (slots store : ℕ) → IsFound text slots budget store found.now → IfOk result (λ m. CompileMakes text object.now report.now slots budget store m.status (files_of m.outputs) m.text.items) }
+    requires text { length text.now ≤ source_limit }
+    requires found { IsSavable found }
+    ensures made { (slots : ℕ) (ws : List ℕ) (store : ℕ) → IsFound text.now slots ws budget store found → IfOk result (λ m. CompileMakes text.now object.now report.now slots ws budget store m.status (files_of m.outputs) m.text.items) }
     ensures told { IfOk result (λ m. AreTold m.outputs) }
 {
     match found {
-        Found::Code(compiled) => code_made(alloc, compiled, object, report),
+        Found::Code(compiled) => code_made(alloc, text, compiled, object, report),
         Found::Infeasible(without) => {
-            let text = line(alloc, b"infeasible")?;
-            report_made(alloc, Status::Infeasible, text, report, without)
+            let made = infeasible_made(alloc, report, &without);
+            // By a call, and not at each way out, where the proof would follow each field.
+            drop(without);
+            made
         }
         Found::Spent(without) => {
-            let text = counted_line(alloc, b"budget ", u64::from(budget))?;
-            report_made(alloc, Status::BudgetSpent, text, report, without)
+            let made = spent_made(alloc, report, &without, budget);
+            drop(without);
+            made
         }
     }
 }
 
-/// The code of a source and the report on its banks, or the report alone.
-pub fn found_of<'a>(alloc: Global, text: &[u8], options: Options) -> Result<Found, Refusal<'a>>
+// The report that says that no choice of banks meets the rows, which is to be saved.
+fn infeasible_made<'a>(alloc: Global, name: &'a str, without: &Report) -> Result<Made<'a>, NoMemory>
+    requires { IsValidReport without.now }
+    ensures made { (text object_name : List ℕ) (slots : ℕ) (ws : List ℕ) (budget store : ℕ) → IsWithoutBanks text slots ws budget Verdict.Infeasible without.now → IfOk result (λ m. CompileMakes text object_name name.now slots ws budget store m.status (files_of m.outputs) m.text.items) }
+    ensures told { IfOk result (λ m. AreTold m.outputs) }
+{
+    let text = line(alloc, b"infeasible")?;
+    report_made(alloc, Status::Infeasible, text, name, without)
+}
+
+// The report of a search that spent its budget, which is to be saved.
+fn spent_made<'a>(
+    alloc: Global,
+    name: &'a str,
+    without: &Report,
+    budget: u32,
+) -> Result<Made<'a>, NoMemory>
+    requires { IsValidReport without.now }
+    ensures made { (text object_name : List ℕ) (slots : ℕ) (ws : List ℕ) (store : ℕ) → IsWithoutBanks text slots ws budget Verdict.Spent without.now → IfOk result (λ m. CompileMakes text object_name name.now slots ws budget store m.status (files_of m.outputs) m.text.items) }
+    ensures told { IfOk result (λ m. AreTold m.outputs) }
+{
+    let text = counted_line(alloc, b"budget ", u64::from(budget))?;
+    report_made(alloc, Status::BudgetSpent, text, name, without)
+}
+
+// Where there are no weights, each label weighs 1.
+fn no_weights(alloc: Global) -> Weights
+    ensures { result ≡ [] }
+{
+    Weights::new(Vec::new(alloc))
+}
+
+/// The code of a source and the report on its banks, or the report alone, where each label weighs 1.
+pub fn found_evenly<'a>(alloc: Global, text: &[u8], options: Options) -> Result<Found, Refusal<'a>>
     requires text { length text.now ≤ source_limit }
     requires options { AreInLimits options }
-    ensures found { IfOk result (IsFound text.now options.slots options.budget options.store) }
-    ensures refused { IfErr result (λ e. IsUncaused e ⊎ CompileRefuses text.now options.slots options.budget options.store e) }
+    ensures found { IfOk result (IsFound text.now options.slots [] options.budget options.store) }
+    ensures refused { IfErr result (λ e. IsUncaused e ⊎ CompileRefuses text.now options.slots [] options.budget options.store e) }
 {
-    match compile_text(alloc, text, options.slots, options.budget, options.store) {
+    let ones = no_weights(alloc);
+    found_of(alloc, text, options, &ones)
+}
+
+// The same where the labels of the source's form have these weights.
+fn found_of<'a>(
+    alloc: Global,
+    text: &[u8],
+    options: Options,
+    w: &Weights,
+) -> Result<Found, Refusal<'a>>
+    requires text { length text.now ≤ source_limit }
+    requires options { AreInLimits options }
+    ensures found { IfOk result (IsFound text.now options.slots w.now options.budget options.store) }
+    ensures refused { IfErr result (λ e. IsUncaused e ⊎ CompileRefuses text.now options.slots w.now options.budget options.store e) }
+{
+    match compile_text(alloc, text, options.slots, options.budget, options.store, w) {
         Ok(compiled) => Ok(Found::Code(compiled)),
         Err(error) => sorted(error),
     }
@@ -109,20 +170,69 @@ fn sorted<'a>(error: CompileError) -> Result<Found, Refusal<'a>>
 // An object and a report that are to be saved, and told.
 fn code_made<'a>(
     alloc: Global,
-    t: &Compiled,
+    text: &[u8],
+    t: Compiled,
     object: &'a str,
     report: &'a str,
 ) -> Result<Made<'a>, NoMemory>
-    requires { IsValidReport t.now.built.report }
-    ensures made { (text : List ℕ) (slots budget store : ℕ) → IsBuilt text slots budget store t.now → IfOk result (λ m. CompileMakes text object.now report.now slots budget store m.status (files_of m.outputs) m.text.items) }
+    requires text { length text.now ≤ source_limit }
+    requires parts { HasParts t }
+    ensures made { (slots : ℕ) (ws : List ℕ) (budget store : ℕ) → IsBuilt text.now slots ws budget store t → IfOk result (λ m. CompileMakes text.now object.now report.now slots ws budget store m.status (files_of m.outputs) m.text.items) }
     ensures told { IfOk result (λ m. AreTold m.outputs) }
 {
-    let code = &t.built.code;
-    let found = &t.built.report;
-    let bytes = encode_code(alloc, code)?;
+    let Compiled { typed, built } = t;
+    let Built {
+        ssu,
+        report: found,
+        code,
+        starts,
+    } = built;
+    let instructions = code.list().len() as u64;
+    let bytes = object_of(alloc, text, typed.program(), code, starts)?;
+    drop(typed);
+    drop(ssu);
+    let made = both_made(alloc, bytes, instructions, &found, object, report);
+    drop(found);
+    made
+}
+
+// The object of the code of a source, with the names of its exceptions, and where its labels start.
+fn object_of(
+    alloc: Global,
+    text: &[u8],
+    program: &Program,
+    code: Code,
+    starts: Vec<u32>,
+) -> Result<Vec<u8>, NoMemory>
+    requires text { length text.now ≤ source_limit }
+    requires starts { length starts.items ≤ 2 ^ 20 }
+    requires inside { All (λ start. start < length code.list) starts.items }
+    ensures { IfOk result (λ bytes. IsTaggedObject bytes.items (record { code = code; exceptions = source_exceptions text.now (program_of program.now); starts = starts.items })) }
+{
+    let exceptions = exceptions_of(alloc, text, program)?;
+    let tagged = Tagged::new(code, exceptions, starts);
+    let object = Object::Two(tagged);
+    encode(alloc, &object)
+}
+
+// The bytes of an object and a report, with the line that tells the object's length and the report's verdict.
+fn both_made<'a>(
+    alloc: Global,
+    bytes: Vec<u8>,
+    instructions: u64,
+    found: &Report,
+    object: &'a str,
+    report: &'a str,
+) -> Result<Made<'a>, NoMemory>
+    requires { IsValidReport found.now }
+    ensures status { IfOk result (λ m. m.status ≡ Status.Done) }
+    ensures saves { IfOk result (λ m. files_of m.outputs ≡ file object.now bytes.items ∷ file report.now (report_text (report_contents found.now)) ∷ []) }
+    ensures text { IfOk result (λ m. m.text.items ≡ compiled_text instructions found.now.verdict (report_cost found.now)) }
+    ensures told { IfOk result (λ m. AreTold m.outputs) }
+    ensures report { IfOk result (λ _. IsReportOf (report_text (report_contents found.now)) found.now) }
+{
     let first = Output::new(alloc, object, bytes)?;
     let second = report_output(alloc, report, found)?;
-    let instructions = code.list().len() as u64;
     let text = compiled_line(alloc, instructions, found.verdict, cost(&found.z, &found.x))?;
     Ok(Made {
         status: Status::Done,

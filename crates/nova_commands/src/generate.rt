@@ -1,5 +1,5 @@
 //! The command `gen`.
-ghost use Rattle.std.specs.Prelude.{◌≡◌, ◌≤◌, ◌⊎◌, length, IfOk, IfErr};
+ghost use Rattle.std.specs.Prelude.{◌≡◌, ◌≤◌, ◌⊎◌, [], length, IfOk, IfErr};
 ghost use Rattle.nv_ast.specs.TypedView.{typed_program};
 ghost use Rattle.zo_cert.specs.Report.{IsValidReport};
 ghost use Rattle.nova_back.specs.Causes.{report_cost};
@@ -13,7 +13,7 @@ ghost use Rattle.nova_commands.specs.inner.Found.{IsBuilt};
 ghost use Rattle.nova_commands.specs.inner.Generated.{HasRoom, HasWord, AreWord, TellsOf};
 
 use crate::build::Compiled;
-use crate::compile::{Found, found_of};
+use crate::compile::{Found, found_evenly};
 use command_line::limits::{DEFAULT_BUDGET, MOST_SLOTS, MOST_STORE, SPILL_BASE};
 use command_line::{Options, Refusal, Reply, Status, push_verdict};
 use line_text::{push_decimal, push_word};
@@ -81,15 +81,15 @@ fn text_of(
 fn compiled_of<'a>(alloc: Global, source: &[u8]) -> Result<Compiled, Refusal<'a>>
     requires short { length source.now ≤ source_limit }
     requires narrow { HasRoom source.now }
-    ensures built { IfOk result (IsBuilt source.now slots_limit budget_default store_limit) }
-    ensures refused { IfErr result (λ e. IsUncaused e ⊎ CompileRefuses source.now slots_limit budget_default store_limit e) }
+    ensures built { IfOk result (IsBuilt source.now slots_limit [] budget_default store_limit) }
+    ensures refused { IfErr result (λ e. IsUncaused e ⊎ CompileRefuses source.now slots_limit [] budget_default store_limit e) }
 {
     let options = Options {
         slots: MOST_SLOTS,
         budget: DEFAULT_BUDGET,
         store: MOST_STORE,
     };
-    match found_of(alloc, source, options)? {
+    match found_evenly(alloc, source, options)? {
         Found::Code(compiled) => Ok(compiled),
         Found::Infeasible(_) | Found::Spent(_) => unreachable!(),
     }

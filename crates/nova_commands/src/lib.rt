@@ -7,10 +7,12 @@ mod compile;
 mod execute;
 mod generate;
 mod load;
+mod naming;
 mod perform;
 mod report;
 mod source;
 
 pub use build::{CompileError, Compiled, compile_text};
-pub use load::{Inputs, load_inputs};
+pub use label_weights::Weights;
+pub use load::load_inputs;
 pub use perform::work;

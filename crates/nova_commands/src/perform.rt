@@ -1,5 +1,5 @@
 //! What a command makes of the contents of its inputs.
-ghost use Rattle.std.specs.Prelude.{◌≡◌, ◌⊎◌, IfOk, IfErr};
+ghost use Rattle.std.specs.Prelude.{◌≡◌, ◌⊎◌, ◌∷◌, [], IfOk, IfErr};
 ghost use Rattle.nova_commands.specs.Answers.{Makes, Refuses};
 ghost use Rattle.command_line.specs.inner.Words.{command_as, HasLimits};
 ghost use Rattle.command_line.specs.Lines.{IsUncaused};
@@ -12,40 +12,141 @@ ghost use Rattle.object_commands.specs.inner.Outcomes.{IsOutcome};
 use crate::compile::compile_bytes;
 use crate::execute::exec_bytes;
 use crate::generate::generate;
-use crate::load::Inputs;
 use crate::report::check_bytes;
 use command_line::{Command, Refusal, Reply};
-use object_commands::{Made, Outputs, assemble_bytes, lint_bytes, list_bytes, run_bytes};
+use object_commands::{
+    Made, Outputs, assemble_bytes, contexts_bytes, lint_bytes, list_bytes, peep_bytes, run_bytes,
+};
 use std::alloc::Global;
 
 /// Does what a command is for, but for loading, saving and printing.
 pub fn work<'a>(
     alloc: Global,
     command: Command<'a>,
-    inputs: &Inputs,
+    inputs: &Vec<Vec<u8>>,
 ) -> Result<Made<'a>, Refusal<'a>>
     requires limits { HasLimits command }
-    requires short { AreShort (inputs_of (command_as command)) (contents_of (command_as command) inputs.now.first.items inputs.now.second.items) }
-    ensures made { IfOk result (λ m. Makes (command_as command.entry) (contents_of (command_as command.entry) inputs.now.first.items inputs.now.second.items) m.status (files_of m.outputs) m.text.items) }
+    requires short { AreShort (inputs_of (command_as command)) (contents_of inputs.now.items) }
+    ensures made { IfOk result (λ m. Makes (command_as command.entry) (contents_of inputs.now.items) m.status (files_of m.outputs) m.text.items) }
     ensures told { IfOk result (λ m. AreTold m.outputs) }
     ensures end { IfOk result (λ m. IsOutcome m.status) }
-    ensures refused { IfErr result (λ e. IsUncaused e ⊎ Refuses (command_as command.entry) (contents_of (command_as command.entry) inputs.now.first.items inputs.now.second.items) e) }
+    ensures refused { IfErr result (λ e. IsUncaused e ⊎ Refuses (command_as command.entry) (contents_of inputs.now.items) e) }
+{
+    match inputs.as_slice() {
+        [] => work_alone(alloc, command),
+        [input] => work_on(alloc, command, input),
+        [input, text] => work_on_two(alloc, command, input, text),
+        [input, text, turns] => work_on_three(alloc, command, input, text, turns),
+        _ => unreachable!(),
+    }
+}
+
+// Does what a command without an input is for.
+fn work_alone<'a>(alloc: Global, command: Command<'a>) -> Result<Made<'a>, Refusal<'a>>
+    requires limits { HasLimits command }
+    requires short { AreShort (inputs_of (command_as command)) [] }
+    ensures made { IfOk result (λ m. Makes (command_as command.entry) [] m.status (files_of m.outputs) m.text.items) }
+    ensures told { IfOk result (λ m. AreTold m.outputs) }
+    ensures end { IfOk result (λ m. IsOutcome m.status) }
+    ensures refused { IfErr result (λ e. IsUncaused e ⊎ Refuses (command_as command.entry) [] e) }
+{
+    match command {
+        Command::Gen(seed, size) => shown(generate(alloc, seed, size)),
+        Command::Compile(_, _, _, _)
+        | Command::Run(_, _, _)
+        | Command::Exec(_, _, _)
+        | Command::Asm(_, _)
+        | Command::Dis(_)
+        | Command::Lint(_)
+        | Command::Check(_)
+        | Command::Contexts(_, _, _)
+        | Command::Peep(_, _) => unreachable!(),
+    }
+}
+
+// Does what a command with one input is for.
+fn work_on<'a>(
+    alloc: Global,
+    command: Command<'a>,
+    input: &Vec<u8>,
+) -> Result<Made<'a>, Refusal<'a>>
+    requires limits { HasLimits command }
+    requires short { AreShort (inputs_of (command_as command)) (input.now.items ∷ []) }
+    ensures made { IfOk result (λ m. Makes (command_as command.entry) (input.now.items ∷ []) m.status (files_of m.outputs) m.text.items) }
+    ensures told { IfOk result (λ m. AreTold m.outputs) }
+    ensures end { IfOk result (λ m. IsOutcome m.status) }
+    ensures refused { IfErr result (λ e. IsUncaused e ⊎ Refuses (command_as command.entry) (input.now.items ∷ []) e) }
 {
     match command {
         Command::Compile(_, object, report, options) => {
-            compile_bytes(alloc, &inputs.first, object, report, options)
+            compile_bytes(alloc, input, object, report, options)
         }
-        Command::Run(_, _, steps) => {
-            shown(run_bytes(alloc, &inputs.first, &inputs.second, steps))
-        }
-        Command::Exec(_, _, calls) => {
-            shown(exec_bytes(alloc, &inputs.first, &inputs.second, calls))
-        }
-        Command::Asm(_, object) => assemble_bytes(alloc, &inputs.first, object),
-        Command::Dis(_) => shown(list_bytes(alloc, &inputs.first)),
-        Command::Lint(_) => shown(lint_bytes(alloc, &inputs.first)),
-        Command::Check(_) => shown(check_bytes(alloc, &inputs.first)),
-        Command::Gen(seed, size) => shown(generate(alloc, seed, size)),
+        Command::Asm(_, object) => assemble_bytes(alloc, input, object),
+        Command::Dis(_) => shown(list_bytes(alloc, input)),
+        Command::Lint(_) => shown(lint_bytes(alloc, input)),
+        Command::Check(_) => shown(check_bytes(alloc, input)),
+        Command::Peep(_, output) => peep_bytes(alloc, input, output),
+        Command::Run(_, _, _)
+        | Command::Exec(_, _, _)
+        | Command::Gen(_, _)
+        | Command::Contexts(_, _, _) => unreachable!(),
+    }
+}
+
+// Does what a command with two inputs is for, of which the second is a memory text.
+fn work_on_two<'a>(
+    alloc: Global,
+    command: Command<'a>,
+    input: &Vec<u8>,
+    text: &Vec<u8>,
+) -> Result<Made<'a>, Refusal<'a>>
+    requires limits { HasLimits command }
+    requires short { AreShort (inputs_of (command_as command)) (input.now.items ∷ text.now.items ∷ []) }
+    ensures made { IfOk result (λ m. Makes (command_as command.entry) (input.now.items ∷ text.now.items ∷ []) m.status (files_of m.outputs) m.text.items) }
+    ensures told { IfOk result (λ m. AreTold m.outputs) }
+    ensures end { IfOk result (λ m. IsOutcome m.status) }
+    ensures refused { IfErr result (λ e. IsUncaused e ⊎ Refuses (command_as command.entry) (input.now.items ∷ text.now.items ∷ []) e) }
+{
+    match command {
+        Command::Run(_, _, steps) => shown(run_bytes(alloc, input, text, steps)),
+        Command::Exec(_, _, calls) => shown(exec_bytes(alloc, input, text, calls)),
+        Command::Compile(_, _, _, _)
+        | Command::Asm(_, _)
+        | Command::Dis(_)
+        | Command::Lint(_)
+        | Command::Check(_)
+        | Command::Gen(_, _)
+        | Command::Contexts(_, _, _)
+        | Command::Peep(_, _) => unreachable!(),
+    }
+}
+
+// Does what a command with three inputs is for, of which the second is a memory text.
+fn work_on_three<'a>(
+    alloc: Global,
+    command: Command<'a>,
+    input: &Vec<u8>,
+    text: &Vec<u8>,
+    turns: &Vec<u8>,
+) -> Result<Made<'a>, Refusal<'a>>
+    requires limits { HasLimits command }
+    requires short { AreShort (inputs_of (command_as command)) (input.now.items ∷ text.now.items ∷ turns.now.items ∷ []) }
+    ensures made { IfOk result (λ m. Makes (command_as command.entry) (input.now.items ∷ text.now.items ∷ turns.now.items ∷ []) m.status (files_of m.outputs) m.text.items) }
+    ensures told { IfOk result (λ m. AreTold m.outputs) }
+    ensures end { IfOk result (λ m. IsOutcome m.status) }
+    ensures refused { IfErr result (λ e. IsUncaused e ⊎ Refuses (command_as command.entry) (input.now.items ∷ text.now.items ∷ turns.now.items ∷ []) e) }
+{
+    match command {
+        Command::Contexts(_, _, _) => shown(contexts_bytes(alloc, input, text, turns)),
+        Command::Compile(_, _, _, _)
+        | Command::Run(_, _, _)
+        | Command::Exec(_, _, _)
+        | Command::Asm(_, _)
+        | Command::Dis(_)
+        | Command::Lint(_)
+        | Command::Check(_)
+        | Command::Gen(_, _)
+        | Command::Peep(_, _) => unreachable!(),
     }
 }
 

@@ -112,7 +112,7 @@ fn compiled(alloc: Global, store: u32) -> Result<Built, BackError> {
     if !single(&s) {
         return Err(BackError::TooLarge(0));
     }
-    back(alloc, s, 128, 2_000, store)
+    back(alloc, s, 128, 2_000, store, &Weights::new(Vec::new(alloc)))
 }
 
 #[test]
@@ -122,6 +122,7 @@ fn a_sum_has_the_cheapest_code(rt: HostRuntime) {
             assert_eq!(rt; built.report.verdict, Verdict::Optimal);
             assert_eq!(rt; built.ssu.labels.len(), 1);
             assert_eq!(rt; built.code.params(), 2);
+            assert_eq!(rt; built.starts.len(), 1);
         }
         Err(_) => assert!(rt; false),
     }

@@ -1,5 +1,5 @@
 -- What the compilation of a source that isn't refused comes to.
-use Rattle.std.specs.Prelude.{◌≡◌, ◌≤◌, ℕ, List, length, Result, Ok, Err}
+use Rattle.std.specs.Prelude.{◌≡◌, ◌≤◌, ◌<◌, ◌^◌, ℕ, List, All, length, Result, Ok, Err}
 use Rattle.nv_ast.specs.Tree.{ProgramTree}
 use Rattle.nv_ast.specs.TypedView.{typed_program}
 use Rattle.zo_cert.specs.Report.{IsValidReport}
@@ -18,29 +18,34 @@ use Rattle.command_line.specs.declared.refusal.Refusal.TheVariants as refusal
 use Rattle.nova_commands.specs.inner.Telling.{IsSpelledAs}
 
 -- the typed program of the text, its code, and the report on its banks
-pub record IsBuilt (text : List ℕ) (slots budget store : ℕ) (t : Compiled) : Type 0 where
+pub record IsBuilt (text : List ℕ) (slots : ℕ) (ws : List ℕ) (budget store : ℕ) (t : Compiled) : Type 0 where
   pub is_source : IsTypedSource text (typed_program t.typed)
   pub code : IsCodeFor (typed_program t.typed) t.built.code
   pub short : length t.built.code.list ≤ store
   pub brief : length t.built.code.list ≤ form_bound (typed_program t.typed)
-  pub banks : HasBanks (typed_program t.typed) slots budget t.built.code t.built.report
+  pub banks : HasBanks (typed_program t.typed) slots ws budget t.built.code t.built.starts.items t.built.report
 
 -- the text has a typed program, and the report says with this verdict why no banks were found for it
-pub record IsWithoutBanks (text : List ℕ) (slots budget : ℕ) (verdict : Verdict) (r : Report) : Type 0 where
+pub record IsWithoutBanks (text : List ℕ) (slots : ℕ) (ws : List ℕ) (budget : ℕ) (verdict : Verdict) (r : Report) : Type 0 where
   pub program : ProgramTree
   pub is_source : IsTypedSource text program
-  pub without : HasNoBanks program slots budget verdict r
+  pub without : HasNoBanks program slots ws budget verdict r
 
-abbrev pub IsFound : List ℕ → ℕ → ℕ → ℕ → Found → Type 0
-IsFound text slots budget store (found.Code t) = IsBuilt text slots budget store t
-IsFound text slots budget store (found.Infeasible r) = IsWithoutBanks text slots budget verdict.Infeasible r
-IsFound text slots budget store (found.Spent r) = IsWithoutBanks text slots budget verdict.Spent r
+abbrev pub IsFound : List ℕ → ℕ → List ℕ → ℕ → ℕ → Found → Type 0
+IsFound text slots ws budget store (found.Code t) = IsBuilt text slots ws budget store t
+IsFound text slots ws budget store (found.Infeasible r) = IsWithoutBanks text slots ws budget verdict.Infeasible r
+IsFound text slots ws budget store (found.Spent r) = IsWithoutBanks text slots ws budget verdict.Spent r
 
--- its report is valid
-abbrev pub HasReport : Found → Type 0
-HasReport (found.Code t) = IsValidReport t.built.report
-HasReport (found.Infeasible r) = IsValidReport r
-HasReport (found.Spent r) = IsValidReport r
+-- its report is valid, and its starts are as an object can have them
+pub record HasParts (t : Compiled) : Type 0 where
+  pub report : IsValidReport t.built.report
+  pub starts : length t.built.starts.items ≤ 2 ^ 20
+  pub inside : All (λ start. start < length t.built.code.list) t.built.starts.items
+
+abbrev pub IsSavable : Found → Type 0
+IsSavable (found.Code t) = HasParts t
+IsSavable (found.Infeasible r) = IsValidReport r
+IsSavable (found.Spent r) = IsValidReport r
 
 -- how a text without code is sorted: those with a report aren't refused
 abbrev pub IsRefusedAs : Result Found Refusal → (Refusal → Type 0) → Type 0

@@ -1,4 +1,4 @@
-use Rattle.std.proofs.Common.{List, ℕ, ◌∙◌, length, refl, subst}
+use Rattle.std.proofs.Common.{List, [], ℕ, ◌∙◌, length, refl, subst}
 use Rattle.std.proofs.lemmas.Result.{err_from_is_err_and}
 use Rattle.nv_ast.specs.TypedView.{typed_program}
 use Rattle.command_line.specs.Limits.{slots_limit, budget_default, store_limit}
@@ -25,4 +25,4 @@ pub returns-clause-generated : goal.returns-clause-generated
 returns-clause-generated c =
     let h = c.in_ok-text.ensures in
     generated-by c.args.seed c.args.size c.in_ok-source.source.items c.in_ok-text.field-0.items c.in_ok-compiled.compiled _ (length c.in_ok-compiled.compiled.built.code.list) h.0 c.in_ok-source.ensures
-    (subst (λ (x : List ℕ). IsBuilt x slots_limit budget_default store_limit c.in_ok-compiled.compiled) c.deref.ensures.value c.in_ok-compiled.ensures.built) (cc) refl h.1 h.2
+    (subst (λ (x : List ℕ). IsBuilt x slots_limit [] budget_default store_limit c.in_ok-compiled.compiled) c.deref.ensures.value c.in_ok-compiled.ensures.built) (cc) refl h.1 h.2

@@ -1,17 +1,30 @@
-use Rattle.std.proofs.Common.{◌⊎◌, List, IfErr, ap, sym, subst}
+use Rattle.std.proofs.Common.{ℕ, List, ◌⊎◌, IfOk, IfErr, ◌∙◌, ap, subst}
+use Rattle.nv_outside.specs.Calls.{AsksAtMost}
 use Rattle.nv_outside.specs.Causes.{Rose}
-use Rattle.command_line.specs.inner.Words.{command_as}
+use Rattle.nv_outside.proofs.Calls.{at_most-none}
+use Rattle.command_line.specs.inner.Read.{inputs_as}
 use Rattle.command_line.specs.Lines.{IsUncaused}
-use Rattle.nova_commands.specs.Loading.{Input, inputs_of, StopsAt, IsUnread}
-use Rattle.command_line.specs.declared.command.Command.{Command as Spoken}
+use Rattle.nova_commands.specs.Loading.{Input, AreRead, StopsAt, IsUnread, loads_of}
+use Rattle.nova_commands.specs.inner.Contents.{contents_of}
+use Rattle.nova_commands.proofs.Loads.{result-short}
 use Rattle.nova_commands.proofs.load.load_inputs.Goals as goal
 
-pub returns-in-Run-clause-unread : goal.returns-in-Run-clause-unread
-returns-in-Run-clause-unread g c =
-    let same = ap (λ (x : Spoken). inputs_of (command_as x)) c.in-Run.is in
-    subst (λ (x : List Input). IfErr c.load_two.result (λ e. IsUncaused e ⊎ StopsAt g.F.Files.tells (g.F.Files.held c.args.files.now) x (IsUnread g.F.Files.tells (g.F.Files.held c.args.files.now) (λ q. Rose (g.F.Files.load_faults c.args.files.now q) (g.F.Files.load_faults c.load_two.new.files q)) e))) (sym same) c.load_two.ensures.unread
+pub returns-in_err-inputs-clause-asked : goal.returns-in_err-inputs-clause-asked
+returns-in_err-inputs-clause-asked g c = at_most-none g.F.Files.history c.args.files.now _
 
-pub returns-in-Exec-clause-unread : goal.returns-in-Exec-clause-unread
-returns-in-Exec-clause-unread g c =
-    let same = ap (λ (x : Spoken). inputs_of (command_as x)) c.in-Exec.is in
-    subst (λ (x : List Input). IfErr c.load_two-in-Exec.result (λ e. IsUncaused e ⊎ StopsAt g.F.Files.tells (g.F.Files.held c.args.files.now) x (IsUnread g.F.Files.tells (g.F.Files.held c.args.files.now) (λ q. Rose (g.F.Files.load_faults c.args.files.now q) (g.F.Files.load_faults c.load_two-in-Exec.new.files q)) e))) (sym same) c.load_two-in-Exec.ensures.unread
+pub returns-clause-read : goal.returns-clause-read
+returns-clause-read g c =
+    subst (λ (l : List Input). IfOk c.load_all.result (λ x. AreRead g.F.Files.tells (g.F.Files.held c.args.files.now) l (contents_of x.items))) (ap inputs_as c.deref.ensures.value ∙ c.in_ok-inputs.ensures) c.load_all.ensures.read
+
+pub returns-clause-short : goal.returns-clause-short
+returns-clause-short g c =
+    result-short g.F.Files.tells (g.F.Files.held c.args.files.now) _ c.load_all.result
+    (subst (λ (l : List Input). IfOk c.load_all.result (λ x. AreRead g.F.Files.tells (g.F.Files.held c.args.files.now) l (contents_of x.items))) (ap inputs_as c.deref.ensures.value ∙ c.in_ok-inputs.ensures) c.load_all.ensures.read)
+
+pub returns-clause-unread : goal.returns-clause-unread
+returns-clause-unread g c =
+    subst (λ (l : List Input). IfErr c.load_all.result (λ e. IsUncaused e ⊎ StopsAt g.F.Files.tells (g.F.Files.held c.args.files.now) l (IsUnread g.F.Files.tells (g.F.Files.held c.args.files.now) (λ q. Rose (g.F.Files.load_faults c.args.files.now q) (g.F.Files.load_faults c.load_all.new.files q)) e))) (ap inputs_as c.deref.ensures.value ∙ c.in_ok-inputs.ensures) c.load_all.ensures.unread
+
+pub returns-clause-asked : goal.returns-clause-asked
+returns-clause-asked g c =
+    subst (λ (l : List Input). AsksAtMost g.F.Files.history c.args.files.now c.load_all.new.files (loads_of l)) (ap inputs_as c.deref.ensures.value ∙ c.in_ok-inputs.ensures) c.load_all.ensures.asked
