@@ -107,7 +107,7 @@ fn push_usage(sheet: &mut Sheet, lines: &[&str]) -> Status {
     Status::Usage
 }
 
-const USAGE: [&str; 14] = [
+const USAGE: [&str; 16] = [
     "nova_explain SRC              where a source is faulty, or how large it is",
     "nova_explain type KIND        what `type KIND at FIRST AFTER` means, KIND from 1 to 24",
     "nova_explain syntax WORD      what `syntax WORD at BYTE` means: char, number, name, syntax, deep",
@@ -119,6 +119,8 @@ const USAGE: [&str; 14] = [
     "novac asm TEXT OBJ            assembles, and saves the object",
     "novac dis OBJ                 lists an object's code",
     "novac lint OBJ                looks at the rules of lawful code",
+    "novac contexts OBJ MEM SCHEDULE  runs up to four contexts of an object's code on a memory text, by a schedule",
+    "novac peep OBJ OUT            saves an object without the needless instructions of its code",
     "novac check REPORT            checks a report, with its certificate",
     "novac gen SEED SIZE           makes a source, compiles it, and runs the code",
     "steps=N is from 1 to 100,000,000. File names differ from each other.",

@@ -2,7 +2,7 @@
 use Rattle.std.proofs.Common.{◌≡◌, ℕ, zero, suc, ◌<◌, ◌⊎◌, inl, inr, ⊎_elim, List, [], ◌∷◌, Option, Some, None, length, sym, subst, arith}
 use Rattle.std.specs.Prelude.{slice_index_or, ⊤}
 use Rattle.nv_outside.specs.Holding.{Holding}
-use Rattle.command_line.specs.Command.{Command, Compile, Run, Exec, Asm, Dis, Lint, Check, Gen, IfCommand, IfCompile, IfGen, ForCommand, SomeFile, outputs_of}
+use Rattle.command_line.specs.Command.{Command, Compile, Run, Exec, Asm, Dis, Lint, Check, Gen, Contexts, Peep, IfCommand, IfCompile, IfGen, ForCommand, SomeFile, outputs_of}
 use Rattle.command_line.specs.declared.status.Status.{Status}
 use Rattle.command_line.specs.declared.status.Status.TheVariants as status
 use Rattle.nova_commands.specs.Answers.{CanMake, CanEnd, IsFree}
@@ -66,6 +66,8 @@ complete Tells old LR SR Failed X Y r (Some (Asm input object)) h = tt
 complete Tells old LR SR Failed X Y r (Some (Dis object)) h = tt
 complete Tells old LR SR Failed X Y r (Some (Lint object)) h = tt
 complete Tells old LR SR Failed X Y r (Some (Check report)) h = tt
+complete Tells old LR SR Failed X Y r (Some (Contexts object memory schedule)) h = tt
+complete Tells old LR SR Failed X Y r (Some (Peep object output)) h = tt
 complete Tells old LR SR Failed X Y r (Some (Gen seed size)) h = tt
 complete Tells old LR SR Failed X Y r (Some (Compile source object report slots budget store)) h = must-compile Tells old LR SR Failed X Y r source object report slots budget store h
 
@@ -94,6 +96,8 @@ made-complete SR Failed T Y r before after (Some (Asm input object)) h w = tt
 made-complete SR Failed T Y r before after (Some (Dis object)) h w = tt
 made-complete SR Failed T Y r before after (Some (Lint object)) h w = tt
 made-complete SR Failed T Y r before after (Some (Check report)) h w = tt
+made-complete SR Failed T Y r before after (Some (Contexts object memory schedule)) h w = tt
+made-complete SR Failed T Y r before after (Some (Peep object output)) h w = tt
 made-complete SR Failed T Y r before after (Some (Gen seed size)) h w = must-generate SR Failed T Y r before after seed size h w
 
 -- ---- memory failed before anything was done
@@ -107,6 +111,8 @@ memory-complete old LR SR Failed r (Some (Asm input object)) m = tt
 memory-complete old LR SR Failed r (Some (Dis object)) m = tt
 memory-complete old LR SR Failed r (Some (Lint object)) m = tt
 memory-complete old LR SR Failed r (Some (Check report)) m = tt
+memory-complete old LR SR Failed r (Some (Contexts object memory schedule)) m = tt
+memory-complete old LR SR Failed r (Some (Peep object output)) m = tt
 memory-complete old LR SR Failed r (Some (Gen seed size)) m = tt
 memory-complete old LR SR Failed r (Some (Compile source object report slots budget store)) m = λ can calm. inr m
 
@@ -119,4 +125,6 @@ memory-made Failed r (Some (Asm input object)) m = tt
 memory-made Failed r (Some (Dis object)) m = tt
 memory-made Failed r (Some (Lint object)) m = tt
 memory-made Failed r (Some (Check report)) m = tt
+memory-made Failed r (Some (Contexts object memory schedule)) m = tt
+memory-made Failed r (Some (Peep object output)) m = tt
 memory-made Failed r (Some (Gen seed size)) m = λ small calm. inr m

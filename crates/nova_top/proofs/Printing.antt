@@ -4,7 +4,7 @@ use Rattle.std.specs.Prelude.{⊤}
 use Rattle.std.proofs.lemmas.List.{append-nil}
 use Rattle.nv_outside.specs.Holding.{Holding, AppendsFront}
 use Rattle.nova_commands.specs.Answers.{Makes, CanMake, CanEnd, Refuses, Shows, IsRefusable, IsCaused, IsDone, IsStopped, IsRefused, Ends, IsPrinted, IsBegun, IsFree, IsOnly}
-use Rattle.command_line.specs.Command.{Command, Compile, Run, Exec, Asm, Dis, Lint, Check, Gen, IfCommand, IfCompile, IfGen, ForCommand, SomeFile, outputs_of}
+use Rattle.command_line.specs.Command.{Command, Compile, Run, Exec, Asm, Dis, Lint, Check, Gen, Contexts, Peep, IfCommand, IfCompile, IfGen, ForCommand, SomeFile, outputs_of}
 use Rattle.nova_commands.specs.Generating.{IsGenerated, GenRefuses, EndsGenerated}
 use Rattle.zo_cert.specs.declared.report.Verdict.{Verdict}
 use Rattle.nova_commands.specs.Headline.{IsCompiled, IfWithout, IsReported}
@@ -15,7 +15,7 @@ use Rattle.command_line.specs.Status.{MaySave}
 use Rattle.nova_commands.specs.inner.Replies.{HasEnded}
 use Rattle.object_commands.specs.inner.Outcomes.{IsOutcome}
 use Rattle.command_line.specs.declared.refusal.Refusal.{Refusal}
-use Rattle.command_line.specs.declared.refusal.Refusal.TheVariants.{NoMemory, ReadFault, TooLarge, SourceChar, SourceNumber, SourceName, SourceSyntax, SourceDeep, SourceType, SourceLarge, Syntax, Label, BadObject, BadMemoryText, BadReport, FalseReport, Unlawful, UnlawfulLine, StoreFull}
+use Rattle.command_line.specs.declared.refusal.Refusal.TheVariants.{NoMemory, ReadFault, TooLarge, SourceChar, SourceNumber, SourceName, SourceSyntax, SourceDeep, SourceType, SourceLarge, Syntax, Label, BadObject, BadMemoryText, BadReport, FalseReport, Unlawful, UnlawfulLine, StoreFull, BadSchedule}
 use Rattle.command_line.specs.declared.status.Status.{Status}
 use Rattle.command_line.specs.declared.status.Status.TheVariants as status
 use Rattle.nova_commands.proofs.Loads.{contents-one, stopped-read, stops-both, stops-map, unread-long, unread-one, none-long, Never}
@@ -51,6 +51,7 @@ refusal-is FalseReport = tt
 refusal-is (Unlawful p r) = tt
 refusal-is (UnlawfulLine p r) = tt
 refusal-is (StoreFull n) = tt
+refusal-is (BadSchedule n) = tt
 
 -- the sink failed, or the status r of the whole call is that of the command, and its text was printed
 abbrev pub IsTold : Status → Status → List ℕ → List ℕ → List ℕ → Type 0 → Type 0 → Type 0
@@ -77,14 +78,14 @@ usage-not_write r d w = let e : status.Usage ≡ status.WriteFault = sym d ∙ w
 
 -- the headline
 compiled-end : (T : Type 0) (old new : Holding) (LR SR : List ℕ → Type 0) (source object report : List ℕ) (slots budget store : ℕ) (s : Status) (text : List ℕ) → T → s ≡ status.Done → (object ≡ report → ⊥)
-    → HasEnded T old new LR SR (Compile source object report slots budget store) s text → IsCompiled old new source object report slots budget store text
+    → HasEnded T old new LR SR (Compile source object report slots budget store) s text → IsCompiled old new source object report slots [] budget store text
 compiled-end T old new LR SR source object report slots budget store s text t d apart (inl h) = done-compiled T old new source object report slots budget store s text t d apart h
 compiled-end T old new LR SR source object report slots budget store s text t d apart (inr (inl w)) = absurd (done-not_fault s d w.0)
 compiled-end T old new LR SR source object report slots budget store s text t d apart (inr (inr h)) = absurd (subst IsRefusal d (refused-is T old new LR (Compile source object report slots budget store) s text h))
 
 pub compiled : (Tells : Type 0) (old new : Holding) (LR SR : List ℕ → Type 0) (s r : Status) (text before after : List ℕ) (T Failed : Type 0) → Tells → IsTold s r text before after T Failed
     → (o : Option Command) → IfCompile o (λ source object report slots budget store. object ≡ report → ⊥) → IfCommand o (λ c. HasEnded Tells old new LR SR c s text) → r ≡ status.Done
-    → IfCompile o (λ source object report slots budget store. (line : List ℕ) × IsCompiled old new source object report slots budget store line × (T → after ≡ before ++ line))
+    → IfCompile o (λ source object report slots budget store. (line : List ℕ) × IsCompiled old new source object report slots [] budget store line × (T → after ≡ before ++ line))
 compiled Tells old new LR SR s r text before after T Failed tells told None apart a d = tt
 compiled Tells old new LR SR s r text before after T Failed tells told (Some (Run object memory steps)) apart a d = tt
 compiled Tells old new LR SR s r text before after T Failed tells told (Some (Exec source memory calls)) apart a d = tt
@@ -92,6 +93,8 @@ compiled Tells old new LR SR s r text before after T Failed tells told (Some (As
 compiled Tells old new LR SR s r text before after T Failed tells told (Some (Dis object)) apart a d = tt
 compiled Tells old new LR SR s r text before after T Failed tells told (Some (Lint object)) apart a d = tt
 compiled Tells old new LR SR s r text before after T Failed tells told (Some (Check report)) apart a d = tt
+compiled Tells old new LR SR s r text before after T Failed tells told (Some (Contexts object memory schedule)) apart a d = tt
+compiled Tells old new LR SR s r text before after T Failed tells told (Some (Peep object output)) apart a d = tt
 compiled Tells old new LR SR s r text before after T Failed tells told (Some (Gen seed size)) apart a d = tt
 compiled Tells old new LR SR s r text before after T Failed tells (inl w) (Some (Compile source object report slots budget store)) apart a d = absurd (done-not_fault r d w.0)
 compiled Tells old new LR SR s r text before after T Failed tells (inr h) (Some (Compile source object report slots budget store)) apart a d = (text, compiled-end Tells old new LR SR source object report slots budget store s text tells (sym h.0 ∙ d) apart a, h.1)
@@ -111,14 +114,14 @@ fault-none : (s : Status) (P : Verdict → Type 0) → s ≡ status.WriteFault �
 fault-none s P w = subst (λ (x : Status). IfWithout x P) (sym w) tt
 
 reported-end : (T : Type 0) (old new : Holding) (LR SR : List ℕ → Type 0) (source object report : List ℕ) (slots budget store : ℕ) (s : Status) (text : List ℕ) → T
-    → HasEnded T old new LR SR (Compile source object report slots budget store) s text → IfWithout s (λ v. IsReported old new source report slots budget v)
+    → HasEnded T old new LR SR (Compile source object report slots budget store) s text → IfWithout s (λ v. IsReported old new source report slots [] budget v)
 reported-end T old new LR SR source object report slots budget store s text t (inl h) = done-reported T old new source object report slots budget store s text t h
-reported-end T old new LR SR source object report slots budget store s text t (inr (inl w)) = fault-none s (λ v. IsReported old new source report slots budget v) w.0
+reported-end T old new LR SR source object report slots budget store s text t (inr (inl w)) = fault-none s (λ v. IsReported old new source report slots [] budget v) w.0
 reported-end T old new LR SR source object report slots budget store s text t (inr (inr h)) =
-    refused-none s (λ v. IsReported old new source report slots budget v) (refused-is T old new LR (Compile source object report slots budget store) s text h)
+    refused-none s (λ v. IsReported old new source report slots [] budget v) (refused-is T old new LR (Compile source object report slots budget store) s text h)
 
 pub reported : (Tells : Type 0) (old new : Holding) (LR SR : List ℕ → Type 0) (s r : Status) (text before after : List ℕ) (T Failed : Type 0) → Tells → IsTold s r text before after T Failed
-    → (o : Option Command) → IfCommand o (λ c. HasEnded Tells old new LR SR c s text) → IfWithout r (λ v. IfCompile o (λ source object report slots budget store. IsReported old new source report slots budget v))
+    → (o : Option Command) → IfCommand o (λ c. HasEnded Tells old new LR SR c s text) → IfWithout r (λ v. IfCompile o (λ source object report slots budget store. IsReported old new source report slots [] budget v))
 reported Tells old new LR SR s r text before after T Failed tells told None a = without-none r
 reported Tells old new LR SR s r text before after T Failed tells told (Some (Run object memory steps)) a = without-none r
 reported Tells old new LR SR s r text before after T Failed tells told (Some (Exec source memory calls)) a = without-none r
@@ -126,10 +129,12 @@ reported Tells old new LR SR s r text before after T Failed tells told (Some (As
 reported Tells old new LR SR s r text before after T Failed tells told (Some (Dis object)) a = without-none r
 reported Tells old new LR SR s r text before after T Failed tells told (Some (Lint object)) a = without-none r
 reported Tells old new LR SR s r text before after T Failed tells told (Some (Check report)) a = without-none r
+reported Tells old new LR SR s r text before after T Failed tells told (Some (Contexts object memory schedule)) a = without-none r
+reported Tells old new LR SR s r text before after T Failed tells told (Some (Peep object output)) a = without-none r
 reported Tells old new LR SR s r text before after T Failed tells told (Some (Gen seed size)) a = without-none r
-reported Tells old new LR SR s r text before after T Failed tells (inl w) (Some (Compile source object report slots budget store)) a = fault-none r (λ v. IsReported old new source report slots budget v) w.0
+reported Tells old new LR SR s r text before after T Failed tells (inl w) (Some (Compile source object report slots budget store)) a = fault-none r (λ v. IsReported old new source report slots [] budget v) w.0
 reported Tells old new LR SR s r text before after T Failed tells (inr h) (Some (Compile source object report slots budget store)) a =
-    subst (λ (x : Status). IfWithout x (λ v. IsReported old new source report slots budget v)) (sym h.0) (reported-end Tells old new LR SR source object report slots budget store s text tells a)
+    subst (λ (x : Status). IfWithout x (λ v. IsReported old new source report slots [] budget v)) (sym h.0) (reported-end Tells old new LR SR source object report slots budget store s text tells a)
 
 -- the line of `gen`
 gen-made : (seed size : ℕ) (bs : List (List ℕ)) (s : Status) (fs : List File) (t : List ℕ) → Makes (Gen seed size) bs s fs t → (s ≡ status.Done) × IsGenerated seed size t
@@ -178,6 +183,8 @@ generated Tells old new LR SR s r text before after T Failed told (Some (Asm inp
 generated Tells old new LR SR s r text before after T Failed told (Some (Dis object)) a = tt
 generated Tells old new LR SR s r text before after T Failed told (Some (Lint object)) a = tt
 generated Tells old new LR SR s r text before after T Failed told (Some (Check report)) a = tt
+generated Tells old new LR SR s r text before after T Failed told (Some (Contexts object memory schedule)) a = tt
+generated Tells old new LR SR s r text before after T Failed told (Some (Peep object output)) a = tt
 generated Tells old new LR SR s r text before after T Failed (inl w) (Some (Gen seed size)) a = inl w.0
 generated Tells old new LR SR s r text before after T Failed (inr h) (Some (Gen seed size)) a = gen-told seed size s r text before after T h.0 h.1 (gen-ended Tells old new LR SR seed size s text a)
 
@@ -191,6 +198,8 @@ memory-generated (Some (Asm input object)) before after T = tt
 memory-generated (Some (Dis object)) before after T = tt
 memory-generated (Some (Lint object)) before after T = tt
 memory-generated (Some (Check report)) before after T = tt
+memory-generated (Some (Contexts object memory schedule)) before after T = tt
+memory-generated (Some (Peep object output)) before after T = tt
 memory-generated (Some (Gen seed size)) before after T = inr (inl refl)
 
 -- what was printed
@@ -351,6 +360,7 @@ fault-input T held R c FalseReport is h = absurd cc
 fault-input T held R c (Unlawful p r) is h = absurd cc
 fault-input T held R c (UnlawfulLine p r) is h = absurd cc
 fault-input T held R c (StoreFull n) is h = absurd cc
+fault-input T held R c (BadSchedule n) is h = absurd cc
 
 read-end : (Tells : Type 0) (old new : Holding) (LR SR : List ℕ → Type 0) (c : Command) (s : Status) (text : List ℕ) → s ≡ status.ReadFault → HasEnded Tells old new LR SR c s text
     → StopsAt Tells old (inputs_of c) (λ i. LR i.name × (text ≡ cannot_read i.name))

@@ -1,5 +1,5 @@
 //! The top call.
-ghost use Rattle.std.specs.Prelude.{◌≡◌, ◌≢◌, ◌⊎◌, ◌++◌, ℕ, List, None, IfOk, IfErr, OnErr, ⊤};
+ghost use Rattle.std.specs.Prelude.{◌≡◌, ◌≢◌, ◌⊎◌, ◌++◌, ℕ, List, [], None, IfOk, IfErr, OnErr, ⊤};
 ghost use Rattle.nv_outside.specs.Calls.{AsksAtMost};
 ghost use Rattle.nv_outside.specs.Causes.{Rose};
 ghost use Rattle.nova_commands.specs.Calling.{calls_of};
@@ -35,26 +35,28 @@ use std::alloc::Global;
 /// | `dis OBJ` | prints the listing of OBJ's code |
 /// | `lint OBJ` | prints whether OBJ's code is lawful |
 /// | `check REPORT` | checks a report by itself, and prints its verdict |
+/// | `contexts OBJ MEM SCHEDULE` | runs up to four contexts of OBJ's code on the memory text MEM by the schedule, and prints how each stands, whether they can disturb one another, and the memories |
+/// | `peep OBJ OUT` | saves OBJ without the needless instructions of its code as OUT |
 /// | `gen SEED SIZE` | makes a source of 1 to 500 lines from a seed of 32 bits, compiles it, runs the code, and prints how long both are, the verdict on its banks, and the word |
 ///
 /// Where the options don't say it, `compile` takes 128 slots, which are the most, 2,000 branches of 1 to 1,000,000 in the search
 /// for banks, and 2,048 instructions of 1 to 1,048,576.
 ///
-/// Sources have at most 262,144 bytes, objects 17,104,847, memory texts 4 MiB, assembly texts and reports 64 MiB.
+/// Sources have at most 262,144 bytes, objects 17,104,847, memory texts and schedules 4 MiB, assembly texts and reports 64 MiB.
 pub fn run<F: Files, K: Sink>(
     alloc: Global,
     words: &Vec<String>,
     files: &mut F,
     out: &mut K,
 ) -> Status
-    // The headline: the object that `compile` saved is that of lawful code that does what the source says, and its report is
-    // true. Where that says optimal, no vector that meets the rows of its 0-1 program costs less. The code's moves cost no more
-    // than the report says.
-    ensures compiled { F.tells → result ≡ Status.Done → IfCompile (command_of (texts_of words.now)) (λ source object report slots budget store. (line : List ℕ) × IsCompiled (F.held files.old) (F.held files.new) source object report slots budget store line × (K.tells → K.written out.new ≡ K.written out.old ++ line)) }
+    // The headline: the object that `compile` saved is that of lawful code that does what the source says, with the names of its
+    // exceptions and the starts of labels, and its report is true. Where that says optimal, no vector that meets the rows of its
+    // 0-1 program costs less. By those starts the code's moves cost no more than the report says.
+    ensures compiled { F.tells → result ≡ Status.Done → IfCompile (command_of (texts_of words.now)) (λ source object report slots budget store. (line : List ℕ) × IsCompiled (F.held files.old) (F.held files.new) source object report slots [] budget store line × (K.tells → K.written out.new ≡ K.written out.old ++ line)) }
 
     // Where no banks are found, the report alone is saved. It is true, and says that none meet the rows, or that the budget was
     // spent; and there are fewer slots than the program has room.
-    ensures without { F.tells → IfWithout result (λ verdict. IfCompile (command_of (texts_of words.now)) (λ source object report slots budget store. IsReported (F.held files.old) (F.held files.new) source report slots budget verdict)) }
+    ensures without { F.tells → IfWithout result (λ verdict. IfCompile (command_of (texts_of words.now)) (λ source object report slots budget store. IsReported (F.held files.old) (F.held files.new) source report slots [] budget verdict)) }
 
     // What `gen` prints: the length of the text that the seed makes, that of lawful code that does what its program says, the
     // verdict of a true report on its banks with the cost, and the word that the program means; or why the program isn't

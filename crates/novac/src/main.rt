@@ -6,7 +6,7 @@
 mod tests;
 
 pub use command_line::Status;
-pub use nova_commands::{CompileError, Compiled, compile_text};
+pub use nova_commands::{CompileError, Compiled, Weights, compile_text};
 use nova_top::exit_code;
 pub use nova_top::run;
 use nv_outside::{DiskFiles, StdSink};

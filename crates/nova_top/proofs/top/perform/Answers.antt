@@ -17,7 +17,7 @@ use Rattle.nova_top.proofs.top.perform.Goals as goal
 pub returns-clause-ended : goal.returns-clause-ended
 returns-clause-ended g c =
     saves-end g.F.Files.tells (g.F.Files.held c.args.files.now) (g.F.Files.held c.load_inputs.new.files) (g.F.Files.held c.save.new.files) (λ (q : List ℕ). Rose (g.F.Files.save_faults c.args.files.now q) (g.F.Files.save_faults c.save.new.files q)) (λ (q : List ℕ). Rose (g.F.Files.save_faults c.load_inputs.new.files q) (g.F.Files.save_faults c.save.new.files q))
-    (command_as c.args.command) (contents_of (command_as c.args.command) c.in_ok-inputs.inputs.first.items c.in_ok-inputs.inputs.second.items) c.in_ok-made.made.status c.save.result.status (files_of c.in_ok-made.made.outputs) c.in_ok-made.made.text.items c.save.result.text.items
+    (command_as c.args.command) (contents_of c.in_ok-inputs.inputs.items) c.in_ok-made.made.status c.save.result.status (files_of c.in_ok-made.made.outputs) c.in_ok-made.made.text.items c.save.result.text.items
     c.in_ok-inputs.ensures.held (λ q. rose-later (g.F.Files.save_faults c.args.files.now q) (g.F.Files.save_faults c.load_inputs.new.files q) (g.F.Files.save_faults c.save.new.files q) (c.in_ok-inputs.ensures.save_faults q))
     c.in_ok-inputs.ensures.read c.in_ok-made.ensures.made c.save.ensures.saved
 
@@ -29,14 +29,14 @@ returns-in_err-inputs-clause-refused g c =
 pub returns-in_err-made-clause-refused : goal.returns-in_err-made-clause-refused
 returns-in_err-made-clause-refused g c =
     let p = err_from_is_err_and c.from_residual-in_err-made.result c.from_residual-in_err-made.ensures.1 in
-    rw (p.1, p.2) (pass-refused g.F.Files.tells (g.F.Files.held c.args.files.now) (λ (q : List ℕ). Rose (g.F.Files.load_faults c.args.files.now q) (g.F.Files.load_faults c.load_inputs.new.files q)) (command_as c.args.command) (contents_of (command_as c.args.command) c.in_ok-inputs.inputs.first.items c.in_ok-inputs.inputs.second.items) _ c.in_ok-inputs.ensures.read c.in_err-made.ensures.refused)
+    rw (p.1, p.2) (pass-refused g.F.Files.tells (g.F.Files.held c.args.files.now) (λ (q : List ℕ). Rose (g.F.Files.load_faults c.args.files.now q) (g.F.Files.load_faults c.load_inputs.new.files q)) (command_as c.args.command) (contents_of c.in_ok-inputs.inputs.items) _ c.in_ok-inputs.ensures.read c.in_err-made.ensures.refused)
 
 pub returns-clause-asked : goal.returns-clause-asked
 returns-clause-asked g c =
     at_most-both g.F.Files.history c.args.files.now c.load_inputs.new.files c.save.new.files (loads_of (inputs_of (command_as c.args.command))) (map (λ (name : List ℕ). Save name) (outputs_of (command_as c.args.command)))
     c.in_ok-inputs.ensures.asked
     (at_most-part g.F.Files.history c.load_inputs.new.files c.save.new.files (saves_of (files_of c.in_ok-made.made.outputs)) (map (λ (name : List ℕ). Save name) (outputs_of (command_as c.args.command))) c.save.ensures.asked
-    (made-part (command_as c.args.command) (contents_of (command_as c.args.command) c.in_ok-inputs.inputs.first.items c.in_ok-inputs.inputs.second.items) c.in_ok-made.made.status (files_of c.in_ok-made.made.outputs) c.in_ok-made.made.text.items c.in_ok-made.ensures.made))
+    (made-part (command_as c.args.command) (contents_of c.in_ok-inputs.inputs.items) c.in_ok-made.made.status (files_of c.in_ok-made.made.outputs) c.in_ok-made.made.text.items c.in_ok-made.ensures.made))
 
 pub returns-in_err-inputs-clause-asked : goal.returns-in_err-inputs-clause-asked
 returns-in_err-inputs-clause-asked g c =
