@@ -283,7 +283,7 @@ def command_lines(top):
     found = []
     for first, kind, text in blocks(read(top, "README.md")):
         if kind == "outcome":
-            found[-1].calls[-1].output = named(found[-1].files["s.nova"].decode(), text).encode()
+            found[-1].calls[-1].output = text.encode()
         for line in text.split("\n") if kind == "sh" else []:
             call = re.search(r"(?:out/novac|rt (?:run|try) --) ([^)]*)", line)
             if not call:
