@@ -701,6 +701,7 @@ or a memory text asks for a memory of size N, more than 65,536.
                 text: r#"status 14: an exception
 
 The outcome begins with `raised K` and the exception's words: no handler took it. Exceptions are numbered from 1 in the order of the declarations.
+`run` of an object that `compile` saved names it in a second line, `exception NAME line L`, with the line of its declaration.
 "#,
             },
             Page {
